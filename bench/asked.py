@@ -1,5 +1,5 @@
 """What is asked of a report: from which number on, which rows, how many, whether anything may weaken it, and whether samples in
-DATA_FRAG count."""
+DATA_FRAG count. Of spans too: whether rows are in them, how long a tail may be, and whether each number has to be received."""
 import re
 
 # the greatest number of a sample, and of what may be asked
@@ -13,9 +13,13 @@ def fits(pattern, topic):
 
 
 class Asked:
-    def __init__(self, first=1, topics=(), observed=False, expect=None, strict=False, fragments=False):
+    def __init__(self, first=1, topics=(), observed=False, expect=None, strict=False, fragments=False, spans=False, tail=0, certain=False):
         self.first, self.topics, self.observed, self.expect, self.strict = first, list(topics), observed, expect, strict
-        self.fragments = fragments
+        self.fragments, self.spans, self.tail, self.certain = fragments, spans, tail, certain
+
+    def checked(self):
+        """the same as `check` asks it"""
+        return Asked(self.first, self.topics, True, self.expect, True, True, True, self.tail, self.certain)
 
     def words(self):
         """the words of the command line that ask so"""
@@ -25,15 +29,16 @@ class Asked:
         words += ['--observed'] if self.observed else []
         words += ['--expect', str(self.expect)] if self.expect is not None else []
         words += ['--strict'] if self.strict else []
-        return words + (['--fragments'] if self.fragments else [])
+        words += ['--fragments'] if self.fragments else []
+        words += ['--spans'] if self.spans else []
+        words += ['--tail', str(self.tail)] if self.tail else []
+        return words + (['--certain'] if self.certain else [])
 
     def keeps(self, topic, w, r, recording):
         """whether the row of a writer and a reader of a topic is asked for; `recording` has the acts of each datagram"""
         if self.topics and not any(fits(pattern.encode(), topic) for pattern in self.topics):
             return False
-        # It goes by the acts without DATA_FRAG, also where these are read.
-        sent = (act for acts in recording for act in acts if act['kind'] != 'data_frag')
-        return not self.observed or any(act['source'] == r[:12] and act['dest'] == w[:12] for act in sent)
+        return not self.observed or any(act['source'] == r[:12] and act['dest'] == w[:12] for acts in recording for act in acts)
 
     def findings(self, rows, missed, counts, reasons):
         """what a report has or lacks against what is asked, beside complete rows, a line for each: of so many rows, of which
@@ -61,4 +66,5 @@ def asked_by(words):
 
     return Asked(first=int((values('--from') + ['1'])[0]), topics=values('--topic'), observed='--observed' in words,
                  expect=int(values('--expect')[0]) if '--expect' in words else None, strict='--strict' in words,
-                 fragments='--fragments' in words)
+                 fragments='--fragments' in words, spans='--spans' in words, tail=int((values('--tail') + ['0'])[0]),
+                 certain='--certain' in words)

@@ -1,17 +1,30 @@
-"""The text of `rtps-audit check`, from the values of a report: what a person and a test job ask of a recording.
+"""The text of `rtps-audit check`, from rows of a report: what a person and a test job ask of a recording.
 
 `check_lines` gives the lines, `because` the reasons for which the recording is not clean. Both are written from what is
-meant, and not from the program. The guide prints the table ADVICE.
+meant, and not from the program. The guide prints the table ADVICE. A row is that of `spans.Row`.
 """
+KINDS = 'received', 'missed', 'unsent', 'unanswered', 'likely', 'unconfirmed'
 
-# ---- what to do for a pair: of its verdict, the first case that fits
+# ---- what to do for a row that is not clean: the first case that fits
 
 # name, verdict, what fits, what to do
 ADVICE = [
-    ('dropped', 'complete', '`missed` above 0',
-     'the writer dropped it before the reader got it: look at the network, or raise the history depth or the lifespan'),
-    ('asked_for', 'open', '`missed` above 0',
-     'the reader asked for it and may still lack it: look at the network and the writer, or record longer'),
+    ('missed_unsent', 'complete, open', '`missed` above 0, and no DATA or DATA_FRAG of the first one that the reader hears',
+     "the reader asked for it and the recording has none: it was lost before this recording, or record at the writer's side"),
+    ('missed_again', 'complete, open', '`missed` above 0, the first one `sent again`',
+     "it was sent again, and nothing shows that it arrived: look at the network; a recording at the reader's side tells"),
+    ('missed_once', 'complete, open', '`missed` above 0, the first one not `sent again`',
+     'the reader asked for it and the writer did not send it again: raise the history depth or the lifespan, and look at the network'),
+    ('unsent', 'complete', '`unsent` above 0',
+     "the recording has none for this reader: at the reader's side it was lost on the way; at the writer's side a content filter or a "
+     'short history kept it back'),
+    ('unanswered', 'complete', '`unanswered` above 0',
+     'it was asked about and gave no answer until the writer had dropped them: an outage of the network or of the reader; raise the '
+     'history depth if these must not be lost'),
+    ('tail', 'open', 'only a tail',
+     'stop publishing some seconds before the recording ends, or allow a tail (--tail)'),
+    ('left', 'open', '`acknowledged nothing`, and the reader left',
+     'it was never asked, or its answers are not in the recording: see that it took anything'),
     ('open_in_fragments', 'open', '`told nowhere`, and `fragments`, `pieces` or `cut` above 0',
      'it may be in a fragment or frame that was not read: see below what to do for these'),
     ('open_untold', 'open', '`told nowhere`',
@@ -34,8 +47,8 @@ ADVICE = [
      'the datagrams are out of order, or the copy that the reader received is not here: record on one host'),
     ('unannounced', 'unfounded', '`told nowhere`, the number above `announced`',
      'the reader acknowledged what nobody announced: it has a defect, or another writer had this GUID before'),
-    ('began_late', 'unfounded', '`told nowhere`, the number is 1 or that of `--from`',
-     'record from before the start; for a reader that joined late, --from gives the first number that it should get'),
+    ('began_late', 'unfounded', '`told nowhere`, the number is `from`, and the reader did not join here',
+     'record from before the start of the participants'),
     ('lacking', 'unfounded', '`told nowhere`',
      'the recording lacks it: see how many packets tcpdump says it dropped, and switch off shared memory'),
 ]
@@ -47,37 +60,50 @@ def is_unread(counts):
     return any(counts.get(name, 0) for name in ('fragments', 'pieces', 'cut'))
 
 
-def open_advice(row, counts):
-    if row['missed']:
-        return 'asked_for'
-    if row['told'] is None:
+def missed_advice(row):
+    n = row.delivery.missed[0]
+    if n not in row.delivery.brought:
+        return 'missed_unsent'
+    return 'missed_again' if row.delivery.again(n) else 'missed_once'
+
+
+def open_advice(row, values, counts):
+    if row.is_tail() and row.until is None:
+        return 'tail'
+    if values['acknowledged'] is None and row.until is not None:
+        return 'left'
+    if values['told'] is None:
         return 'open_in_fragments' if is_unread(counts) else 'open_untold'
-    if not row['asked_since']:
+    if not values['asked_since']:
         return 'not_asked'
-    return 'silent' if row['acknowledged'] else 'never_answered'
+    return 'silent' if values['acknowledged'] else 'never_answered'
 
 
-def unfounded_advice(row, counts, first):
-    if row['told'] and row['told']['datagram'] == row['claimed']['datagram']:
+def unfounded_advice(row, values, counts):
+    if values['told'] and values['told']['datagram'] == values['claimed']['datagram']:
         return 'relayed'
     if is_unread(counts):
         return 'unfounded_in_fragments'
-    if row['told']:
+    if values['told']:
         return 'late'
-    if row['announced'] is None or row['announced']['number'] < row['number']:
+    if values['announced'] is None or values['announced']['number'] < values['number']:
         return 'unannounced'
-    return 'began_late' if row['number'] == first else 'lacking'
+    return 'began_late' if values['number'] == row.first and not row.joined_here else 'lacking'
 
 
-def advice_of(row, counts, first):
-    if row['verdict'] == 'open':
-        return open_advice(row, counts)
-    if row['verdict'] == 'unfounded':
-        return unfounded_advice(row, counts, first)
-    if row['verdict'] == 'conflict':
-        one, other = row['sent']
+def advice_of(row, counts):
+    """the case of a row that is not clean"""
+    values = row.values()
+    if row.kind == 'conflict':
+        one, other = values['sent']
         return 'alike' if all(one[part] == other[part] for part in ('payload', 'octets')) else 'unlike'
-    return 'dropped'
+    if row.kind == 'unfounded':
+        return unfounded_advice(row, values, counts)
+    if row.counts['missed']:
+        return missed_advice(row)
+    if row.kind == 'open':
+        return open_advice(row, values, counts)
+    return 'unsent' if row.counts['unsent'] else 'unanswered'
 
 
 # ---- parts of lines
@@ -90,79 +116,65 @@ def amount(number, one, many):
     return f'{grouped(number)} {one if number == 1 else many}'
 
 
+def in_pairs(number, one, many, pairs):
+    return f"{amount(number, one, many)} in {amount(pairs, 'pair', 'pairs')}"
+
+
 def of(part, whole):
     return f'{grouped(part)} of {grouped(whole)}'
 
 
-def asked_about(row):
-    return row['payloads'] + row['gone'] + row['untold']
+def total(rows, kind):
+    return sum(row.counts[kind] for row in rows)
 
 
-def unsure(row):
-    """how many numbers of a complete pair are neither known to be received nor missed"""
-    return asked_about(row) - row['received'] - row['missed'] if row['verdict'] == 'complete' else 0
+def cleans(rows, tail):
+    return sum(row.is_clean(tail) for row in rows)
 
 
-def total(rows, value):
-    return sum(value(row) for row in rows)
-
-
-def complete(rows):
-    return sum(row['verdict'] == 'complete' for row in rows)
-
-
-def received(rows):
-    return of(total(rows, lambda row: row['received']), total(rows, asked_about))
+def topics_of(rows):
+    return ', '.join(some[0].names['topic'] for some in by_topic(rows))
 
 
 # ---- the first lines
 
-def first_lines(rows, left_out):
-    if rows:
-        pairs, numbers = ('pair is' if len(rows) == 1 else 'pairs are'), ('number' if total(rows, asked_about) == 1 else 'numbers')
-        return [f'{of(complete(rows), len(rows))} {pairs} complete, {received(rows)} {numbers} received']
-    if left_out:
-        return ['there is no pair to judge', '  -> ' + NO_PAIR_SEEN]
-    return ['there is no pair to judge', '  -> ' + NO_PAIR]
-
-
 NO_PAIR_SEEN = 'record where the datagrams of the readers and the writers pass, and switch off shared memory'
-NO_PAIR = 'record from before the start, and see in rtps-audit list --any whether topic, type and QoS of the writers and readers match'
+NO_PAIR = 'record from before the start, and see in rtps-audit list --any FILE whether topic, type and QoS of the writers and readers match'
+
+
+def first_lines(rows, left_out, tail):
+    if not rows:
+        return ['there is no pair to judge', '  -> ' + (NO_PAIR_SEEN if left_out else NO_PAIR)]
+    numbers = sum(row.asked_about() for row in rows)
+    pairs, what = ('pair is' if len(rows) == 1 else 'pairs are'), ('number' if numbers == 1 else 'numbers')
+    return [f"{of(cleans(rows, tail), len(rows))} {pairs} clean, {of(total(rows, 'received'), numbers)} {what} received"]
+
 
 # ---- the table by topic
 
-HEAD = ['topic', 'pairs', 'complete', 'open', 'conflict', 'unfounded', 'received', 'missed']
+COLUMNS = 'received', 'likely', 'missed', 'unsent', 'unanswered', 'unconfirmed'
 
 
 def by_topic(rows):
     """the rows of each topic and type, by topic and then by type, in their order"""
-    keys = sorted({row['key'] for row in rows})
-    return [[row for row in rows if row['key'] == key] for key in keys]
+    keys = sorted({row.key for row in rows})
+    return [[row for row in rows if row.key == key] for key in keys]
 
 
-def cells(rows):
-    verdicts = [sum(row['verdict'] == verdict for row in rows) for verdict in ('complete', 'open', 'conflict', 'unfounded')]
-    return [rows[0]['topic'], grouped(len(rows)), *map(grouped, verdicts), received(rows), grouped(total(rows, lambda row: row['missed']))]
-
-
-def table(lines):
-    """the lines with their columns aligned: the first one to the left, the others to the right"""
-    widths = [max(map(len, column)) for column in zip(*lines)]
-    return ['  '.join([line[0].ljust(widths[0]), *(cell.rjust(width) for cell, width in zip(line[1:], widths[1:]))]) for line in lines]
+def table(rows, tail):
+    """the lines of the table. A column of zeros alone is left out, but for the first four"""
+    lines = [['topic', 'pairs', 'clean', 'before', *COLUMNS]]
+    for some in by_topic(rows):
+        counts = [len(some), cleans(some, tail), sum(row.before for row in some), *(total(some, kind) for kind in COLUMNS)]
+        lines.append([some[0].names['topic'], *map(grouped, counts)])
+    columns = [column for i, column in enumerate(zip(*lines)) if i < 4 or any(cell != '0' for cell in column[1:])]
+    padded = [[cell.rjust(max(map(len, column))) if i else cell.ljust(max(map(len, column))) for cell in column] for i, column in enumerate(columns)]
+    return ['  '.join(cells) for cells in zip(*padded)]
 
 
 # ---- the pairs that someone has to look at
 
-def is_noted(row):
-    return row['verdict'] != 'complete' or row['missed'] > 0
-
-
-def head_of(row):
-    missed = f", missed {row['missed']}" if row['missed'] else ''
-    return f"{row['writer']} {row['reader']} {row['judged']}, received {row['received']} of {asked_about(row)}{missed}"
-
-
-# which lines of `why` stand under a pair, by how they begin, for each verdict
+# which lines of `why` stand under a row, by how they begin, for each verdict
 SHOWN = {
     'complete': ('  number',),
     'open': ('acknowledged', '  number', 'number told', 'asked', 'not asked'),
@@ -180,37 +192,41 @@ def beginning(line):
 
 
 def shown(row):
-    """the lines that explain a pair, of which the one on missed numbers is the first"""
-    lines = [line for line in row['lines'] if beginning(line) in SHOWN[row['verdict']]]
+    """the lines that explain a row, of which the one on missed numbers is the first"""
+    lines = [line for line in row.lines if beginning(line) in SHOWN[row.kind]]
     return ['    ' + line.strip() for line in sorted(lines, key=lambda line: not line.startswith('  '))]
 
 
-def row_lines(row, counts, first):
-    return ['  ' + head_of(row), *shown(row), '    -> ' + SENTENCES[advice_of(row, counts, first)]]
+def row_lines(row, counts):
+    left = f', left in datagram {row.until[0]}' if row.until else ''
+    kinds = [f'{kind} {row.counts[kind]}' for kind in COLUMNS if kind == 'received' or row.counts[kind]]
+    return [f"  writer {row.names['writer']}", f"  reader {row.names['reader']}, from {row.first}{left}",
+            f"  {', '.join([row.verdict, *kinds])}", *shown(row), '    -> ' + SENTENCES[advice_of(row, counts)]]
 
 
-def section(rows, counts, first):
-    noted = [row for row in rows if is_noted(row)]
-    if not noted:
+def section(rows, counts, tail):
+    told = [row for row in rows if not row.is_clean(tail) and not row.is_tail_alone(tail)]
+    head = ['', f"{rows[0].names['topic']} {rows[0].names['type']}"] if told else []
+    return head + [line for row in told for line in row_lines(row, counts)]
+
+
+def tail_lines(rows, tail):
+    """the rows that are not clean for their tail alone share a line"""
+    alone = [row for row in rows if row.is_tail_alone(tail)]
+    if not alone:
         return []
-    return ['', f"{rows[0]['topic']} {rows[0]['type']}"] + [line for row in noted for line in row_lines(row, counts, first)]
+    longest = max(row.tail() for row in alone)
+    pairs = amount(len(alone), 'pair lacks only a tail', 'pairs lack only a tail')
+    return ['', f"{pairs} of at most {amount(longest, 'number', 'numbers')} (--tail {longest} lets them pass): {topics_of(alone)}",
+            '  -> ' + SENTENCES['tail']]
 
 
 # ---- what weakens the report
 
-def left_out_note(left_out):
-    return f"{amount(len(left_out), 'pair is', 'pairs are')} left out, not seen here (one process, shared memory, another host or interface)"
-
-
-def left_out_lines(left_out):
-    topics = ', '.join(rows[0]['topic'] for rows in by_topic(left_out))
-    return [f'{left_out_note(left_out)}: {topics}'] if left_out else []
-
-
 # name, text of one, text of many, what to do
 NOTES = [
-    ('unsure', 'number of a complete pair may not have been received', 'numbers of complete pairs may not have been received',
-     'they may have come: with KEEP_LAST a writer drops samples before it asks, and late readers get no older ones; why names the first'),
+    ('likely', 'number is likely received', 'numbers are likely received',
+     'they were sent, and acknowledged without being asked for again: with KEEP_LAST a writer drops samples before it asks'),
     ('pieces', 'frame is a fragment of a packet that is not whole', 'frames are fragments of packets that are not whole',
      "record at the writer's side, and see that tcpdump drops nothing: they may have samples or announcements"),
     ('cut', 'frame is cut', 'frames are cut',
@@ -224,7 +240,7 @@ NOTES = [
     ('unsettled', 'endpoint announced itself in two ways', 'endpoints announced themselves in two ways',
      'they are in no pair: see that no process starts again with its old GUID, and that no QoS changes'),
     ('refused', 'datagram is malformed', 'datagrams are malformed',
-     'rtps-audit show prints refused and the fault: what stands behind it is not read'),
+     'rtps-audit show --any FILE prints refused and the fault: what stands behind it is not read'),
 ]
 
 
@@ -236,57 +252,85 @@ def noted(counts, name, one, many):
     return told + (', of type ' if counts[name] == 1 else ', the first of type ') + grouped(counts['link'])
 
 
-def notes(rows, counts):
-    """what weakens the report, and what to do"""
-    counts = counts | {'unsure': total(rows, unsure)}
-    return [(noted(counts, name, one, many), advice) for name, one, many, advice in NOTES if counts.get(name, 0)]
+def left_out_note(left_out):
+    return f"{amount(len(left_out), 'pair is', 'pairs are')} left out, not seen here (one process, shared memory, another host or interface)"
 
 
-def note_lines(rows, counts):
-    return [line for told, advice in notes(rows, counts) for line in (told, '  -> ' + advice)]
+def late_note(rows):
+    return f"the writer wrote nothing since the reader joined: {amount(len(rows), 'pair', 'pairs')}"
 
 
-# ---- the members of JSON that `audit --json` has not
-
-def advised(rows, counts, first):
-    """the rows with what to do for each that someone has to look at"""
-    return [row | {'advice': SENTENCES[advice_of(row, counts, first)] if is_noted(row) else None} for row in rows]
+def tail_note(rows):
+    longest = max(row.tail() for row in rows)
+    return f"{amount(len(rows), 'pair is', 'pairs are')} clean with a tail, of at most {amount(longest, 'number', 'numbers')}"
 
 
-def note_sentences(rows, left_out, counts):
-    return [left_out_note(left_out)] * bool(left_out) + [f'{told} -> {advice}' for told, advice in notes(rows, counts)]
+def notes(rows, left_out, counts, tail, named=True):
+    """what weakens the report, each with what to do, or None; with the names of topics or without them"""
+    def of_topics(told, some):
+        return f'{told}: {topics_of(some)}' if named else told
+
+    late = [row for row in rows if row.wrote_before_alone]
+    tails = [row for row in rows if row.is_clean(tail) and row.kind == 'open']
+    found = [(of_topics(left_out_note(left_out), left_out), None)] if left_out else []
+    found += [(of_topics(late_note(late), late), None)] if late else []
+    found += [(tail_note(tails), None)] if tails else []
+    counts = counts | {'likely': total(rows, 'likely')}
+    return found + [(noted(counts, name, one, many), advice) for name, one, many, advice in NOTES if counts.get(name, 0)]
 
 
-def because(rows, counts, expected):
+def note_lines(rows, left_out, counts, tail):
+    return [line for told, advice in notes(rows, left_out, counts, tail) for line in [told] + (['  -> ' + advice] if advice else [])]
+
+
+def note_sentences(rows, left_out, counts, tail):
+    return [f'{told} -> {advice}' if advice else told for told, advice in notes(rows, left_out, counts, tail, False)]
+
+
+# ---- why the recording is not clean
+
+def unread(counts, *names):
+    return [noted(counts, name, one, many) for wanted in names for name, one, many, _ in NOTES if name == wanted and counts.get(name, 0)]
+
+
+def lost(rows, kind, one, many):
+    some = [row for row in rows if row.counts[kind]]
+    return [in_pairs(total(some, kind), one, many, len(some))] if some else []
+
+
+def uncertain(rows):
+    some = [row for row in rows if row.counts['received'] < row.asked_about()]
+    numbers = sum(row.asked_about() - row.counts['received'] for row in some)
+    return [in_pairs(numbers, 'number is not received for certain', 'numbers are not received for certain', len(some))] if some else []
+
+
+def row_reasons(rows, tail):
+    """why rows that have to be clean are not"""
+    unclean = [row for row in rows if row.kind != 'complete' and not row.is_clean(tail)]
+    reasons = [amount(len(unclean), 'pair is not complete', 'pairs are not complete')] if unclean else []
+    reasons += lost(rows, 'missed', 'number was missed', 'numbers were missed')
+    reasons += lost(rows, 'unsent', 'number was unsent', 'numbers were unsent')
+    return reasons + lost(rows, 'unanswered', 'number was unanswered', 'numbers were unanswered')
+
+
+def because(rows, counts, expected, tail, certain):
     """why the recording is not clean"""
-    missed = [row for row in rows if row['missed']]
-    incomplete = len(rows) - complete(rows)
-    reasons = []
-    if not rows:
-        reasons.append('there is no pair')
-    if len(rows) < expected:
-        reasons.append(f"{amount(len(rows), 'pair', 'pairs')} of {grouped(expected)} expected")
-    if incomplete:
-        reasons.append(amount(incomplete, 'pair is not complete', 'pairs are not complete'))
-    if missed:
-        numbers = amount(total(missed, lambda row: row['missed']), 'number was missed', 'numbers were missed')
-        reasons.append(f"{numbers} in {amount(len(missed), 'pair', 'pairs')}")
-    for name, one, many, _ in NOTES:
-        if name in ('pieces', 'cut', 'links', 'fragments', 'unsettled') and counts.get(name, 0):
-            reasons.append(noted(counts, name, one, many))
-    return reasons
+    reasons = [] if rows else ['there is no pair']
+    reasons += row_reasons(rows, tail) + (uncertain(rows) if certain else []) + few(rows, expected)
+    return reasons + unread(counts, 'unsettled', 'pieces', 'cut', 'links')
+
+
+def few(rows, expected):
+    return [f"{amount(len(rows), 'pair', 'pairs')} of {grouped(expected)} expected"] if len(rows) < expected else []
 
 
 def block(lines):
     return [''] + lines if lines else []
 
 
-def check_lines(rows, left_out, counts, first, expected):
-    """the lines of these rows, of those that are left out, and of these counts, of which `refused` are longer than an octet"""
-    topics = by_topic(rows)
-    reasons = because(rows, counts, expected)
-    return [*first_lines(rows, left_out),
-            *block(table([HEAD] + [cells(one) for one in topics]) if rows else []),
-            *(line for one in topics for line in section(one, counts, first)),
-            *block(left_out_lines(left_out) + note_lines(rows, counts)),
-            *block([f"not clean: {'; '.join(reasons)}" if reasons else 'clean'])]
+def check_lines(rows, left_out, counts, tail, reasons):
+    """the lines of these rows, of those that are left out, of these counts, of which `refused` are longer than an octet, and of why it is
+    not clean"""
+    return [*first_lines(rows, left_out, tail), *block(table(rows, tail) if rows else []),
+            *(line for some in by_topic(rows) for line in section(some, counts, tail)), *tail_lines(rows, tail),
+            *block(note_lines(rows, left_out, counts, tail)), *block([f"not clean: {'; '.join(reasons)}" if reasons else 'clean'])]

@@ -24,7 +24,7 @@ from measure import run
 
 ROOT = os.path.dirname(os.path.dirname(os.path.realpath(__file__)))
 PROGRAM = os.path.join(ROOT, 'crates', 'rtps_main', 'out', 'rtps_main')
-COMMANDS = {'show': ['show'], 'list': ['list'], 'audit': ['audit'], 'why': ['why'], 'json': ['audit', '--json'], 'page': ['page']}
+COMMANDS = {'show': ['show'], 'list': ['list'], 'audit': ['audit'], 'why': ['why'], 'json': ['audit', '--json'], 'page': ['page'], 'check': ['check']}
 PLAIN_COMMANDS = 'show', 'list', 'audit'
 KIB, MIB, GIB = 1 << 10, 1 << 20, 1 << 30
 
@@ -151,6 +151,7 @@ TABLES = [
         Row('robot_show', "`show` of the robot's capture", audit=True),
         Row('robot_why', "`why` of the robot's capture", audit=True),
         Row('robot_json', "`audit --json` of the robot's capture", audit=True),
+        Row('robot_check', "`check` of the robot's capture", audit=True),
         Row('pairs_why', '`why` of 90,000 pairs', audit=True),
     ]),
     ('Slow inputs', 'Input | What is slow', 'Compared with', [

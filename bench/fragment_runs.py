@@ -354,7 +354,6 @@ PIECE_ROWS = [
     (piece(1, 1, 2, 4, 0, EIGHT), None),
     ('1600001f' + piece(1, 1, 1, 1, 1, '')[8:-2], None),
     ('16000004 00000000', None),
-    ('12' + piece(1, 1, 2, 4, 8, EIGHT)[2:], None),
     ('13' + piece(1, 1, 2, 4, 8, EIGHT)[2:], None),
 ]
 

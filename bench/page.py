@@ -21,6 +21,7 @@ sys.path[:0] = [os.path.join(ROOT, 'bench'), os.path.join(ROOT, 'crates', 'rtps_
 import check
 import parts
 import reference
+import spans
 from asked import PLAIN, Asked, asked_by
 from random_recordings import some_asked, some_input
 
@@ -69,7 +70,7 @@ class Traffic:
                     answers.append([datagram, act['at'], act['set'][0]])
             return
         writer = act['source'] + act['writer']
-        if writer in self.acts:
+        if writer in self.acts and act['kind'] != 'nack_frag':
             self.acts[writer] += entries_of(datagram, act)
 
     def bases_of(self, row):
@@ -95,7 +96,7 @@ def endpoint_values(endpoint):
 
 
 def option_values(asked, any_capture):
-    return {'from': asked.first, 'any': any_capture, 'fragments': asked.fragments, 'observed': asked.observed, 'strict': asked.strict,
+    return {'from': asked.first, 'any': any_capture, 'fragments': asked.fragments, 'observed': asked.observed, 'strict': asked.strict, 'spans': asked.spans,
             'topics': asked.topics, 'expect': asked.expect}
 
 
@@ -103,44 +104,49 @@ def option_values(asked, any_capture):
 
 class Checked:
     """the rows that are asked for, those that the recording cannot speak of, the counts, and why the run does not end clean"""
-    def __init__(self, datagrams, asked, ignored):
-        ignored = ignored if isinstance(ignored, dict) else {} if ignored is None else {'ignored': ignored}
-        self.first = asked.first
-        self.rows = reference.checked_rows(datagrams, asked)
-        every = Asked(asked.first, asked.topics, fragments=asked.fragments)
-        kept = {(row['writer'], row['reader']) for row in self.rows}
-        self.left_out = [row for row in reference.checked_rows(datagrams, every) if (row['writer'], row['reader']) not in kept] if asked.observed else []
-        self.report = reference.report_values(datagrams, asked) | ignored
-        # A datagram of one octet is refused, and is no reason to look at it.
-        self.counts = self.report | {'refused': self.report['refused'] - sum(len(d) < 2 for d in datagrams)}
+    def __init__(self, octets, asked, datagrams, ignored):
+        self.rows, self.left_out, counted = spans.rows_of(datagrams, asked)
+        self.report = counted | (ignored if isinstance(ignored, dict) else {} if ignored is None else {'ignored': ignored})
+        self.counts = spans.counts_of(octets, datagrams, self.report, ignored)
         self.because = self.reasons(asked)
 
     def reasons(self, asked):
-        """why the run does not end clean: without --strict, only for rows that are not complete, or too few"""
-        if asked.strict:
-            return check.because(self.rows, self.counts, asked.expect or 0)
-        found = check.because([row | {'missed': 0} for row in self.rows], {}, asked.expect or 0)
-        return [reason for reason in found if reason != 'there is no pair']
+        """why the run does not end clean. Rows in spans have to be clean, others complete; the rest is asked by --strict, but for
+        how many rows there are"""
+        strict = asked.strict
+        reasons = ['there is no pair'] if strict and not self.rows else []
+        reasons += check.row_reasons(self.rows, 0) if asked.spans else self.incomplete(strict)
+        reasons += check.few(self.rows, asked.expect or 0) + (check.unread(self.counts, 'unsettled', 'pieces', 'cut', 'links') if strict else [])
+        return reasons + (check.unread(self.counts, 'fragments') if strict and not asked.spans else [])
+
+    def incomplete(self, strict):
+        rows = [row for row in self.rows if row.kind != 'complete']
+        reasons = [check.amount(len(rows), 'pair is not complete', 'pairs are not complete')] if rows else []
+        return reasons + (check.lost(self.rows, 'missed', 'number was missed', 'numbers were missed') if strict else [])
+
+    def findings(self, asked):
+        """the lines of standard error"""
+        missed = 0 if asked.spans else sum(row.counts['missed'] > 0 for row in self.rows)
+        counts = self.counts | ({'fragments': 0} if asked.spans else {})
+        return [f'rtps-audit: not clean: {line}' for line in asked.findings(len(self.rows), missed, counts, self.counts)]
 
     def text(self):
-        lines = check.check_lines(self.rows, self.left_out, self.counts, self.first, 0)
-        lines[-1] = f"not clean: {'; '.join(self.because)}" if self.because else 'clean'
-        return ''.join(line + '\n' for line in lines)
+        return ''.join(line + '\n' for line in check.check_lines(self.rows, self.left_out, self.counts, 0, self.because))
 
     def members(self):
         """the members of `check --json`"""
         head = {'status': 'unclean' if self.because else 'clean', 'because': self.because}
-        pairs = check.advised(self.report['pairs'], self.counts, self.first)
-        return head | self.report | {'pairs': pairs, 'notes': check.note_sentences(self.rows, self.left_out, self.counts)}
+        pairs = [row.values() | row.span_values() | {'advice': row.advice(self.counts)} for row in self.rows]
+        return head | {'pairs': pairs} | self.report | {'notes': check.note_sentences(self.rows, self.left_out, self.counts, 0)}
 
 
 # ---- the page
 
-def page_of(datagrams, asked=PLAIN, ignored=None):
+def page_of(datagrams, asked=PLAIN, ignored=None, octets=b''):
     """the text and the data of a page, as Python has it; where any capture was read, the ignored frames are told by their reasons"""
-    checked = Checked(datagrams, asked, ignored)
+    checked = Checked(octets, asked, datagrams, ignored)
     participants, endpoints, _, _, _ = reference.discovery(datagrams, asked.fragments)
-    rows = checked.rows
+    rows = [row.names | {'verdict': row.kind} for row in checked.rows]
     traffic = Traffic([reference.acts_of(d, asked.fragments) for d in datagrams], rows)
     pairs = {(row['writer'], row['reader']) for row in traffic.charted(rows)}
     shown = [row for row in rows if (row['writer'], row['reader']) in pairs]
@@ -173,20 +179,24 @@ def page_text(text, values):
 def parts_of(octets, asked=PLAIN, any_form=False):
     """the text and the data of the page of an input, or the last line of standard error"""
     found = reference.input_of(octets, any_form=any_form or asked.strict)
-    return found if isinstance(found, str) else page_of(found[0], asked, found[1])
+    return found if isinstance(found, str) else page_of(found[0], asked, found[1], octets)
 
 
-def answer_as(octets, asked):
-    """text, lines on standard error and status of `page`; the latter two are those of `audit`"""
-    _, told, status = reference.answer_as('audit', octets, asked)
-    found = parts_of(octets, asked)
-    return '' if isinstance(found, str) else page_text(*found), told, status
+def answer_as(octets, asked, any_form=False):
+    """text, lines on standard error and status of `page`"""
+    any_form = any_form or asked.strict
+    read = reference.input_of(octets, any_form=any_form)
+    if isinstance(read, str):
+        return '', reference.told_of('-', octets, any_form=any_form), 2
+    checked = Checked(octets, asked, *read)
+    return page_text(*page_of(*read[:1], asked, read[1], octets)), checked.findings(asked), int(bool(checked.because))
 
 
 def compare(program, count, seed):
     rng, differing = random.Random(seed), 0
     for k in range(count):
         text, asked = some_input(rng), some_asked(rng)
+        asked.spans = rng.random() < 0.5
         want, told, status = answer_as(text, asked)
         got = subprocess.run(program.split() + ['page', *asked.words(), '-'], input=text, capture_output=True)
         if got.stdout.decode() != want or got.returncode != status or status < 2 and got.stderr.decode().splitlines() != told:

@@ -460,6 +460,75 @@ def some_pieces(rng):
     return datagrams
 
 
+# ---- readers that come and go
+
+DURABLE = b'\0\x1d\0\4\0\0\0\1'
+
+
+def leaving(rng, guid, order='be'):
+    """a DATA that says that a reader, or its participant, leaves; sometimes it says no such thing, or of another one"""
+    whole = rng.random() < 0.4
+    writer, pid = (b'\0\1\0\xc2', 0x50) if whole else (b'\0\0\4\xc2', 0x5a)
+    key = guid[:12] + b'\0\0\1\xc1' if whole else guid
+    key = rng.choice([key] * 12 + [C + key[12:], key[:15] + b'\9'])
+    pid = rng.choice([pid] * 12 + [0x50, 0x5a, 0x70])
+    status = bytes(3) + bytes([rng.choice([3, 3, 3, 1, 2, 0, 4])])
+    status = rng.choice([status] * 12 + [status[1:], status + b'\0', status + bytes(4), b'\3\0\0\0'])
+    inline, payload, flags = [parameter(order, 0x71, status)] if rng.random() < 0.97 else [], b'', 2
+    in_payload = rng.random() < 0.5
+    if in_payload:
+        found = parameter(order, pid, key if rng.random() < 0.95 else key[:12])
+        payload = (b'\0\2' if order == 'be' else b'\0\3') + bytes(2) + found + (parameter(order, 1, b'') if rng.random() < 0.95 else b'')
+        payload = rng.choice([payload] * 20 + [b'\0\1' + payload[2:], b'\0'])
+        flags |= rng.choice([8, 8, 8, 4])
+    if not in_payload or rng.random() < 0.2:
+        inline.insert(rng.randrange(len(inline) + 1), parameter(order, 0x70, rng.choice([key] * 8 + [key[:12], C + key[12:]])))
+    if rng.random() < 0.1:
+        inline.append(parameter(order, 0x71, bytes(4)))
+    body = bytes(2) + u(order, 2, 16) + bytes(4) + writer + sn(order, rng.randrange(1, 9)) + b''.join(inline) + parameter(order, 1, b'') + payload
+    source = rng.choice([guid[:12]] * 14 + [A, C])
+    return b'RTPS\2\5\0\0' + source + (b'\x0e\0\0\x0c' + A if rng.random() < 0.3 else b'') + put(order, 0x15, flags, body)
+
+
+def nack_frag(rng, n):
+    """a NACK_FRAG, which sometimes cannot be read"""
+    order, count = rng.choice(['be', 'be', 'le']), rng.choice([0, 1, 2, 33, 256, 257])
+    base = rng.choice([1, 1, 2, 5, 0])
+    body = b'\0\0\1\4' + b'\0\0\1\3' + sn(order, rng.choice([n] * 15 + [0, -1])) + u(order, 4, base) + u(order, 4, count)
+    body += b''.join(u(order, 4, rng.getrandbits(32)) for _ in range((count + 31) // 32)) + u(order, 4, 1)
+    return put(order, 0x12, 0, body[:rng.choice([len(body)] * 15 + [len(body) - 1, 10])])
+
+
+def some_life(rng):
+    """a delivery to a reader that joins late, mostly, and leaves, mostly, and that asks for fragments"""
+    datagrams = [d for d in some_delivery(rng, rng.random() < 0.5) if d != START[1]]
+    guid, more = B + b'\0\0\1\4', RELIABLE + rng.choice([b'', DURABLE])
+    writer = announced(b'\0\0\3\xc2', A, b'\0\0\1\3', DURABLE)
+    datagrams = [writer if d == START[0] else d for d in datagrams]
+    if rng.random() < 0.4:  # for a while no answer comes, and the writer asks again
+        lo = rng.randrange(len(datagrams))
+        away = [d for d in datagrams[lo:lo + 9] if d[8:20] != B]
+        told = Told(rng)
+        told.last = rng.randrange(1, 5)
+        asked = [b'RTPS\2\5\0\0' + A + told.heartbeat() for _ in range(rng.randrange(1, 4))]
+        told.first = rng.randrange(1, 6)
+        datagrams[lo:lo + 9] = away + asked + [b'RTPS\2\5\0\0' + A + told.heartbeat()]
+    for _ in range(rng.choice([0, 0, 1, 2])):
+        d = b'RTPS\2\5\0\0' + B + b'\x0e\0\0\x0c' + rng.choice([A] * 9 + [C]) + nack_frag(rng, rng.randrange(1, 5))
+        datagrams.insert(rng.randrange(len(datagrams) + 1), d)
+    at = rng.randrange(len(datagrams) // 2 + 1)
+    datagrams[at:at] = some_announced(rng, announced(b'\0\0\4\xc2', B, b'\0\0\1\4', more), 0.1)
+    for _ in range(rng.choice([0, 1, 1, 1, 2])):
+        at = rng.randrange(len(datagrams) // 2, len(datagrams) + 1) if rng.random() < 0.9 else rng.randrange(len(datagrams) + 1)
+        datagrams.insert(at, leaving(rng, guid, rng.choice(['be', 'le'])))
+    if rng.random() < 0.1:
+        datagrams.append(announced(b'\0\0\4\xc2', B, b'\0\0\1\4', more))
+    for at in range(len(datagrams) - 1, 0, -1):
+        if rng.random() < 0.1 and datagrams[at][8:20] == datagrams[at - 1][8:20]:
+            datagrams[at - 1] += datagrams.pop(at)[20:]
+    return datagrams
+
+
 # ---- what is asked
 
 def some_asked(rng):
@@ -470,7 +539,7 @@ def some_asked(rng):
 def some_checked(rng):
     """what may be asked of `check`"""
     asked = some_asked(rng)
-    return Asked(asked.first, asked.topics, expect=asked.expect)
+    return Asked(asked.first, asked.topics, expect=asked.expect, tail=rng.choice([0, 0, 1, 2, 5]), certain=rng.random() < 0.2)
 
 
 def some_input(rng):

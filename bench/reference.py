@@ -12,8 +12,6 @@
                                            the same, of a capture of either form, with fragments of IP put together
     reference.py show|audit|why|json --fragments FILE
                                            the same, where samples that came in DATA_FRAG submessages count
-    reference.py check [--json] [--from N] [--topic PATTERN].. [--expect N] FILE
-                                           prints what `rtps-audit check` should print
     reference.py compare PROGRAM [COUNT [SEED]]
                                            runs PROGRAM on COUNT random recordings, and says where it differs
     reference.py runs [COUNT [SEED]]       compares verdicts and received numbers with those of all runs, on COUNT random
@@ -36,10 +34,9 @@ import tempfile
 
 import capture_reader
 from asked import GREATEST, PLAIN, Asked, asked_by
-from check import advised, because, check_lines, note_sentences
 from fragments import by_writer, payloads_told, placed_samples, without_sample
 from random_captures import some_capture
-from random_recordings import A, B, START, some_asked, some_checked, some_delivery, some_input, text_of_datagrams
+from random_recordings import A, B, START, some_asked, some_delivery, some_input, text_of_datagrams
 
 READ = {0x06, 0x07, 0x08, 0x09, 0x0c, 0x0e, 0x15}
 FRAGMENTS = {0x12, 0x13, 0x16}
@@ -117,15 +114,15 @@ def read_body(sid, flags, order, b):
         n = sequence_number(b[12:20], order)
         if n <= 0:
             return 'BadNumber'
-        rest, qos = b[4 + offset:], 0
+        rest, qos, inline = b[4 + offset:], 0, []
         if q:
             found = read_list(rest, order)
             if isinstance(found, str):
                 return 'BadInlineQos'
-            qos = found[1]
+            inline, qos = found
             rest = rest[qos:]
         payload = ('whole', rest) if d else ('key', rest) if k else ('absent', b'')
-        return {'kind': 'data', 'reader': b[4:8], 'writer': b[8:12], 'number': n, 'qos': qos, 'payload': payload}
+        return {'kind': 'data', 'reader': b[4:8], 'writer': b[8:12], 'number': n, 'qos': qos, 'inline': inline, 'payload': payload}
     if sid == 0x07:
         if len(b) < 28:
             return 'ShortBody'
@@ -197,8 +194,24 @@ def piece_of(flags, order, b):
             'sample': sample, 'qos': qos, 'key': int(bool(flags & 4)), 'octets': rest[:octets]}
 
 
+def nack_frag_of(order, b):
+    """the fields of a NACK_FRAG, or None for one that is passed over"""
+    if len(b) < 24:
+        return None
+    n, base, count = sequence_number(b[8:16], order), number(b[16:20], order), number(b[20:24], order)
+    words = (count + 31) // 32
+    if n < 1 or base < 1 or count > 256 or len(b) < 28 + 4 * words:
+        return None
+    bits = [number(b[24 + 4 * i:28 + 4 * i], order) for i in range(words)]
+    for i in range(words):
+        kept = min(32, count - 32 * i)
+        bits[i] = bits[i] >> (32 - kept) << (32 - kept)
+    return {'kind': 'nack_frag', 'reader': b[:4], 'writer': b[4:8], 'number': n, 'set': (base, count, bits, 8 + 4 * words),
+            'count': number(b[24 + 4 * words:28 + 4 * words], order)}
+
+
 def read(d, fragments=False):
-    """header, items and refusal of a datagram; DATA_FRAG are read where `fragments` says so"""
+    """header, items and refusal of a datagram; DATA_FRAG and NACK_FRAG are read where `fragments` says so"""
     try:
         header = header_of(d)
     except Refused as refusal:
@@ -215,6 +228,7 @@ def read(d, fragments=False):
         length = declared if declared else 0 if sid in (1, 9) else rest
         octets = d[at + 4:at + 4 + length]
         body = piece_of(flags, order, octets) if fragments and sid == 0x16 else None
+        body = nack_frag_of(order, octets) if fragments and sid == 0x12 else body
         body = body or read_body(sid, flags, order, octets)
         if isinstance(body, str):
             return header, items, Refused(at, body)
@@ -228,7 +242,7 @@ def acts_of(d, fragments=False):
     header, items, refusal = read(d, fragments)
     acts = []
     for k, item in enumerate(items):
-        if item['kind'] not in ('data', 'data_frag', 'heartbeat', 'acknack', 'gap'):
+        if item['kind'] not in ('data', 'data_frag', 'heartbeat', 'acknack', 'gap', 'nack_frag'):
             continue
         before = items[:k]
         sources = [i for i in before if i['kind'] == 'info_src']
@@ -378,9 +392,11 @@ def line_of(i, act):
         return f"{head} number {i['number']} {shape} qos {i['qos']} key {i['key']} octets {len(i['octets'])}{ending}"
     if kind == 'heartbeat':
         return f"{head} first {i['first']} last {i['last']} count {i['count']} final {i['final']} live {i['live']}{ending}"
-    if kind in ('acknack', 'gap'):
+    if kind in ('acknack', 'gap', 'nack_frag'):
         base, count, bits, _ = i['set']
         words = ''.join(f'{w:08x}' for w in bits) or '-'
+        if kind == 'nack_frag':
+            return f"{head} number {i['number']} base {base} bits {count} {words} count {i['count']}{ending}"
         if kind == 'gap':
             return f"{head} start {i['start']} base {base} bits {count} {words}{ending}"
         return f"{head} base {base} bits {count} {words} count {i['count']} final {i['final']}{ending}"
@@ -513,7 +529,7 @@ def list_text(datagrams):
 # ---- the audit
 
 def spoken(act, w):
-    return act['kind'] != 'acknack' and act['source'] == w[:12] and act['writer'] == w[12:]
+    return act['kind'] not in ('acknack', 'nack_frag') and act['source'] == w[:12] and act['writer'] == w[12:]
 
 
 def heard(act, r):
@@ -653,6 +669,11 @@ def audit(datagrams, asked=PLAIN):
     out = [f'pairs {len(pairs)}']
     for w, r in pairs:
         out.append(f'{guid_text(w)} {guid_text(r)} {judge(recording, w, r, asked.first)}')
+    return out + [counts_line(datagrams, recording, unsettled, asked)]
+
+
+def counts_line(datagrams, recording, unsettled, asked):
+    """what a report says of the whole recording"""
     refused = skipped = undirected = 0
     unread = {0x16} if asked.fragments else FRAGMENTS
     fragments = without_sample(recording)
@@ -662,9 +683,8 @@ def audit(datagrams, asked=PLAIN):
         skipped += sum(i['kind'] == 'skipped' and i['id'] not in FRAGMENTS for i in items)
         fragments += sum(i['kind'] == 'skipped' and i['id'] in unread for i in items)
         undirected += sum(a['kind'] == 'acknack' and a['dest'] is None for a in acts)
-    out.append(f'datagrams {len(datagrams)} refused {refused} skipped {skipped} fragments {fragments} '
-               f'undirected {undirected} unsettled {unsettled}')
-    return out
+    return (f'datagrams {len(datagrams)} refused {refused} skipped {skipped} fragments {fragments} '
+            f'undirected {undirected} unsettled {unsettled}')
 
 
 # ---- the evidence
@@ -692,27 +712,70 @@ def announces(writer, payload, guid):
 
 def first_announced(recording, guid):
     """the place of the first act by which a reader that hears everything is told a payload that announces the endpoint of this
-    GUID"""
+    GUID; None where there is none"""
     whole = [((i, act['at']), act['writer'], act['payload']) for i, acts in enumerate(recording, 1) for act in acts if act['kind'] == 'data']
-    return min((place for place, writer, payload in whole + list(placed_samples(recording)) if announces(writer, payload, guid)), default=(0, 0))
+    return min((place for place, writer, payload in whole + list(placed_samples(recording)) if announces(writer, payload, guid)), default=None)
+
+
+def asks(act, w, r):
+    """the numbers for which r asks w by an act"""
+    if act['source'] != r[:12] or act['dest'] != w[:12] or act.get('reader') != r[12:] or act.get('writer') != w[12:]:
+        return []
+    return members(*act['set'][:3]) if act['kind'] == 'acknack' else [act['number']] if act['kind'] == 'nack_frag' else []
+
+
+def brings(act, w, r):
+    """r hears a DATA or a DATA_FRAG of w"""
+    return act['kind'] in ('data', 'data_frag') and spoken(act, w) and heard(act, r)
+
+
+def joined_here(joined, answers):
+    """whether a reader that is announced first at a place, or nowhere, claims no number before"""
+    return joined is not None and not any(found[0] > 1 and place < joined for place, found in answers)
+
+
+# in front of all places
+START_OF_ALL = (0, 0)
 
 
 class Delivery:
     """what a writer and a reader said to each other, of the numbers from `first` on. An act stands with its place: its
-    datagram and its first octet"""
-    def __init__(self, recording, w, r, first):
-        self.first = first
+    datagram and its first octet. What is behind the place `since` is since the reader is there"""
+    def __init__(self, recording, w, r, first, since=None):
+        self.w, self.r, self.first = w, r, first
         self.placed = [((i, act['at']), act) for i, acts in enumerate(recording, 1) for act in acts]
         self.said = [(place, act) for place, act in self.placed if spoken(act, w)]
         self.told = [((i, act['at']), act, words) for i, act, words in told_to(recording, w, r)]
         self.answers = [(place, act['set']) for place, act in self.placed if answered(act, w, r)]
         self.last = max([first - 1] + [last_number(act) for _, act in self.said])
-        self.announced = first_announced(recording, r)
         self.received = {n for n in self.sent() if self.is_received(n)}
-        asked = {n for _, found in self.answers for n in members(*found[:3])}
-        brought = {act['number'] for place, act in self.said
-                   if act['kind'] in ('data', 'data_frag') and heard(act, r) and place > self.announced}
-        self.missed = sorted(n for n in brought if self.first <= n <= self.last and n in asked and n not in self.received)
+        self.since = self.joined(recording) if since is None else since
+        self.asked, self.brought = {}, {}
+        for place, act in self.placed:
+            for n in asks(act, w, r):
+                self.asked.setdefault(n, []).append(place)
+            if brings(act, w, r):
+                self.brought.setdefault(act['number'], []).append(place)
+        self.missed = sorted(n for n in self.asked if first <= n <= self.last and self.is_missed(n))
+
+    def joined(self, recording):
+        """where the reader joins, if it does so here; else in front of all"""
+        joined = first_announced(recording, self.r)
+        return joined if joined_here(joined, self.answers) else START_OF_ALL
+
+    def brought_since(self, n):
+        return [place for place in self.brought.get(n, []) if place > self.since]
+
+    def is_missed(self, n):
+        """it was asked for, and of the last place where it is nothing of it came behind, or something of it did before"""
+        if n in self.received or n not in self.asked:
+            return False
+        last = self.asked[n][-1]
+        return all(place <= last for place in self.brought.get(n, [])) or any(place < last for place in self.brought_since(n))
+
+    def again(self, n):
+        """the first place where a number is sent behind the last one where it is asked for"""
+        return next((place for place in self.brought.get(n, []) if place > self.asked[n][-1]), None)
 
     def sent(self):
         """the numbers with a payload"""
@@ -741,6 +804,17 @@ class Delivery:
         """the kind and the place of the first act at a place that passes which tells a number gone"""
         return next(((act['kind'], place) for place, act, gone in self.words_for(n) if gone and passes(place)), None)
 
+    def missed_line(self):
+        """the least number that is missed: who asked for it last, whether it was sent again, and what told it gone since"""
+        n = self.missed[0]
+        asked, again = self.asked[n][-1], self.again(n)
+        sent = f', sent again {standing(again)}' if again else ''
+        return f'  number {n} asked for {standing(asked)}{sent}, {self.gone_since(n, asked)}'
+
+    def gone_since(self, n, asked):
+        gone = self.gone(n, lambda place: place > asked)
+        return f'told gone by {gone[0]} {standing(gone[1])}' if gone else 'not told gone since'
+
 
 def standing(place):
     return f'in datagram {place[0]} at {place[1]}'
@@ -759,15 +833,6 @@ def kept_line(delivery):
     return f'{head} told gone by {gone[0]} {standing(gone[1])}, acknowledged {standing(claim)}'
 
 
-def missed_line(delivery):
-    """the least number that is missed: who asked for it last, and what told it gone since"""
-    n = delivery.missed[0]
-    asked = [place for place, found in delivery.answers if n in members(*found[:3])][-1]
-    gone = delivery.gone(n, lambda place: place > asked)
-    since = f'told gone by {gone[0]} {standing(gone[1])}' if gone else 'not told gone since'
-    return f'  number {n} asked for {standing(asked)}, {since}'
-
-
 def asked_line(delivery):
     """whether the writer asked for an answer since the last one"""
     answered_at = max((place for place, _ in delivery.answers), default=(0, 0))
@@ -780,7 +845,7 @@ def delivery_lines(delivery):
     numbers = delivery.last + 1 - delivery.first
     lines = [f'received {len(delivery.received)} of {numbers}']
     if delivery.missed:
-        lines += [f'missed {len(delivery.missed)}', missed_line(delivery)]
+        lines += [f'missed {len(delivery.missed)}', delivery.missed_line()]
     if len(delivery.received) < numbers:
         lines.append(kept_line(delivery))
     return lines
@@ -809,8 +874,11 @@ def verdict_lines(delivery, verdict):
 
 def evidence(recording, w, r, first=1):
     """the lines of a pair behind its names: what the verdict rests on, of the numbers from `first` on"""
-    delivery = Delivery(recording, w, r, first)
-    last, lines = delivery.last, []
+    return evidence_lines(Delivery(recording, w, r, first), judge(recording, w, r, first))
+
+
+def evidence_lines(delivery, verdict):
+    first, last, lines = delivery.first, delivery.last, []
     if last >= first:
         place, act = next((place, act) for place, act in delivery.said if last_number(act) == last)
         lines.append(f'announced {last} by {act["kind"]} {standing(place)}')
@@ -826,7 +894,7 @@ def evidence(recording, w, r, first=1):
     all_told = covered([span for words in told for span in words.spans], first, last + 1)
     payloads = covered([span for words in told if words.payload is not None for span in words.spans], first, last + 1)
     lines.append(f'payloads {payloads} gone {all_told - payloads} untold {last + 1 - first - all_told}')
-    return lines + delivery_lines(delivery) + verdict_lines(delivery, judge(recording, w, r, first))
+    return lines + delivery_lines(delivery) + verdict_lines(delivery, verdict)
 
 
 def why(datagrams, asked=PLAIN):
@@ -886,7 +954,8 @@ def missed_values(lines):
         return {'missed': 0}
     count, first = lines
     asked = place_of(part_of(first, 'asked for '))
-    return {'missed': int(count.split()[1]), 'first_missed': {'number': int(first.split()[1]), 'asked': asked, 'gone': gone_of(first)}}
+    again = place_of(part_of(first, 'sent again ')) if 'sent again' in first else None
+    return {'missed': int(count.split()[1]), 'first_missed': {'number': int(first.split()[1]), 'asked': asked, 'again': again, 'gone': gone_of(first)}}
 
 
 def asked_values(line):
@@ -1001,40 +1070,6 @@ def answer(view, text, first=1, limits=USUAL, any_form=False):
     return text, status
 
 
-def checked_rows(datagrams, asked):
-    """the rows of what is asked, with what `check` tells of them"""
-    named = {guid_text(guid): (topic, kind) for guid, _, topic, kind, _, _ in discovery(datagrams, asked.fragments)[1]}
-    recording = [acts_of(d, asked.fragments) for d in datagrams]
-    rows = []
-    for values in report_values(datagrams, asked)['pairs']:
-        w, r = (bytes.fromhex(values[guid].replace('.', '')) for guid in ('writer', 'reader'))
-        more = {'key': named[values['writer']], 'judged': judge(recording, w, r, asked.first), 'lines': evidence(recording, w, r, asked.first)}
-        rows.append(values | more)
-    return rows
-
-
-def check(octets, asked, as_json=False, limits=USUAL):
-    """text and status of `check`"""
-    read = input_of(octets, limits, True)
-    if isinstance(read, str):
-        return '', 2
-    datagrams, ignored = read
-    observed = Asked(asked.first, asked.topics, True, asked.expect, True, True)
-    rows, all_rows = checked_rows(datagrams, observed), checked_rows(datagrams, Asked(asked.first, asked.topics, fragments=True))
-    report = report_values(datagrams, observed) | (ignored or {})
-    # A datagram of one octet is refused, and is no reason to look at it.
-    counts = report | reasons_of(octets, ignored, limits) | {'refused': report['refused'] - sum(len(d) < 2 for d in datagrams)}
-    reasons = because(rows, counts, asked.expect or 0)
-    left_out = [row for row in all_rows if row not in rows]
-    if as_json:
-        head = {'status': 'unclean' if reasons else 'clean', 'because': reasons}
-        told = report | {'pairs': advised(report['pairs'], counts, asked.first)}
-        lines = [json.dumps(head | told | {'notes': note_sentences(rows, left_out, counts)}, separators=(',', ':'))]
-    else:
-        lines = check_lines(rows, left_out, counts, asked.first, asked.expect or 0)
-    return ''.join(line + '\n' for line in lines), int(bool(reasons))
-
-
 def differing_from_runs(recording, w, r, bound, first):
     """where what is found by conditions is not what the runs say, of a recording whose numbers are all below `bound`"""
     found = []
@@ -1084,10 +1119,6 @@ def answers(rng, text):
     error, and its status"""
     for view, asked in questions(rng):
         yield words_of(view) + asked.words(), answer_as(view, text, asked)
-    for flag in [], ['--json']:
-        asked = some_checked(rng)
-        printed, status = check(text, asked, bool(flag))
-        yield ['check', *flag, *asked.words()], (printed, told_of('-', text, any_form=True), status)
 
 
 def differing_in_answers(rng, program, text):
@@ -1209,9 +1240,6 @@ def answers_of_capture(rng, octets):
     """command lines without their FILE, each with what the program should print, and its status"""
     for words, view, asked, limits, any_form in asked_of_capture(rng, octets):
         yield words, answer_as(view, octets, asked, limits, any_form)
-    if rng.random() < 0.3:
-        printed, status = check(octets, Asked())
-        yield ['check'], (printed, told_of('-', octets, any_form=True), status)
 
 
 def captures(program, count, seed):
@@ -1241,11 +1269,6 @@ def main():
         run = {'compare': compare, 'texts': texts, 'captures': captures}[sys.argv[1]]
         return run(sys.argv[2], count, int(sys.argv[4]) if len(sys.argv) > 4 else 1)
     words = sys.argv[2:-1]
-    if sys.argv[1] == 'check':
-        with open(sys.argv[-1], 'rb') as f:
-            text, status = check(f.read(), asked_by(words), '--json' in words)
-        sys.stdout.write(text)
-        return status
     with open(sys.argv[-1], 'rb') as f:
         text, told, status = answer_as(sys.argv[1], f.read(), asked_by(words), any_form='--any' in words, name=sys.argv[-1])
     sys.stdout.write(text)

@@ -1,7 +1,7 @@
 #!/usr/bin/env python3
 """Reads what `rtps-audit check --json FILE` or `rtps-audit audit --json FILE` prints, and writes a JUnit file: a test for
-each pair, which fails if the pair is not complete. Of `check` it also fails if the pair has missed numbers, and there is one
-more test, which fails, if the recording is not clean for another reason. The status is 1 if a test fails.
+each pair, which fails if the pair is not complete; of `check`, and of rows in spans, if it is not clean. Of `check` there is one more
+test, which fails, if the recording is not clean for another reason. The status is 1 if a test fails.
 
     rtps-audit check --json --expect 8 test.pcap | junit.py > delivery.xml
 """
@@ -10,22 +10,29 @@ import sys
 from xml.etree.ElementTree import Element, SubElement, tostring
 
 
-def is_complete(row):
-    return row['verdict'] == 'complete'
+# the outcomes of numbers that are no good news
+LOST = 'missed', 'unsent', 'unanswered'
 
 
-def is_failed(row, report):
-    return not is_complete(row) or 'status' in report and row['missed'] > 0
+def is_failed(row):
+    return not row.get('clean', row['verdict'] == 'complete')
+
+
+def lost(row):
+    """how many numbers of a pair were lost, by kind"""
+    return {kind: row['outcomes'][kind] for kind in LOST} if 'outcomes' in row else {'missed': row['missed']}
 
 
 def told(row):
-    """the verdict of a pair, and how many numbers were missed"""
-    return f"{row['verdict']} {row['number']}" + (f", missed {row['missed']}" if row['missed'] else '')
+    """the verdict of a pair, and how many numbers were lost"""
+    return ', '.join([f"{row['verdict']} {row['number']}", *(f'{kind} {count}' for kind, count in lost(row).items() if count)])
 
 
 def has_other_reasons(report):
-    """whether `check` gives more reasons than its pairs do: one if some are not complete, one if some have missed numbers"""
-    of_pairs = any(not is_complete(row) for row in report['pairs']) + any(row['missed'] for row in report['pairs'])
+    """whether `check` gives more reasons than its pairs do: one if some are not clean for their verdict, and one for each kind of
+    numbers that some lost"""
+    rows = report['pairs']
+    of_pairs = any(is_failed(row) and row['verdict'] != 'complete' for row in rows) + sum(any(lost(row).get(kind) for row in rows) for kind in LOST)
     return len(report.get('because', ())) > of_pairs
 
 
@@ -39,7 +46,7 @@ def add_test(suite, place, name, failure, details):
 def suite_of(report):
     suite = Element('testsuite', name='delivery')
     for row in report['pairs']:
-        failure = told(row) if is_failed(row, report) else None
+        failure = told(row) if is_failed(row) else None
         add_test(suite, row['topic'], f"{row['writer']} {row['reader']}", failure, json.dumps(row, indent=1))
     if has_other_reasons(report):
         add_test(suite, 'recording', 'not clean', '; '.join(report['because']), '\n'.join(report['because']))

@@ -19,6 +19,7 @@ sys.dont_write_bytecode = True
 import program
 import capture_reader
 import reference
+import spans
 from capture_writer import (ETHERNET, HOST, block, capture, cooked_1, cooked_2, enhanced, ethernet, extension, fragment, fragment_6,
                             interface, old, packet, packet_6, pcapng, record, section, simple, start, summed, tagged, udp, udp_4, udp_6)
 from captures import BASE, DATAGRAM, FRAMED, HEADER, SHOWN, audited, with_octets
@@ -189,7 +190,7 @@ def links(tests):
 def checks(tests, name, octets):
     """`check` and `check --json` are what the second implementation says"""
     for flags in (), ('--json',):
-        printed, status = reference.check(octets, reference.Asked(), bool(flags))
+        printed, status = spans.check(octets, reference.Asked(), bool(flags))
         error = ''.join(line + '\n' for line in reference.told_of(tests.file.name, octets, any_form=True))
         tests.holds(f'check {flags}: {name}', (printed, error, status), tests.run('check', octets, flags))
 

@@ -17,6 +17,7 @@ import program
 import fragment_runs
 import make
 import reference
+import spans
 from asked import Asked
 from fragment_runs import PIECES, PIECE_ROWS, ROWS, row_datagrams
 from make import ack_nack, data_frag, data_frags, header, to
@@ -79,7 +80,7 @@ def random_recordings(tests):
     for place in range(count):
         text = text_of(some_pieces(rng))
         tests.agrees(f'random recording {place}', text, WITH, FRAGMENTS)
-        tests.holds(f'check: random recording {place}', reference.check(text, Asked()), tests.run('check', text)[::2])
+        tests.holds(f'check: random recording {place}', spans.check(text, Asked()), tests.run('check', text)[::2])
     print(f'random recordings in each view, and check: {count}')
 
 

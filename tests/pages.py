@@ -24,6 +24,7 @@ import page
 import parts
 import recorded
 import reference
+import spans
 from asked import asked_by
 from browser import SHIFT, Browser, Tab, browser_path
 
@@ -33,7 +34,7 @@ MADE = 'robot', 'hostile', 'greatest', 'chatty', 'unmatched', 'none'
 # The most octets of a page of an example and of one of 90,000 pairs.
 EXAMPLE_SIZE, MANY_SIZE = 100_000, 85_000_000
 # What `check` asks by itself.
-AS_CHECK = ['--any', '--fragments', '--observed', '--strict']
+AS_CHECK = ['--any', '--fragments', '--observed', '--strict', '--spans']
 PROBE = file_of('tests', 'page_probe.js').decode()
 # So many pairs of a page are chosen one after another.
 MOST_CHOSEN = 30
@@ -45,19 +46,27 @@ def counted(n):
     return GROUPED.sub(',', str(n))
 
 
+# the outcomes of numbers, in the order of their columns
+OUTCOMES = 'received', 'likely', 'missed', 'unsent', 'unanswered', 'unconfirmed'
+
+
 def row_wanted(at, row):
     """what the page shows of a row"""
     badges = [row['verdict']]
-    if row['verdict'] == 'complete' and row['missed']:
+    if 'outcomes' in row:
+        badges += [f'{kind} {counted(row["outcomes"][kind])}' for kind in ('missed', 'unsent', 'unanswered') if row['outcomes'][kind]]
+        badges += ['clean'] if row['clean'] else []
+    elif row['verdict'] == 'complete' and row['missed']:
         badges.append(f"missed {counted(row['missed'])}")
     elif row['verdict'] == 'complete' and row['gone']:
         badges.append(f"gone {counted(row['gone'])}")
     announced, below = row['announced'], row['acknowledged']
     counts = [str(announced['number']) if announced else '–', str(below['below']) if below else '–']
+    amounts = [row['outcomes'][kind] for kind in OUTCOMES] if 'outcomes' in row else [row[name] for name in ('payloads', 'gone', 'untold', 'received', 'missed')]
     return {
         'id': f'pair-{at + 1}', 'topic': row['topic'], 'type': row['type'], 'badges': badges, 'number': str(row['number']),
         'datagram': [f"in datagram {row['datagram']}"] if 'datagram' in row else [], 'guids': [row['writer'], row['reader']],
-        'counts': counts + [counted(row[name]) for name in ('payloads', 'gone', 'untold', 'received', 'missed')],
+        'counts': counts + [counted(amount) for amount in amounts],
     }
 
 
@@ -67,12 +76,16 @@ def in_order(rows):
 
 
 def kind_of(row):
+    if row.get('clean'):
+        return 'clean'
     if row['verdict'] != 'complete':
         return row['verdict']
+    if 'clean' in row:
+        return 'lost'
     return 'missed' if row['missed'] else 'gone' if row['gone'] else 'complete'
 
 
-KINDS = ['unfounded', 'conflict', 'open', 'missed', 'gone', 'complete']
+KINDS = ['unfounded', 'conflict', 'open', 'lost', 'missed', 'gone', 'complete', 'clean']
 
 
 def grouped(rows):
@@ -101,7 +114,11 @@ def octets_of(path):
 
 def headline(values):
     """the outcome at the top of a page"""
-    return f"Not clean: {'; '.join(values['because'])}" if values['because'] else 'Clean'
+    if values['because']:
+        return f"Not clean: {'; '.join(values['because'])}"
+    if not values['pairs']:
+        return 'No pair was audited'
+    return 'Clean' if values['options']['strict'] or values['options']['spans'] else 'All pairs are complete'
 
 
 class PageTests(Counts):
@@ -180,8 +197,9 @@ class PageTests(Counts):
         tab.settle()
 
     def leave(self, name, tab):
-        """closes a page, which said nothing and asked for nothing"""
+        """closes a page, which said nothing and asked for nothing, and shows no value that has no text"""
         self.holds(f'{name}: nothing is said or asked for', ([], []), (tab.complaints(), tab.requests()))
+        self.holds(f'{name}: each value that is shown has a text', None, tab.evaluate('document.body.innerText.match(/\\[object|undefined/)'))
         tab.close()
 
     # ---- without a browser
@@ -216,12 +234,14 @@ class PageTests(Counts):
             self.same_page(name, path, AS_CHECK)
 
     def same_page(self, name, path, words=()):
-        """the program writes the page of the second implementation, and ends as its audit does"""
+        """the program writes the page of the second implementation, and ends as it does; without spans as its audit, too"""
         words = [*words, *(['--any'] if path.endswith('.pcapng') and '--any' not in words else [])]
-        found = page.parts_of(octets_of(path), asked_by(words), '--any' in words)
+        wanted = page.answer_as(octets_of(path), asked_by(words), '--any' in words)
         got = subprocess.run([self.program, 'page', *words, path], capture_output=True)
-        audit = subprocess.run([self.program, 'audit', *words, path], capture_output=True)
-        self.holds(f'{name}: the page with {words}', (page.page_text(*found), audit.stderr, audit.returncode), (got.stdout.decode(), got.stderr, got.returncode))
+        self.holds(f'{name}: the page with {words}', wanted, (got.stdout.decode(), got.stderr.decode().splitlines(), got.returncode))
+        if '--spans' not in words:
+            audit = subprocess.run([self.program, 'audit', *words, path], capture_output=True)
+            self.holds(f'{name}: how the page with {words} ends', (audit.stderr, audit.returncode), (got.stderr, got.returncode))
 
     def text_of_a_page(self):
         head, middle, tail = parts.parts()
@@ -244,10 +264,10 @@ class PageTests(Counts):
         for name in EXAMPLES:
             octets = file_of('examples', name)
             text, values = page.parts_of(octets, asked_by(AS_CHECK), True)
-            checked = json.loads(reference.check(octets, asked_by([]), True)[0])
+            checked = json.loads(spans.check(octets, asked_by([]), True)[0])
             own = {member: values[member] for member in checked}
             self.holds(f'{name}: the object of check', checked, own)
-            self.holds(f'{name}: the text of check', reference.check(octets, asked_by([]))[0], text)
+            self.holds(f'{name}: the text of check', spans.check(octets, asked_by([]))[0], text)
 
     def rows_with_charts(self):
         values = self.values('chatty')
@@ -282,9 +302,9 @@ class PageTests(Counts):
         """in words that are written out here"""
         wanted = {
             'robot': ('Not clean: 2 pairs are not complete', '2 of 4 pairs are complete. The recording proves 130 of 150 numbers received.'),
-            'none': ('Clean', 'No pair was audited.'),
+            'none': ('No pair was audited', ''),
             'open.rec': ('Not clean: 1 pair is not complete', '0 of 1 pair is complete. The recording proves 2 of 3 numbers received.'),
-            'gone.rec': ('Clean', '1 of 1 pair is complete. The recording proves 0 of 3 numbers received.'),
+            'gone.rec': ('All pairs are complete', '1 of 1 pair is complete. The recording proves 0 of 3 numbers received.'),
         }
         for name, (sentence, received) in wanted.items():
             tab = self.open(name)
@@ -297,7 +317,7 @@ class PageTests(Counts):
 
     def asked(self):
         """the options that were given"""
-        given = {'from': 7, 'any': True, 'fragments': True, 'observed': True, 'strict': True, 'topics': ["rt/*", "<&'"], 'expect': 9}
+        given = {'from': 7, 'any': True, 'fragments': True, 'observed': True, 'strict': True, 'spans': False, 'topics': ["rt/*", "<&'"], 'expect': 9}
         self.made['asked'] = self.parts('robot')[0], self.values('robot') | {'options': given}
         tab = self.open('asked')
         words = "--from 7 --any --fragments --observed --strict --topic 'rt/*' --topic '<&'' --expect 9"

@@ -214,7 +214,7 @@ def many(side, names, verdict_of):
     return {
         'status': 'unclean', 'because': [f'{incomplete:,} pairs are not complete'], 'pairs': pairs,
         'datagrams': 20, 'refused': 0, 'skipped': 0, 'fragments': 0, 'undirected': 0, 'unsettled': 0, 'notes': [],
-        'options': {'from': 1, 'any': False, 'fragments': False, 'observed': False, 'strict': False, 'topics': [], 'expect': None},
+        'options': {'from': 1, 'any': False, 'fragments': False, 'observed': False, 'strict': False, 'spans': False, 'topics': [], 'expect': None},
         'participants': [], 'endpoints': endpoints, 'writers': writers, 'answers': answers,
     }
 

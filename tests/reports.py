@@ -16,6 +16,7 @@ import xml.etree.ElementTree
 sys.dont_write_bytecode = True
 import program
 import reference
+import spans
 from capture_writer import capture, packet
 from program import ROOT, file_of, text_of
 from random_recordings import A, B, parameter, u
@@ -151,10 +152,10 @@ def of_junit(tests):
         rows = json.loads(output)['pairs']
         failures = sum(row['verdict'] != 'complete' for row in rows)
         tests.holds(f'junit.py of {name}', (len(rows), failures, status), suite_of(output)[0])
-        output, status = reference.check(octets, reference.Asked(), True)
+        output, status = spans.check(octets, reference.Asked(), True)
         report = json.loads(output)
-        failures = sum(row['verdict'] != 'complete' or row['missed'] > 0 for row in report['pairs'])
-        other = any('complete' not in reason and 'missed' not in reason for reason in report['because'])
+        failures = sum(not row['clean'] for row in report['pairs'])
+        other = any(not any(word in reason for word in ('complete', 'missed', 'unsent', 'unanswered')) for reason in report['because'])
         tests.holds(f'junit.py of {name}, checked', (len(report['pairs']) + other, failures + other, status), suite_of(output)[0])
     print('reports: those of examples/ in the form of JUnit')
 
@@ -168,8 +169,8 @@ def of_other_reasons(tests):
             ('no row', alone, None, (1, 1, 1), 'there is no pair'),
             ('no row of three', alone, 3, (1, 1, 1), 'there is no pair; 0 pairs of 3 expected'),
             ('missed', dropped, None, (1, 1, 1), 'complete 2, missed 1'),
-            ('missed, and one row of two', dropped, 2, (2, 2, 1), '1 pair of 2 expected; 1 number was missed in 1 pair')):
-        output, _ = reference.check(octets, reference.Asked(expect=expected), True)
+            ('missed, and one row of two', dropped, 2, (2, 2, 1), '1 number was missed in 1 pair; 1 pair of 2 expected')):
+        output, _ = spans.check(octets, reference.Asked(expect=expected), True)
         tests.holds(f'junit.py, {name}', (wanted, told), suite_of(output))
     print('reports: 5 in the form of JUnit with other reasons')
 

@@ -16,7 +16,7 @@ use Rattle.rtps_wire.specs.declared.header.Header.{Header}
 use Rattle.rtps_receiver.specs.Acts.{act_at, act_body, acts_behind, acts_of, acts_of_item, acts_with, state_at_start, state_behind}
 use Rattle.rtps_receiver.specs.declared.state.State.{State}
 use Rattle.rtps_receiver.specs.Values.{ActBodyValue, ActValue}
-use Rattle.rtps_receiver.specs.Values.ActBodyValue.{Data as DataAct, Heartbeat as HeartbeatAct, AckNack as AckNackAct, Gap as GapAct, DataFrag as DataFragAct}
+use Rattle.rtps_receiver.specs.Values.ActBodyValue.{Data as DataAct, Heartbeat as HeartbeatAct, AckNack as AckNackAct, Gap as GapAct, DataFrag as DataFragAct, NackFrag as NackFragAct}
 use Rattle.rtps_audit.specs.Delivery.{Word, Datagram, greatest}
 use Rattle.rtps_audit.specs.Delivery.Word.{Told}
 use Rattle.rtps_audit.specs.FullRun.{IsBoundedBy}
@@ -114,6 +114,7 @@ abbrev end_of : ActBodyValue → ℕ
 end_of (DataAct value) = value.number + 1
 end_of (HeartbeatAct value) = value.first
 end_of (AckNackAct value) = 0
+end_of (NackFragAct value) = 0
 end_of (GapAct value) = value.list.base + value.list.count
 end_of (DataFragAct value) = value.number + 1
 
@@ -121,6 +122,7 @@ before_end : (body : ActBodyValue) (n : ℕ) (word : Word) → word_of body n �
 before_end (DataAct value) n word e = let same = some_if _ _ word e in grind (arith, nat_tests)
 before_end (HeartbeatAct value) n word e = let same = some_if _ _ word e in grind (arith, nat_tests)
 before_end (AckNackAct value) n word e = cc
+before_end (NackFragAct value) n word e = cc
 before_end (GapAct value) n word e = let in_gap = some_if _ _ word e in grind (arith, nat_tests)
 before_end (DataFragAct value) n word e = let same = if_some (n == value.number) (option_map Told value.told) word e in grind (arith, nat_tests)
 

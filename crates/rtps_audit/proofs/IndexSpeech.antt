@@ -10,7 +10,7 @@ use Rattle.rtps_ids.specs.declared.identity.Guid.{Guid}
 use Rattle.rtps_ids.specs.declared.identity.GuidPrefix.{GuidPrefix}
 use Rattle.rtps_receiver.specs.Speech.{entity_from, is_entity, is_prefix, is_spoken_by, names, writer_named}
 use Rattle.rtps_receiver.specs.Values.{ActBodyValue, ActValue}
-use Rattle.rtps_receiver.specs.Values.ActBodyValue.{Data, Heartbeat, AckNack, Gap, DataFrag}
+use Rattle.rtps_receiver.specs.Values.ActBodyValue.{Data, Heartbeat, AckNack, Gap, DataFrag, NackFrag}
 use Rattle.rtps_discovery.specs.declared.matching.Pair.{Pair}
 use Rattle.rtps_audit.specs.Answered.{HearsTwo, IsHeard, IsToldAll, IsToldBy, IsUntoldAmong, base_among, last_among, verdict_by}
 use Rattle.rtps_audit.specs.Delivery.{Claims, Datagram, Gives, IsAsked, Speech, Word, greatest, last_announced_from}
@@ -68,13 +68,14 @@ and_first false b e = cc
 
 -- ---- who speaks is who an act is from
 
+never : (b c : Bool) → (b && false) ≡ true → c ≡ true
+never true c e = cc
+never false c e = cc
+
 by_body : (writer : Guid) (source : GuidPrefix) (body : ActBodyValue) → (is_prefix source writer.prefix && names (writer_named body) writer.entity) ≡ true
     → (is_prefix writer.prefix source && is_entity writer.entity (entity_from body)) ≡ true
-by_body writer source (AckNack value) e = never (is_prefix source writer.prefix) e
-  where
-    never : (b : Bool) → (b && false) ≡ true → (is_prefix writer.prefix source && is_entity writer.entity value.reader) ≡ true
-    never true e = cc
-    never false e = cc
+by_body writer source (AckNack value) e = never (is_prefix source writer.prefix) (is_prefix writer.prefix source && is_entity writer.entity value.reader) e
+by_body writer source (NackFrag value) e = never (is_prefix source writer.prefix) (is_prefix writer.prefix source && is_entity writer.entity value.reader) e
 by_body writer source (Data value) e = both (bytes_eq-sym writer.prefix.0 source.0) (bytes_eq-sym writer.entity.0 value.writer.0) ∙ e
 by_body writer source (Heartbeat value) e = both (bytes_eq-sym writer.prefix.0 source.0) (bytes_eq-sym writer.entity.0 value.writer.0) ∙ e
 by_body writer source (Gap value) e = both (bytes_eq-sym writer.prefix.0 source.0) (bytes_eq-sym writer.entity.0 value.writer.0) ∙ e

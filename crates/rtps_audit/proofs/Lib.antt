@@ -23,3 +23,4 @@ pub mod PayloadRuns
 pub mod PayloadHearing
 pub mod SweepLemmas
 pub mod AnnouncedLemmas
+pub mod SaidLemmas

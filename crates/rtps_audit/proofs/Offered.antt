@@ -6,7 +6,7 @@ use Rattle.rtps_ids.specs.declared.identity.Guid.{Guid}
 use Rattle.rtps_ids.specs.declared.identity.GuidPrefix.{GuidPrefix}
 use Rattle.rtps_receiver.specs.Speech.{entity_from, is_answer, is_entity, is_for, is_prefix, is_spoken_by, names_pair}
 use Rattle.rtps_receiver.specs.Values.{ActBodyValue, ActValue}
-use Rattle.rtps_receiver.specs.Values.ActBodyValue.{Data, Heartbeat, AckNack, Gap, DataFrag}
+use Rattle.rtps_receiver.specs.Values.ActBodyValue.{Data, Heartbeat, AckNack, Gap, DataFrag, NackFrag}
 use Rattle.rtps_audit.specs.Delivery.{Claims, Datagram, DeliveryState, Ends, Gives, HasRun, Holds, IsAsked, Speech, Word, greatest, last_announced_from}
 use Rattle.rtps_audit.specs.PlainVerdict.{IsFounded, IsSpoken, IsUnclaimed}
 use Rattle.rtps_audit.specs.RunVerdict.{EndsWithout}
@@ -60,6 +60,7 @@ answerer_is_origin reader writer placed e = by_body placed.act.source placed.act
     by_body source dest (Heartbeat value) e = let no = never _ _ e in cc
     by_body source dest (Gap value) e = let no = never _ _ e in cc
     by_body source dest (DataFrag value) e = let no = never _ _ e in cc
+    by_body source dest (NackFrag value) e = let no = never _ _ e in cc
 
 -- ---- what a speech has
 

@@ -10,7 +10,7 @@ use Rattle.rtps_ids.specs.declared.identity.Guid.{Guid}
 use Rattle.rtps_ids.specs.declared.identity.GuidPrefix.{GuidPrefix}
 use Rattle.rtps_receiver.specs.Speech.{entity_from, is_among, is_entity, is_heard_by, is_prefix, is_spoken_by, names, reader_named, writer_named}
 use Rattle.rtps_receiver.specs.Values.{ActBodyValue, ActValue}
-use Rattle.rtps_receiver.specs.Values.ActBodyValue.{Data, Heartbeat, AckNack, Gap, DataFrag}
+use Rattle.rtps_receiver.specs.Values.ActBodyValue.{Data, Heartbeat, AckNack, Gap, DataFrag, NackFrag}
 use Rattle.rtps_wire.specs.Values.{PayloadValue, payload_value}
 use Rattle.rtps_audit.specs.Delivery.{IsAsked, Word}
 use Rattle.rtps_audit.specs.Delivery.Word.{Told}
@@ -44,10 +44,11 @@ told_itself act e n x sent says = by_test (n == e.number) refl (sym (sent.says n
 pub tells_itself : (act : ActValue) (e : AddressedPayload) → IsSentBy act e → word_of act.body e.number ≡ Some (Told (payload_value e.payload.now))
 tells_itself act e sent = sent.says e.number ∙ ap (λ b. told_if b (payload_value e.payload.now)) (eq-eqb e.number e.number refl)
 
--- who an act is from speaks it, unless it is an ACKNACK
+-- who an act is from speaks it, unless it is of a reader
 speaks : (writer : Guid) (source : GuidPrefix) (body : ActBodyValue) (named : EntityId) → (is_prefix writer.prefix source && is_entity writer.entity (entity_from body)) ≡ true → reader_named body ≡ Some named
     → (is_prefix source writer.prefix && names (writer_named body) writer.entity) ≡ true
 speaks writer source (AckNack value) named from reader = cc
+speaks writer source (NackFrag value) named from reader = cc
 speaks writer source (Data value) named from reader = both (bytes_eq-sym source.0 writer.prefix.0) (bytes_eq-sym value.writer.0 writer.entity.0) ∙ from
 speaks writer source (Heartbeat value) named from reader = both (bytes_eq-sym source.0 writer.prefix.0) (bytes_eq-sym value.writer.0 writer.entity.0) ∙ from
 speaks writer source (Gap value) named from reader = both (bytes_eq-sym source.0 writer.prefix.0) (bytes_eq-sym value.writer.0 writer.entity.0) ∙ from

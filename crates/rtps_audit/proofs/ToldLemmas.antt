@@ -78,6 +78,18 @@ heard_by_audience act audience reader is = by_named (reader_named act.body) is
     by_named (Some named) e = let same : record { dest = act.dest; reader = named } ≡ audience = cc in ap (λ (a : Audience). is_among a.dest (Some a.reader) reader) (sym same)
     by_named None e = cc
 
+-- an act that is for nobody is heard by nobody
+pub unheard : (act : ActValue) (reader : Guid) → audience_of act ≡ None → is_heard_by act reader ≡ false
+unheard act reader is = by_named (reader_named act.body) is
+  where
+    never : (b : Bool) → (b && false) ≡ false
+    never true = refl
+    never false = refl
+
+    by_named : (named : Option EntityId) → audience_at act.dest named ≡ None → is_among act.dest named reader ≡ false
+    by_named (Some named) e = cc
+    by_named None e = never _
+
 -- ---- one act more
 
 list_alike : {X : Type 0} (p q : X → Bool) → ((x : X) → p x ≡ q x) → (xs : List X) → list_any p xs ≡ list_any q xs

@@ -1,14 +1,19 @@
 -- Laws over definitions alone. Those on deliveries hold whatever the number is from which on numbers are asked for.
 -- own: what a reader of the definitions would ask of them.
-use Rattle.std.specs.Prelude.{ℕ, ℤ, ◌<◌, ◌≤◌, ◌≡◌, ◌↔◌, ◌^◌, pos, List, ◌++◌, length, All, Contains}
+use Rattle.std.specs.Prelude.{ℕ, ℤ, ◌<◌, ◌≤◌, ◌≡◌, ◌↔◌, ◌^◌, pos, List, ◌++◌, length, All, Contains, Option, None}
 use Rattle.rtps_ids.specs.declared.identity.Guid.{Guid}
+use Rattle.rtps_wire.specs.declared.nack_frag.NackFrag.{NackFrag as NackFragBody}
+use Rattle.rtps_receiver.specs.Values.{ActValue}
+use Rattle.rtps_receiver.specs.Values.ActBodyValue.{NackFrag}
 use Rattle.rtps_audit.specs.Delivery.{Word, Speech, DeliveryState, start, IsAsked, Event, Gives, Claims, Holds, Follows, IsReached, Ends, HasRun, last_announced_from}
 use Rattle.rtps_audit.specs.RunVerdict.{OnNatural, EndsInConflict, IsVerdictFrom}
 use Rattle.rtps_audit.specs.PlainVerdict.{IsFounded, SpeaksTwo, IsClaimed, IsPlainVerdictFrom}
 use Rattle.rtps_audit.specs.FullRun.{IsBoundedBy, IsFullRunAllowed, IsFullRun, full_run}
-use Rattle.rtps_audit.specs.Intake.{Intake}
+use Rattle.rtps_audit.specs.Delivered.{IsExactVerdictFrom}
+use Rattle.rtps_audit.specs.Intake.{Intake, intake_of}
 use Rattle.rtps_audit.specs.Report.{IsReportBy}
-use Rattle.rtps_audit.specs.Speech.{speech_of}
+use Rattle.rtps_audit.specs.Said.{datagrams_until}
+use Rattle.rtps_audit.specs.Speech.{announced_for, base_for, speech_by, speech_of, word_for}
 use Rattle.rtps_audit.specs.declared.report.Report.{Report}
 use Rattle.rtps_audit.specs.declared.verdict.Verdict.{Verdict}
 use Rattle.rtps_audit.specs.declared.verdict.Verdict.TheVariants.{Conflict, Open, Complete}
@@ -121,6 +126,18 @@ pub record IsFirstConflict (from : ℕ) (speech : Speech) (n : ℕ) : Type 0 whe
 -- what the verdict conflict says
 abbrev pub ConflictIsFirst : Type 0
 ConflictIsFirst = (from : ℕ) (speech : Speech) (number : ℤ) → IsVerdictFrom from speech (Conflict number) → OnNatural number (IsFirstConflict from speech)
+
+-- the verdict by the first datagrams of what a recording says is the verdict on the recording that ends there
+abbrev pub FirstDatagramsDecide : Type 0
+FirstDatagramsDecide =
+    (from : ℕ) (writer reader : Guid) (until : Option ℕ) (recording : List (List ℕ)) (verdict : Verdict)
+    → IsExactVerdictFrom from (speech_by writer reader (datagrams_until until (intake_of recording).acts)) verdict ↔ IsExactVerdictFrom from (speech_of writer reader (datagrams_until until recording)) verdict
+
+-- a NACK_FRAG has no word for any number, claims none and announces none, whoever hears it
+abbrev pub NackFragsSayNothing : Type 0
+NackFragsSayNothing =
+    (writer reader : Guid) (act : ActValue) (asks : NackFragBody) → act.body ≡ NackFrag asks
+    → ((n : ℕ) → word_for writer reader act n ≡ None) × (base_for writer reader act ≡ None) × (announced_for writer act ≡ None)
 
 -- what is taken in has one report: the same rows, and the same counts. So has a recording
 abbrev pub HasOneReport : Type 0

@@ -10,5 +10,6 @@ pub mod Answered
 pub mod PayloadConflict
 pub mod Intake
 pub mod Index
+pub mod Said
 pub mod Sweep
 pub mod Laws

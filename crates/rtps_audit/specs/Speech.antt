@@ -10,7 +10,7 @@ use Rattle.rtps_wire.specs.declared.body.GapBody.{GapBody}
 use Rattle.rtps_receiver.specs.Acts.{acts_of}
 use Rattle.rtps_receiver.specs.Speech.{is_answer, is_heard_by, is_spoken_by}
 use Rattle.rtps_receiver.specs.Values.{ActBodyValue, ActValue}
-use Rattle.rtps_receiver.specs.Values.ActBodyValue.{Data, Heartbeat, AckNack, Gap, DataFrag}
+use Rattle.rtps_receiver.specs.Values.ActBodyValue.{Data, Heartbeat, AckNack, Gap, DataFrag, NackFrag}
 use Rattle.rtps_audit.specs.Delivery.{Word, Datagram, Speech}
 use Rattle.rtps_audit.specs.Delivery.Word.{Told, Gone}
 
@@ -30,6 +30,7 @@ word_of (Heartbeat value) n = if nat_lt n value.first then Some Gone else None
 word_of (Gap value) n = if is_in_gap value n then Some Gone else None
 word_of (DataFrag value) n = if n == value.number then option_map Told value.told else None
 word_of (AckNack value) n = None
+word_of (NackFrag value) n = None
 
 -- for the reader, if it hears the act from the writer
 abbrev pub word_for : Guid → Guid → ActValue → ℕ → Option Word
@@ -42,6 +43,7 @@ base_of_body (Data value) = None
 base_of_body (Heartbeat value) = None
 base_of_body (Gap value) = None
 base_of_body (DataFrag value) = None
+base_of_body (NackFrag value) = None
 
 -- the base of an answer of this reader to this writer
 abbrev pub base_for : Guid → Guid → ActValue → Option ℕ
@@ -57,6 +59,7 @@ abbrev pub announced_of_body : ActBodyValue → Option ℕ
 announced_of_body (Data value) = Some value.number
 announced_of_body (Heartbeat value) = Some (natural value.last)
 announced_of_body (AckNack value) = None
+announced_of_body (NackFrag value) = None
 announced_of_body (Gap value) = None
 announced_of_body (DataFrag value) = Some value.number
 

@@ -6,15 +6,19 @@ ghost use Rattle.rtps_audit.specs.Index.{IsIndexBy, IsIndexOf};
 ghost use Rattle.rtps_audit.specs.Intake.{Intake, acts_together, intake_more, no_intake};
 ghost use Rattle.rtps_audit.specs.Placed.{announced_among, answers_among, is_from, placed_in, placed_value};
 ghost use Rattle.rtps_audit.specs.Report.{is_undirected as is_undirected_lem};
+ghost use Rattle.rtps_audit.specs.Said.{datagrams_until};
 ghost use Rattle.rtps_audit.specs.Speech.{speech_by};
 
 use crate::announced_places::{AnnouncedPlace, note_places};
 use crate::answer::{Answer, Answers, note_answers};
 use crate::groups::Groups;
 use crate::placed::{Placed, note_acts};
+use crate::plain_judge::judge_said;
+use crate::said::Said;
 use crate::sweep::rows_of_writer;
 use crate::tallies::Tallies;
 use crate::verdict::Verdict;
+use rtps_coverage::MergedRanges;
 use rtps_discovery::{Directory, Pair};
 use rtps_ids::{Guid, Memory, SeqNum};
 use rtps_receiver::{Act, ActBody, Walk};
@@ -84,8 +88,8 @@ impl<'a> Index<'a> {
         Ok(index)
     }
 
-    /// The acts from this GUID, by datagram and then by place: of a writer its DATA, HEARTBEAT, GAP and, in
-    /// an index with samples, DATA_FRAG, of a reader its ACKNACK. It takes no memory.
+    /// The acts from this GUID, by datagram and then by place: of a writer its DATA, HEARTBEAT, GAP and, in an index with
+    /// samples, DATA_FRAG, of a reader its ACKNACK and, in an index with samples, NACK_FRAG. It takes no memory.
     pub fn acts_of(&self, origin: Guid) -> &[Placed<'a>]
         ensures { (intake : Intake) → IsIndexBy intake self.now
             → map placed_value result.now ≡ filter (is_from origin) (placed_in intake.acts) }
@@ -128,6 +132,20 @@ impl<'a> Index<'a> {
         Ok(rows[0].verdict)
     }
 
+    /// Judges by the datagrams before this one, which is counted from 1, as [`Index::judge_from`] does by all: what stands behind
+    /// them is as if it were not recorded.
+    pub fn judge_until(
+        &self,
+        pair: Pair,
+        from: SeqNum,
+        until: Option<u64>,
+    ) -> Result<Verdict, Memory>
+        ensures { (intake : Intake) → IsIndexBy intake self.now
+            → IfOk result (IsExactVerdictFrom from (speech_by pair.writer pair.reader (datagrams_until until intake.acts))) }
+    {
+        judge_said::<MergedRanges>(self.alloc, &Said::until(self, pair, until), pair, from)
+    }
+
     /// Judges by all of the writer's numbers, as [`Index::judge_from`] does.
     pub fn judge(&self, pair: Pair) -> Result<Verdict, Memory>
         ensures { (intake : Intake) → IsIndexBy intake self.now
@@ -143,7 +161,11 @@ fn is_undirected(act: &Act<'_>) -> bool
 {
     match &act.body {
         ActBody::AckNack(_) => act.dest.is_none(),
-        ActBody::Data(_) | ActBody::Heartbeat(_) | ActBody::Gap(_) | ActBody::DataFrag(_) => false,
+        ActBody::Data(_)
+        | ActBody::Heartbeat(_)
+        | ActBody::Gap(_)
+        | ActBody::DataFrag(_)
+        | ActBody::NackFrag(_) => false,
     }
 }
 

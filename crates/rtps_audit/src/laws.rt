@@ -1,7 +1,8 @@
 //! Laws over definitions alone. Each function does nothing: its clause is the law, and its
 //! proof the law's proof. The laws on deliveries hold whatever the number is from which on numbers are asked for.
 
-ghost use Rattle.rtps_audit.specs.Laws.{ReachedStatesAreSound, RunsExistWhereFounded, FullRunDecides, FullRunIsOne, VerdictsAgree, PlainMeansComplete, HasNoTwoVerdicts, EachHasAVerdict, VerdictsFollowWhatIsSaid, RecordingsAreBounded, EachRecordingHasAVerdict, FullRunDecidesRecordings, HeldStaysHeld, OpenIsFirstMissed, ConflictIsFirst, HasOneReport};
+ghost use Rattle.rtps_audit.specs.Laws.{FirstDatagramsDecide, NackFragsSayNothing, ReachedStatesAreSound, RunsExistWhereFounded, FullRunDecides, FullRunIsOne, VerdictsAgree, PlainMeansComplete, HasNoTwoVerdicts, EachHasAVerdict, VerdictsFollowWhatIsSaid, RecordingsAreBounded, EachRecordingHasAVerdict, FullRunDecidesRecordings, HeldStaysHeld, OpenIsFirstMissed, ConflictIsFirst, HasOneReport};
+ghost use Rattle.rtps_audit.specs.Said.{FirstDatagramsSayTheSame};
 
 use rtps_discovery::laws::one_map;
 
@@ -85,6 +86,18 @@ pub fn open_is_first_missed()
 /// smaller one.
 pub fn conflict_is_first()
     ensures { ConflictIsFirst }
+{}
+
+/// The first datagrams of a recording say what they say in the whole of it. So a verdict by the datagrams before one is the
+/// verdict on the recording that ends there.
+pub fn first_datagrams_say_the_same()
+    ensures acts { FirstDatagramsSayTheSame }
+    ensures verdict { FirstDatagramsDecide }
+{}
+
+/// A NACK_FRAG has no word for any number, claims none and announces none.
+pub fn nack_frags_say_nothing()
+    ensures { NackFragsSayNothing }
 {}
 
 /// What an index takes in has one report, and so has a recording.

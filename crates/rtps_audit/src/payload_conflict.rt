@@ -62,7 +62,8 @@ fn addressed<'x, 'a>(act: &'x Act<'a>, from: u64) -> Option<AddressedPayload<'x,
             Some(payload) => (fragment.number, fragment.reader, payload),
             None => return None,
         },
-        ActBody::Heartbeat(_) | ActBody::AckNack(_) | ActBody::Gap(_) => return None,
+        ActBody::Heartbeat(_) | ActBody::AckNack(_) | ActBody::NackFrag(_) | ActBody::Gap(_) =>
+            return None,
     };
     let number = number.get().cast_unsigned();
     if number < from {

@@ -41,11 +41,12 @@ fn body_of<'a>(body: &ActBody<'a>) -> ActBody<'a>
             number: fragment.number,
             told: fragment.told,
         }),
+        ActBody::NackFrag(nack_frag) => ActBody::NackFrag(*nack_frag),
     }
 }
 
 /// A copy of an act, in its datagram.
-fn place<'a>(datagram: usize, act: &Act<'a>) -> Placed<'a>
+pub fn place<'a>(datagram: usize, act: &Act<'a>) -> Placed<'a>
     ensures datagram { result.datagram ≡ datagram }
     ensures act { act_value result.act ≡ act_value act.now }
 {

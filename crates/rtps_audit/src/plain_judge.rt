@@ -1,10 +1,13 @@
-ghost use Rattle.std.specs.Prelude.{map, IfOk};
+ghost use Rattle.std.specs.Prelude.{map, IfOk, List};
+ghost use Rattle.rtps_receiver.specs.Values.{ActValue};
 ghost use Rattle.rtps_audit.specs.Delivered.{IsExactVerdict, IsExactVerdictFrom};
-ghost use Rattle.rtps_audit.specs.Speech.{speech_of};
+ghost use Rattle.rtps_audit.specs.Said.{IsSaid};
+ghost use Rattle.rtps_audit.specs.Speech.{speech_by, speech_of};
 
 use crate::index::Index;
 use crate::payload_conflict::PayloadConflicts;
 use crate::placed::Placed;
+use crate::said::Said;
 use crate::verdict::{Claims, Verdict};
 use crate::word::{add_range, add_told};
 use rtps_coverage::{Coverage, MergedRanges};
@@ -92,8 +95,21 @@ pub fn judge_from<C: Coverage>(
         (speech_of pair.writer pair.reader (map (λ datagram. datagram.now) recording.now))) }
 {
     let index = Index::build(alloc, recording)?;
-    let acts = index.acts_of(pair.writer);
-    let answers = index.answers_of(pair);
+    judge_said::<C>(alloc, &Said::until(&index, pair, None), pair, from)
+}
+
+/// Judges what a writer and a reader said, as [`judge_from`] does.
+pub(crate) fn judge_said<C: Coverage>(
+    alloc: Global,
+    said: &Said<'_, '_>,
+    pair: Pair,
+    from: SeqNum,
+) -> Result<Verdict, Memory>
+    ensures { (recording : List (List ActValue)) → IsSaid pair recording said.now
+        → IfOk result (IsExactVerdictFrom from (speech_by pair.writer pair.reader recording)) }
+{
+    let acts = said.acts;
+    let answers = said.answers;
     let mut reader = ToldReader::<C>::new(alloc, pair.reader, from)?;
     let mut claims = Claims::new(from);
     for answer in answers {

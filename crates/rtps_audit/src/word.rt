@@ -27,7 +27,7 @@ pub(crate) fn add_told<C: Coverage>(told: &mut C, body: &ActBody<'_>) -> Result<
             }
             None => Ok(()),
         },
-        ActBody::AckNack(_) => Ok(()),
+        ActBody::AckNack(_) | ActBody::NackFrag(_) => Ok(()),
     }
 }
 
@@ -70,6 +70,6 @@ pub fn announced_number(act: &Act<'_>, writer: Guid) -> u64
         ActBody::Data(data) => data.number.get().cast_unsigned(),
         ActBody::DataFrag(fragment) => fragment.number.get().cast_unsigned(),
         ActBody::Heartbeat(heartbeat) => heartbeat.last.max(0).cast_unsigned(),
-        ActBody::AckNack(_) | ActBody::Gap(_) => 0,
+        ActBody::AckNack(_) | ActBody::NackFrag(_) | ActBody::Gap(_) => 0,
     }
 }

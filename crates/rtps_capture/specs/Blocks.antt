@@ -1,8 +1,8 @@
 -- The blocks of a pcapng file. PCAP Now Generic Capture File Format (IETF draft), 3 "General File Structure" and 4 "Block
 -- Definitions".
 -- own: of a block its length is looked at first, then whether the file has all of it, then the repetition, then its fields. Of
--- a section header the number that tells the order comes before these. Options and the stated length of a section are not
--- looked at, and blocks of other types are passed over.
+-- a section header the number that tells the order comes before these. Of options two
+-- of an interface are read. The stated length of a section is not looked at, and blocks of other types are passed over.
 use Rattle.std.specs.Prelude.{ℕ, ◌+◌, ◌-◌, ◌%◌, ◌==◌, ◌≤◌, ◌&&◌, ◌||◌, not, nat_le, nat_lt, Bool, if◌then◌else◌, List, length, Option, Some, None}
 use Rattle.rtps_ids.specs.declared.order.Order.{Order}
 use Rattle.rtps_ids.specs.declared.order.Order.TheVariants.{Big}

@@ -4,8 +4,8 @@ ghost use Rattle.rtps_capture.specs.Frames.{HasOneReading};
 ghost use Rattle.rtps_capture.specs.Layout.{LayoutIsStandard};
 ghost use Rattle.rtps_capture.specs.Sent.{EachPacketIsGiven, EachWasCarried};
 
-/// A file has one reading: what its records and blocks give is decided by its octets, and it is what
-/// [`crate::read_capture`] reads.
+/// A file has one list of frames: from each place on, what its records and blocks give step by step is decided by its octets, and it is
+/// what [`crate::read_capture`] reads. What a step gives is `specs/Records.antt` and `specs/Blocks.antt`.
 pub fn one_reading()
     ensures { HasOneReading }
 {}
@@ -16,8 +16,9 @@ pub fn each_was_carried()
     ensures { EachWasCarried }
 {}
 
-/// Each whole packet is given: where its fragments come one after another for their key, none of them equals one that waits, and they
-/// have a right checksum, the last of them gives its datagram, whatever waited before, unless one of them gave another.
+/// Packets are put together, step by step: where the fragments of one packet come one after another for their key, each has an octet, none
+/// of them clashes with another or equals one that waits, and they have a right checksum, the last of them gives its datagram, whatever
+/// waited before, unless one of them gave another.
 pub fn each_packet_is_given()
     ensures { EachPacketIsGiven }
 {}

@@ -1,5 +1,5 @@
 //! Captures, as `tcpdump` writes them: the UDP datagrams that their frames carry, where these stand, and when they were captured.
-//! Of any capture also those are told whose packets came in fragments, which are put together.
+//! Where any capture is read, packets that came in fragments are put together, and their datagrams are told, too.
 #![tactic(auto)]
 
 mod assembly;

@@ -25,7 +25,7 @@ pub fn capture_order(octets: &[u8]) -> Option<Order>
     }
 }
 
-/// The link type of a capture that is none of [`Captures::Classic`] for it, for who refuses it. None where the octets begin no
+/// The link type of a classic capture, where it is none that [`Captures::Classic`] reads: whoever refuses the capture can name it. None where the octets begin no
 /// capture of major version 2, or do not reach to its header's end, and where its frames are read (PCAP Capture File Format, 4
 /// "File Header").
 pub fn unread_link_type(octets: &[u8]) -> Option<u32>

@@ -1,49 +1,54 @@
 -- What `check` prints of a recording, as JSON too, and how it ends. RFC 8259 "The JavaScript Object Notation (JSON) Data Interchange
 -- Format".
 -- own: one command for a person and for a test job. It tells which topics lost data and what to do; last, whether the
--- recording is clean, or why not. A pair that is not complete, or has missed numbers, has the lines of `why` that explain it, and in a
--- last line what to do. Other programs read the outcome and its reasons without taking lines apart.
-use Rattle.std.specs.Prelude.{ℕ, ◌≡◌, ◌++◌, ◌==◌, if◌then◌else◌, List, [], ◌∷◌, codes, map, ℤ, decimal, Option, None, Some, flat_map, ◌↔◌}
+-- recording is clean, or why not. A pair that is not clean has the lines of `why` that explain it, and in a last
+-- line what to do; those that lack only a tail share a line, since a system that is stopped while it publishes leaves one with each.
+-- Other programs read the outcome and its reasons without taking lines apart.
+use Rattle.std.specs.Prelude.{ℕ, ◌≡◌, ◌++◌, ◌==◌, if◌then◌else◌, List, [], ◌∷◌, Bool, codes, filter, fold, map, max, ℤ, decimal, length, Option, None, Some, flat_map, ◌↔◌}
 use Rattle.std.specs.List.{concat}
-use Rattle.rtps_report.specs.Vocabulary.{CompleteGrounds, ConflictGrounds, Counts, EvidenceValue, Explanation, explanation_value, ExplanationValue, FirstMissed, GroundsValue, OpenGrounds, SentValue, UnfoundedGrounds}
-use Rattle.rtps_report.specs.declared.advice.Scope.{Scope}
-use Rattle.rtps_report.specs.declared.findings.Ending.{Ending}
-use Rattle.rtps_report.specs.declared.totals.Totals.{Totals}
+use Rattle.rtps_report.specs.Vocabulary.{CompleteGrounds, ConflictGrounds, Counts, EvidenceValue, Explanation, explanation_value, ExplanationValue, FirstMissed, GroundsValue, OpenGrounds, Outcomes, SentValue, UnfoundedGrounds}
 use Rattle.rtps_report.specs.declared.findings.Ending.TheVariants.{Clean}
-use Rattle.rtps_parts.specs.Parts.{share, words_for, grouped}
-use Rattle.rtps_report.specs.Asked.{AskedValue}
+use Rattle.rtps_report.specs.declared.findings.Ending.{Ending}
+use Rattle.rtps_report.specs.declared.advice.Scope.{Scope}
+use Rattle.rtps_report.specs.declared.asked.Standard.{Standard}
+use Rattle.rtps_report.specs.declared.totals.Totals.{Totals}
+use Rattle.rtps_parts.specs.Parts.{amount, share, words_for, grouped}
+use Rattle.rtps_report.specs.Asked.{AskedValue, tail_of}
 use Rattle.rtps_report.specs.ByTopic.{AreByTopic, topics_of}
 use Rattle.rtps_report.specs.FullReport.{IsTold, ReportValue, facts_of_rows}
 use Rattle.rtps_report.specs.NoteFacts.{note_facts, scope_of}
 use Rattle.rtps_report.specs.Recording.{RecordingValue}
-use Rattle.rtps_report.specs.Totals.{totals_of, asked_about}
+use Rattle.rtps_report.specs.Totals.{totals_of}
+use Rattle.rtps_report.specs.RowFacts.{is_late, is_noted, is_tail_alone, left_in, outcomes_of, row_from}
+use Rattle.rtps_report.specs.declared.advice.Advice.TheVariants.{Tail}
 use Rattle.rtps_report.specs.declared.note_facts.NoteFacts.{NoteFacts}
 use Rattle.rtps_lines.specs.Causes.{causes_of, findings_in, last_line}
-use Rattle.rtps_lines.specs.Notes.{notes, topic_name}
+use Rattle.rtps_lines.specs.Notes.{joined_names, notes, number_words, topic_name}
 use Rattle.rtps_parts.specs.Names.{guid_text, octet_text}
-use Rattle.rtps_report.specs.Advice.{advice_of, is_noted, sentence_of}
+use Rattle.rtps_report.specs.Advice.{advice_of, sentence_of}
 use Rattle.rtps_report.specs.Reported.{number_of}
 use Rattle.rtps_lines.specs.Lines.{acknowledged_line, announced_line, asked_line, claimed_line, questions_line, sent_line, told_line, verdict_text}
 use Rattle.rtps_parts.specs.Table.{table}
 use Rattle.rtps_lines.specs.CheckMembers.{check_members}
 use Rattle.rtps_lines.specs.JsonText.{IsJsonLine, object_of}
 use Rattle.rtps_report.specs.Findings.{ending_as}
+use Rattle.rtps_check.specs.declared.checked_text.Told.{Told}
 
--- how many of the pairs are complete, and how many of the numbers are received
-abbrev pub complete_line : Totals → List ℕ
-complete_line totals = concat (share totals.complete_pairs totals.pairs
-    ∷ words_for totals.pairs (record { one = codes " pair is complete, "; many = codes " pairs are complete, " })
+-- how many of the pairs are clean, and how many of the numbers are received
+abbrev pub clean_line : Totals → List ℕ
+clean_line totals = concat (share totals.clean_pairs totals.pairs
+    ∷ words_for totals.pairs (record { one = codes " pair is clean, "; many = codes " pairs are clean, " })
     ∷ share totals.received totals.numbers
     ∷ words_for totals.numbers (record { one = codes " number received\n"; many = codes " numbers received\n" }) ∷ [])
 
 -- that there is no pair, and what to do by the pairs that are left out
 unfoldable pub no_pair_lines : List ExplanationValue → List ℕ
-no_pair_lines [] = codes "there is no pair to judge\n  -> record from before the start, and see in rtps-audit list --any whether topic, type and QoS of the writers and readers match\n"
+no_pair_lines [] = codes "there is no pair to judge\n  -> record from before the start, and see in rtps-audit list --any FILE whether topic, type and QoS of the writers and readers match\n"
 no_pair_lines (row ∷ rows) = codes "there is no pair to judge\n  -> record where the datagrams of the readers and the writers pass, and switch off shared memory\n"
 
 -- the first lines
 abbrev pub first_lines : Totals → List ExplanationValue → List ℕ
-first_lines totals left_out = if totals.pairs == 0 then no_pair_lines left_out else complete_line totals
+first_lines totals left_out = if totals.pairs == 0 then no_pair_lines left_out else clean_line totals
 
 -- notes behind an empty line; nothing where there are none
 abbrev pub notes_block : List (List ℕ) → List ℕ
@@ -54,31 +59,51 @@ notes_block (note ∷ notes) = codes "\n" ++ flat_map (λ one. one ++ codes "\n"
 
 -- the heads of its columns
 abbrev pub table_head : List (List ℕ)
-table_head = codes "topic" ∷ codes "pairs" ∷ codes "complete" ∷ codes "open" ∷ codes "conflict" ∷ codes "unfounded" ∷ codes "received"
-    ∷ codes "missed" ∷ []
+table_head = codes "topic" ∷ codes "pairs" ∷ codes "clean" ∷ codes "before" ∷ codes "received" ∷ codes "likely" ∷ codes "missed" ∷ codes "unsent"
+    ∷ codes "unanswered" ∷ codes "unconfirmed" ∷ []
 
 -- what is told of a topic
-abbrev pub topic_row : ℕ → List ExplanationValue → List (List ℕ)
-topic_row from rows =
-    let totals = totals_of from rows in
-    topic_name rows ∷ grouped totals.pairs ∷ grouped totals.complete_pairs ∷ grouped totals.open_pairs ∷ grouped totals.conflict_pairs
-    ∷ grouped totals.unfounded_pairs ∷ share totals.received totals.numbers ∷ grouped totals.missed ∷ []
+abbrev pub topic_row : Scope → List ExplanationValue → List (List ℕ)
+topic_row scope rows =
+    let totals = totals_of scope rows in
+    topic_name rows ∷ grouped totals.pairs ∷ grouped totals.clean_pairs ∷ grouped totals.before ∷ grouped totals.received ∷ grouped totals.likely
+    ∷ grouped totals.missed ∷ grouped totals.unsent ∷ grouped totals.unanswered ∷ grouped totals.unconfirmed ∷ []
 
--- the places of the columns that are shown
-abbrev pub shown : List ℕ
-shown = 0 ∷ 1 ∷ 2 ∷ 3 ∷ 4 ∷ 5 ∷ 6 ∷ 7 ∷ []
+-- the place of a column, where its entries are not all 0
+abbrev pub shown_where : ℕ → ℕ → List ℕ
+shown_where place sum = if sum == 0 then [] else place ∷ []
 
--- the table of topics behind an empty line; nothing where there is none
-abbrev pub topic_table : ℕ → List (List ExplanationValue) → List ℕ
-topic_table from [] = []
-topic_table from (topic ∷ topics) = codes "\n" ++ table shown (table_head ∷ map (topic_row from) (topic ∷ topics))
+-- the places of the columns that are shown: the first four, and those of which some entry is not 0
+abbrev pub shown_places : Totals → List ℕ
+shown_places totals =
+    0 ∷ 1 ∷ 2 ∷ 3 ∷ (shown_where 4 totals.received
+    ++ (shown_where 5 totals.likely
+    ++ (shown_where 6 totals.missed ++ (shown_where 7 totals.unsent ++ (shown_where 8 totals.unanswered ++ shown_where 9 totals.unconfirmed)))))
+
+-- the table of topics, of whose rows this is counted, behind an empty line; nothing where there is none
+abbrev pub topic_table : Scope → Totals → List (List ExplanationValue) → List ℕ
+topic_table scope totals [] = []
+topic_table scope totals (topic ∷ topics) = codes "\n" ++ table (shown_places totals) (table_head ∷ map (topic_row scope) (topic ∷ topics))
 
 -- ---- the pairs that someone has to look at
 
--- how many numbers are missed, and the line of the least of them, which has its spaces; nothing where none is
-abbrev pub missed_text : ℕ → Option FirstMissed → List ℕ
-missed_text missed None = codes "\n"
-missed_text missed (Some first) = concat (codes ", missed " ∷ decimal missed ∷ codes "\n" ∷ asked_line first ∷ [])
+-- how many numbers have an outcome; nothing where none has
+abbrev pub kind_text : List ℕ → ℕ → List ℕ
+kind_text name count = if count == 0 then [] else name ++ decimal count
+
+-- what became of numbers, and the end of the line
+abbrev pub kinds_text : Outcomes → List ℕ
+kinds_text outcomes =
+    (codes ", received " ++ decimal outcomes.received)
+    ++ (kind_text (codes ", likely ") outcomes.likely
+    ++ (kind_text (codes ", missed ") outcomes.missed
+    ++ (kind_text (codes ", unsent ") outcomes.unsent
+    ++ (kind_text (codes ", unanswered ") outcomes.unanswered ++ (kind_text (codes ", unconfirmed ") outcomes.unconfirmed ++ codes "\n")))))
+
+-- the line of the least number that is missed, which has its spaces; nothing where none is
+abbrev pub missed_text : Option FirstMissed → List ℕ
+missed_text None = []
+missed_text (Some first) = asked_line first
 
 -- the line of a payload that was sent for a number, if one was
 abbrev pub payload_line : ℤ → Option SentValue → List ℕ
@@ -98,11 +123,20 @@ verdict_by number evidence (UnfoundedGrounds teller claim) =
 abbrev pub verdict_lines : EvidenceValue → List ℕ
 verdict_lines evidence = verdict_by (number_of evidence.verdict) evidence evidence.grounds
 
--- the line of a pair: its verdict, and how many of the numbers asked about are received
+-- the datagram in which a reader leaves; nothing where it does not
+abbrev pub left_text : Option ℕ → List ℕ
+left_text None = []
+left_text (Some datagram) = codes ", left in datagram " ++ decimal datagram
+
+-- the lines of a writer and a reader: from which number on the row is, and where the reader leaves
+abbrev pub pair_lines : ℕ → ExplanationValue → List ℕ
+pair_lines from row =
+    concat (codes "  writer " ∷ guid_text row.pair.writer ∷ codes "\n  reader " ∷ guid_text row.pair.reader
+    ∷ codes ", from " ∷ decimal (row_from from row.evidence.in_span) ∷ []) ++ (left_text (left_in row.evidence.in_span) ++ codes "\n")
+
+-- the lines of a pair, up to what became of its numbers
 abbrev pub row_head : ℕ → ExplanationValue → List ℕ
-row_head from row =
-    concat (codes "  " ∷ guid_text row.pair.writer ∷ codes " " ∷ guid_text row.pair.reader ∷ codes " " ∷ verdict_text row.evidence.verdict
-    ∷ codes ", received " ∷ decimal row.evidence.received ∷ codes " of " ∷ decimal (asked_about from row.evidence.announcement) ∷ [])
+row_head from row = pair_lines from row ++ ((codes "  " ++ verdict_text row.evidence.verdict) ++ kinds_text (outcomes_of row.evidence))
 
 -- what to do, behind an arrow
 abbrev pub advice_line : Scope → EvidenceValue → List ℕ
@@ -112,11 +146,11 @@ advice_line scope evidence = concat (codes "    -> " ∷ sentence_of (advice_of 
 abbrev pub row_lines : Scope → ExplanationValue → List ℕ
 row_lines scope row =
     row_head scope.from row
-    ++ (missed_text row.evidence.missed row.evidence.first_missed ++ (verdict_lines row.evidence ++ advice_line scope row.evidence))
+    ++ (missed_text row.evidence.first_missed ++ (verdict_lines row.evidence ++ advice_line scope row.evidence))
 
 -- the lines of a pair that someone has to look at; nothing for another
 abbrev pub noted_lines : Scope → ExplanationValue → List ℕ
-noted_lines scope row = if is_noted row then row_lines scope row else []
+noted_lines scope row = if is_noted scope.tail row.evidence then row_lines scope row else []
 
 -- the line of a topic: its name and its type, as `list` writes them between quotes
 abbrev pub topic_head : List ExplanationValue → List ℕ
@@ -132,23 +166,66 @@ headed head (octet ∷ lines) = 10 ∷ (head ++ octet ∷ lines)
 abbrev pub section : Scope → List ExplanationValue → List ℕ
 section scope rows = headed (topic_head rows) (flat_map (noted_lines scope) rows)
 
+-- ---- the pairs that lack only a tail
+
+-- how many numbers the longest tail of these rows has
+abbrev pub longest_tail : List ExplanationValue → ℕ
+longest_tail rows = fold (λ longest row. max longest (outcomes_of row.evidence).unconfirmed) 0 rows
+
+-- that so many pairs lack only a tail, and what lets them pass
+abbrev pub tails_text : ℕ → ℕ → List ℕ → List ℕ
+tails_text pairs longest names =
+    concat (codes "\n" ∷ amount pairs (record { one = codes "pair lacks only a tail"; many = codes "pairs lack only a tail" })
+    ∷ codes " of at most " ∷ amount longest number_words ∷ [])
+    ++ ((codes " (--tail " ++ decimal longest)
+    ++ concat (codes " lets them pass)" ∷ names ∷ codes "\n  -> " ∷ sentence_of Tail ∷ codes "\n" ∷ []))
+
+-- the lines of these rows; nothing where there is none
+abbrev pub tails_of : List ExplanationValue → List ℕ
+tails_of [] = []
+tails_of (row ∷ rows) = tails_text (length (row ∷ rows)) (longest_tail (row ∷ rows)) (joined_names (topics_of (row ∷ rows)))
+
+-- those of the rows that are not clean for their tail alone
+abbrev pub tail_block : ℕ → List ExplanationValue → List ℕ
+tail_block tail rows = tails_of (filter (λ row. is_tail_alone tail row.evidence) rows)
+
 -- ---- the whole text
 
--- the lines by topic: the table, and the pairs that someone has to look at
-abbrev pub topics_text : Scope → List ExplanationValue → List ℕ
-topics_text scope rows = topic_table scope.from (topics_of rows) ++ flat_map (section scope) (topics_of rows)
+-- the lines by topic: the table, the pairs that someone has to look at, and those that lack only a tail
+abbrev pub topics_text : Scope → Totals → List ExplanationValue → List ℕ
+topics_text scope totals rows = topic_table scope totals (topics_of rows) ++ (flat_map (section scope) (topics_of rows) ++ tail_block scope.tail rows)
+
+-- what is told beside the rows: of what weakens the report, which rows it cannot speak of, by topic, what rows have to be, and how the run
+-- ends
+pub record Beside : Type 0 where
+  pub facts : NoteFacts
+  pub left_out : List ExplanationValue
+  pub standard : Standard
+  pub ending : Ending
+
+-- what weakens the report
+abbrev pub told_notes : Scope → Beside → List ExplanationValue → List (List ℕ)
+told_notes scope beside rows = notes (codes "\n  -> ") beside.facts beside.left_out (filter (λ row. is_late scope.from row.evidence) rows)
 
 -- the lines behind them: what weakens the report, and whether the recording is clean
-abbrev pub ending_text : Totals → NoteFacts → List ExplanationValue → Ending → List ℕ
-ending_text totals facts left_out ending =
-    notes_block (notes (codes "\n  -> ") facts left_out) ++ 10 ∷ last_line ending (causes_of totals (findings_in ending))
+abbrev pub ending_text : Scope → Beside → Totals → List ExplanationValue → List ℕ
+ending_text scope beside totals rows =
+    notes_block (told_notes scope beside rows) ++ 10 ∷ last_line beside.ending (causes_of beside.standard totals (findings_in beside.ending))
 
--- The text of what is told: the rows that are asked for and those that it cannot speak of, both by topic, what an advice and the notes
--- need to know beside them, and how the run ends.
-abbrev pub text_by : Scope → NoteFacts → List ExplanationValue → List ExplanationValue → Ending → List ℕ
-text_by scope facts rows left_out ending =
-    let totals = totals_of scope.from rows in
-    first_lines totals left_out ++ (topics_text scope rows ++ ending_text totals facts left_out ending)
+-- the text of what is told, of rows by topic
+abbrev pub text_by : Scope → Beside → List ExplanationValue → List ℕ
+text_by scope beside rows =
+    let totals = totals_of scope rows in
+    first_lines totals beside.left_out ++ (topics_text scope totals rows ++ ending_text scope beside totals rows)
+
+-- what the code knows of it, as a value
+abbrev pub beside_value : Told → Beside
+beside_value told = record { facts = told.facts; left_out = map explanation_value told.left_out.now; standard = told.standard; ending = told.ending }
+
+-- what is told beside the rows of this report
+abbrev pub beside_of : AskedValue → RecordingValue → ReportValue → List Explanation → Beside
+beside_of asked recording report left_out =
+    record { facts = note_facts asked recording report; left_out = map explanation_value left_out; standard = asked.standard; ending = report.ending }
 
 -- the text of this report
 pub record IsCheckText (asked : AskedValue) (recording : RecordingValue) (report : ReportValue) (text : List ℕ) : Type 0 where
@@ -156,7 +233,7 @@ pub record IsCheckText (asked : AskedValue) (recording : RecordingValue) (report
   pub rows_by_topic : AreByTopic report.explained.rows.items rows
   pub left_out : List Explanation
   pub left_out_by_topic : AreByTopic report.left_out left_out
-  pub is_text : text ≡ text_by (scope_of asked recording report) (note_facts asked recording report) (map explanation_value rows) (map explanation_value left_out) report.ending
+  pub is_text : text ≡ text_by (scope_of asked recording report) (beside_of asked recording report left_out) (map explanation_value rows)
 
 -- ---- JSON
 
@@ -172,10 +249,10 @@ IsCheckedJsonAs asked recording text ending = IsTold IsCheckJson asked recording
 -- ---- what holds of it
 
 -- a run on these rows that ends so is clean exactly where it has no reason
-abbrev pub IsCleanWithoutReasons : AskedValue → List ExplanationValue → Ending → Type 0
-IsCleanWithoutReasons asked rows ending = (ending ≡ Clean) ↔ (causes_of (totals_of asked.from rows) (findings_in ending) ≡ [])
+abbrev pub IsCleanWithoutReasons : AskedValue → Scope → List ExplanationValue → Ending → Type 0
+IsCleanWithoutReasons asked scope rows ending = (ending ≡ Clean) ↔ (causes_of asked.standard (totals_of scope rows) (findings_in ending) ≡ [])
 
--- Whatever is asked of whatever rows, `check` ends clean exactly where it gives no reason. own: a job that ends unclean has to say why.
+-- Whatever is asked of whatever rows, a run ends clean exactly where it gives no reason. own: a job that ends unclean has to say why.
 abbrev pub TellsWhyUnclean : Type 0
-TellsWhyUnclean = (asked : AskedValue) (rows : List ExplanationValue) (counts : Counts) (recording : RecordingValue)
-    → IsCleanWithoutReasons asked rows (ending_as asked (facts_of_rows rows counts recording))
+TellsWhyUnclean = (asked : AskedValue) (unread : Bool) (rows : List ExplanationValue) (counts : Counts) (recording : RecordingValue)
+    → IsCleanWithoutReasons asked (record { from = asked.from; tail = tail_of asked.standard; unread = unread }) rows (ending_as asked (facts_of_rows asked rows counts recording))

@@ -3,17 +3,20 @@ ghost use Rattle.rtps_evidence.specs.Explanation.{explanation_value};
 ghost use Rattle.rtps_parts.specs.Parts.{part_text};
 ghost use Rattle.rtps_report.specs.Asked.{asked_value};
 ghost use Rattle.rtps_report.specs.FullReport.{report_value};
-ghost use Rattle.rtps_check.specs.CheckText.{IsCheckJson, IsCheckText, complete_line as complete_line_lem, ending_text, first_lines, no_pair_lines as no_pair_lines_lem, notes_block, text_by, topics_text};
+ghost use Rattle.rtps_check.specs.CheckText.{IsCheckJson, IsCheckText, beside_value, clean_line as clean_line_lem, ending_text, first_lines, no_pair_lines as no_pair_lines_lem, notes_block, text_by, told_notes as told_notes_lem, topics_text};
 
 use crate::sections::push_sections;
+use crate::tails::{late_among, push_tail_block};
 use crate::topic_table::push_topic_table;
 use json::Writer;
 use rtps_evidence::Explanation;
-use rtps_lines::{causes_of, json_line, notes_of, push_check_members, push_last};
+use rtps_lines::{
+    Judged, NotedRows, causes_of, json_line, notes_of, push_check_members, push_last,
+};
 use rtps_parts::{Part, Words, render, words_for};
 use rtps_report::{
-    Ending, FullReport, NoteFacts, Scope, Totals, by_topic, notes_on, scope_of, topics_of,
-    totals_of,
+    Ending, FullReport, NoteFacts, Scope, Standard, Totals, by_topic, notes_on, scope_of,
+    topics_of, totals_of,
 };
 use std::alloc::{AllocError, Global};
 
@@ -24,23 +27,25 @@ struct Told<'r, 'a> {
     facts: NoteFacts,
     rows: &'r [Explanation<'a>],
     left_out: &'r [Explanation<'a>],
+    standard: Standard,
     ending: Ending,
 }
 
-fn complete_line(totals: &Totals) -> [Part<'static>; 4]
-    ensures { flat_map part_text result ≡ complete_line_lem totals.now }
+/// How many of the pairs are clean, and how many of the numbers are received.
+fn clean_line(totals: &Totals) -> [Part<'static>; 4]
+    ensures { flat_map part_text result ≡ clean_line_lem totals.now }
 {
     let pairs = u128::from(totals.pairs);
     let pair_words = Words {
-        one: " pair is complete, ",
-        many: " pairs are complete, ",
+        one: " pair is clean, ",
+        many: " pairs are clean, ",
     };
     let number_words = Words {
         one: " number received\n",
         many: " numbers received\n",
     };
     [
-        Part::Share(u128::from(totals.complete_pairs), pairs),
+        Part::Share(u128::from(totals.clean_pairs), pairs),
         Part::Text(words_for(pairs, pair_words)),
         Part::Share(totals.received, totals.numbers),
         Part::Text(words_for(totals.numbers, number_words)),
@@ -53,7 +58,7 @@ fn no_pair_lines(left_out: &[Explanation<'_>]) -> &'static str
     ensures { result.now ≡ no_pair_lines_lem (map explanation_value left_out.now) }
 {
     if left_out.is_empty() {
-        "there is no pair to judge\n  -> record from before the start, and see in rtps-audit list --any whether topic, type and QoS of the writers and readers match\n"
+        "there is no pair to judge\n  -> record from before the start, and see in rtps-audit list --any FILE whether topic, type and QoS of the writers and readers match\n"
     } else {
         "there is no pair to judge\n  -> record where the datagrams of the readers and the writers pass, and switch off shared memory\n"
     }
@@ -69,7 +74,7 @@ fn push_first(
     if totals.pairs == 0 {
         text.push_str(no_pair_lines(left_out))
     } else {
-        render(text, &complete_line(totals))
+        render(text, &clean_line(totals))
     }
 }
 
@@ -86,12 +91,30 @@ fn push_notes(text: &mut String, notes: &[String]) -> Result<(), AllocError>
     Ok(())
 }
 
-fn push_topics(alloc: Global, text: &mut String, told: &Told<'_, '_>) -> Result<(), AllocError>
-    ensures { OnOk result (string_bytes text.new ≡ string_bytes text.old ++ topics_text told.now.scope (map explanation_value told.now.rows.now)) }
+fn push_topics(
+    alloc: Global,
+    text: &mut String,
+    told: &Told<'_, '_>,
+    totals: &Totals,
+) -> Result<(), AllocError>
+    ensures { OnOk result (string_bytes text.new ≡ string_bytes text.old ++ topics_text told.now.scope totals.now (map explanation_value told.now.rows.now)) }
 {
     let topics = topics_of(alloc, told.rows)?;
-    push_topic_table(alloc, text, &topics, told.scope.from)?;
-    push_sections(alloc, text, &topics, told.scope)
+    push_topic_table(alloc, text, &topics, (totals, told.scope))?;
+    push_sections(alloc, text, &topics, told.scope)?;
+    push_tail_block(alloc, text, told.rows, told.scope.tail)
+}
+
+fn told_notes(alloc: Global, told: &Told<'_, '_>) -> Result<Vec<String>, AllocError>
+    ensures { IfOk result (λ notes. map string_bytes notes.items
+        ≡ told_notes_lem told.now.scope (beside_value told.now) (map explanation_value told.now.rows.now)) }
+{
+    let late = late_among(alloc, told.rows, told.scope.from)?;
+    let rows = NotedRows {
+        left_out: told.left_out,
+        late: &late,
+    };
+    notes_of(alloc, &told.facts, rows, "\n  -> ")
 }
 
 fn push_ending(
@@ -101,23 +124,27 @@ fn push_ending(
     totals: &Totals,
 ) -> Result<(), AllocError>
     ensures { OnOk result (string_bytes text.new
-        ≡ string_bytes text.old ++ ending_text totals.now told.now.facts (map explanation_value told.now.left_out.now) told.now.ending) }
+        ≡ string_bytes text.old ++ ending_text told.now.scope (beside_value told.now) totals.now (map explanation_value told.now.rows.now)) }
 {
-    let notes = notes_of(alloc, &told.facts, told.left_out, "\n  -> ")?;
+    let judged = Judged {
+        totals,
+        standard: told.standard,
+    };
+    let notes = told_notes(alloc, told)?;
     push_notes(text, &notes)?;
     text.push_str("\n")?;
-    let causes = causes_of(alloc, totals, &told.ending)?;
+    let causes = causes_of(alloc, judged, &told.ending)?;
     push_last(text, &told.ending, &causes)
 }
 
 fn text_of(alloc: Global, told: &Told<'_, '_>) -> Result<String, AllocError>
     ensures { IfOk result (λ text. string_bytes text
-        ≡ text_by told.now.scope told.now.facts (map explanation_value told.now.rows.now) (map explanation_value told.now.left_out.now) told.now.ending) }
+        ≡ text_by told.now.scope (beside_value told.now) (map explanation_value told.now.rows.now)) }
 {
-    let totals = totals_of(told.rows, told.scope.from);
+    let totals = totals_of(told.rows, told.scope);
     let mut text = String::new(alloc);
     push_first(&mut text, &totals, told.left_out)?;
-    push_topics(alloc, &mut text, told)?;
+    push_topics(alloc, &mut text, told, &totals)?;
     push_ending(alloc, &mut text, told, &totals)?;
     Ok(text)
 }
@@ -133,6 +160,7 @@ pub fn check_text(alloc: Global, report: &FullReport<'_>) -> Result<String, Allo
         facts: notes_on(report),
         rows: &rows,
         left_out: &left_out,
+        standard: report.asked.standard,
         ending: report.ending,
     };
     let text = text_of(alloc, &told)?;

@@ -4,6 +4,7 @@
 mod checked_text;
 pub mod laws;
 mod sections;
+mod tails;
 mod topic_table;
 
 pub use checked_text::{check_json, check_text};

@@ -2,23 +2,44 @@ ghost use Rattle.std.specs.Prelude.{◌≡◌, ◌++◌, OnOk, IfOk, map, flat_m
 ghost use Rattle.rtps_evidence.specs.Explanation.{evidence_value, explanation_value};
 ghost use Rattle.rtps_evidence.specs.Locations.{sent_value};
 ghost use Rattle.rtps_parts.specs.Parts.{part_text};
-ghost use Rattle.rtps_check.specs.CheckText.{advice_line, headed, missed_text, noted_lines, payload_line, row_head, row_lines, section, topic_head as topic_head_lem, verdict_lines};
+ghost use Rattle.rtps_check.specs.CheckText.{advice_line, headed, kind_text, kinds_text, left_text, missed_text, noted_lines, pair_lines, payload_line, row_head, row_lines, section, topic_head as topic_head_lem, verdict_lines};
 
-use rtps_evidence::{Evidence, Explanation, Grounds, Sent};
+use rtps_evidence::{Evidence, Explanation, FirstMissed, Grounds, Outcomes, Sent};
 use rtps_lines::{
     AcknowledgedLine, AnnouncedLine, AskedLine, ClaimedLine, QuestionsLine, ToldLine, VerdictText,
-    push_sent,
+    push_field, push_sent,
 };
 use rtps_parts::{Part, render};
-use rtps_report::{Scope, advice_of, asked_about, is_noted, number_of};
+use rtps_report::{Scope, advice_of, is_noted, left_at, number_of, outcomes_of, row_from};
 use std::alloc::{AllocError, Global};
 
-fn push_missed(text: &mut String, evidence: &Evidence<'_>) -> Result<(), AllocError>
-    ensures { OnOk result (string_bytes text.new ≡ string_bytes text.old ++ missed_text evidence.now.missed evidence.now.first_missed) }
+fn push_kind(text: &mut String, name: &str, count: u64) -> Result<(), AllocError>
+    ensures { OnOk result (string_bytes text.new ≡ string_bytes text.old ++ kind_text name.now count) }
 {
-    match evidence.first_missed {
-        None => text.push_str("\n"),
-        Some(first) => write!(text, ", missed {}\n{}", evidence.missed, AskedLine(first)),
+    if count == 0 {
+        return Ok(());
+    }
+    push_field(text, name, count)
+}
+
+fn push_kinds(text: &mut String, outcomes: Outcomes) -> Result<(), AllocError>
+    ensures { OnOk result (string_bytes text.new ≡ string_bytes text.old ++ kinds_text outcomes) }
+{
+    push_field(text, ", received ", outcomes.received)?;
+    push_kind(text, ", likely ", outcomes.likely)?;
+    push_kind(text, ", missed ", outcomes.missed)?;
+    push_kind(text, ", unsent ", outcomes.unsent)?;
+    push_kind(text, ", unanswered ", outcomes.unanswered)?;
+    push_kind(text, ", unconfirmed ", outcomes.unconfirmed)?;
+    text.push_str("\n")
+}
+
+fn push_missed(text: &mut String, first: Option<FirstMissed>) -> Result<(), AllocError>
+    ensures { OnOk result (string_bytes text.new ≡ string_bytes text.old ++ missed_text first) }
+{
+    match first {
+        None => Ok(()),
+        Some(first) => write!(text, "{}", AskedLine(first)),
     }
 }
 
@@ -67,20 +88,34 @@ fn push_verdict(text: &mut String, evidence: &Evidence<'_>) -> Result<(), AllocE
     }
 }
 
-/// The line of a pair, up to how many of the numbers asked about are received.
+fn push_left(text: &mut String, left: Option<u64>) -> Result<(), AllocError>
+    ensures { OnOk result (string_bytes text.new ≡ string_bytes text.old ++ left_text left) }
+{
+    match left {
+        Some(datagram) => push_field(text, ", left in datagram ", datagram),
+        None => Ok(()),
+    }
+}
+
+fn push_pair(text: &mut String, row: &Explanation<'_>, from: u64) -> Result<(), AllocError>
+    ensures { OnOk result (string_bytes text.new ≡ string_bytes text.old ++ pair_lines from (explanation_value row.now)) }
+{
+    let first = row_from(from, &row.evidence);
+    write!(
+        text,
+        "  writer {}\n  reader {}, from {first}",
+        row.pair.writer, row.pair.reader
+    )?;
+    push_left(text, left_at(&row.evidence))?;
+    text.push_str("\n")
+}
+
 fn push_head(text: &mut String, row: &Explanation<'_>, from: u64) -> Result<(), AllocError>
     ensures { OnOk result (string_bytes text.new ≡ string_bytes text.old ++ row_head from (explanation_value row.now)) }
 {
-    let evidence = &row.evidence;
-    write!(
-        text,
-        "  {} {} {}, received {} of {}",
-        row.pair.writer,
-        row.pair.reader,
-        VerdictText(evidence.verdict),
-        evidence.received,
-        asked_about(from, evidence.announcement)
-    )
+    push_pair(text, row, from)?;
+    write!(text, "  {}", VerdictText(row.evidence.verdict))?;
+    push_kinds(text, outcomes_of(&row.evidence))
 }
 
 fn push_advice(text: &mut String, evidence: &Evidence<'_>, scope: Scope) -> Result<(), AllocError>
@@ -93,7 +128,7 @@ fn push_row(text: &mut String, row: &Explanation<'_>, scope: Scope) -> Result<()
     ensures { OnOk result (string_bytes text.new ≡ string_bytes text.old ++ row_lines scope (explanation_value row.now)) }
 {
     push_head(text, row, scope.from)?;
-    push_missed(text, &row.evidence)?;
+    push_missed(text, row.evidence.first_missed)?;
     push_verdict(text, &row.evidence)?;
     push_advice(text, &row.evidence, scope)
 }
@@ -104,7 +139,7 @@ fn lines_of(alloc: Global, rows: &[Explanation<'_>], scope: Scope) -> Result<Str
 {
     let mut lines = String::new(alloc);
     for row in rows {
-        if is_noted(row) {
+        if is_noted(scope.tail, &row.evidence) {
             push_row(&mut lines, row, scope)?;
         }
     }

@@ -4,7 +4,7 @@ use Rattle.std.proofs.lemmas.List.Elements.{filter_map-append}
 use Rattle.std.proofs.lemmas.List.Sums.{sum_by-cons}
 use Rattle.rtps_receiver.specs.Acts.{data_among, is_data}
 use Rattle.rtps_receiver.specs.Values.{ActBodyValue, ActValue}
-use Rattle.rtps_receiver.specs.Values.ActBodyValue.{Data, Heartbeat, AckNack, Gap, DataFrag}
+use Rattle.rtps_receiver.specs.Values.ActBodyValue.{Data, Heartbeat, AckNack, Gap, DataFrag, NackFrag}
 use Rattle.rtps_discovery.specs.Directory.{DirectoryValue, IsMapOf, AreEntries, AreParticipants}
 use Rattle.rtps_discovery.specs.Notice.{announcement_of, answer_of, endpoint_in, endpoints_among, faults_in, is_fault, participant_in, participants_among}
 
@@ -20,6 +20,7 @@ participants_alone (act ∷ acts) = by_body act.body refl (participants_alone ac
     by_body (AckNack value) is rest = rw is rest
     by_body (Gap value) is rest = rw is rest
     by_body (DataFrag value) is rest = rw is rest
+    by_body (NackFrag value) is rest = rw is rest
 
 endpoints_alone : (acts : List ActValue) → endpoints_among (data_among acts) ≡ endpoints_among acts
 unfolding endpoints_among
@@ -33,6 +34,7 @@ endpoints_alone (act ∷ acts) = by_body act.body refl (endpoints_alone acts)
     by_body (AckNack value) is rest = rw is rest
     by_body (Gap value) is rest = rw is rest
     by_body (DataFrag value) is rest = rw is rest
+    by_body (NackFrag value) is rest = rw is rest
 
 counted : (act : ActValue) (acts : List ActValue) → faults_in (act ∷ acts) ≡ cond (is_fault (answer_of (announcement_of act))) 1 0 + faults_in acts
 counted = sum_by-cons (λ act. cond (is_fault (answer_of (announcement_of act))) 1 0)
@@ -50,6 +52,7 @@ faults_alone (act ∷ acts) = by_body act.body refl (faults_alone acts)
     by_body (AckNack value) is rest = rw is rest
     by_body (Gap value) is rest = rw is rest
     by_body (DataFrag value) is rest = rw is rest
+    by_body (NackFrag value) is rest = rw is rest
 
 -- acts noted behind others make the map that their DATA make
 pub map_alone : (before acts : List ActValue) (map : DirectoryValue) → IsMapOf (before ++ data_among acts) map → IsMapOf (before ++ acts) map

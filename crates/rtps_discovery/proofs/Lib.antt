@@ -16,6 +16,7 @@ pub mod EachHasAMap
 pub mod Told
 pub mod Faults
 pub mod Payloads
+pub mod Leavers
 pub mod OtherWriters
 pub mod DataAlone
 pub mod OfferedReaders

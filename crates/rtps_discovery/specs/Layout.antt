@@ -7,6 +7,7 @@ use Rattle.rtps_discovery.specs.declared.layout.entity.TheConstants as entity
 use Rattle.rtps_discovery.specs.declared.layout.pid.TheConstants as pid
 use Rattle.rtps_discovery.specs.declared.layout.reliability.TheConstants as reliability
 use Rattle.rtps_discovery.specs.declared.layout.representation.TheConstants as representation
+use Rattle.rtps_discovery.specs.declared.layout.status.TheConstants as status
 
 -- the built-in writers that announce participants, writers and readers (9.3.1.3)
 abbrev pub entity_is : Type 0
@@ -24,7 +25,11 @@ representation_is =
 abbrev pub pid_is : Type 0
 pid_is =
     (pid.TOPIC_NAME ≡ 0x0005) × (pid.TYPE_NAME ≡ 0x0007) × (pid.RELIABILITY ≡ 0x001a) × (pid.DURABILITY ≡ 0x001d)
-    × (pid.PARTICIPANT_GUID ≡ 0x0050) × (pid.ENDPOINT_GUID ≡ 0x005a)
+    × (pid.PARTICIPANT_GUID ≡ 0x0050) × (pid.ENDPOINT_GUID ≡ 0x005a) × (pid.KEY_HASH ≡ 0x0070) × (pid.STATUS_INFO ≡ 0x0071)
+
+-- a status (9.6.4.9)
+abbrev pub status_is : Type 0
+status_is = (status.SIZE ≡ 4) × (status.FLAGS ≡ 3) × (status.ENDS ≡ 4)
 
 -- the kinds of reliability (9.3.2)
 abbrev pub reliability_is : Type 0

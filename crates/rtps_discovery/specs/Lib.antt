@@ -14,3 +14,4 @@ pub mod TopicIndex
 pub mod Described
 pub mod FaultText
 pub mod Layout
+pub mod Leaving

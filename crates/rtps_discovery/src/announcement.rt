@@ -39,7 +39,7 @@ pub fn read_endpoint(payload: &[u8], side: Side) -> Result<Endpoint<'_>, NoticeF
 /// gives the order of its numbers (DDSI-RTPS 2.5, 10 "Serialized Payload Representation"). What follows its sentinel is
 /// ignored.
 #[tactic(auto, unfolding(crate::specs::Announcement::fields_of))]
-fn fields_of(payload: &[u8]) -> Result<ParamList<'_>, NoticeFault>
+pub(crate) fn fields_of(payload: &[u8]) -> Result<ParamList<'_>, NoticeFault>
     ensures { ReadsOrFaults fields_value result (fields_of_lem payload.now) }
 {
     if payload.len() < representation::SIZE {
@@ -106,7 +106,7 @@ fn endpoint_of<'a>(list: &ParamList<'a>, side: Side) -> Result<Endpoint<'a>, Not
 }
 
 /// The GUID in the value of a parameter, or None if there is no value or it is cut.
-fn guid_in(value: Option<&[u8]>) -> Option<Guid>
+pub(crate) fn guid_in(value: Option<&[u8]>) -> Option<Guid>
     ensures { result ≡ option_and_then guid_of (option_copied value.entry) }
 {
     match value {

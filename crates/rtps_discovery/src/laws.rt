@@ -4,7 +4,7 @@ ghost use Rattle.std.specs.Prelude.{◌≡◌, ◌↔◌, ◌++◌, ◌∷◌, [
 ghost use Rattle.std.specs.List.Sorted.{IsPermutation, IsStrictlySortedBy};
 ghost use Rattle.rtps_ids.specs.declared.identity.Guid.{Guid};
 ghost use Rattle.rtps_receiver.specs.Values.{ActValue};
-ghost use Rattle.rtps_discovery.specs.Layout.{durability_is, entity_is, pid_is, reliability_is, representation_is};
+ghost use Rattle.rtps_discovery.specs.Layout.{durability_is, entity_is, pid_is, reliability_is, representation_is, status_is};
 ghost use Rattle.rtps_discovery.specs.Announcement.{Fields, endpoint_in, participant_guid, participant_in};
 ghost use Rattle.rtps_discovery.specs.Directory.{DirectoryValue, IsMapOf, IsSettled, IsUnsettled, settled_in, unsettled_in};
 ghost use Rattle.rtps_discovery.specs.Endpoint.{EndpointValue};
@@ -99,6 +99,7 @@ pub fn layout_is_that_of_the_standard()
     ensures entity { entity_is }
     ensures representation { representation_is }
     ensures pid { pid_is }
+    ensures status { status_is }
     ensures reliability { reliability_is }
     ensures durability { durability_is }
 {}

@@ -42,6 +42,19 @@ pub(crate) mod pid {
     pub(crate) const PARTICIPANT_GUID: u16 = 0x0050;
 
     pub(crate) const ENDPOINT_GUID: u16 = 0x005a;
+
+    pub(crate) const KEY_HASH: u16 = 0x0070;
+
+    pub(crate) const STATUS_INFO: u16 = 0x0071;
+}
+
+/// A status (DDSI-RTPS 2.5, 9.6.4.9 "StatusInfo_t (PID_STATUS_INFO)").
+pub(crate) mod status {
+    pub(crate) const SIZE: usize = 4;
+    /// The place of the octet with the flags.
+    pub(crate) const FLAGS: usize = 3;
+    /// Its remainder by this is 0 where neither disposed (1) nor unregistered (2) is set.
+    pub(crate) const ENDS: u8 = 4;
 }
 
 /// The kinds of reliability (DDSI-RTPS 2.5, 9.3.2 "Mapping of the Types that Appear Within Submessages or Built-in Topic

@@ -44,7 +44,7 @@ pub(crate) fn notice<'a>(act: &Act<'a>) -> Option<(Subject, &'a [u8])>
 
 /// What this built-in writer announces. The last octet is compared first, since most writers differ in it.
 #[tactic(auto, using(crate::proofs::OtherWriters::of_another_kind))]
-fn subject_of(writer: EntityId) -> Option<Subject>
+pub(crate) fn subject_of(writer: EntityId) -> Option<Subject>
     ensures { result ≡ subject_of_lem writer }
 {
     let EntityId([.., kind]) = writer;

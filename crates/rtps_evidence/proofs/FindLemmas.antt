@@ -85,6 +85,17 @@ found_item v test xs i x lt at none is = found_here v test xs i x lt none (ap (�
 pub any_past : {X Y : Type 0} (v : X → Y) (test : Y → Bool) (xs : List X) (i : ℕ) (x : X) → i < length xs → x ≡ get_or xs i x → list_any test (map v (take (i + 1) xs)) ≡ (list_any test (map v (take i xs)) || test (v x))
 any_past v test xs i x lt at = any_more v test xs i x lt ∙ ap (λ y. list_any test (map v (take i xs)) || test (v y)) (sym at)
 
+pub any_found : {X Y : Type 0} (v : X → Y) (test : Y → Bool) (xs : List X) (i : ℕ) (x : X) → i < length xs → x ≡ get_or xs i x → test (v x) ≡ true → list_any test (map v xs) ≡ true
+any_found v test xs i x lt at is =
+    ap (λ l. list_any test (map v l)) (sym (take-append-drop (i + 1) xs))
+    ∙ ap (list_any test) (map-append v (take (i + 1) xs) (drop (i + 1) xs))
+    ∙ list_any-append test (map v (take (i + 1) xs)) (map v (drop (i + 1) xs))
+    ∙ ap (λ b. b || list_any test (map v (drop (i + 1) xs))) (any_past v test xs i x lt at ∙ ap (λ b. list_any test (map v (take i xs)) || b) is ∙ always (list_any test (map v (take i xs))))
+  where
+    always : (b : Bool) → (b || true) ≡ true
+    always true = refl
+    always false = refl
+
 -- ---- the greatest of what is made of each
 
 pub greatest_past : {X Y : Type 0} (v : X → Y) (number : Y → ℕ) (xs : List X) (i : ℕ) (x : X) → i < length xs → x ≡ get_or xs i x → greatest (map number (map v (take (i + 1) xs))) ≡ max (greatest (map number (map v (take i xs)))) (number (v x))

@@ -5,6 +5,7 @@ pub mod OriginLemmas
 pub mod Shown
 pub mod RowLemmas
 pub mod HeardLemmas
+pub mod OneSpan
 pub mod OneExplanation
 pub mod AnswerLemmas
 pub mod PlacedOrder
@@ -15,4 +16,13 @@ pub mod ClaimedLemmas
 pub mod LackingLemmas
 pub mod NotReceivedLemmas
 pub mod QuestionLemmas
+pub mod AskingLemmas
 pub mod MissedLemmas
+pub mod RequestLemmas
+pub mod SilenceLemmas
+pub mod SpanLemmas
+pub mod OutcomeLemmas
+pub mod CleanLemmas
+pub mod OutcomeCounts
+pub mod ActOrder
+pub mod UnansweredLemmas

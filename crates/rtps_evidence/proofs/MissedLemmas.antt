@@ -1,33 +1,36 @@
 -- The numbers that are asked for and missed.
-use Rattle.std.proofs.Common.{◌≡◌, ◌∙◌, ℕ, ◌+◌, ◌<◌, ◌≤◌, ◌==◌, ◌&&◌, ◌||◌, Bool, true, false, cond, nat_le, nat_lt, not, filter, get_or, length, take, List, [], ◌∷◌, ◌++◌, Option, Some, None, refl, sym, ap, arith, inl, inr}
+use Rattle.std.proofs.Common.{◌≡◌, ◌∙◌, ℕ, ◌+◌, ◌<◌, ◌≤◌, ◌&&◌, ◌||◌, Bool, true, false, cond, nat_le, nat_lt, not, filter, get_or, length, take, List, [], ◌∷◌, Option, Some, None, refl, sym, ap, arith, inl, inr}
 use Rattle.std.specs.List.{cons_option, find, last_or, list_any}
 use Rattle.std.specs.Option.{option_map}
+use Rattle.std.specs.Prelude.{if◌then◌else◌}
 use Rattle.std.proofs.lemmas.Bool.{cases_lt, and_parts}
 use Rattle.std.proofs.lemmas.Bool.Decides.{nat_tests}
-use Rattle.std.proofs.lemmas.List.Folds.{list_any-append}
 use Rattle.rtps_ids.specs.declared.identity.Guid.{Guid}
 use Rattle.rtps_ids.specs.NumberSet.{NumberSetValue, is_member}
 use Rattle.rtps_ids.specs.Ranges.{IsRangeFrom, HasNoneFrom}
 use Rattle.rtps_ids.proofs.Offered.{member_decides, not_member}
 use Rattle.rtps_discovery.specs.declared.matching.Pair.{Pair}
-use Rattle.rtps_receiver.specs.Speech.{is_answer, is_heard_by, is_spoken_by}
+use Rattle.rtps_receiver.specs.Speech.{is_heard_by, is_request, is_spoken_by}
 use Rattle.rtps_discovery.specs.Endpoint.{EndpointValue}
 use Rattle.rtps_discovery.specs.Notice.{announcement_of as notice_of, endpoint_in}
 use Rattle.rtps_audit.specs.Placed.{PlacedValue, announced_among, announced_at, is_from, is_guid}
 use Rattle.rtps_audit.specs.declared.announced_places.AnnouncedPlace.{AnnouncedPlace}
-use Rattle.rtps_audit.proofs.Offered.{answerer_is_origin, speaker_is_origin}
+use Rattle.rtps_audit.proofs.Offered.{speaker_is_origin}
+use Rattle.rtps_evidence.proofs.AskingLemmas.{requester_is_origin}
 use Rattle.rtps_evidence.specs.Amount.{count_in, stretches_have}
 use Rattle.rtps_evidence.specs.Claimed.{is_at}
-use Rattle.rtps_evidence.specs.Locations.{find_last, is_behind, location_of, teller_at}
-use Rattle.rtps_evidence.specs.Missed.{AreMissed, announces, asks_for, brings, brings_behind, first_place, gone_behind, has_guid, is_in_set, is_missed, missed_at, missed_by, numbers_have, place_announced, sample_number, withdraws_behind}
+use Rattle.rtps_evidence.specs.Locations.{find_last, is_before, is_behind, location_of, teller_at}
+use Rattle.rtps_evidence.specs.Missed.{AreMissed, again_behind, announces, asks_for, brings, brings_before, brings_behind, first_place, gone_behind, has_guid, is_asked_in_vain, is_in_set, is_missed, is_wanting, missed_at, missed_by, place_announced, sample_number, withdraws_behind}
 use Rattle.rtps_evidence.specs.Received.{is_received, withdraws}
+use Rattle.rtps_evidence.specs.Requests.{is_in_vain, met_among, new_request, requested}
+use Rattle.rtps_evidence.specs.WriterSummary.{option_any}
 use Rattle.rtps_evidence.specs.declared.amount.Stretch.{Stretch}
 use Rattle.rtps_evidence.specs.declared.first_missed.FirstMissed.{FirstMissed}
 use Rattle.rtps_evidence.specs.declared.teller.Teller.{Teller}
 use Rattle.rtps_evidence.specs.declared.location.Location.{Location}
 use Rattle.rtps_evidence.proofs.ClaimedLemmas.{withdrawer}
 use Rattle.rtps_evidence.proofs.CountLemmas.{count_same}
-use Rattle.rtps_evidence.proofs.FindLemmas.{any_and, any_filter, find_filter}
+use Rattle.rtps_evidence.proofs.FindLemmas.{any_filter, find_filter}
 use Rattle.rtps_evidence.proofs.NotReceivedLemmas.{least_found, least_none}
 use Rattle.rtps_evidence.proofs.QuestionLemmas.{filter_filter}
 
@@ -94,10 +97,6 @@ none_yet_in set n old = let none : nat_lt n 0 ≡ false = grind (arith, nat_test
 
 -- ---- stretches one after another
 
-or_nothing : (b : Bool) → (b || false) ≡ b
-or_nothing true = refl
-or_nothing false = refl
-
 -- of the first `i` stretches, this is the least number from `from` on and below `end`, or `end`
 pub record IsLeastSo (stretches : List Stretch) (from end i least : ℕ) : Type 0 where
   pub onward : from ≤ least
@@ -105,45 +104,11 @@ pub record IsLeastSo (stretches : List Stretch) (from end i least : ℕ) : Type 
   pub below : (n : ℕ) → from ≤ n → n < least → stretches_have (take i stretches) n ≡ false
   pub inside : least < end → stretches_have (take i stretches) least ≡ true
 
--- ---- a number more
-
-pub number_more : (old new : List ℕ) (m n : ℕ) (sent : Bool) (lacking : ℕ → Bool) → new ≡ old ++ m ∷ [] → sent ≡ (m == n) → lacking m ≡ true → numbers_have new n ≡ (numbers_have old n || (sent && lacking n))
-number_more old new m n sent lacking is e there =
-    ap (λ l. numbers_have l n) is ∙ list_any-append (λ number. number == n) old (m ∷ []) ∙ ap (λ b. numbers_have old n || b) (or_nothing (m == n) ∙ same (m == n) refl ∙ ap (λ b. b && lacking n) (sym e))
-  where
-    same : (b : Bool) → (m == n) ≡ b → b ≡ (b && lacking n)
-    same true at = let one : m ≡ n = grind (arith, nat_tests, at) in sym (sym (ap lacking one) ∙ there)
-    same false at = refl
-
-pub number_none : (old : Bool) (m n : ℕ) (sent : Bool) (lacking : ℕ → Bool) → sent ≡ (m == n) → lacking m ≡ false → old ≡ (old || (sent && lacking n))
-number_none old m n sent lacking e out = sym (or_nothing old) ∙ ap (λ b. old || b) (same (m == n) refl ∙ ap (λ b. b && lacking n) (sym e))
-  where
-    same : (b : Bool) → (m == n) ≡ b → false ≡ (b && lacking n)
-    same true at = let one : m ≡ n = grind (arith, nat_tests, at) in sym (sym (ap lacking one) ∙ out)
-    same false at = refl
-
 -- ---- what is missed
 
-turned : (a s r : Bool) → (a && (s && r)) ≡ (r && (a && s))
-turned true true true = refl
-turned true true false = refl
-turned true false true = refl
-turned true false false = refl
-turned false s true = refl
-turned false s false = refl
-
 -- what is received is not missed
-pub received_not_missed : (place : Option Location) (writer reader : Guid) (placed : List PlacedValue) (n : ℕ) → not (is_received writer reader placed n) ≡ false → false ≡ is_missed place writer reader placed n
-received_not_missed place writer reader placed n received = sym (ap (λ b. b && (list_any (asks_for writer reader n) placed && list_any (brings_behind place writer reader n) placed)) received)
-
--- of the numbers that are asked for, those that are not lacking do not count
-common_same : (some asked sent lacking : Bool) → (lacking ≡ true → some ≡ asked) → (sent ≡ true → lacking ≡ true) → (some && sent) ≡ (asked && sent)
-common_same some asked true lacking same there = ap (λ b. b && true) (same (there refl))
-common_same some asked false lacking same there = none some ∙ sym (none asked)
-  where
-    none : (b : Bool) → (b && false) ≡ false
-    none true = refl
-    none false = refl
+pub received_not_missed : (since : Option Location) (writer reader : Guid) (placed : List PlacedValue) (n : ℕ) → not (is_received writer reader placed n) ≡ false → false ≡ is_missed since writer reader placed n
+received_not_missed since writer reader placed n received = sym (ap (λ b. b && is_wanting since writer reader placed n) received)
 
 -- what the reader hears of a payload is said by the writer's acts
 bringer : (writer reader : Guid) (n : ℕ) (at : PlacedValue) → brings writer reader n at ≡ true → is_from writer at ≡ true
@@ -151,34 +116,44 @@ bringer writer reader n at is =
     let said = (and_parts (is_spoken_by at.act writer && is_heard_by at.act reader) (is_at n (sample_number at.act.body)) is).0 in
     speaker_is_origin writer at (and_parts (is_spoken_by at.act writer) (is_heard_by at.act reader) said).0
 
--- what is sent behind the announcement and not received, and asked for, is missed
-missed_same : (pair : Pair) (placed writer_acts reader_acts : List PlacedValue) (announced : Option Location) (n : ℕ) (lacking asked sent : Bool)
-    → writer_acts ≡ filter (is_from pair.writer) placed → reader_acts ≡ filter (is_from pair.reader) placed
-    → lacking ≡ not (is_received pair.writer pair.reader placed n)
-    → asked ≡ list_any (asks_for pair.writer pair.reader n) reader_acts
-    → sent ≡ list_any (λ at. brings_behind announced pair.writer pair.reader n at && lacking) writer_acts
-    → (asked && sent) ≡ is_missed announced pair.writer pair.reader placed n
-missed_same pair placed writer_acts reader_acts announced n lacking asked sent of_writer of_reader known asks sends_it =
-    ap (λ b. b && sent) (asks ∙ ap (list_any (asks_for pair.writer pair.reader n)) of_reader ∙ any_filter (asks_for pair.writer pair.reader n) (is_from pair.reader)
-    (λ at passes. answerer_is_origin pair.reader pair.writer at (and_parts (is_answer at.act pair.reader pair.writer) (is_in_set at.act.body n) passes).0) placed)
-    ∙ ap (λ b. list_any (asks_for pair.writer pair.reader n) placed && b)
-    (sends_it ∙ any_and (brings_behind announced pair.writer pair.reader n) lacking writer_acts
-    ∙ ap (λ b. b && lacking) (ap (list_any (brings_behind announced pair.writer pair.reader n)) of_writer
-    ∙ any_filter (brings_behind announced pair.writer pair.reader n) (is_from pair.writer) (λ at passes. bringer pair.writer pair.reader n at (and_parts (is_behind announced at) (brings pair.writer pair.reader n at) passes).1) placed))
-    ∙ turned (list_any (asks_for pair.writer pair.reader n) placed) (list_any (brings_behind announced pair.writer pair.reader n) placed) lacking
-    ∙ ap (λ b. b && (list_any (asks_for pair.writer pair.reader n) placed && list_any (brings_behind announced pair.writer pair.reader n) placed)) known
+-- what the writer's acts bring is what all acts do
+pub brought_same : (place : Option Location) (writer reader : Guid) (n : ℕ) (placed : List PlacedValue) → list_any (brings_behind place writer reader n) (filter (is_from writer) placed) ≡ list_any (brings_behind place writer reader n) placed
+brought_same place writer reader n placed = any_filter (brings_behind place writer reader n) (is_from writer) (λ at passes. bringer writer reader n at (and_parts (is_behind place at) (brings writer reader n at) passes).1) placed
 
--- also where what is asked for is only known of what is lacking
-pub missed_some : (pair : Pair) (placed writer_acts reader_acts : List PlacedValue) (announced : Option Location) (n : ℕ) (lacking asked sent : Bool)
-    → writer_acts ≡ filter (is_from pair.writer) placed → reader_acts ≡ filter (is_from pair.reader) placed
-    → lacking ≡ not (is_received pair.writer pair.reader placed n)
-    → (lacking ≡ true → asked ≡ list_any (asks_for pair.writer pair.reader n) reader_acts)
-    → sent ≡ list_any (λ at. brings_behind announced pair.writer pair.reader n at && lacking) writer_acts
-    → (asked && sent) ≡ is_missed announced pair.writer pair.reader placed n
-missed_some pair placed writer_acts reader_acts announced n lacking asked sent of_writer of_reader known asks sends_it =
-    common_same asked (list_any (asks_for pair.writer pair.reader n) reader_acts) sent lacking asks
-    (λ is. (and_parts (list_any (brings_behind announced pair.writer pair.reader n) writer_acts) lacking (sym (any_and (brings_behind announced pair.writer pair.reader n) lacking writer_acts) ∙ sym sends_it ∙ is)).1)
-    ∙ missed_same pair placed writer_acts reader_acts announced n lacking (list_any (asks_for pair.writer pair.reader n) reader_acts) sent of_writer of_reader known refl sends_it
+pub brought_same_before : (since : Option Location) (place : Location) (writer reader : Guid) (n : ℕ) (placed : List PlacedValue) → list_any (brings_before since place writer reader n) (filter (is_from writer) placed) ≡ list_any (brings_before since place writer reader n) placed
+brought_same_before since place writer reader n placed =
+    any_filter (brings_before since place writer reader n) (is_from writer)
+    (λ at passes. bringer writer reader n at (and_parts (is_behind since at) (brings writer reader n at) (and_parts (is_before place at) (brings_behind since writer reader n at) passes).1).1) placed
+
+pub sent_same : (writer reader : Guid) (n : ℕ) (placed : List PlacedValue) → list_any (brings writer reader n) (filter (is_from writer) placed) ≡ list_any (brings writer reader n) placed
+sent_same writer reader n placed = any_filter (brings writer reader n) (is_from writer) (λ at passes. bringer writer reader n at passes) placed
+
+pub again_same : (place : Location) (writer reader : Guid) (n : ℕ) (placed : List PlacedValue) → again_behind place writer reader n (filter (is_from writer) placed) ≡ again_behind place writer reader n placed
+again_same place writer reader n placed =
+    ap (option_map location_of) (find_filter (brings_behind (Some place) writer reader n) (is_from writer) (λ at passes. bringer writer reader n at (and_parts (is_behind (Some place) at) (brings writer reader n at) passes).1) placed)
+
+-- what the reader's own acts ask for last is what all acts do
+pub last_asking_same : (writer reader : Guid) (n : ℕ) (placed : List PlacedValue) → find_last (asks_for writer reader n) (filter (is_from reader) placed) ≡ find_last (asks_for writer reader n) placed
+last_asking_same writer reader n placed =
+    ap (λ l. last_or None l) (filter_filter (asks_for writer reader n) (is_from reader)
+    (λ at passes. requester_is_origin reader writer at (and_parts (is_request at.act reader writer) (is_in_set at.act.body n) passes).0) placed)
+
+-- the last request for a number that is lacking, behind what the writer's acts bring, tells whether it is missed
+pub missed_by_request : (since : Option Location) (pair : Pair) (placed : List PlacedValue) (n : ℕ) (lacking : ℕ → Bool) → lacking n ≡ not (is_received pair.writer pair.reader placed n)
+    → option_any is_in_vain (option_map (met_among since pair n (filter (is_from pair.writer) placed)) (requested pair (filter (is_from pair.reader) placed) lacking n)) ≡ is_missed since pair.writer pair.reader placed n
+missed_by_request since pair placed n lacking known =
+    ap (λ o. option_any is_in_vain (option_map (met_among since pair n (filter (is_from pair.writer) placed)) (if lacking n then option_map (λ (asking : PlacedValue). new_request (location_of asking)) o else None))) (last_asking_same pair.writer pair.reader n placed)
+    ∙ by (lacking n) (find_last (asks_for pair.writer pair.reader n) placed)
+    ∙ ap (λ b. b && is_wanting since pair.writer pair.reader placed n) known
+  where
+    by : (b : Bool) (asking : Option PlacedValue)
+        → option_any is_in_vain (option_map (met_among since pair n (filter (is_from pair.writer) placed)) (if b then option_map (λ (asking : PlacedValue). new_request (location_of asking)) asking else None))
+        ≡ (b && is_asked_in_vain since pair.writer pair.reader placed n asking)
+    by false asking = refl
+    by true None = refl
+    by true (Some asking) =
+        ap (λ b. not b || list_any (brings_before since (location_of asking) pair.writer pair.reader n) (filter (is_from pair.writer) placed)) (brought_same (Some (location_of asking)) pair.writer pair.reader n placed)
+        ∙ ap (λ b. not (list_any (brings_behind (Some (location_of asking)) pair.writer pair.reader n) placed) || b) (brought_same_before since (location_of asking) pair.writer pair.reader n placed)
 
 -- ---- counted, and the least of them
 
@@ -209,12 +184,6 @@ none_missed from last least count place pair placed items lent same is below cou
 
 -- ---- who asked for it last, and what told it gone since
 
--- what the reader's own acts ask for last is what all acts do
-pub asking_same : (writer reader : Guid) (n : ℕ) (placed : List PlacedValue) → option_map location_of (find_last (asks_for writer reader n) (filter (is_from reader) placed)) ≡ option_map location_of (find_last (asks_for writer reader n) placed)
-asking_same writer reader n placed =
-    ap (λ l. option_map location_of (last_or None l)) (filter_filter (asks_for writer reader n) (is_from reader)
-    (λ at passes. answerer_is_origin reader writer at (and_parts (is_answer at.act reader writer) (is_in_set at.act.body n) passes).0) placed)
-
 pub gone_same_behind : (place : Location) (writer reader : Guid) (n : ℕ) (placed : List PlacedValue) → gone_behind place writer reader n (filter (is_from writer) placed) ≡ gone_behind place writer reader n placed
 gone_same_behind place writer reader n placed =
     ap (option_map teller_at) (find_filter (withdraws_behind place writer reader n) (is_from writer) (λ at passes. withdrawer writer reader n at (and_parts (is_behind (Some place) at) (withdraws writer reader n at) passes).1) placed)
@@ -223,13 +192,13 @@ pub never_asked : (writer reader : Guid) (n : ℕ) (placed : List PlacedValue) (
 never_asked writer reader n placed None e = refl
 never_asked writer reader n placed (Some at) e = absurd (let no : None ≡ Some (location_of at) = e in cc)
 
-pub asked_last : (writer reader : Guid) (n : ℕ) (placed : List PlacedValue) (asking : Option PlacedValue) (asked : Location) (gone : Option Teller) → Some asked ≡ option_map location_of asking → gone ≡ gone_behind asked writer reader n placed
-    → ◌≡◌ {A = Option FirstMissed} (Some (record { number = n; asked = asked; gone = gone })) (option_map (missed_at writer reader n placed) asking)
-asked_last writer reader n placed None asked gone e told = absurd (let no : Some asked ≡ None = e in cc)
-asked_last writer reader n placed (Some at) asked gone e told =
+pub asked_last : (writer reader : Guid) (n : ℕ) (placed : List PlacedValue) (asking : Option PlacedValue) (asked : Location) (again : Option Location) (gone : Option Teller) (is_sent : Bool) → Some asked ≡ option_map location_of asking
+    → again ≡ again_behind asked writer reader n placed → gone ≡ gone_behind asked writer reader n placed → is_sent ≡ list_any (brings writer reader n) placed
+    → ◌≡◌ {A = Option FirstMissed} (Some (record { number = n; asked = asked; again = again; gone = gone; is_sent = is_sent })) (option_map (missed_at writer reader n placed) asking)
+asked_last writer reader n placed None asked again gone is_sent e sent told brought = absurd (let no : Some asked ≡ None = e in cc)
+asked_last writer reader n placed (Some at) asked again gone is_sent e sent told brought =
     let same : asked ≡ location_of at = (let one : Some asked ≡ Some (location_of at) = e in cc) in
-    ap (λ (g : Option Teller). let made : FirstMissed = record { number = n; asked = asked; gone = g } in Some made) told
-    ∙ ap (λ (p : Location). let made : FirstMissed = record { number = n; asked = p; gone = gone_behind p writer reader n placed } in Some made) same
+    rw (sent, told, brought, same) refl
 
 -- ---- where the reader is announced
 

@@ -13,7 +13,7 @@ use Rattle.rtps_ids.specs.declared.identity.GuidPrefix.{GuidPrefix}
 use Rattle.rtps_discovery.specs.declared.matching.Pair.{Pair}
 use Rattle.rtps_receiver.specs.Speech.{is_answer, is_for, is_heard_by, is_prefix, is_spoken_by, names_pair}
 use Rattle.rtps_receiver.specs.Values.{ActBodyValue, ActValue}
-use Rattle.rtps_receiver.specs.Values.ActBodyValue.{Data, Heartbeat, AckNack, Gap, DataFrag}
+use Rattle.rtps_receiver.specs.Values.ActBodyValue.{Data, Heartbeat, AckNack, Gap, DataFrag, NackFrag}
 use Rattle.rtps_audit.specs.Placed.{PlacedValue, answer_at, answers_among, is_from, placed_in, placed_value}
 use Rattle.rtps_audit.specs.Speech.{base_for, base_of_body}
 use Rattle.rtps_audit.specs.declared.answer.Answer.{Answer}
@@ -84,7 +84,7 @@ last_place_more answers i d place lt is =
 -- ---- the last answer
 
 -- an act that answers has a base
-answer_has_base : (writer reader : Guid) (source : GuidPrefix) (dest : Option GuidPrefix) (body : ActBodyValue)
+pub answer_has_base : (writer reader : Guid) (source : GuidPrefix) (dest : Option GuidPrefix) (body : ActBodyValue)
     → is_some (if is_prefix source reader.prefix && (is_for dest writer.prefix && names_pair body reader.entity writer.entity) then base_of_body body else None)
     ≡ (is_prefix source reader.prefix && (is_for dest writer.prefix && names_pair body reader.entity writer.entity))
 answer_has_base writer reader source dest (AckNack value) = by (is_prefix source reader.prefix && (is_for dest writer.prefix && names_pair (AckNack value) reader.entity writer.entity))
@@ -113,6 +113,12 @@ answer_has_base writer reader source dest (Gap value) = none (is_prefix source r
 answer_has_base writer reader source dest (DataFrag value) = none (is_prefix source reader.prefix) (is_for dest writer.prefix)
   where
     none : (a b : Bool) → is_some (if a && (b && false) then base_of_body (DataFrag value) else None) ≡ (a && (b && false))
+    none true true = refl
+    none true false = refl
+    none false b = refl
+answer_has_base writer reader source dest (NackFrag value) = none (is_prefix source reader.prefix) (is_for dest writer.prefix)
+  where
+    none : (a b : Bool) → is_some (if a && (b && false) then base_of_body (NackFrag value) else None) ≡ (a && (b && false))
     none true true = refl
     none true false = refl
     none false b = refl

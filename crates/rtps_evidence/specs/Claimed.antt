@@ -1,11 +1,11 @@
 -- Which numbers are claimed up to a datagram, and which payloads are certain by that. own: a pair's answers are gone through once,
 -- and what is told gone then costs a look at them.
-use Rattle.std.specs.Prelude.{ℕ, Bool, true, false, ◌≡◌, ◌≤◌, ◌==◌, ◌&&◌, nat_le, nat_lt, not, filter, map, List, Option, Some, None}
+use Rattle.std.specs.Prelude.{ℕ, Bool, true, false, ◌≡◌, ◌≤◌, ◌==◌, ◌&&◌, nat_le, nat_lt, not, map, List, Option, Some, None}
 use Rattle.std.specs.List.{list_any}
 use Rattle.rtps_ids.specs.declared.identity.Guid.{Guid}
 use Rattle.rtps_discovery.specs.declared.matching.Pair.{Pair}
 use Rattle.rtps_audit.specs.Delivery.{greatest}
-use Rattle.rtps_audit.specs.Placed.{PlacedValue, answers_among, is_from, placed_value}
+use Rattle.rtps_audit.specs.Placed.{PlacedValue}
 use Rattle.rtps_audit.specs.Speech.{natural}
 use Rattle.rtps_audit.specs.declared.answer.Answer.{Answer}
 use Rattle.rtps_audit.specs.declared.verdict.Verdict.{Verdict}
@@ -15,7 +15,6 @@ use Rattle.rtps_evidence.specs.Received.{is_received, withdraws_before}
 use Rattle.rtps_evidence.specs.Rising.{AreRising, some_reaches}
 use Rattle.rtps_evidence.specs.declared.amount.Stretch.{Stretch}
 use Rattle.rtps_evidence.specs.declared.claimed.Certainty.{Certainty}
-use Rattle.rtps_evidence.specs.declared.lacking.Exchange.{Exchange}
 use Rattle.rtps_evidence.specs.declared.withdrawal.Withdrawal.{Withdrawal}
 
 -- an answer in this datagram or an earlier one claims n
@@ -51,11 +50,6 @@ AreLacking from last pair acts stretches = (n : ℕ) → from ≤ n → n ≤ la
 -- these withdrawals say what the reader hears from the writer of numbers that will not come
 abbrev pub AreWithdrawals : Guid → Guid → List PlacedValue → List Withdrawal → Type 0
 AreWithdrawals writer reader acts withdrawals = (n datagram : ℕ) → some_withdrawn withdrawals n datagram ≡ list_any (withdraws_before writer reader n datagram) acts
-
--- they are what the pair's writer says, and what its reader answers
-pub record IsExchange (pair : Pair) (placed : List PlacedValue) (exchange : Exchange) : Type 0 where
-  pub acts : map placed_value exchange.acts.now ≡ filter (is_from pair.writer) placed
-  pub answers : exchange.answers.now ≡ answers_among pair placed
 
 -- the verdict is that a claim has no word before it
 abbrev pub is_unfounded : Verdict → Bool

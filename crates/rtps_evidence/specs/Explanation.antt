@@ -1,6 +1,6 @@
 -- Why each pair of a recording has its verdict. own: the pairs and the counts are those of the report; each pair has the
 -- topic and the type of its two, and its evidence.
-use Rattle.std.specs.Prelude.{ℕ, ◌≡◌, List, [], All, map, Option, Some, None}
+use Rattle.std.specs.Prelude.{ℕ, Bool, false, ◌≡◌, List, [], All, map, Option, Some, None}
 use Rattle.rtps_discovery.specs.Directory.{DirectoryValue, Entries, IsMapOf, settled_at}
 use Rattle.rtps_discovery.specs.Endpoint.{EndpointValue}
 use Rattle.rtps_discovery.specs.declared.matching.Pair.{Pair}
@@ -9,7 +9,7 @@ use Rattle.rtps_audit.specs.Report.{IsReportBy}
 use Rattle.rtps_audit.specs.declared.report.Report.{Report}
 use Rattle.rtps_audit.specs.declared.report.Row.{Row}
 use Rattle.rtps_audit.specs.declared.verdict.Verdict.{Verdict}
-use Rattle.rtps_evidence.specs.Evidence.{IsEvidenceFrom}
+use Rattle.rtps_evidence.specs.Evidence.{IsEvidenceBy}
 use Rattle.rtps_evidence.specs.Grounds.{GroundsValue, grounds_value}
 use Rattle.rtps_evidence.specs.declared.last_announcement.Announcement.{Announcement}
 use Rattle.rtps_evidence.specs.declared.acknowledgement.Claim.{Claim}
@@ -18,6 +18,7 @@ use Rattle.rtps_evidence.specs.declared.explanation.Explanation.{Explanation}
 use Rattle.rtps_evidence.specs.declared.first_missed.FirstMissed.{FirstMissed}
 use Rattle.rtps_evidence.specs.declared.not_received.NotReceived.{NotReceived}
 use Rattle.rtps_evidence.specs.declared.evidence.Evidence.{Evidence}
+use Rattle.rtps_evidence.specs.declared.in_span.InSpan.{InSpan}
 
 -- evidence, with lists of octets where the type holds parts of the caller's datagrams
 pub record EvidenceValue : Type 0 where
@@ -32,6 +33,7 @@ pub record EvidenceValue : Type 0 where
   pub missed : ℕ
   pub first_missed : Option FirstMissed
   pub grounds : GroundsValue
+  pub in_span : Option InSpan
 
 -- the evidence of the code, as a value
 abbrev pub evidence_value : Evidence → EvidenceValue
@@ -48,6 +50,7 @@ evidence_value evidence =
       missed = evidence.missed;
       first_missed = evidence.first_missed;
       grounds = grounds_value evidence.grounds;
+      in_span = evidence.in_span;
     }
 
 -- a pair, what its two are about, and its evidence
@@ -86,24 +89,25 @@ pub record IsNamed (entries : Entries) (explanation : Explanation) : Type 0 wher
 abbrev pub row_of : Explanation → Row
 row_of explanation = record { pair = explanation.pair; verdict = explanation.evidence.verdict }
 
--- The rows are those of the report by the numbers from `from` on, each with its names and its evidence, and the counts are
--- the report's.
-pub record IsExplainedBy (from : ℕ) (intake : Intake) (explained : Explained) : Type 0 where
+-- The rows are of the report's pairs by the numbers from `from` on, each with its names and its evidence, and the counts are
+-- the report's. Where rows are not in spans, they are the report's.
+pub record IsExplainedBy (spans : Bool) (from : ℕ) (intake : Intake) (explained : Explained) : Type 0 where
   pub report : Report
   pub reports : IsReportBy from intake report
-  pub rows : map row_of explained.rows.items ≡ report.rows.items
+  pub pairs : map (λ row. row.pair) explained.rows.items ≡ map (λ row. row.pair) report.rows.items
+  pub rows : spans ≡ false → map row_of explained.rows.items ≡ report.rows.items
   pub counts : explained.counts ≡ report.counts
   pub directory : DirectoryValue
   pub is_map : IsMapOf (acts_together intake.announcing) directory
   pub named : All (IsNamed directory.endpoints) explained.rows.items
-  pub shown : All (λ row. IsEvidenceFrom from row.pair intake row.evidence) explained.rows.items
+  pub shown : All (λ row. IsEvidenceBy spans from row.pair intake row.evidence) explained.rows.items
 
 -- that of a recording, which is the octets of its datagrams in the order of sending
-abbrev pub IsExplainedFrom : ℕ → List (List ℕ) → Explained → Type 0
-IsExplainedFrom from recording explained = IsExplainedBy from (intake_of recording) explained
+abbrev pub IsExplainedFrom : Bool → ℕ → List (List ℕ) → Explained → Type 0
+IsExplainedFrom spans from recording explained = IsExplainedBy spans from (intake_of recording) explained
 
 -- what is taken in is explained in one way: the same rows, and the same counts. So is a recording
 abbrev pub HasOneExplanation : Type 0
 HasOneExplanation =
-    (from : ℕ) (intake : Intake) (one other : Explained) → IsExplainedBy from intake one → IsExplainedBy from intake other
+    (spans : Bool) (from : ℕ) (intake : Intake) (one other : Explained) → IsExplainedBy spans from intake one → IsExplainedBy spans from intake other
     → (map explanation_value one.rows.items ≡ map explanation_value other.rows.items) × (one.counts ≡ other.counts)

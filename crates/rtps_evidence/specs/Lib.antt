@@ -4,6 +4,12 @@ pub mod Rising
 pub mod Received
 pub mod Claimed
 pub mod Missed
+pub mod Requests
+pub mod Spans
+pub mod Outcomes
+pub mod UnansweredLaw
+pub mod Silences
+pub mod Clean
 pub mod Questions
 pub mod Grounds
 pub mod Evidence

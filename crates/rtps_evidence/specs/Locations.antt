@@ -9,7 +9,7 @@ use Rattle.rtps_ids.specs.declared.identity.Guid.{Guid}
 use Rattle.rtps_wire.specs.Values.{PayloadValue}
 use Rattle.rtps_wire.specs.Values.PayloadValue.{Absent, Whole, Key}
 use Rattle.rtps_receiver.specs.Values.{ActBodyValue}
-use Rattle.rtps_receiver.specs.Values.ActBodyValue.{Data as DataAct, Heartbeat as HeartbeatAct, AckNack as AckNackAct, Gap as GapAct, DataFrag as DataFragAct}
+use Rattle.rtps_receiver.specs.Values.ActBodyValue.{Data as DataAct, Heartbeat as HeartbeatAct, AckNack as AckNackAct, Gap as GapAct, DataFrag as DataFragAct, NackFrag as NackFragAct}
 use Rattle.rtps_audit.specs.Delivery.{Word, greatest, is_asked}
 use Rattle.rtps_audit.specs.Delivery.Word.{Told, Gone}
 use Rattle.rtps_audit.specs.Placed.{PlacedValue}
@@ -17,7 +17,7 @@ use Rattle.rtps_audit.specs.Speech.{announced_for, base_for, natural, word_for}
 use Rattle.rtps_audit.specs.declared.answer.Answer.{Answer}
 use Rattle.rtps_evidence.specs.declared.location.Location.{Location}
 use Rattle.rtps_evidence.specs.declared.location.Kind.{Kind}
-use Rattle.rtps_evidence.specs.declared.location.Kind.TheVariants.{Data, Heartbeat, AckNack, Gap, DataFrag}
+use Rattle.rtps_evidence.specs.declared.location.Kind.TheVariants.{Data, Heartbeat, AckNack, Gap, DataFrag, NackFrag}
 use Rattle.rtps_evidence.specs.declared.last_announcement.Announcement.{Announcement}
 use Rattle.rtps_evidence.specs.declared.acknowledgement.Claim.{Claim}
 use Rattle.rtps_evidence.specs.declared.teller.Teller.{Teller}
@@ -33,6 +33,10 @@ abbrev pub is_behind : Option Location → PlacedValue → Bool
 is_behind None placed = true
 is_behind (Some place) placed = nat_lt place.datagram placed.datagram || ((place.datagram == placed.datagram) && nat_lt place.at placed.act.at)
 
+-- an act stands before a place: in an earlier datagram, or as an earlier submessage of the same one
+abbrev pub is_before : Location → PlacedValue → Bool
+is_before place placed = nat_lt placed.datagram place.datagram || ((placed.datagram == place.datagram) && nat_lt placed.act.at place.at)
+
 -- the last act that passes
 abbrev pub find_last : (PlacedValue → Bool) → List PlacedValue → Option PlacedValue
 find_last test acts = last_or None (filter test acts)
@@ -44,6 +48,7 @@ kind_of (HeartbeatAct value) = Heartbeat
 kind_of (AckNackAct value) = AckNack
 kind_of (GapAct value) = Gap
 kind_of (DataFragAct value) = DataFrag
+kind_of (NackFragAct value) = NackFrag
 
 -- the number that the writer announces by an act, whoever hears it, or 0
 abbrev pub number_said : Guid → PlacedValue → ℕ

@@ -1,37 +1,39 @@
 -- Which numbers a reader missed. DDSI-RTPS 2.5, 8.3.8.1 "AckNack": the set of an ACKNACK names the numbers that the reader lacks.
--- own: a number that is not received mostly came all the same; one that a reader was there for and asked for is the alarm.
-use Rattle.std.specs.Prelude.{ℕ, Bool, false, ◌+◌, ◌≡◌, ◌==◌, ◌&&◌, not, List, [], ◌∷◌, Option, Some, None}
+-- own: a number that is not received mostly came all the same; one that was asked for and not sent, or sent and asked for again, is the
+-- alarm. Acts are those of the datagrams that a row is by; `since` is the place behind which the reader is there (None: everywhere).
+use Rattle.std.specs.Prelude.{ℕ, Bool, false, ◌+◌, ◌≡◌, ◌==◌, ◌&&◌, ◌||◌, not, List, [], ◌∷◌, Option, Some, None}
 use Rattle.std.specs.List.{find, list_any}
 use Rattle.std.specs.Option.{option_map}
 use Rattle.rtps_ids.specs.NumberSet.{is_member}
 use Rattle.rtps_ids.specs.declared.identity.Guid.{Guid}
-use Rattle.rtps_receiver.specs.Speech.{is_answer, is_heard_by, is_spoken_by}
+use Rattle.rtps_receiver.specs.Speech.{is_heard_by, is_request, is_spoken_by}
 use Rattle.rtps_receiver.specs.Values.{ActBodyValue}
-use Rattle.rtps_receiver.specs.Values.ActBodyValue.{Data, Heartbeat, AckNack, Gap, DataFrag}
+use Rattle.rtps_receiver.specs.Values.ActBodyValue.{Data, Heartbeat, AckNack, Gap, DataFrag, NackFrag}
 use Rattle.rtps_discovery.specs.Endpoint.{EndpointValue}
 use Rattle.rtps_discovery.specs.Notice.{announcement_of as notice_of, endpoint_in}
 use Rattle.rtps_audit.specs.Placed.{PlacedValue, is_guid}
 use Rattle.rtps_audit.specs.declared.announced_places.AnnouncedPlace.{AnnouncedPlace}
 use Rattle.rtps_evidence.specs.Amount.{count_in}
 use Rattle.rtps_evidence.specs.Claimed.{is_at}
-use Rattle.rtps_evidence.specs.Locations.{find_last, is_behind, location_of, teller_at}
+use Rattle.rtps_evidence.specs.Locations.{find_last, is_before, is_behind, location_of, teller_at}
 use Rattle.rtps_evidence.specs.Received.{is_received, least_in, withdraws}
 use Rattle.rtps_evidence.specs.declared.location.Location.{Location}
 use Rattle.rtps_evidence.specs.declared.first_missed.FirstMissed.{FirstMissed}
 use Rattle.rtps_evidence.specs.declared.missed.Missed.{Missed}
 use Rattle.rtps_evidence.specs.declared.teller.Teller.{Teller}
 
--- the set of an ACKNACK has n
+-- the set of an ACKNACK has n, or a NACK_FRAG is about it
 abbrev pub is_in_set : ActBodyValue → ℕ → Bool
 is_in_set (AckNack value) n = is_member value.set n
 is_in_set (Data value) n = false
 is_in_set (Heartbeat value) n = false
 is_in_set (Gap value) n = false
 is_in_set (DataFrag value) n = false
+is_in_set (NackFrag value) n = value.number == n
 
 -- the reader says to the writer that it lacks n
 abbrev pub asks_for : Guid → Guid → ℕ → PlacedValue → Bool
-asks_for writer reader n placed = is_answer placed.act reader writer && is_in_set placed.act.body n
+asks_for writer reader n placed = is_request placed.act reader writer && is_in_set placed.act.body n
 
 -- the endpoint, if there is one, has this GUID
 abbrev pub has_guid : Guid → Option EndpointValue → Bool
@@ -58,6 +60,7 @@ sample_number (DataFrag value) = Some value.number
 sample_number (Heartbeat value) = None
 sample_number (AckNack value) = None
 sample_number (Gap value) = None
+sample_number (NackFrag value) = None
 
 -- the reader hears from the writer a payload for n, or fragments of one
 abbrev pub brings : Guid → Guid → ℕ → PlacedValue → Bool
@@ -67,15 +70,23 @@ brings writer reader n placed = (is_spoken_by placed.act writer && is_heard_by p
 abbrev pub brings_behind : Option Location → Guid → Guid → ℕ → PlacedValue → Bool
 brings_behind place writer reader n placed = is_behind place placed && brings writer reader n placed
 
--- n is missed: it is not received, the reader says that it lacks n, and of n a payload that the reader hears, or fragments of one,
--- stand behind this place, the first announcement of the reader
-abbrev pub is_missed : Option Location → Guid → Guid → List PlacedValue → ℕ → Bool
-is_missed place writer reader acts n =
-    not (is_received writer reader acts n) && (list_any (asks_for writer reader n) acts && list_any (brings_behind place writer reader n) acts)
+-- the same since the reader is there, and before a place
+abbrev pub brings_before : Option Location → Location → Guid → Guid → ℕ → PlacedValue → Bool
+brings_before since place writer reader n placed = is_before place placed && brings_behind since writer reader n placed
 
--- these numbers have n
-abbrev pub numbers_have : List ℕ → ℕ → Bool
-numbers_have numbers n = list_any (λ number. number == n) numbers
+-- of the last act that asks for n: none behind it brings n, or one before it does, since the reader is there
+abbrev pub is_asked_in_vain : Option Location → Guid → Guid → List PlacedValue → ℕ → Option PlacedValue → Bool
+is_asked_in_vain since writer reader acts n None = false
+is_asked_in_vain since writer reader acts n (Some asking) =
+    not (list_any (brings_behind (Some (location_of asking)) writer reader n) acts) || list_any (brings_before since (location_of asking) writer reader n) acts
+
+-- n is asked for so, whatever else is true of it
+abbrev pub is_wanting : Option Location → Guid → Guid → List PlacedValue → ℕ → Bool
+is_wanting since writer reader acts n = is_asked_in_vain since writer reader acts n (find_last (asks_for writer reader n) acts)
+
+-- n is missed: it is not received, and asked for in vain
+abbrev pub is_missed : Option Location → Guid → Guid → List PlacedValue → ℕ → Bool
+is_missed since writer reader acts n = not (is_received writer reader acts n) && is_wanting since writer reader acts n
 
 -- the reader hears, behind a place, that n will not come
 abbrev pub withdraws_behind : Location → Guid → Guid → ℕ → PlacedValue → Bool
@@ -85,9 +96,21 @@ withdraws_behind place writer reader n placed = is_behind (Some place) placed &&
 abbrev pub gone_behind : Location → Guid → Guid → ℕ → List PlacedValue → Option Teller
 gone_behind place writer reader n acts = option_map teller_at (find (withdraws_behind place writer reader n) acts)
 
--- n as a number that is missed, by the last answer that asks for it, and by the first act behind that which tells it gone
+-- where the first act behind a place stands that brings n
+abbrev pub again_behind : Location → Guid → Guid → ℕ → List PlacedValue → Option Location
+again_behind place writer reader n acts = option_map location_of (find (brings_behind (Some place) writer reader n) acts)
+
+-- n as a number that is missed, by the last act that asks for it: where it is sent again behind that, the first act behind that which tells
+-- it gone, and whether any act brings it
 abbrev pub missed_at : Guid → Guid → ℕ → List PlacedValue → PlacedValue → FirstMissed
-missed_at writer reader n acts asking = record { number = n; asked = location_of asking; gone = gone_behind (location_of asking) writer reader n acts }
+missed_at writer reader n acts asking =
+    record {
+      number = n;
+      asked = location_of asking;
+      again = again_behind (location_of asking) writer reader n acts;
+      gone = gone_behind (location_of asking) writer reader n acts;
+      is_sent = list_any (brings writer reader n) acts;
+    }
 
 -- the same of a number, if there is one
 abbrev pub missed_by : Guid → Guid → List PlacedValue → Option ℕ → Option FirstMissed
@@ -96,10 +119,9 @@ missed_by writer reader acts (Some n) = option_map (missed_at writer reader n ac
 
 -- the least number from `from` on, up to the last one, that is missed
 abbrev pub first_missed_of : ℕ → ℕ → Option Location → Guid → Guid → List PlacedValue → Option FirstMissed
-first_missed_of from last place writer reader acts = missed_by writer reader acts (least_in (is_missed place writer reader acts) from (last + 1))
+first_missed_of from last since writer reader acts = missed_by writer reader acts (least_in (is_missed since writer reader acts) from (last + 1))
 
--- Of the numbers from `from` on, up to the last one: how many are missed, where the reader is announced first at this place, and
--- the least of them.
-pub record AreMissed (from last : ℕ) (place : Option Location) (writer reader : Guid) (acts : List PlacedValue) (missed : Missed) : Type 0 where
-  pub count : missed.count ≡ count_in (is_missed place writer reader acts) from (last + 1)
-  pub first : missed.first ≡ first_missed_of from last place writer reader acts
+-- of the numbers from `from` on, up to the last one: how many are missed, and the least of them
+pub record AreMissed (from last : ℕ) (since : Option Location) (writer reader : Guid) (acts : List PlacedValue) (missed : Missed) : Type 0 where
+  pub count : missed.count ≡ count_in (is_missed since writer reader acts) from (last + 1)
+  pub first : missed.first ≡ first_missed_of from last since writer reader acts

@@ -5,7 +5,7 @@ use Rattle.std.specs.Option.{option_map}
 use Rattle.rtps_ids.specs.declared.identity.Guid.{Guid}
 use Rattle.rtps_receiver.specs.Speech.{is_answer, is_heard_by, is_spoken_by}
 use Rattle.rtps_receiver.specs.Values.{ActBodyValue}
-use Rattle.rtps_receiver.specs.Values.ActBodyValue.{Data, Heartbeat, AckNack, Gap, DataFrag}
+use Rattle.rtps_receiver.specs.Values.ActBodyValue.{Data, Heartbeat, AckNack, Gap, DataFrag, NackFrag}
 use Rattle.rtps_audit.specs.Placed.{PlacedValue}
 use Rattle.rtps_audit.specs.declared.answer.Answer.{Answer}
 use Rattle.rtps_evidence.specs.Locations.{find_last, is_behind, location_of}
@@ -19,6 +19,7 @@ is_question (Data value) = false
 is_question (AckNack value) = false
 is_question (Gap value) = false
 is_question (DataFrag value) = false
+is_question (NackFrag value) = false
 
 -- the reader hears one from the writer, behind a place
 abbrev pub questions_behind : Option Location → Guid → Guid → PlacedValue → Bool

@@ -7,6 +7,7 @@ use Rattle.rtps_receiver.specs.Speech.{is_for_all, names, reader_named, unknown_
 use Rattle.rtps_receiver.specs.Values.{ActValue}
 use Rattle.rtps_audit.specs.Delivery.{last_announced_from}
 use Rattle.rtps_audit.specs.Placed.{PlacedValue, is_from, placed_in}
+use Rattle.rtps_audit.specs.Said.{datagrams_until}
 use Rattle.rtps_audit.specs.Speech.{speech_by}
 use Rattle.rtps_evidence.specs.Amount.{AreNumbers, is_sent, is_told, some_withdrawn, stretches_have}
 use Rattle.rtps_evidence.specs.Locations.{announcement_of, sends, tells}
@@ -42,3 +43,7 @@ pub record IsSummary (recording : List (List ActValue)) (summary : WriterSummary
   pub last : (reader : Guid) → summary.asked.last ≡ last_announced_from summary.asked.from (speech_by summary.writer reader recording)
   pub announcement : summary.announcement ≡ announcement_of summary.asked.from summary.writer summary.asked.last (placed_in recording)
   pub heard : IsSplit summary.writer (filter (is_from summary.writer) (placed_in recording)) summary.alike summary.others.items
+
+-- of the datagrams that it is by
+abbrev pub IsSummaryOf : List (List ActValue) → WriterSummary → Type 0
+IsSummaryOf acts summary = IsSummary (datagrams_until summary.until acts) summary

@@ -3,15 +3,12 @@ ghost use Rattle.std.specs.List.{find};
 ghost use Rattle.rtps_discovery.specs.declared.matching.Pair.{Pair as PairValue};
 ghost use Rattle.rtps_receiver.specs.Values.{ActValue};
 ghost use Rattle.rtps_audit.specs.Delivery.{greatest};
-ghost use Rattle.rtps_audit.specs.Index.{IsIndexBy};
-ghost use Rattle.rtps_audit.specs.Intake.{Intake};
 ghost use Rattle.rtps_audit.specs.Placed.{answers_among, placed_in};
 ghost use Rattle.rtps_audit.specs.Speech.{natural};
 ghost use Rattle.rtps_evidence.specs.Locations.{acknowledgement_of, claim_in as claim_in_lem, claim_of};
 
 use crate::location::Location;
-use rtps_audit::{Answer, Index};
-use rtps_discovery::Pair;
+use rtps_audit::Answer;
 use rtps_ids::SeqNum;
 
 /// An answer of the reader to the writer.
@@ -83,10 +80,10 @@ pub(crate) fn find_acknowledgement(answers: &[Answer], from: SeqNum) -> Option<C
     first_with(answers, base)
 }
 
-/// The first answer of a pair's reader to its writer, in a datagram counted from 1, that has a base above the number.
-pub(crate) fn find_claim(index: &Index<'_>, pair: Pair, datagram: u64, number: u64) -> Option<Claim>
-    ensures { (intake : Intake) → IsIndexBy intake index.now
-        → result ≡ claim_of pair.writer pair.reader datagram number (placed_in intake.acts) }
+/// The first of a pair's answers, in a datagram counted from 1, that has a base above the number.
+pub(crate) fn find_claim(answers: &[Answer], datagram: u64, number: u64) -> Option<Claim>
+    ensures { (pair : PairValue) (recording : List (List ActValue)) → answers.now ≡ answers_among pair (placed_in recording)
+        → result ≡ claim_of pair.writer pair.reader datagram number (placed_in recording) }
 {
-    first_above(index.answers_of(pair), datagram, number)
+    first_above(answers, datagram, number)
 }

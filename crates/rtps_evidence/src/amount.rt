@@ -64,10 +64,11 @@ fn count_in_order(stretches: &[Stretch], from: u64, end: u64) -> u64
     count
 }
 
-/// How many of the numbers from `from` on and below `end` lie in these stretches.
+/// How many of the numbers from `from` on and below `end` lie in these stretches. It puts them in another order.
 pub(crate) fn count_of(stretches: &mut Vec<Stretch>, from: u64, end: u64) -> Result<u64, Memory>
     requires { from ≤ end }
-    ensures { IfOk result (λ count. count ≡ count_in (stretches_have stretches.old.items) from end) }
+    ensures count { IfOk result (λ count. count ≡ count_in (stretches_have stretches.old.items) from end) }
+    ensures same { OnOk result ((n : ℕ) → stretches_have stretches.new.items n ≡ stretches_have stretches.old.items n) }
 {
     stretches.sort_by_key(|stretch| stretch.lo)?;
     Ok(count_in_order(stretches, from, end))
@@ -183,7 +184,7 @@ fn push_told(stretches: &mut Vec<Stretch>, placed: &Placed<'_>, pair: Pair) -> R
             }
             None => Ok(()),
         },
-        ActBody::AckNack(_) => Ok(()),
+        ActBody::AckNack(_) | ActBody::NackFrag(_) => Ok(()),
     }
 }
 
@@ -208,7 +209,9 @@ fn push_sent(stretches: &mut Vec<Stretch>, placed: &Placed<'_>, pair: Pair) -> R
             }
             None => Ok(()),
         },
-        ActBody::Heartbeat(_) | ActBody::Gap(_) | ActBody::AckNack(_) => Ok(()),
+        ActBody::Heartbeat(_) | ActBody::Gap(_) | ActBody::AckNack(_) | ActBody::NackFrag(_) => Ok(
+            (),
+        ),
     }
 }
 

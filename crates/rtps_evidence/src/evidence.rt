@@ -1,25 +1,32 @@
-ghost use Rattle.std.specs.Prelude.{◌≡◌, IfOk};
+ghost use Rattle.std.specs.Prelude.{◌≡◌, IfOk, List};
+ghost use Rattle.rtps_receiver.specs.Values.{ActValue};
 ghost use Rattle.rtps_audit.specs.Index.{IsIndexBy};
 ghost use Rattle.rtps_audit.specs.Intake.{Intake};
+ghost use Rattle.rtps_audit.specs.RunVerdict.{IsVerdictFrom};
+ghost use Rattle.rtps_audit.specs.Said.{IsSaid, datagrams_until};
+ghost use Rattle.rtps_audit.specs.Speech.{speech_by};
 
 use crate::acknowledgement::{Claim, find_acknowledgement};
+use crate::exchange::Exchange;
 use crate::first_missed::FirstMissed;
 use crate::grounds::{Grounds, grounds_of};
-use crate::lacking::Exchange;
+use crate::in_span::InSpan;
+use crate::judgement::Judgement;
 use crate::last_announcement::Announcement;
 use crate::missed::count_missed;
 use crate::missed_numbers::find_missed;
 use crate::not_received::NotReceived;
+use crate::outcome::Unreceived;
 use crate::received::count_received;
 use crate::rising::rising;
 use crate::writer_summary::WriterSummary;
-use rtps_audit::{Index, Row, Verdict};
+use rtps_audit::{Index, Row, Said, Verdict};
 use rtps_discovery::Pair;
 use rtps_ids::{Memory, SeqNum};
 use std::alloc::Global;
 
 /// The verdict on a writer and a reader, by the writer's numbers from some number on, and what it rests on. Acts are those of
-/// the recording, by datagram and then by place.
+/// the recording, or of a row's span, by datagram and then by place.
 #[derive(Clone, Copy, PartialEq, Eq, Debug)]
 pub struct Evidence<'a> {
     pub verdict: Verdict,
@@ -38,19 +45,21 @@ pub struct Evidence<'a> {
     pub received: u64,
     /// The least of them that it may not have received, and what keeps it from being certain; None where there is none.
     pub not_received: Option<NotReceived>,
-    /// How many of them it missed: it may not have received them, it asked for them, and a payload for each was sent to it behind
-    /// its first announcement.
+    /// How many of them it missed: it may not have received them, and of its last request for each nothing was sent behind it, or
+    /// it was sent before it, since the reader joined.
     pub missed: u64,
     /// The least of them; None where there is none.
     pub first_missed: Option<FirstMissed>,
     /// What else the verdict rests on, by its kind.
     pub grounds: Grounds<'a>,
+    /// What became of the numbers, of a row in the span of its pair; None where rows are by the whole recording.
+    pub in_span: Option<InSpan>,
 }
 
 impl<'a> Evidence<'a> {
-    ghost use Rattle.rtps_audit.specs.Report.{IsJudgedFrom};
-    ghost use Rattle.rtps_evidence.specs.Evidence.{IsEvidence, IsEvidenceFrom};
-    ghost use Rattle.rtps_evidence.specs.WriterSummary.{IsSummary};
+    ghost use Rattle.rtps_evidence.specs.Evidence.{IsBeside, IsEvidence, IsEvidenceFrom, IsShown, IsVerdictIn};
+    ghost use Rattle.rtps_evidence.specs.Spans.{since_of};
+    ghost use Rattle.rtps_evidence.specs.WriterSummary.{IsSummary, IsSummaryOf};
 
     /// The evidence of an index's recording for a writer and a reader, any two GUIDs, by the writer's numbers from `from` on:
     /// the verdict is that of [`Index::judge_from`]. `Memory` is answered where what is kept of the two cannot grow.
@@ -63,37 +72,74 @@ impl<'a> Evidence<'a> {
         ensures { (intake : Intake) → IsIndexBy intake index.now → IfOk result (IsEvidenceFrom from pair intake) }
     {
         let verdict = index.judge_from(pair, from)?;
-        let summary = WriterSummary::of(alloc, index, pair.writer, from)?;
-        Evidence::of_row(alloc, index, &summary, Row { pair, verdict })
+        let judgement = Judgement::of(index, Row { pair, verdict }, from, false)?;
+        let summary = WriterSummary::turned_to(alloc, index, None, &judgement)?;
+        let evidence = Evidence::of_judged(alloc, index, &summary, &judgement)?;
+        Ok(evidence)
     }
 
-    /// The evidence for a row of a report, where this is what its writer says.
-    pub(crate) fn of_row(
+    /// The evidence for a judgement, where this is what the pair's writer says. `Memory` as of [`Evidence::of_from`].
+    pub(crate) fn of_judged(
         alloc: Global,
         index: &Index<'a>,
         summary: &WriterSummary,
-        row: Row,
+        judgement: &Judgement,
     ) -> Result<Evidence<'a>, Memory>
-        requires { summary.now.writer ≡ row.pair.writer }
-        ensures judged { IfOk result (λ evidence. evidence.verdict ≡ row.verdict) }
-        ensures evidence { (intake : Intake) → IsIndexBy intake index.now → IsSummary intake.acts summary.now
-            → IsJudgedFrom summary.now.asked.from intake.acts row
-            → IfOk result (IsEvidenceFrom summary.now.asked.from row.pair intake) }
+        requires writer { summary.now.writer ≡ judgement.now.pair.writer }
+        requires from { summary.now.asked.from ≡ judgement.now.span.from }
+        requires until { summary.now.until ≡ judgement.now.span.until }
+        ensures judged { IfOk result (λ evidence. evidence.verdict ≡ judgement.now.verdict) }
+        ensures shown { (intake : Intake) → IsIndexBy intake index.now → IsSummaryOf intake.acts summary.now
+            → IsVerdictIn judgement.now.span judgement.now.pair intake.acts judgement.now.verdict
+            → IfOk result (IsShown judgement.now.span.from (since_of judgement.now.span) judgement.now.pair (datagrams_until judgement.now.span.until intake.acts)) }
+        ensures beside { (intake : Intake) → IsIndexBy intake index.now → IsSummaryOf intake.acts summary.now
+            → IsVerdictIn judgement.now.span judgement.now.pair intake.acts judgement.now.verdict
+            → IfOk result (λ evidence. IsBeside judgement.now.in_spans judgement.now.span judgement.now.pair (datagrams_until judgement.now.span.until intake.acts) evidence.in_span) }
     {
-        let acts = index.acts_of(row.pair.writer);
-        let answers = index.answers_of(row.pair);
-        let mut heard = summary.heard_by(alloc, acts, row.pair.reader)?;
-        let exchange = Exchange { acts, answers };
-        let mut lacking = heard.lacking(alloc, &exchange, row, &summary.asked)?;
+        let exchange = Exchange {
+            pair: judgement.pair,
+            span: judgement.span,
+            in_spans: judgement.in_spans,
+            said: Said::until(index, judgement.pair, judgement.span.until),
+        };
+        let evidence = Evidence::of_exchange(alloc, &exchange, summary, judgement.verdict)?;
+        Ok(evidence)
+    }
+
+    /// The evidence for what a pair said, where this is what its writer says. `Memory` as of [`Evidence::of_from`].
+    pub(crate) fn of_exchange(
+        alloc: Global,
+        exchange: &Exchange<'_, 'a>,
+        summary: &WriterSummary,
+        verdict: Verdict,
+    ) -> Result<Evidence<'a>, Memory>
+        requires writer { summary.now.writer ≡ exchange.now.pair.writer }
+        requires from { summary.now.asked.from ≡ exchange.now.span.from }
+        ensures judged { IfOk result (λ evidence. evidence.verdict ≡ verdict) }
+        ensures shown { (recording : List (List ActValue)) → IsSaid exchange.now.pair recording exchange.now.said → IsSummary recording summary.now
+            → IsVerdictFrom exchange.now.span.from (speech_by exchange.now.pair.writer exchange.now.pair.reader recording) verdict
+            → IfOk result (IsShown exchange.now.span.from (since_of exchange.now.span) exchange.now.pair recording) }
+        ensures beside { (recording : List (List ActValue)) → IsSaid exchange.now.pair recording exchange.now.said → IsSummary recording summary.now
+            → IsVerdictFrom exchange.now.span.from (speech_by exchange.now.pair.writer exchange.now.pair.reader recording) verdict
+            → IfOk result (λ evidence. IsBeside exchange.now.in_spans exchange.now.span exchange.now.pair recording evidence.in_span) }
+    {
+        let asked = &summary.asked;
+        let mut heard = summary.heard_by(alloc, exchange.said.acts, exchange.pair.reader)?;
+        let mut lacking = heard.lacking(alloc, exchange, &verdict, asked)?;
         let mut lacking = rising(alloc, &mut lacking)?;
-        let mut missed = find_missed(alloc, index, row.pair, &lacking)?;
-        let missed = count_missed(&mut missed, index, row.pair, &summary.asked)?;
-        let received = count_received(&mut lacking, index, row.pair, &summary.asked)?;
-        let amounts = heard.amounts(&summary.asked)?;
+        let mut missed = find_missed(alloc, exchange, &lacking)?;
+        let unreceived = Unreceived {
+            numbers: &lacking,
+            missed: &missed,
+        };
+        let in_span = InSpan::of(alloc, exchange, &unreceived, asked)?;
+        let missed = count_missed(&mut missed, exchange, asked)?;
+        let received = count_received(&mut lacking, exchange, asked)?;
+        let amounts = heard.amounts(asked)?;
         Ok(Evidence {
-            verdict: row.verdict,
+            verdict,
             announcement: summary.announcement,
-            acknowledgement: find_acknowledgement(answers, summary.asked.from),
+            acknowledgement: find_acknowledgement(exchange.said.answers, asked.from),
             payloads: amounts.payloads,
             gone: amounts.gone,
             untold: amounts.untold,
@@ -101,7 +147,8 @@ impl<'a> Evidence<'a> {
             not_received: received.not_received,
             missed: missed.count,
             first_missed: missed.first,
-            grounds: grounds_of(index, row),
+            grounds: grounds_of(exchange, &verdict),
+            in_span,
         })
     }
 

@@ -1,16 +1,18 @@
-ghost use Rattle.std.specs.Prelude.{ℕ, ◌≡◌, map, All, IfOk, List};
+ghost use Rattle.std.specs.Prelude.{false, ◌≡◌, map, All, IfOk};
 ghost use Rattle.rtps_discovery.specs.Directory.{settled_at};
 ghost use Rattle.rtps_audit.specs.Index.{IsIndexBy};
 ghost use Rattle.rtps_audit.specs.Intake.{Intake};
 ghost use Rattle.rtps_audit.specs.Report.{IsJudgedFrom};
-ghost use Rattle.rtps_evidence.specs.Evidence.{IsEvidenceFrom};
+ghost use Rattle.rtps_evidence.specs.Evidence.{IsEvidenceBy};
 ghost use Rattle.rtps_evidence.specs.Explanation.{IsExplainedBy, IsExplainedFrom, IsNamed, row_of, topic_of, type_of};
 
 use crate::evidence::Evidence;
+use crate::exchange::Extent;
+use crate::judgement::Judgement;
 use crate::writer_summary::WriterSummary;
 use rtps_audit::{Counts, Index, Row, Watch};
 use rtps_discovery::{Directory, Pair};
-use rtps_ids::{Guid, Memory, SeqNum};
+use rtps_ids::{Guid, Memory};
 use std::alloc::Global;
 
 /// A reliable writer and reader that match, and why they have their verdict.
@@ -43,26 +45,30 @@ fn names_of<'a>(directory: &Directory<'a>, guid: Guid) -> (&'a [u8], &'a [u8])
     }
 }
 
-/// Explains each of these rows of a report by the numbers from `from` on.
+/// Explains each of these rows of a report by the numbers of an extent.
 fn explain_rows<'a>(
     alloc: Global,
     index: &Index<'a>,
     directory: &Directory<'a>,
     rows: &[Row],
-    from: SeqNum,
+    extent: Extent,
 ) -> Result<Vec<Explanation<'a>>, Memory>
-    ensures rows { IfOk result (λ explained. map row_of explained.items ≡ rows.now) }
+    ensures pairs { IfOk result (λ explained. map (λ row. row.pair) explained.items ≡ map (λ row. row.pair) rows.now) }
+    ensures rows { (intake : Intake) → IsIndexBy intake index.now → extent.in_spans ≡ false → IfOk result (λ explained. map row_of explained.items ≡ rows.now) }
     ensures named { IfOk result (λ explained. All (IsNamed directory.now.endpoints) explained.items) }
     ensures shown { (intake : Intake) → IsIndexBy intake index.now
-        → All (IsJudgedFrom from intake.acts) rows.now
-        → IfOk result (λ explained. All (λ row. IsEvidenceFrom from row.pair intake row.evidence) explained.items) }
+        → All (IsJudgedFrom extent.from intake.acts) rows.now
+        → IfOk result (λ explained. All (λ row. IsEvidenceBy extent.in_spans extent.from row.pair intake row.evidence) explained.items) }
 {
+    let from = extent.from;
+    let in_spans = extent.in_spans;
     let mut explained = Vec::with_capacity(alloc, rows.len())?;
     let mut before = None;
     for row in rows {
         let (topic, type_name) = names_of(directory, row.pair.writer);
-        let summary = WriterSummary::turned_to(alloc, index, before, row.pair.writer, from)?;
-        let evidence = Evidence::of_row(alloc, index, &summary, *row)?;
+        let judgement = Judgement::of(index, *row, from, in_spans)?;
+        let summary = WriterSummary::turned_to(alloc, index, before, &judgement)?;
+        let evidence = Evidence::of_judged(alloc, index, &summary, &judgement)?;
         before = Some(summary);
         explained.push(Explanation {
             pair: row.pair,
@@ -74,35 +80,35 @@ fn explain_rows<'a>(
     Ok(explained)
 }
 
-/// Reports on what an index took in by the numbers from `from` on, and says of each row why it has its verdict. It tells how far
-/// it is. `Memory` is answered where what is kept cannot grow.
+/// Reports on what an index took in, and says of each row why it has its verdict. The report is by the extent's numbers; where rows
+/// are in spans, the verdict of each and what it rests on are by the span of its pair. It tells how far it is. `Memory` is answered
+/// where what is kept cannot grow.
 pub fn explain_index<'a, P: Watch>(
     alloc: Global,
     index: &Index<'a>,
-    from: SeqNum,
+    extent: Extent,
     watch: &mut P,
 ) -> Result<Explained<'a>, Memory>
-    ensures { (intake : Intake) → IsIndexBy intake index.now → IfOk result (IsExplainedBy from intake) }
+    ensures { (intake : Intake) → IsIndexBy intake index.now → IfOk result (IsExplainedBy extent.in_spans extent.from intake) }
 {
-    let report = index.report_from(from, watch)?;
-    let rows = explain_rows(alloc, index, index.directory(), &report.rows, from)?;
+    let report = index.report_from(extent.from, watch)?;
+    let rows = explain_rows(alloc, index, index.directory(), &report.rows, extent)?;
     Ok(Explained {
         rows,
         counts: report.counts,
     })
 }
 
-/// Audits a recording, any datagrams in the order of sending, by the numbers from `from` on, and says of each row of the
-/// report why it has its verdict. It tells how far it is. `Memory` is answered where what is kept cannot grow.
+/// The same of a recording, any datagrams in the order of sending.
 pub fn explain_from<'a, P: Watch>(
     alloc: Global,
     recording: &[&'a [u8]],
-    from: SeqNum,
+    extent: Extent,
     watch: &mut P,
 ) -> Result<Explained<'a>, Memory>
-    ensures { IfOk result (IsExplainedFrom from (map (λ datagram. datagram.now) recording.now)) }
+    ensures { IfOk result (IsExplainedFrom extent.in_spans extent.from (map (λ datagram. datagram.now) recording.now)) }
 {
     let index = Index::build(alloc, recording)?;
-    let explained = explain_index(alloc, &index, from, watch)?;
+    let explained = explain_index(alloc, &index, extent, watch)?;
     Ok(explained)
 }

@@ -1,15 +1,18 @@
 ghost use Rattle.std.specs.Prelude.{ℕ, ◌≡◌, ◌<◌, ◌^◌, map, List, Some};
+ghost use Rattle.std.specs.List.{list_any};
 ghost use Rattle.std.specs.Option.{option_map};
-ghost use Rattle.rtps_audit.specs.Index.{IsIndexBy};
-ghost use Rattle.rtps_audit.specs.Intake.{Intake};
+ghost use Rattle.rtps_receiver.specs.Values.{ActValue};
 ghost use Rattle.rtps_audit.specs.Placed.{placed_in, placed_value};
+ghost use Rattle.rtps_audit.specs.Said.{IsSaid};
 ghost use Rattle.rtps_evidence.specs.Locations.{find_last, location_of as location_of_lem};
-ghost use Rattle.rtps_evidence.specs.Missed.{asks_for, gone_behind, missed_by, withdraws_behind as withdraws_behind_lem};
+ghost use Rattle.rtps_evidence.specs.Missed.{again_behind, asks_for, brings as brings_lem, gone_behind, missed_by, withdraws_behind as withdraws_behind_lem};
 
+use crate::exchange::Exchange;
+use crate::listener::brings;
 use crate::location::{Location, is_behind, location_of};
 use crate::not_received::withdraws;
 use crate::teller::{Teller, teller_at};
-use rtps_audit::{Index, Placed};
+use rtps_audit::Placed;
 use rtps_discovery::Pair;
 use rtps_receiver::ActBody;
 
@@ -17,10 +20,14 @@ use rtps_receiver::ActBody;
 #[derive(Clone, Copy, PartialEq, Eq, Debug)]
 pub struct FirstMissed {
     pub number: u64,
-    /// The last answer by which the reader asks for it.
+    /// The last act by which the reader asks for it.
     pub asked: Location,
-    /// The first act behind that answer by which the reader hears that the number will not come; None where there is none.
+    /// The first act behind that which brings the reader a payload for it, or a fragment of one; None where there is none.
+    pub again: Option<Location>,
+    /// The first act behind that by which the reader hears that the number will not come; None where there is none.
     pub gone: Option<Teller>,
+    /// Whether any act brings the reader a payload for it, or a fragment of one.
+    pub is_sent: bool,
 }
 
 /// Whether the pair's reader asks its writer for the number by an act.
@@ -28,11 +35,12 @@ fn asks(placed: &Placed<'_>, pair: Pair, number: u64) -> bool
     requires { number < 2 ^ 63 }
     ensures { result ≡ asks_for pair.writer pair.reader number (placed_value placed.now) }
 {
-    if !placed.act.answers(pair.reader, pair.writer) {
+    if !placed.act.asks(pair.reader, pair.writer) {
         return false;
     }
     match &placed.act.body {
         ActBody::AckNack(ack_nack) => ack_nack.set.contains(number.cast_signed()),
+        ActBody::NackFrag(nack) => nack.number.get().cast_unsigned() == number,
         ActBody::Data(_) => false,
         ActBody::Heartbeat(_) => false,
         ActBody::Gap(_) => false,
@@ -80,19 +88,46 @@ fn first_gone_behind(
     None
 }
 
-/// The number as one that is missed; None where the pair's reader never asks its writer for it.
-pub(crate) fn first_missed_at(index: &Index<'_>, pair: Pair, number: u64) -> Option<FirstMissed>
-    requires { number < 2 ^ 63 }
-    ensures { (intake : Intake) → IsIndexBy intake index.now
-        → result ≡ missed_by pair.writer pair.reader (placed_in intake.acts) (Some number) }
+/// Where the first of these acts stands, behind a place, that brings the reader the number.
+fn first_again(acts: &[Placed<'_>], pair: Pair, number: u64, place: Location) -> Option<Location>
+    ensures { result ≡ again_behind place pair.writer pair.reader number (map placed_value acts.now) }
 {
-    let Some(asked) = last_asking(index.acts_of(pair.reader), pair, number) else {
+    for placed in acts {
+        if is_behind(Some(place), placed) && brings(placed, pair, number) {
+            return Some(location_of(placed));
+        }
+    }
+    None
+}
+
+/// Whether one of these acts brings the reader the number.
+fn is_sent(acts: &[Placed<'_>], pair: Pair, number: u64) -> bool
+    ensures { result ≡ list_any (brings_lem pair.writer pair.reader number) (map placed_value acts.now) }
+{
+    for placed in acts {
+        if brings(placed, pair, number) {
+            return true;
+        }
+    }
+    false
+}
+
+/// The number as one that is missed; None where the pair's reader never asks its writer for it.
+pub(crate) fn first_missed_at(exchange: &Exchange<'_, '_>, number: u64) -> Option<FirstMissed>
+    requires { number < 2 ^ 63 }
+    ensures { (recording : List (List ActValue)) → IsSaid exchange.now.pair recording exchange.now.said
+        → result ≡ missed_by exchange.now.pair.writer exchange.now.pair.reader (placed_in recording) (Some number) }
+{
+    let pair = exchange.pair;
+    let acts = exchange.said.acts;
+    let Some(asked) = last_asking(exchange.said.asks, pair, number) else {
         return None;
     };
-    let gone = first_gone_behind(index.acts_of(pair.writer), pair, number, asked);
     Some(FirstMissed {
         number,
         asked,
-        gone,
+        again: first_again(acts, pair, number, asked),
+        gone: first_gone_behind(acts, pair, number, asked),
+        is_sent: is_sent(acts, pair, number),
     })
 }

@@ -1,8 +1,7 @@
 ghost use Rattle.std.specs.Prelude.{◌≡◌, ◌<◌, ◌^◌, filter, map, List};
 ghost use Rattle.rtps_receiver.specs.Values.{ActValue};
-ghost use Rattle.rtps_audit.specs.Index.{IsIndexBy};
-ghost use Rattle.rtps_audit.specs.Intake.{Intake};
 ghost use Rattle.rtps_audit.specs.Placed.{answers_among, is_from, placed_in, placed_value};
+ghost use Rattle.rtps_audit.specs.Said.{IsSaid};
 ghost use Rattle.rtps_audit.specs.Speech.{natural as natural_lem};
 ghost use Rattle.rtps_evidence.specs.Grounds.{grounds_by, grounds_value, number_in};
 ghost use Rattle.rtps_evidence.specs.Grounds.GroundsValue.{ConflictGrounds, OpenGrounds};
@@ -10,11 +9,12 @@ ghost use Rattle.rtps_evidence.specs.Locations.{first_sent as first_sent_lem, ot
 ghost use Rattle.rtps_evidence.specs.Questions.{asked_since as asked_since_lem, last_asked as last_asked_lem};
 
 use crate::acknowledgement::{Claim, find_claim};
+use crate::exchange::Exchange;
 use crate::location::Location;
 use crate::questions::questions_since;
 use crate::sent_payload::{Sent, first_sent, other_sent};
 use crate::teller::{Teller, find_teller};
-use rtps_audit::{Answer, Index, Placed, Row, Verdict};
+use rtps_audit::{Answer, Placed, Verdict};
 use rtps_discovery::Pair;
 
 /// What a verdict rests on, beside what all rows have.
@@ -93,20 +93,22 @@ fn conflict_grounds<'a>(acts: &[Placed<'a>], pair: Pair, number: u64) -> Grounds
     }
 }
 
-/// What the verdict of a row rests on.
-pub(crate) fn grounds_of<'a>(index: &Index<'a>, row: Row) -> Grounds<'a>
-    ensures { (intake : Intake) → IsIndexBy intake index.now → grounds_value result ≡ grounds_by row.verdict row.pair (placed_in intake.acts) }
+/// What a verdict rests on.
+pub(crate) fn grounds_of<'a>(exchange: &Exchange<'_, 'a>, verdict: &Verdict) -> Grounds<'a>
+    ensures { (recording : List (List ActValue)) → IsSaid exchange.now.pair recording exchange.now.said
+        → grounds_value result ≡ grounds_by verdict.now exchange.now.pair (placed_in recording) }
 {
-    let pair = row.pair;
-    let acts = index.acts_of(pair.writer);
-    let number = number_of(&row.verdict);
-    match row.verdict {
+    let pair = exchange.pair;
+    let acts = exchange.said.acts;
+    let answers = exchange.said.answers;
+    let number = number_of(verdict);
+    match *verdict {
         Verdict::Complete { .. } => Grounds::Complete,
-        Verdict::Open { .. } => open_grounds(acts, index.answers_of(pair), pair, number),
+        Verdict::Open { .. } => open_grounds(acts, answers, pair, number),
         Verdict::Conflict { .. } => conflict_grounds(acts, pair, number),
         Verdict::Unfounded { datagram, .. } => Grounds::Unfounded {
             teller: find_teller(acts, pair, number),
-            claim: find_claim(index, pair, datagram, number),
+            claim: find_claim(answers, datagram, number),
         },
     }
 }

@@ -10,23 +10,15 @@ ghost use Rattle.rtps_evidence.specs.Claimed.{is_unfounded as is_unfounded_lem, 
 use crate::acknowledgement::greatest_base;
 use crate::amount::{AskedNumbers, HeardNumbers, Stretch};
 use crate::claimed::{Certainty, gone_among};
+use crate::exchange::Exchange;
 use crate::received::received_among;
-use crate::rising::rising;
 use crate::withdrawal::Withdrawal;
-use rtps_audit::{Answer, Placed, Row, Verdict};
-use rtps_discovery::Pair;
+use rtps_audit::{Answer, Verdict};
 use rtps_ids::Memory;
 use std::alloc::Global;
 
-/// What a pair's writer says, and what its reader answers.
-#[derive(Clone, Copy)]
-pub(crate) struct Exchange<'s, 'a> {
-    pub(crate) acts: &'s [Placed<'a>],
-    pub(crate) answers: &'s [Answer],
-}
-
 /// The numbers from `from` on and below `end` that none of these stretches has. Other numbers may be among them.
-fn outside(
+pub(crate) fn outside(
     alloc: Global,
     stretches: &[Stretch],
     from: u64,
@@ -45,6 +37,22 @@ fn outside(
         at = at.max(stretch.lo).max(stretch.hi);
     }
     rest.push(Stretch { lo: at, hi: end })?;
+    Ok(rest)
+}
+
+/// The numbers that are asked for and that none of these stretches has. Other numbers may be among them. It puts the stretches in
+/// another order.
+pub(crate) fn others_of(
+    alloc: Global,
+    stretches: &mut Vec<Stretch>,
+    asked: &AskedNumbers,
+) -> Result<Vec<Stretch>, Memory>
+    ensures { IfOk result (λ rest. (n : ℕ) → asked.now.from ≤ n → n ≤ asked.now.last
+        → stretches_have rest.items n ≡ not (stretches_have stretches.old.items n)) }
+{
+    stretches.sort_by_key(|stretch| stretch.lo)?;
+    let from = asked.from.get().cast_unsigned();
+    let rest = outside(alloc, stretches, from, asked.last + 1)?;
     Ok(rest)
 }
 
@@ -69,10 +77,10 @@ fn gone_or_unclaimed(
 }
 
 /// Whether a verdict is unfounded.
-fn is_unfounded(verdict: Verdict) -> bool
-    ensures { result ≡ is_unfounded_lem verdict }
+fn is_unfounded(verdict: &Verdict) -> bool
+    ensures { result ≡ is_unfounded_lem verdict.now }
 {
-    match verdict {
+    match *verdict {
         Verdict::Unfounded { .. } => true,
         Verdict::Conflict { .. } => false,
         Verdict::Open { .. } => false,
@@ -83,47 +91,46 @@ fn is_unfounded(verdict: Verdict) -> bool
 impl HeardNumbers {
     ghost use Rattle.std.specs.Prelude.{List};
     ghost use Rattle.rtps_audit.specs.Placed.{placed_in};
-    ghost use Rattle.rtps_audit.specs.Report.{IsJudgedFrom};
-    ghost use Rattle.rtps_evidence.specs.Claimed.{AreLacking, AreWithdrawals, IsExchange};
+    ghost use Rattle.rtps_audit.specs.RunVerdict.{IsVerdictFrom};
+    ghost use Rattle.rtps_audit.specs.Said.{IsSaid};
+    ghost use Rattle.rtps_audit.specs.Speech.{speech_by};
+    ghost use Rattle.rtps_evidence.specs.Claimed.{AreLacking, AreWithdrawals};
 
-    /// The numbers that are asked for and that a row's reader may not have received, where this is what it hears. Where the
+    /// The numbers that are asked for and that a pair's reader may not have received, where this is what it hears. Where the
     /// verdict is not unfounded, all that is claimed is told before: the acts are not needed. Other numbers may be among them.
     pub(crate) fn lacking(
         &self,
         alloc: Global,
         exchange: &Exchange<'_, '_>,
-        row: Row,
+        verdict: &Verdict,
         asked: &AskedNumbers,
     ) -> Result<Vec<Stretch>, Memory>
-        ensures { (recording : List (List ActValue)) → IsExchange row.pair (placed_in recording) exchange.now
-            → AreWithdrawals row.pair.writer row.pair.reader (placed_in recording) self.now.gone.items
-            → IsJudgedFrom asked.now.from recording row
-            → IfOk result (λ lacking. AreLacking asked.now.from asked.now.last row.pair (placed_in recording) lacking.items) }
+        ensures { (recording : List (List ActValue)) → IsSaid exchange.now.pair recording exchange.now.said
+            → AreWithdrawals exchange.now.pair.writer exchange.now.pair.reader (placed_in recording) self.now.gone.items
+            → IsVerdictFrom asked.now.from (speech_by exchange.now.pair.writer exchange.now.pair.reader recording) verdict.now
+            → IfOk result (λ lacking. AreLacking asked.now.from asked.now.last exchange.now.pair (placed_in recording) lacking.items) }
     {
-        if is_unfounded(row.verdict) {
-            return self.lacking_by_acts(alloc, exchange, row.pair, asked);
+        if is_unfounded(verdict) {
+            return self.lacking_by_acts(alloc, exchange, asked);
         }
-        let lacking = gone_or_unclaimed(alloc, &self.gone, exchange.answers, asked)?;
+        let lacking = gone_or_unclaimed(alloc, &self.gone, exchange.said.answers, asked)?;
         Ok(lacking)
     }
 
-    /// The same for any pair, by the acts of its writer.
+    /// The same of any verdict, by the acts of the pair's writer.
     fn lacking_by_acts(
         &self,
         alloc: Global,
         exchange: &Exchange<'_, '_>,
-        pair: Pair,
         asked: &AskedNumbers,
     ) -> Result<Vec<Stretch>, Memory>
-        ensures { (recording : List (List ActValue)) → IsExchange pair (placed_in recording) exchange.now
-            → AreWithdrawals pair.writer pair.reader (placed_in recording) self.now.gone.items
-            → IfOk result (λ lacking. AreLacking asked.now.from asked.now.last pair (placed_in recording) lacking.items) }
+        ensures { (recording : List (List ActValue)) → IsSaid exchange.now.pair recording exchange.now.said
+            → AreWithdrawals exchange.now.pair.writer exchange.now.pair.reader (placed_in recording) self.now.gone.items
+            → IfOk result (λ lacking. AreLacking asked.now.from asked.now.last exchange.now.pair (placed_in recording) lacking.items) }
     {
-        let certainty = Certainty::of(alloc, &self.gone, exchange.answers)?;
-        let mut received = received_among(alloc, exchange.acts, pair, &certainty)?;
-        let received = rising(alloc, &mut received)?;
-        let from = asked.from.get().cast_unsigned();
-        let lacking = outside(alloc, &received, from, asked.last + 1)?;
+        let certainty = Certainty::of(alloc, &self.gone, exchange.said.answers)?;
+        let mut received = received_among(alloc, exchange.said.acts, exchange.pair, &certainty)?;
+        let lacking = others_of(alloc, &mut received, asked)?;
         Ok(lacking)
     }
 }

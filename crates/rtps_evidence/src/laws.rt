@@ -2,10 +2,13 @@
 //! does nothing: its clause is the law, and its proof the law's proof.
 
 ghost use Rattle.rtps_evidence.specs.Certificates.{CompleteIsShown, ConflictIsShown, OpenIsShown, UnfoundedIsShown};
+ghost use Rattle.rtps_evidence.specs.Clean.{CountsSayTail};
 ghost use Rattle.rtps_evidence.specs.Explanation.{HasOneExplanation};
+ghost use Rattle.rtps_evidence.specs.Outcomes.{OutcomesAddUp, UnsentIsNotHeld};
 ghost use Rattle.rtps_evidence.specs.Received.{ReceivedIsExact};
+ghost use Rattle.rtps_evidence.specs.UnansweredLaw.{RecordingsAreInOrder, UnansweredIsByItsWords};
 
-use rtps_audit::laws::one_report;
+use rtps_audit::laws::{first_datagrams_say_the_same, has_no_two_verdicts, one_report};
 use rtps_discovery::laws::one_map;
 
 /// Where a claim of a number that is asked for stands at its place, and no act of an earlier datagram has a word for that
@@ -37,10 +40,37 @@ pub fn received_is_exact()
     ensures { ReceivedIsExact }
 {}
 
+/// How many numbers have each outcome adds up to how many are asked about.
+pub fn outcomes_add_up()
+    ensures { OutcomesAddUp }
+{}
+
+/// Where no payload of a number is told to the reader, no run ends with one.
+pub fn unsent_is_not_held()
+    ensures { UnsentIsNotHeld }
+{}
+
+/// A number is unanswered exactly where some act that the reader hears tells it gone, before the first such act stand two or more HEARTBEATs
+/// that ask about it, and no answer stands between the first of these and that act. The acts are in the order of their places, as those of
+/// each recording are.
+pub fn unanswered_is_by_its_words()
+    ensures words { UnansweredIsByItsWords }
+    ensures order { RecordingsAreInOrder }
+{
+    first_datagrams_say_the_same();
+}
+
+/// An open row lacks a tail by its counts exactly where each number below the greatest base of the reader's answers is received or likely, and
+/// each other one unconfirmed. These are then all that are unconfirmed.
+pub fn counts_say_tail()
+    ensures { CountsSayTail }
+{}
+
 /// What an index takes in is explained in one way, and so is a recording.
 pub fn one_explanation()
     ensures { HasOneExplanation }
 {
     one_map();
     one_report();
+    has_no_two_verdicts();
 }

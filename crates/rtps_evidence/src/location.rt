@@ -1,7 +1,7 @@
 ghost use Rattle.std.specs.Prelude.{◌≡◌};
 ghost use Rattle.rtps_receiver.specs.Values.{act_body_value};
 ghost use Rattle.rtps_audit.specs.Placed.{placed_value};
-ghost use Rattle.rtps_evidence.specs.Locations.{is_behind as is_behind_lem, kind_of as kind_of_lem, location_of as location_of_lem};
+ghost use Rattle.rtps_evidence.specs.Locations.{is_before as is_before_lem, is_behind as is_behind_lem, kind_of as kind_of_lem, location_of as location_of_lem};
 
 use rtps_audit::Placed;
 use rtps_receiver::ActBody;
@@ -23,6 +23,7 @@ pub enum Kind {
     AckNack,
     Gap,
     DataFrag,
+    NackFrag,
 }
 
 /// Where an act stands.
@@ -47,6 +48,14 @@ pub(crate) fn is_behind(place: Option<Location>, placed: &Placed<'_>) -> bool
     place.datagram < datagram || (place.datagram == datagram && place.at < placed.act.at)
 }
 
+/// Whether an act stands before a place: in an earlier datagram, or as an earlier submessage of the same one.
+pub(crate) fn is_before(place: Location, placed: &Placed<'_>) -> bool
+    ensures { result ≡ is_before_lem place (placed_value placed.now) }
+{
+    let datagram = placed.datagram as u64;
+    datagram < place.datagram || (datagram == place.datagram && placed.act.at < place.at)
+}
+
 /// Which submessage an act is.
 pub(crate) fn kind_of(body: &ActBody<'_>) -> Kind
     ensures { result ≡ kind_of_lem (act_body_value body.now) }
@@ -55,6 +64,7 @@ pub(crate) fn kind_of(body: &ActBody<'_>) -> Kind
         ActBody::Data(_) => Kind::Data,
         ActBody::Heartbeat(_) => Kind::Heartbeat,
         ActBody::AckNack(_) => Kind::AckNack,
+        ActBody::NackFrag(_) => Kind::NackFrag,
         ActBody::Gap(_) => Kind::Gap,
         ActBody::DataFrag(_) => Kind::DataFrag,
     }

@@ -1,15 +1,14 @@
-ghost use Rattle.std.specs.Prelude.{ℕ, ◌≡◌, ◌≤◌, IfOk, Option};
-ghost use Rattle.rtps_audit.specs.Index.{IsIndexBy};
-ghost use Rattle.rtps_audit.specs.Intake.{Intake};
+ghost use Rattle.std.specs.Prelude.{ℕ, ◌≡◌, ◌≤◌, IfOk, List};
+ghost use Rattle.rtps_receiver.specs.Values.{ActValue};
 ghost use Rattle.rtps_audit.specs.Placed.{placed_in};
+ghost use Rattle.rtps_audit.specs.Said.{IsSaid};
 ghost use Rattle.rtps_evidence.specs.Amount.{stretches_have};
 ghost use Rattle.rtps_evidence.specs.Missed.{AreMissed, is_missed};
-ghost use Rattle.rtps_evidence.specs.declared.location.Location.{Location as LocationValue};
+ghost use Rattle.rtps_evidence.specs.Spans.{since_of};
 
 use crate::amount::{AskedNumbers, Stretch, count_of, least_inside};
+use crate::exchange::Exchange;
 use crate::first_missed::{FirstMissed, first_missed_at};
-use rtps_audit::Index;
-use rtps_discovery::Pair;
 use rtps_ids::Memory;
 
 /// Of the numbers that are asked for: how many are missed, and the least of them.
@@ -23,20 +22,20 @@ pub(crate) struct Missed {
 /// order.
 pub(crate) fn count_missed(
     missed: &mut Vec<Stretch>,
-    index: &Index<'_>,
-    pair: Pair,
+    exchange: &Exchange<'_, '_>,
     asked: &AskedNumbers,
 ) -> Result<Missed, Memory>
-    ensures { (intake : Intake) (place : Option LocationValue) → IsIndexBy intake index.now
-        → ((n : ℕ) → asked.now.from ≤ n → n ≤ asked.now.last → stretches_have missed.old.items n ≡ is_missed place pair.writer pair.reader (placed_in intake.acts) n)
-        → IfOk result (AreMissed asked.now.from asked.now.last place pair.writer pair.reader (placed_in intake.acts)) }
+    ensures { (recording : List (List ActValue)) → IsSaid exchange.now.pair recording exchange.now.said
+        → ((n : ℕ) → asked.now.from ≤ n → n ≤ asked.now.last → stretches_have missed.old.items n
+        ≡ is_missed (since_of exchange.now.span) exchange.now.pair.writer exchange.now.pair.reader (placed_in recording) n)
+        → IfOk result (AreMissed asked.now.from asked.now.last (since_of exchange.now.span) exchange.now.pair.writer exchange.now.pair.reader (placed_in recording)) }
 {
     let from = asked.from.get().cast_unsigned();
     let end = asked.last + 1;
     let least = least_inside(missed, from, end);
     let count = count_of(missed, from, end)?;
     let first = if least < end {
-        first_missed_at(index, pair, least)
+        first_missed_at(exchange, least)
     } else {
         None
     };

@@ -1,83 +1,133 @@
-ghost use Rattle.std.specs.Prelude.{ℕ, true, ◌≡◌, ◌==◌, ◌&&◌, ◌||◌, not, map, IfOk, OnOk, List};
-ghost use Rattle.std.specs.List.{list_any};
+ghost use Rattle.std.specs.Prelude.{ℕ, ◌≡◌, ◌==◌, ◌≤◌, ◌<◌, ◌^◌, ◌&&◌, not, nat_le, nat_lt, if◌then◌else◌, map, IfOk, OnOk, List, Some, None};
+ghost use Rattle.std.specs.BTreeMap.{get};
+ghost use Rattle.std.specs.Ordering.{nat_cmp};
+ghost use Rattle.std.specs.Option.{option_map};
 ghost use Rattle.rtps_ids.specs.NumberSet.{is_member};
-ghost use Rattle.rtps_audit.specs.Index.{IsIndexBy};
-ghost use Rattle.rtps_audit.specs.Intake.{Intake};
+ghost use Rattle.rtps_receiver.specs.Values.{ActValue};
 ghost use Rattle.rtps_audit.specs.Placed.{placed_in, placed_value};
+ghost use Rattle.rtps_audit.specs.Said.{IsSaid};
 ghost use Rattle.rtps_evidence.specs.Amount.{stretches_have};
-ghost use Rattle.rtps_evidence.specs.Claimed.{is_at};
-ghost use Rattle.rtps_evidence.specs.Missed.{asks_for, brings, brings_behind, first_place as first_place_lem, is_missed, numbers_have, place_announced};
+ghost use Rattle.rtps_evidence.specs.Locations.{find_last, location_of as location_of_lem};
+ghost use Rattle.rtps_evidence.specs.Missed.{asks_for, is_missed};
 ghost use Rattle.rtps_evidence.specs.Received.{is_received};
+ghost use Rattle.rtps_evidence.specs.Requests.{is_in_vain as is_in_vain_lem, met_among, met_by, new_request as new_request_lem, requested};
 ghost use Rattle.rtps_evidence.specs.Rising.{AreRising};
+ghost use Rattle.rtps_evidence.specs.Spans.{since_of};
+ghost use Rattle.rtps_evidence.specs.WriterSummary.{option_any};
 
-use crate::amount::Stretch;
-use crate::location::{Location, is_behind};
-use crate::rising::{end_at, rising};
-use rtps_audit::{AnnouncedPlace, Index, Placed};
-use rtps_discovery::Pair;
+use crate::amount::{Stretch, push};
+use crate::exchange::Exchange;
+use crate::listener::{Listener, number_brought};
+use crate::location::{Location, is_before, is_behind, location_of};
+use crate::rising::end_at;
+use rtps_audit::Placed;
 use rtps_ids::{Memory, NumberSet};
 use rtps_receiver::ActBody;
 use std::alloc::Global;
+use std::collections::BTreeMap;
+use std::ops::Range;
 
-/// A writer and a reader, and where the reader is announced first.
-#[derive(Clone, Copy, Debug)]
-pub(crate) struct Listener {
-    pub(crate) pair: Pair,
-    pub(crate) announced: Option<Location>,
+/// What became of the last request for a number.
+#[derive(Clone, Copy, PartialEq, Eq, Debug, Drop)]
+struct Request {
+    /// Where it stands.
+    place: Location,
+    /// The number is sent behind it.
+    is_met: bool,
+    /// The number was sent before it, since the reader is there.
+    is_again: bool,
 }
 
-/// The first of these places.
-fn first_place(places: &[AnnouncedPlace]) -> Option<Location>
-    ensures { result ≡ first_place_lem places.now }
+/// A request of which nothing became yet.
+fn new_request(place: Location) -> Request
+    ensures { result ≡ new_request_lem place }
 {
-    if places.is_empty() {
-        return None;
-    }
-    let first = &places[0];
-    Some(Location {
-        datagram: first.datagram as u64,
-        at: first.at,
-    })
-}
-
-impl Listener {
-    /// A writer and a reader of a recording.
-    pub(crate) fn of(index: &Index<'_>, pair: Pair) -> Listener
-        ensures pair { result.pair ≡ pair }
-        ensures announced { (intake : Intake) → IsIndexBy intake index.now → result.announced ≡ place_announced pair.reader (placed_in intake.announcing) }
-    {
-        Listener {
-            pair,
-            announced: first_place(index.announced_at(pair.reader)),
-        }
+    Request {
+        place,
+        is_met: false,
+        is_again: false,
     }
 }
 
-/// Appends the numbers of a set. After `Memory` the stretches are of no use.
-fn push_set(stretches: &mut Vec<Stretch>, set: &NumberSet) -> Result<(), Memory>
-    ensures { OnOk result ((n : ℕ) → stretches_have stretches.new.items n ≡ (stretches_have stretches.old.items n || is_member set.now n)) }
+/// Notes that a number is asked for at a place, where the reader lacks it. After `Memory` the requests are of no use.
+fn note_number(
+    requests: &mut BTreeMap<u64, Request>,
+    number: u64,
+    place: Location,
+    lacking: &[Stretch],
+) -> Result<(), Memory>
+    requires { AreRising lacking.now }
+    ensures { OnOk result ((n : ℕ) → get nat_cmp requests.new n
+        ≡ (if (number == n) && stretches_have lacking.now n then Some (new_request_lem place) else get nat_cmp requests.old n)) }
+{
+    if number < end_at(lacking, number) {
+        requests.insert(number, new_request(place))?;
+    }
+    Ok(())
+}
+
+/// The same of these numbers.
+fn note_range(
+    requests: &mut BTreeMap<u64, Request>,
+    numbers: &Range<u64>,
+    place: Location,
+    lacking: &[Stretch],
+) -> Result<(), Memory>
+    requires rising { AreRising lacking.now }
+    requires ordered { numbers.now.start ≤ numbers.now.end }
+    ensures { OnOk result ((n : ℕ) → get nat_cmp requests.new n
+        ≡ (if (nat_le numbers.now.start n && nat_lt n numbers.now.end) && stretches_have lacking.now n then Some (new_request_lem place)
+        else get nat_cmp requests.old n)) }
+{
+    for number in numbers.start..numbers.end {
+        note_number(requests, number, place, lacking)?;
+    }
+    Ok(())
+}
+
+/// The same of the numbers of a set.
+fn note_set(
+    requests: &mut BTreeMap<u64, Request>,
+    set: &NumberSet,
+    place: Location,
+    lacking: &[Stretch],
+) -> Result<(), Memory>
+    requires { AreRising lacking.now }
+    ensures { OnOk result ((n : ℕ) → get nat_cmp requests.new n
+        ≡ (if is_member set.now n && stretches_have lacking.now n then Some (new_request_lem place) else get nat_cmp requests.old n)) }
 {
     let mut at = 0u64;
     'apart: while let Some(members) = set.range_from(at) {
-        stretches.push(Stretch {
-            lo: members.start,
-            hi: members.end,
-        })?;
+        note_range(requests, &members, place, lacking)?;
         at = members.end;
     }
     Ok(())
 }
 
-/// Appends the numbers that the pair's reader asks its writer for by an act. After `Memory` the stretches are of no use.
-fn push_asked(stretches: &mut Vec<Stretch>, placed: &Placed<'_>, pair: Pair) -> Result<(), Memory>
-    ensures { OnOk result ((n : ℕ) → stretches_have stretches.new.items n
-        ≡ (stretches_have stretches.old.items n || asks_for pair.writer pair.reader n (placed_value placed.now))) }
+/// Notes which numbers the pair's reader asks its writer for by an act, of those that it lacks. After `Memory` the requests are
+/// of no use.
+fn note_asking(
+    requests: &mut BTreeMap<u64, Request>,
+    placed: &Placed<'_>,
+    exchange: &Exchange<'_, '_>,
+    lacking: &[Stretch],
+) -> Result<(), Memory>
+    requires { AreRising lacking.now }
+    ensures { OnOk result ((n : ℕ) → get nat_cmp requests.new n
+        ≡ (if asks_for exchange.now.pair.writer exchange.now.pair.reader n (placed_value placed.now) && stretches_have lacking.now n
+        then Some (new_request_lem (location_of_lem (placed_value placed.now))) else get nat_cmp requests.old n)) }
 {
-    if !placed.act.answers(pair.reader, pair.writer) {
+    if !placed.act.asks(exchange.pair.reader, exchange.pair.writer) {
         return Ok(());
     }
     match &placed.act.body {
-        ActBody::AckNack(ack_nack) => push_set(stretches, &ack_nack.set),
+        ActBody::AckNack(ack_nack) => {
+            note_set(requests, &ack_nack.set, location_of(placed), lacking)
+        }
+        ActBody::NackFrag(nack) => {
+            let number = nack.number.get().cast_unsigned();
+            note_number(requests, number, location_of(placed), lacking)
+        }
         ActBody::Data(_) => Ok(()),
         ActBody::Heartbeat(_) => Ok(()),
         ActBody::Gap(_) => Ok(()),
@@ -85,149 +135,114 @@ fn push_asked(stretches: &mut Vec<Stretch>, placed: &Placed<'_>, pair: Pair) -> 
     }
 }
 
-/// The numbers that the pair's reader asks its writer for by these acts.
-fn asked_among(alloc: Global, acts: &[Placed<'_>], pair: Pair) -> Result<Vec<Stretch>, Memory>
-    ensures { IfOk result (λ asked. (n : ℕ) → stretches_have asked.items n ≡ list_any (asks_for pair.writer pair.reader n) (map placed_value acts.now)) }
+/// The last request for each number that the pair's reader asks for and lacks.
+fn requests_of(
+    alloc: Global,
+    exchange: &Exchange<'_, '_>,
+    lacking: &[Stretch],
+) -> Result<BTreeMap<u64, Request>, Memory>
+    requires { AreRising lacking.now }
+    ensures { IfOk result (λ requests. (n : ℕ) → get nat_cmp requests n
+        ≡ requested exchange.now.pair (map placed_value exchange.now.said.asks.now) (stretches_have lacking.now) n) }
 {
-    let mut asked = Vec::new(alloc);
-    for placed in acts {
-        push_asked(&mut asked, placed, pair)?;
+    let mut requests = BTreeMap::new(alloc);
+    for placed in exchange.said.asks {
+        note_asking(&mut requests, placed, exchange, lacking)?;
     }
-    Ok(asked)
+    Ok(requests)
 }
 
-/// Those of these stretches that have a number which the reader lacks.
-fn lacking_among(
-    alloc: Global,
-    asked: &[Stretch],
-    lacking: &[Stretch],
-) -> Result<Vec<Stretch>, Memory>
-    requires { AreRising lacking.now }
-    ensures { IfOk result (λ some. (n : ℕ) → stretches_have lacking.now n ≡ true → stretches_have some.items n ≡ stretches_have asked.now n) }
-{
-    let mut some = Vec::new(alloc);
-    for stretch in asked {
-        let end = end_at(lacking, stretch.hi);
-        if stretch.lo < end {
-            some.push(*stretch)?;
+impl Request {
+    ghost use Rattle.rtps_evidence.specs.Requests.{met_at};
+
+    /// The request behind an act that brings the number.
+    fn met(&self, placed: &Placed<'_>, since: Option<Location>) -> Request
+        ensures { result ≡ met_at since (placed_value placed.now) self.now }
+    {
+        Request {
+            place: self.place,
+            is_met: self.is_met || is_behind(Some(self.place), placed),
+            is_again: self.is_again || (is_before(self.place, placed) && is_behind(since, placed)),
         }
     }
-    Ok(some)
-}
 
-/// The number of the payload that the pair's reader hears by an act, or of which it hears fragments.
-fn number_brought(placed: &Placed<'_>, pair: Pair) -> Option<u64>
-    ensures { (n : ℕ) → brings pair.writer pair.reader n (placed_value placed.now) ≡ is_at n result }
-{
-    if !placed.act.spoken_by(pair.writer) || !placed.act.heard_by(pair.reader) {
-        return None;
-    }
-    match &placed.act.body {
-        ActBody::Data(data) => Some(data.number.get().cast_unsigned()),
-        ActBody::DataFrag(fragment) => Some(fragment.number.get().cast_unsigned()),
-        _ => None,
+    /// Whether the number is asked for in vain: nothing of it comes behind the request, or it came before.
+    fn is_in_vain(&self) -> bool
+        ensures { result ≡ is_in_vain_lem self.now }
+    {
+        !self.is_met || self.is_again
     }
 }
 
-/// The same of an act behind the reader's announcement.
-fn number_behind(placed: &Placed<'_>, listener: &Listener) -> Option<u64>
-    ensures { (n : ℕ) → brings_behind listener.now.announced listener.now.pair.writer listener.now.pair.reader n (placed_value placed.now) ≡ is_at n result }
-{
-    if is_behind(listener.announced, placed) {
-        number_brought(placed, listener.pair)
-    } else {
-        None
-    }
-}
-
-/// Appends the number that an act behind the reader's announcement brings it, where these have it. After `Memory` the
-/// numbers are of no use.
-fn push_sent(
-    numbers: &mut Vec<u64>,
+/// Notes what an act brings of these requests. After `Memory` they are of no use.
+fn note_bringing(
+    requests: &mut BTreeMap<u64, Request>,
     placed: &Placed<'_>,
     listener: &Listener,
-    lacking: &[Stretch],
 ) -> Result<(), Memory>
-    requires { AreRising lacking.now }
-    ensures { OnOk result ((n : ℕ) → numbers_have numbers.new.items n ≡ (numbers_have numbers.old.items n
-        || (brings_behind listener.now.announced listener.now.pair.writer listener.now.pair.reader n (placed_value placed.now)
-        && stretches_have lacking.now n))) }
+    ensures { OnOk result ((n : ℕ) → get nat_cmp requests.new n
+        ≡ option_map (met_by listener.now.since listener.now.pair n (placed_value placed.now)) (get nat_cmp requests.old n)) }
 {
-    let Some(number) = number_behind(placed, listener) else {
+    let Some(number) = number_brought(placed, listener.pair) else {
         return Ok(());
     };
-    if number < end_at(lacking, number) {
-        numbers.push(number)?;
+    let met = match requests.get(&number) {
+        Some(request) => request.met(placed, listener.since),
+        None => return Ok(()),
+    };
+    requests.insert(number, met)?;
+    Ok(())
+}
+
+/// Notes what these acts bring of these requests. After `Memory` they are of no use.
+fn note_brought(
+    requests: &mut BTreeMap<u64, Request>,
+    acts: &[Placed<'_>],
+    listener: &Listener,
+) -> Result<(), Memory>
+    ensures { OnOk result ((n : ℕ) → get nat_cmp requests.new n
+        ≡ option_map (met_among listener.now.since listener.now.pair n (map placed_value acts.now)) (get nat_cmp requests.old n)) }
+{
+    for placed in acts {
+        note_bringing(requests, placed, listener)?;
     }
     Ok(())
 }
 
-/// The numbers that these acts bring the reader behind its announcement, of those that it lacks.
-fn sent_lacking(
-    alloc: Global,
-    acts: &[Placed<'_>],
-    listener: &Listener,
-    lacking: &[Stretch],
-) -> Result<Vec<u64>, Memory>
-    requires { AreRising lacking.now }
-    ensures { IfOk result (λ numbers. (n : ℕ) → numbers_have numbers.items n
-        ≡ list_any (λ at. brings_behind listener.now.announced listener.now.pair.writer listener.now.pair.reader n at
-        && stretches_have lacking.now n) (map placed_value acts.now)) }
-{
-    let mut numbers = Vec::new(alloc);
-    for placed in acts {
-        push_sent(&mut numbers, placed, listener, lacking)?;
-    }
-    Ok(numbers)
-}
-
-/// Those of these numbers that are asked for.
-fn asked_of(alloc: Global, numbers: &[u64], asked: &[Stretch]) -> Result<Vec<Stretch>, Memory>
-    requires { AreRising asked.now }
-    ensures { IfOk result (λ missed. (n : ℕ) → stretches_have missed.items n ≡ (stretches_have asked.now n && numbers_have numbers.now n)) }
+/// The numbers that are asked for in vain.
+fn in_vain(alloc: Global, requests: &BTreeMap<u64, Request>) -> Result<Vec<Stretch>, Memory>
+    ensures { IfOk result (λ missed. (n : ℕ) → n < 2 ^ 63 → stretches_have missed.items n ≡ option_any is_in_vain_lem (get nat_cmp requests.now n)) }
 {
     let mut missed = Vec::new(alloc);
-    for number in numbers {
-        push_number(&mut missed, *number, asked)?;
+    for (number, request) in requests.iter() {
+        if request.is_in_vain() {
+            let hi = number.saturating_add(1);
+            push(&mut missed, Stretch { lo: *number, hi })?;
+        }
     }
     Ok(missed)
 }
 
-/// Appends the number, where it is asked for. After `Memory` the stretches are of no use.
-fn push_number(missed: &mut Vec<Stretch>, number: u64, asked: &[Stretch]) -> Result<(), Memory>
-    requires { AreRising asked.now }
-    ensures { OnOk result ((n : ℕ) → stretches_have missed.new.items n ≡ (stretches_have missed.old.items n || (stretches_have asked.now n && (number == n)))) }
-{
-    if number < end_at(asked, number) {
-        let hi = number.saturating_add(1);
-        missed.push(Stretch { lo: number, hi })?;
-    }
-    Ok(())
-}
-
-/// The numbers that a pair's reader missed, of those that it lacks. Other numbers may be among them.
+/// The numbers that a pair's reader missed, of those that it lacks.
 pub(crate) fn find_missed(
     alloc: Global,
-    index: &Index<'_>,
-    pair: Pair,
+    exchange: &Exchange<'_, '_>,
     lacking: &[Stretch],
 ) -> Result<Vec<Stretch>, Memory>
     requires { AreRising lacking.now }
-    ensures { (intake : Intake) → IsIndexBy intake index.now → (n : ℕ)
-        → stretches_have lacking.now n ≡ not (is_received pair.writer pair.reader (placed_in intake.acts) n)
-        → IfOk result (λ missed. stretches_have missed.items n ≡ is_missed (place_announced pair.reader (placed_in intake.announcing)) pair.writer pair.reader (placed_in intake.acts) n) }
+    ensures { (recording : List (List ActValue)) → IsSaid exchange.now.pair recording exchange.now.said → (n : ℕ) → n < 2 ^ 63
+        → stretches_have lacking.now n ≡ not (is_received exchange.now.pair.writer exchange.now.pair.reader (placed_in recording) n)
+        → IfOk result (λ missed. stretches_have missed.items n
+        ≡ is_missed (since_of exchange.now.span) exchange.now.pair.writer exchange.now.pair.reader (placed_in recording) n) }
 {
     if lacking.is_empty() {
         return Ok(Vec::new(alloc));
     }
-    let asked = asked_among(alloc, index.acts_of(pair.reader), pair)?;
-    let mut asked = lacking_among(alloc, &asked, lacking)?;
-    if asked.is_empty() {
+    let mut requests = requests_of(alloc, exchange, lacking)?;
+    if requests.is_empty() {
         return Ok(Vec::new(alloc));
     }
-    let asked = rising(alloc, &mut asked)?;
-    let listener = Listener::of(index, pair);
-    let numbers = sent_lacking(alloc, index.acts_of(pair.writer), &listener, lacking)?;
-    let missed = asked_of(alloc, &numbers, &asked)?;
+    note_brought(&mut requests, exchange.said.acts, &exchange.listener())?;
+    let missed = in_vain(alloc, &requests)?;
     Ok(missed)
 }

@@ -1,16 +1,17 @@
 ghost use Rattle.std.specs.Prelude.{ℕ, ◌≡◌, ◌<◌, ◌^◌, map, nat_lt, List};
 ghost use Rattle.std.specs.List.{find};
-ghost use Rattle.rtps_audit.specs.Index.{IsIndexBy};
-ghost use Rattle.rtps_audit.specs.Intake.{Intake};
+ghost use Rattle.rtps_receiver.specs.Values.{ActValue};
 ghost use Rattle.rtps_audit.specs.Placed.{placed_in, placed_value};
+ghost use Rattle.rtps_audit.specs.Said.{IsSaid};
 ghost use Rattle.rtps_audit.specs.Speech.{natural};
 ghost use Rattle.rtps_evidence.specs.Locations.{claim_in as claim_in_lem};
 ghost use Rattle.rtps_evidence.specs.Received.{first_claiming, gone_before, kept_by, withdraws as withdraws_lem, withdraws_before as withdraws_before_lem};
 
 use crate::acknowledgement::{Claim, claim_in};
+use crate::exchange::Exchange;
 use crate::location::Location;
 use crate::teller::{Teller, gap_has, teller_at};
-use rtps_audit::{Answer, Index, Placed};
+use rtps_audit::{Answer, Placed};
 use rtps_discovery::Pair;
 use rtps_receiver::ActBody;
 
@@ -50,7 +51,7 @@ pub(crate) fn withdraws(placed: &Placed<'_>, pair: Pair, number: u64) -> bool
         ActBody::Gap(gap) => gap_has(gap, number),
         ActBody::Data(_) => false,
         ActBody::DataFrag(_) => false,
-        ActBody::AckNack(_) => false,
+        ActBody::AckNack(_) | ActBody::NackFrag(_) => false,
     }
 }
 
@@ -76,12 +77,13 @@ fn first_gone(acts: &[Placed<'_>], pair: Pair, number: u64, datagram: u64) -> Op
 }
 
 /// The number as one that is not received, and what keeps it from being so.
-pub(crate) fn not_received_at(index: &Index<'_>, pair: Pair, number: u64) -> NotReceived
+pub(crate) fn not_received_at(exchange: &Exchange<'_, '_>, number: u64) -> NotReceived
     requires { number < 2 ^ 63 }
-    ensures { (intake : Intake) → IsIndexBy intake index.now
-        → result ≡ kept_by pair.writer pair.reader number (placed_in intake.acts) (first_claiming pair.writer pair.reader number (placed_in intake.acts)) }
+    ensures { (recording : List (List ActValue)) → IsSaid exchange.now.pair recording exchange.now.said
+        → result ≡ kept_by exchange.now.pair.writer exchange.now.pair.reader number (placed_in recording)
+        (first_claiming exchange.now.pair.writer exchange.now.pair.reader number (placed_in recording)) }
 {
-    let Some(claim) = first_claim(index.answers_of(pair), number) else {
+    let Some(claim) = first_claim(exchange.said.answers, number) else {
         return NotReceived {
             number,
             gone: None,
@@ -91,8 +93,8 @@ pub(crate) fn not_received_at(index: &Index<'_>, pair: Pair, number: u64) -> Not
     NotReceived {
         number,
         gone: first_gone(
-            index.acts_of(pair.writer),
-            pair,
+            exchange.said.acts,
+            exchange.pair,
             number,
             claim.place.datagram,
         ),

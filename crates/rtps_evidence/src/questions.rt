@@ -25,7 +25,7 @@ fn is_question(body: &ActBody<'_>) -> bool
     match body {
         ActBody::Heartbeat(heartbeat) => !heartbeat.is_final,
         ActBody::Data(_) => false,
-        ActBody::AckNack(_) => false,
+        ActBody::AckNack(_) | ActBody::NackFrag(_) => false,
         ActBody::Gap(_) => false,
         ActBody::DataFrag(_) => false,
     }

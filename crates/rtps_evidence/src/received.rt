@@ -1,8 +1,8 @@
 ghost use Rattle.std.specs.Prelude.{ℕ, ◌≡◌, ◌<◌, ◌^◌, ◌&&◌, ◌||◌, map, IfOk, IfSome, OnOk, List};
 ghost use Rattle.std.specs.List.{list_any};
-ghost use Rattle.rtps_audit.specs.Index.{IsIndexBy};
-ghost use Rattle.rtps_audit.specs.Intake.{Intake};
+ghost use Rattle.rtps_receiver.specs.Values.{ActValue};
 ghost use Rattle.rtps_audit.specs.Placed.{placed_in, placed_value};
+ghost use Rattle.rtps_audit.specs.Said.{IsSaid};
 ghost use Rattle.rtps_evidence.specs.Amount.{stretches_have};
 ghost use Rattle.rtps_evidence.specs.Claimed.{AreLacking, certain_at, is_at};
 ghost use Rattle.rtps_evidence.specs.Locations.{sends};
@@ -11,8 +11,9 @@ ghost use Rattle.rtps_evidence.specs.Rising.{AreRising};
 
 use crate::amount::{AskedNumbers, Stretch, count_of, least_inside, push};
 use crate::claimed::Certainty;
+use crate::exchange::Exchange;
 use crate::not_received::{NotReceived, not_received_at};
-use rtps_audit::{Index, Placed};
+use rtps_audit::Placed;
 use rtps_discovery::Pair;
 use rtps_ids::Memory;
 use rtps_receiver::ActBody;
@@ -90,13 +91,12 @@ pub(crate) struct Received {
 /// puts them in another order.
 pub(crate) fn count_received(
     lacking: &mut Vec<Stretch>,
-    index: &Index<'_>,
-    pair: Pair,
+    exchange: &Exchange<'_, '_>,
     asked: &AskedNumbers,
 ) -> Result<Received, Memory>
-    ensures { (intake : Intake) → IsIndexBy intake index.now
-        → AreLacking asked.now.from asked.now.last pair (placed_in intake.acts) lacking.old.items
-        → IfOk result (AreReceived asked.now.from asked.now.last pair.writer pair.reader (placed_in intake.acts)) }
+    ensures { (recording : List (List ActValue)) → IsSaid exchange.now.pair recording exchange.now.said
+        → AreLacking asked.now.from asked.now.last exchange.now.pair (placed_in recording) lacking.old.items
+        → IfOk result (AreReceived asked.now.from asked.now.last exchange.now.pair.writer exchange.now.pair.reader (placed_in recording)) }
 {
     let from = asked.from.get().cast_unsigned();
     let end = asked.last + 1;
@@ -104,7 +104,7 @@ pub(crate) fn count_received(
     let others = count_of(lacking, from, end)?;
     let count = end - from - others;
     let not_received = if least < end {
-        Some(not_received_at(index, pair, least))
+        Some(not_received_at(exchange, least))
     } else {
         None
     };

@@ -43,7 +43,7 @@ fn tells(placed: &Placed<'_>, pair: Pair, number: u64) -> bool
         ActBody::DataFrag(fragment) => {
             fragment.told.is_some() && fragment.number.get().cast_unsigned() == number
         }
-        ActBody::AckNack(_) => false,
+        ActBody::AckNack(_) | ActBody::NackFrag(_) => false,
     }
 }
 

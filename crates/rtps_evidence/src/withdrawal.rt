@@ -104,6 +104,6 @@ pub(crate) fn push_withdrawn(
         ActBody::Gap(gap) => push_gap(withdrawals, gap, datagram),
         ActBody::Data(_) => Ok(()),
         ActBody::DataFrag(_) => Ok(()),
-        ActBody::AckNack(_) => Ok(()),
+        ActBody::AckNack(_) | ActBody::NackFrag(_) => Ok(()),
     }
 }

@@ -1,15 +1,18 @@
 ghost use Rattle.std.specs.Prelude.{ℕ, ◌≡◌, map, IfOk, IfSome, List};
-ghost use Rattle.rtps_receiver.specs.Values.{act_value};
+ghost use Rattle.rtps_receiver.specs.Values.{ActValue, act_value};
 ghost use Rattle.rtps_audit.specs.Index.{IsIndexBy};
 ghost use Rattle.rtps_audit.specs.Intake.{Intake};
-ghost use Rattle.rtps_audit.specs.Placed.{placed_in, placed_value};
-ghost use Rattle.rtps_evidence.specs.WriterSummary.{IsHeardBy, IsSplit, IsSummary, is_for_everyone as is_for_everyone_lem};
+ghost use Rattle.rtps_audit.specs.Placed.{placed_value};
+ghost use Rattle.rtps_audit.specs.Said.{IsSaid};
+ghost use Rattle.rtps_evidence.specs.WriterSummary.{IsHeardBy, IsSplit, IsSummary, IsSummaryOf, is_for_everyone as is_for_everyone_lem};
 
 use crate::amount::{AskedNumbers, HeardNumbers};
+use crate::exchange::Exchange;
+use crate::judgement::Judgement;
 use crate::last_announcement::{Announcement, find_announcement, greatest_number};
-use rtps_audit::{Index, Placed};
+use rtps_audit::{Index, Placed, Said};
 use rtps_discovery::Pair;
-use rtps_ids::{Guid, Memory, SeqNum};
+use rtps_ids::{Guid, Memory};
 use rtps_receiver::{Act, EVERY_READER};
 use std::alloc::Global;
 
@@ -17,6 +20,8 @@ use std::alloc::Global;
 #[derive(Drop)]
 pub(crate) struct WriterSummary {
     pub(crate) writer: Guid,
+    /// It is by the datagrams before this one; None where by all.
+    pub(crate) until: Option<u64>,
     pub(crate) asked: AskedNumbers,
     pub(crate) announcement: Option<Announcement>,
     /// What all readers hear alike: what is for everyone.
@@ -62,24 +67,23 @@ fn split(
 }
 
 impl WriterSummary {
-    /// What a writer says of the numbers from `from` on.
-    pub(crate) fn of(
-        alloc: Global,
-        index: &Index<'_>,
-        writer: Guid,
-        from: SeqNum,
-    ) -> Result<WriterSummary, Memory>
-        ensures writer { IfOk result (λ summary. summary.writer ≡ writer) }
-        ensures from { IfOk result (λ summary. summary.asked.from ≡ from) }
-        ensures summary { (intake : Intake) → IsIndexBy intake index.now → IfOk result (IsSummary intake.acts) }
+    /// What the writer of a pair says of the numbers of its span.
+    fn of(alloc: Global, exchange: &Exchange<'_, '_>) -> Result<WriterSummary, Memory>
+        ensures writer { IfOk result (λ summary. summary.writer ≡ exchange.now.pair.writer) }
+        ensures until { IfOk result (λ summary. summary.until ≡ exchange.now.span.until) }
+        ensures from { IfOk result (λ summary. summary.asked.from ≡ exchange.now.span.from) }
+        ensures summary { (recording : List (List ActValue)) → IsSaid exchange.now.pair recording exchange.now.said → IfOk result (IsSummary recording) }
     {
-        let acts = index.acts_of(writer);
+        let acts = exchange.said.acts;
+        let writer = exchange.pair.writer;
+        let from = exchange.span.from;
         let before = from.get().cast_unsigned() - 1;
         let last = greatest_number(acts, writer).max(before);
         let (mut alike, others) = split(alloc, acts, writer)?;
         alike.put_in_order(alloc)?;
         Ok(WriterSummary {
             writer,
+            until: exchange.span.until,
             asked: AskedNumbers { from, last },
             announcement: find_announcement(acts, writer, from, last),
             alike,
@@ -87,25 +91,34 @@ impl WriterSummary {
         })
     }
 
-    /// What a writer says of the numbers from `from` on, which is known where the summary before is of the same.
+    /// What the writer of a judgement's pair says, which is known where the summary before is of the same writer, numbers and datagrams.
     pub(crate) fn turned_to(
         alloc: Global,
         index: &Index<'_>,
         before: Option<WriterSummary>,
-        writer: Guid,
-        from: SeqNum,
+        judgement: &Judgement,
     ) -> Result<WriterSummary, Memory>
-        ensures writer { IfOk result (λ summary. summary.writer ≡ writer) }
-        ensures from { IfOk result (λ summary. summary.asked.from ≡ from) }
-        ensures summary { (intake : Intake) → IsIndexBy intake index.now
-            → IfSome before (IsSummary intake.acts) → IfOk result (IsSummary intake.acts) }
+        ensures writer { IfOk result (λ summary. summary.writer ≡ judgement.now.pair.writer) }
+        ensures until { IfOk result (λ summary. summary.until ≡ judgement.now.span.until) }
+        ensures from { IfOk result (λ summary. summary.asked.from ≡ judgement.now.span.from) }
+        ensures summary { (intake : Intake) → IsIndexBy intake index.now → IfSome before (IsSummaryOf intake.acts) → IfOk result (IsSummaryOf intake.acts) }
     {
+        let span = &judgement.span;
         if let Some(summary) = before {
-            if summary.writer == writer && summary.asked.from == from {
+            if summary.writer == judgement.pair.writer
+                && summary.until == span.until
+                && summary.asked.from == span.from
+            {
                 return Ok(summary);
             }
         }
-        let summary = WriterSummary::of(alloc, index, writer, from)?;
+        let exchange = Exchange {
+            pair: judgement.pair,
+            span: judgement.span,
+            in_spans: judgement.in_spans,
+            said: Said::until(index, judgement.pair, judgement.span.until),
+        };
+        let summary = WriterSummary::of(alloc, &exchange)?;
         Ok(summary)
     }
 

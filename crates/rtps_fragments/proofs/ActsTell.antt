@@ -1,5 +1,5 @@
 -- Of any writer and reader, a recording with pieces and its acts with the samples among them tell alike.
-use Rattle.std.proofs.Common.{◌≡◌, ℕ, zero, suc, ◌+◌, ◌<◌, ◌≤◌, max, Bool, true, false, cond, List, [], ◌∷◌, ◌++◌, length, map, Option, Some, None, slice_get, refl, sym, ◌∙◌, ap, subst, arith, inl, inr, ◌⊎◌, append_assoc, append-nil}
+use Rattle.std.proofs.Common.{◌≡◌, ℕ, zero, suc, ◌+◌, ◌-◌, ◌<◌, ◌≤◌, max, Bool, true, false, cond, List, [], ◌∷◌, ◌++◌, length, map, Option, Some, None, slice_get, take, refl, sym, ◌∙◌, ap, subst, arith, inl, inr, ◌⊎◌, append_assoc, append-nil}
 use Rattle.std.specs.Prelude.{Contains}
 use Rattle.std.specs.List.{cons_option, filter_map, flat_map}
 use Rattle.std.proofs.lemmas.Bool.{cases_lt}
@@ -9,16 +9,18 @@ use Rattle.rtps_ids.specs.declared.identity.Guid.{Guid}
 use Rattle.rtps_wire.specs.Values.{PayloadValue}
 use Rattle.rtps_receiver.specs.Speech.{entity_from, writer_named}
 use Rattle.rtps_receiver.specs.Values.{ActBodyValue, ActValue}
-use Rattle.rtps_receiver.specs.Values.ActBodyValue.{Data, Heartbeat, AckNack, Gap, DataFrag}
+use Rattle.rtps_receiver.specs.Values.ActBodyValue.{Data, Heartbeat, AckNack, Gap, DataFrag, NackFrag}
 use Rattle.rtps_audit.specs.Delivery.{Claims, Datagram, Gives, IsAsked, Word, greatest, last_announced_from}
 use Rattle.rtps_audit.specs.Delivery.Word.{Told}
+use Rattle.rtps_audit.specs.Said.{datagrams_until}
 use Rattle.rtps_audit.specs.Speech.{announced_for, announced_of_body, base_for, said_by, word_for, speech_by}
 use Rattle.rtps_audit.proofs.Offered.{below_greatest, contains_cases, contains_head, contains_mapped, contains_none, contains_tail, get_mapped, greatest_below, if_some, made_from, makes, mapped_contains, mapped_get}
 use Rattle.rtps_fragments.specs.FragmentDelivery.{Fragment, FragmentDatagram, IsPutTogether, Piece, Shape, fragments_from, fragments_of, last_fragment, said_in}
 use Rattle.rtps_fragments.specs.FragmentVerdict.{IsSaidBefore, IsSentBefore}
-use Rattle.rtps_fragments.specs.Laws.{ActsStayWithoutPieces, ActsTellAlike, ArePieceActs, HasFragmentsWithin, HasNoPieces, IsPieceAct}
+use Rattle.rtps_fragments.specs.Laws.{ActsStayWithoutPieces, ActsTellAlike, ArePieceActs, FirstDatagramsTellAlike, FirstDatagramsTellTheSame, HasFragmentsWithin, HasNoPieces, IsPieceAct, TellsAlike}
 use Rattle.rtps_fragments.specs.Samples.{payloads_of}
-use Rattle.rtps_fragments.specs.SampleActs.{PieceAct, acts_and_samples, acts_with_samples, datagrams_and_samples, fragment_speech_of, fragments_in, piece_acts_in, piece_for, samples_told}
+use Rattle.rtps_fragments.specs.Sending.{piece_acts_of, sending_of}
+use Rattle.rtps_fragments.specs.SampleActs.{PieceAct, acts_and_samples, datagrams_and_samples, fragment_speech_of, fragments_in, piece_acts_in, piece_for, samples_told}
 use Rattle.rtps_fragments.proofs.AlikeBySamples.{IsGivenBefore, IsHadBefore, put_together, samples_alike}
 use Rattle.rtps_fragments.proofs.Audiences.{flat_from, flat_has}
 use Rattle.rtps_fragments.proofs.FragmentsBefore.{fragments_before, place_of, sent_by, there_at}
@@ -125,6 +127,7 @@ announcer_named (DataFrag value) n e = refl
 announcer_named (Heartbeat value) n e = refl
 announcer_named (Gap value) n e = refl
 announcer_named (AckNack value) n e = cc
+announcer_named (NackFrag value) n e = cc
 
 pub fragment_bounds : (n : ℕ) (shape : Shape) (i : ℕ) (parts : List (List ℕ)) (f : Fragment) → Contains (fragments_from n shape i parts) f → (i ≤ f.index) × (f.index < i + length parts) × (f.shape ≡ shape)
 fragment_bounds n shape i [] f among = absurd (contains_none f among)
@@ -190,12 +193,13 @@ last_alike from writer reader all before (first ∷ recording) parts =
 
 -- ---- all that is told
 
-module _ (from : ℕ) (writer reader : Guid) (recording : List (List PieceAct)) (parts : ArePieceActs recording) where
-  names_all : (part : PieceAct) (piece : Piece) → Contains (piece_acts_in recording) part → part.piece ≡ Some piece → NamesItsWriter part.act
-  names_all part piece among is =
-      let (datagram, there, has) = flat_from (λ (d : List PieceAct). d) recording part among in
-      announcer_named part.act.body piece.number (parts datagram part piece there has is).announces
+names_all : (recording : List (List PieceAct)) → ArePieceActs recording → (part : PieceAct) (piece : Piece) → Contains (piece_acts_in recording) part → part.piece ≡ Some piece → NamesItsWriter part.act
+names_all recording parts part piece among is =
+    let (datagram, there, has) = flat_from (λ (d : List PieceAct). d) recording part among in
+    announcer_named part.act.body piece.number (parts datagram part piece there has is).announces
 
+-- of a recording that is a part of all that is sent
+module _ (from : ℕ) (writer reader : Guid) (all : List PieceAct) (named : (part : PieceAct) (piece : Piece) → Contains all part → part.piece ≡ Some piece → NamesItsWriter part.act) (recording : List (List PieceAct)) (parts : ArePieceActs recording) (known : (part : PieceAct) → Contains (piece_acts_in recording) part → Contains all part) where
   said_at : (i : ℕ) (datagram : List PieceAct) → slice_get recording i ≡ Some datagram → slice_get (said_in (fragment_speech_of writer reader recording)) i ≡ Some (said_by writer reader (map (λ (p : PieceAct). p.act) datagram))
   said_at i datagram at =
       get_mapped (λ (d : FragmentDatagram). d.said) (fragment_speech_of writer reader recording) i _
@@ -209,42 +213,42 @@ module _ (from : ℕ) (writer reader : Guid) (recording : List (List PieceAct)) 
       (own, there, ap (λ (d : FragmentDatagram). d.said) made ∙ is)
 
   told_at : (i : ℕ) (datagram : List PieceAct) → slice_get recording i ≡ Some datagram
-      → slice_get (speech_by writer reader (acts_with_samples recording)) i ≡ Some (said_by writer reader (acts_and_samples (piece_acts_in recording) (parts_before recording i) datagram))
+      → slice_get (speech_by writer reader (datagrams_and_samples all [] recording)) i ≡ Some (said_by writer reader (acts_and_samples all (parts_before recording i) datagram))
   told_at i datagram at =
-      get_mapped (said_by writer reader) (acts_with_samples recording) i (acts_and_samples (piece_acts_in recording) (parts_before recording i) datagram) (samples_at (piece_acts_in recording) [] recording i datagram at)
+      get_mapped (said_by writer reader) (datagrams_and_samples all [] recording) i (acts_and_samples all (parts_before recording i) datagram) (samples_at all [] recording i datagram at)
 
-  told_from : (i : ℕ) (datagram : Datagram) → slice_get (speech_by writer reader (acts_with_samples recording)) i ≡ Some datagram
-      → (own : List PieceAct) × (slice_get recording i ≡ Some own) × (said_by writer reader (acts_and_samples (piece_acts_in recording) (parts_before recording i) own) ≡ datagram)
+  told_from : (i : ℕ) (datagram : Datagram) → slice_get (speech_by writer reader (datagrams_and_samples all [] recording)) i ≡ Some datagram
+      → (own : List PieceAct) × (slice_get recording i ≡ Some own) × (said_by writer reader (acts_and_samples all (parts_before recording i) own) ≡ datagram)
   told_from i datagram at =
-      let (acts, stands, is) = mapped_get (said_by writer reader) (acts_with_samples recording) i datagram at in
-      let (own, there, made) = samples_from (piece_acts_in recording) [] recording i acts stands in
+      let (acts, stands, is) = mapped_get (said_by writer reader) (datagrams_and_samples all [] recording) i datagram at in
+      let (own, there, made) = samples_from all [] recording i acts stands in
       (own, there, ap (said_by writer reader) made ∙ is)
 
   -- an act with a word gives it
-  act_gives : (i n : ℕ) (word : Word) (datagram : List PieceAct) (act : ActValue) → slice_get recording i ≡ Some datagram → Contains (acts_and_samples (piece_acts_in recording) (parts_before recording i) datagram) act
-      → word_for writer reader act n ≡ Some word → IsAsked from n → (k : ℕ) × Gives from (speech_by writer reader (acts_with_samples recording)) i k n word
+  act_gives : (i n : ℕ) (word : Word) (datagram : List PieceAct) (act : ActValue) → slice_get recording i ≡ Some datagram → Contains (acts_and_samples all (parts_before recording i) datagram) act
+      → word_for writer reader act n ≡ Some word → IsAsked from n → (k : ℕ) × Gives from (speech_by writer reader (datagrams_and_samples all [] recording)) i k n word
   act_gives i n word datagram act at among says asked =
-      let acts = acts_and_samples (piece_acts_in recording) (parts_before recording i) datagram in
+      let acts = acts_and_samples all (parts_before recording i) datagram in
       let (k, stands) = place_of acts act among in
       (k, record { datagram = said_by writer reader acts; act = word_for writer reader act; stands = told_at i datagram at; speaks = get_mapped (word_for writer reader) acts k act stands; asked = asked; says = says })
 
-  said_is_given : (j n : ℕ) (word : Word) → IsSaidBefore from (fragment_speech_of writer reader recording) j n word → IsGivenBefore from (speech_by writer reader (acts_with_samples recording)) j n word
+  said_is_given : (j n : ℕ) (word : Word) → IsSaidBefore from (fragment_speech_of writer reader recording) j n word → IsGivenBefore from (speech_by writer reader (datagrams_and_samples all [] recording)) j n word
   said_is_given j n word said =
       let gives = said.gives in
       let (own, at, is) = said_from said.place gives.datagram gives.stands in
       let speaks = subst (λ (d : Datagram). slice_get d.acts said.act ≡ Some gives.act) (sym is) gives.speaks in
       let (act, stands, made) = mapped_get (word_for writer reader) (map (λ (p : PieceAct). p.act) own) said.act gives.act speaks in
       let (part, there, same) = mapped_get (λ (p : PieceAct). p.act) own said.act act stands in
-      let among = act_there (piece_acts_in recording) (parts_before recording said.place) own part (there_at own said.act part there) in
+      let among = act_there all (parts_before recording said.place) own part (there_at own said.act part there) in
       let says = ap (λ (a : ActValue). word_for writer reader a n) same ∙ ap (λ (f : ℕ → Option Word). f n) made ∙ gives.says in
       let (k, given) = act_gives said.place n word own part.act at among says gives.asked in
       (said.place, k, said.earlier, given)
 
   put_is_given : (j n : ℕ) (payload : PayloadValue) → IsAsked from n → IsPut n (fragments_before (fragment_speech_of writer reader recording) j) payload
-      → IsGivenBefore from (speech_by writer reader (acts_with_samples recording)) j n (Told payload)
+      → IsGivenBefore from (speech_by writer reader (datagrams_and_samples all [] recording)) j n (Told payload)
   put_is_given j n payload asked (shape, among) =
       let heard = subst (λ fs. Contains (payloads_of n shape fs) payload) (fragments_are writer reader recording j) among in
-      elim (put_at writer reader (piece_acts_in recording) names_all n shape payload [] recording j (λ part there. there) heard) [
+      elim (put_at writer reader all named n shape payload [] recording j known heard) [
         | inl none ↦ absurd (none_put n payload (shape, none))
         | inr (i, datagram, lt, at, (act, there, says)) ↦ let (k, given) = act_gives i n (Told payload) datagram act at there says asked in (i, k, lt, given)
       ]
@@ -270,14 +274,14 @@ module _ (from : ℕ) (writer reader : Guid) (recording : List (List PieceAct)) 
       let last = of.last in
       (omega arith, subst (λ s. f.index ≤ last_fragment s) (sym shape) (omega arith))
 
-  given_is_had : (j n : ℕ) (word : Word) → IsGivenBefore from (speech_by writer reader (acts_with_samples recording)) j n word → IsHadBefore from (fragment_speech_of writer reader recording) j n word
+  given_is_had : (j n : ℕ) (word : Word) → IsGivenBefore from (speech_by writer reader (datagrams_and_samples all [] recording)) j n word → IsHadBefore from (fragment_speech_of writer reader recording) j n word
   given_is_had j n word (i, k, lt, gives) =
       let (own, at, is) = told_from i gives.datagram gives.stands in
-      let acts = acts_and_samples (piece_acts_in recording) (parts_before recording i) own in
+      let acts = acts_and_samples all (parts_before recording i) own in
       let speaks = subst (λ (d : Datagram). slice_get d.acts k ≡ Some gives.act) (sym is) gives.speaks in
       let (act, stands, made) = mapped_get (word_for writer reader) acts k gives.act speaks in
       let says = ap (λ (f : ℕ → Option Word). f n) made ∙ gives.says in
-      elim (act_or_sample (piece_acts_in recording) (parts_before recording i) own act (there_at acts k act stands)) [
+      elim (act_or_sample all (parts_before recording i) own act (there_at acts k act stands)) [
         | inl (part, among, same) ↦ inl (said own part at among (ap (λ (a : ActValue). word_for writer reader a n) same ∙ says) gives.asked)
         | inr sample ↦ inr (put own act at sample says gives.asked)
       ]
@@ -305,37 +309,37 @@ module _ (from : ℕ) (writer reader : Guid) (recording : List (List PieceAct)) 
           → (payload : PayloadValue) × (word ≡ Told payload) × IsPutTogether (IsSentBefore from (fragment_speech_of writer reader recording) j) n payload
       put own act at sample says asked =
           let there = λ (f : Fragment). IsAsked from f.number → IsSentBefore from (fragment_speech_of writer reader recording) j f in
-          let (payload, tells, (fragments, is_put, sent)) = sample_is_put writer reader (parts_before recording i) own (λ part piece among is. names_all part piece (in_all recording own part (there_at recording i own at) among) is) there (λ part among passes f has asked_for. elim (Contains-append_cases (parts_before recording i) own part among) [
+          let (payload, tells, (fragments, is_put, sent)) = sample_is_put writer reader (parts_before recording i) own (λ part piece among is. named part piece (known part (in_all recording own part (there_at recording i own at) among)) is) there (λ part among passes f has asked_for. elim (Contains-append_cases (parts_before recording i) own part among) [
             | inl earlier ↦ let (h, datagram, before, stands, holds) = parts_from recording i part earlier in part_sent h j datagram part f (omega arith) stands holds passes has asked_for
             | inr now ↦ part_sent i j own part f lt at now passes has asked_for
           ]) act n word sample says in
           (payload, tells, put_together from (fragment_speech_of writer reader recording) within j n asked fragments sent payload is_put)
 
-  claims_to : (j n : ℕ) → Claims from (said_in (fragment_speech_of writer reader recording)) j n → Claims from (speech_by writer reader (acts_with_samples recording)) j n
+  claims_to : (j n : ℕ) → Claims from (said_in (fragment_speech_of writer reader recording)) j n → Claims from (speech_by writer reader (datagrams_and_samples all [] recording)) j n
   claims_to j n claims =
       let (own, at, is) = said_from j claims.datagram claims.stands in
-      let acts = acts_and_samples (piece_acts_in recording) (parts_before recording j) own in
+      let acts = acts_and_samples all (parts_before recording j) own in
       let (act, there, base) = made_from (base_for writer reader) (map (λ (p : PieceAct). p.act) own) claims.base (subst (λ (d : Datagram). Contains d.bases claims.base) (sym is) claims.answers) in
       let (part, among, same) = contains_mapped (λ (p : PieceAct). p.act) own act there in
       record {
         datagram = said_by writer reader acts;
         base = claims.base;
         stands = told_at j own at;
-        answers = makes (base_for writer reader) acts part.act claims.base (act_there (piece_acts_in recording) (parts_before recording j) own part among) (ap (base_for writer reader) same ∙ base);
+        answers = makes (base_for writer reader) acts part.act claims.base (act_there all (parts_before recording j) own part among) (ap (base_for writer reader) same ∙ base);
         asked = claims.asked;
         below = claims.below;
       }
 
-  claims_from : (j n : ℕ) → Claims from (speech_by writer reader (acts_with_samples recording)) j n → Claims from (said_in (fragment_speech_of writer reader recording)) j n
+  claims_from : (j n : ℕ) → Claims from (speech_by writer reader (datagrams_and_samples all [] recording)) j n → Claims from (said_in (fragment_speech_of writer reader recording)) j n
   claims_from j n claims =
       let (own, at, is) = told_from j claims.datagram claims.stands in
-      let acts = acts_and_samples (piece_acts_in recording) (parts_before recording j) own in
+      let acts = acts_and_samples all (parts_before recording j) own in
       let (act, there, base) = made_from (base_for writer reader) acts claims.base (subst (λ (d : Datagram). Contains d.bases claims.base) (sym is) claims.answers) in
       record {
         datagram = said_by writer reader (map (λ (p : PieceAct). p.act) own);
         base = claims.base;
         stands = said_at j own at;
-        answers = elim (act_or_sample (piece_acts_in recording) (parts_before recording j) own act there) [
+        answers = elim (act_or_sample all (parts_before recording j) own act there) [
           | inl (part, among, same) ↦ makes (base_for writer reader) (map (λ (p : PieceAct). p.act) own) part.act claims.base (mapped_contains (λ (p : PieceAct). p.act) own part among) (ap (base_for writer reader) same ∙ base)
           | inr sample ↦ absurd (no_base _ claims.base (subst (λ (a : ActValue). base_for writer reader a ≡ Some claims.base) (sym sample.is) base))
         ];
@@ -343,16 +347,67 @@ module _ (from : ℕ) (writer reader : Guid) (recording : List (List PieceAct)) 
         below = claims.below;
       }
 
-pub acts_tell_alike : ActsTellAlike
-acts_tell_alike from writer reader recording parts =
-    samples_alike from (fragment_speech_of writer reader recording) (within from writer reader recording parts) (speech_by writer reader (acts_with_samples recording)) (record {
-      counted = length-map (acts_with_samples recording) (said_by writer reader) ∙ samples_length (piece_acts_in recording) [] recording ∙ sym (length-map recording _);
-      claims = λ j n. (claims_to from writer reader recording parts j n, claims_from from writer reader recording parts j n);
-      announced = last_alike from writer reader (piece_acts_in recording) [] recording parts;
-      said = said_is_given from writer reader recording parts;
-      put = put_is_given from writer reader recording parts;
-      given = given_is_had from writer reader recording parts;
+part_tells_alike : (from : ℕ) (writer reader : Guid) (all : List PieceAct) → ((part : PieceAct) (piece : Piece) → Contains all part → part.piece ≡ Some piece → NamesItsWriter part.act) → (recording : List (List PieceAct)) → ArePieceActs recording
+    → ((part : PieceAct) → Contains (piece_acts_in recording) part → Contains all part)
+    → TellsAlike from (fragment_speech_of writer reader recording) (speech_by writer reader (datagrams_and_samples all [] recording))
+part_tells_alike from writer reader all named recording parts known =
+    samples_alike from (fragment_speech_of writer reader recording) (within from writer reader all named recording parts known) (speech_by writer reader (datagrams_and_samples all [] recording)) (record {
+      counted = length-map (datagrams_and_samples all [] recording) (said_by writer reader) ∙ samples_length all [] recording ∙ sym (length-map recording _);
+      claims = λ j n. (claims_to from writer reader all named recording parts known j n, claims_from from writer reader all named recording parts known j n);
+      announced = last_alike from writer reader all [] recording parts;
+      said = said_is_given from writer reader all named recording parts known;
+      put = put_is_given from writer reader all named recording parts known;
+      given = given_is_had from writer reader all named recording parts known;
     })
+
+pub acts_tell_alike : ActsTellAlike
+acts_tell_alike from writer reader recording parts = part_tells_alike from writer reader (piece_acts_in recording) (names_all recording parts) recording parts (λ part there. there)
+
+-- ---- the first datagrams
+
+take_samples : (all before : List PieceAct) (n : ℕ) (recording : List (List PieceAct)) → datagrams_and_samples all before (take n recording) ≡ take n (datagrams_and_samples all before recording)
+take_samples all before zero recording = refl
+take_samples all before (suc n) [] = refl
+take_samples all before (suc n) (first ∷ recording) = ap (λ rest. acts_and_samples all before first ∷ rest) (take_samples all (before ++ first) n recording)
+
+take_mapped : (n : ℕ) (recording : List (List ℕ)) → take n (map piece_acts_of recording) ≡ map piece_acts_of (take n recording)
+take_mapped zero recording = refl
+take_mapped (suc n) [] = refl
+take_mapped (suc n) (octets ∷ recording) = ap (λ rest. piece_acts_of octets ∷ rest) (take_mapped n recording)
+
+pub sent_until : (until : Option ℕ) (recording : List (List ℕ)) → datagrams_until until (sending_of recording) ≡ sending_of (datagrams_until until recording)
+sent_until None recording = refl
+sent_until (Some datagram) recording = take_mapped (datagram - 1) recording
+
+samples_until : (all : List PieceAct) (until : Option ℕ) (recording : List (List PieceAct)) → datagrams_until until (datagrams_and_samples all [] recording) ≡ datagrams_and_samples all [] (datagrams_until until recording)
+samples_until all None recording = refl
+samples_until all (Some datagram) recording = sym (take_samples all [] (datagram - 1) recording)
+
+pub first_datagrams_tell_the_same : FirstDatagramsTellTheSame
+first_datagrams_tell_the_same until recording =
+    let all = piece_acts_in (sending_of recording) in
+    samples_until all until (sending_of recording) ∙ ap (datagrams_and_samples all []) (sent_until until recording)
+
+taken_there : {X : Type 0} (n : ℕ) (xs : List X) (x : X) → Contains (take n xs) x → Contains xs x
+taken_there zero xs x among = absurd (contains_none x among)
+taken_there (suc n) [] x among = among
+taken_there (suc n) (y ∷ ys) x among = elim (contains_cases y (take n ys) x among) [
+  | inl here ↦ subst (Contains (y ∷ ys)) here (contains_head y ys)
+  | inr there ↦ contains_tail y ys x (taken_there n ys x there)
+]
+
+pub first_datagrams_tell_alike : FirstDatagramsTellAlike
+first_datagrams_tell_alike from writer reader None recording parts = acts_tell_alike from writer reader recording parts
+first_datagrams_tell_alike from writer reader (Some until) recording parts =
+    let n = until - 1 in
+    let all = piece_acts_in recording in
+    let first = take n recording in
+    let of_first : ArePieceActs first = λ datagram part piece there among is. parts datagram part piece (taken_there n recording datagram there) among is in
+    let known = λ (part : PieceAct) (among : Contains (piece_acts_in first) part).
+    let (datagram, there, has) = flat_from (λ (d : List PieceAct). d) first part among in
+    in_all recording datagram part (taken_there n recording datagram there) has in
+    subst (λ (acts : List (List ActValue)). TellsAlike from (fragment_speech_of writer reader first) (speech_by writer reader acts)) (take_samples all [] n recording)
+    (part_tells_alike from writer reader all (names_all recording parts) first of_first known)
 
 -- ---- no pieces
 

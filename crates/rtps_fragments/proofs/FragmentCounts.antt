@@ -12,6 +12,7 @@ use Rattle.rtps_wire.specs.Values.{BodyValue, ItemValue}
 use Rattle.rtps_wire.specs.Values.BodyValue.{Data, Heartbeat, AckNack, Gap, InfoTs, InfoDst, InfoSrc, Skipped}
 use Rattle.rtps_wire.specs.declared.counts.Tally.{Tally}
 use Rattle.rtps_wire.specs.declared.header.Header.{Header}
+use Rattle.rtps_wire.specs.declared.nack_frag.NackFrag.{NackFrag}
 use Rattle.rtps_receiver.specs.Acts.{act_body, gathered, state_at_start, state_behind}
 use Rattle.rtps_receiver.specs.Values.{ActBodyValue}
 use Rattle.rtps_receiver.specs.declared.state.State.{State}
@@ -20,7 +21,7 @@ use Rattle.rtps_fragments.specs.Laws.{FragmentsAreCounted, NoMoreFragmentsAreCou
 use Rattle.rtps_fragments.specs.RecordedSamples.{tally_with}
 use Rattle.rtps_fragments.specs.SampleActs.{PieceAct, piece_acts_in}
 use Rattle.rtps_fragments.specs.SamplesSent.{is_left, pieces_left}
-use Rattle.rtps_fragments.specs.Sending.{fragment_acts, fragments_at, is_skipped_data_frag, one_unusable, piece_acts_of, piece_acts_of_item, piece_acts_with, sending_of, unusable_among, unusable_in}
+use Rattle.rtps_fragments.specs.Sending.{asks_at, fragments_at, is_skipped_data_frag, one_unusable, piece_acts_of, piece_acts_of_item, piece_acts_with, sending_of, skipped_acts, unusable_among, unusable_in}
 use Rattle.rtps_fragments.specs.declared.layout.TheConstants.{DATA_FRAG}
 use Rattle.rtps_fragments.proofs.SendingLemmas.{at_most_one, one_of, unusable-item, unusable_act, unusable_some}
 
@@ -51,16 +52,17 @@ module _ (all : List PieceAct) (octets : List ℕ) where
   item_at_most : (state : State) (item : ItemValue) → one_unusable octets item + pieces_left all (piece_acts_of_item octets state item (act_body item.body)) ≤ one_of (is_fragment item.body)
   item_at_most state item = by (act_body item.body) refl
     where
-      of : (o : Option DataFragValue) → fragments_at octets item ≡ o → one_unusable octets item + pieces_left all (fragment_acts state item o) ≤ one_of (is_fragment item.body)
-      of None e = let less = unusable_is_fragment octets item in omega arith
-      of (Some value) e =
+      of : (o : Option DataFragValue) (asks : Option NackFrag) → fragments_at octets item ≡ o → one_unusable octets item + pieces_left all (skipped_acts state item o asks) ≤ one_of (is_fragment item.body)
+      of None None e = let less = unusable_is_fragment octets item in omega arith
+      of None (Some asks) e = let less = unusable_is_fragment octets item in omega arith
+      of (Some value) asks e =
           let none = unusable_some octets item value e in
           let fragment : one_of (is_fragment item.body) ≡ 1 = ap one_of (if_some (is_fragment item.body) (data_frag_at (drop item.at octets)) value e).0 in
-          let left = count_by-le-length (λ (other : PieceAct). is_left all other.act other.piece) (fragment_acts state item (Some value)) in
+          let left = count_by-le-length (λ (other : PieceAct). is_left all other.act other.piece) (skipped_acts state item (Some value) asks) in
           omega arith
 
       by : (body : Option ActBodyValue) → act_body item.body ≡ body → one_unusable octets item + pieces_left all (piece_acts_of_item octets state item body) ≤ one_of (is_fragment item.body)
-      by None e = of (fragments_at octets item) refl
+      by None e = of (fragments_at octets item) (asks_at octets item) refl
       by (Some body) e =
           let none = unusable_act octets item body e in
           omega arith

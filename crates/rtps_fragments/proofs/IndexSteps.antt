@@ -11,6 +11,7 @@ use Rattle.rtps_wire.specs.Tally.{is_fragment, tally_of}
 use Rattle.rtps_wire.specs.Values.{ItemValue}
 use Rattle.rtps_wire.specs.declared.counts.Tally.{Tally}
 use Rattle.rtps_wire.specs.declared.header.Header.{Header}
+use Rattle.rtps_wire.specs.declared.nack_frag.NackFrag.{NackFrag}
 use Rattle.rtps_receiver.specs.Acts.{act_body, gathered, state_at_start, state_behind}
 use Rattle.rtps_receiver.specs.Values.{ActBodyValue, ActValue}
 use Rattle.rtps_receiver.specs.declared.state.State.{State}
@@ -25,7 +26,7 @@ use Rattle.rtps_fragments.specs.Merging.{IsFragmentAct, merged_from, sents_from,
 use Rattle.rtps_fragments.specs.Overheard.{overheard_by_datagram, overheard_in_turn}
 use Rattle.rtps_fragments.specs.RecordedSamples.{tally_with, told_by_datagram}
 use Rattle.rtps_fragments.specs.SampleActs.{PieceAct, acts_and_samples, datagrams_and_samples, piece_acts_in}
-use Rattle.rtps_fragments.specs.Sending.{fragment_acts, fragments_at, piece_acts_of, piece_acts_of_item, piece_acts_with, piece_of, sending_of, unusable_in}
+use Rattle.rtps_fragments.specs.Sending.{asks_at, fragments_at, piece_acts_of, piece_acts_of_item, piece_acts_with, piece_of, sending_of, skipped_acts, unusable_in}
 use Rattle.rtps_fragments.specs.Telling.{SentValue, ToldValue, told_in_turn}
 use Rattle.rtps_fragments.specs.declared.merging.SampleForm.TheVariants.{ForAudience, ForEveryone}
 use Rattle.rtps_fragments.specs.Whole.{tally_left, tally_with_fragments}
@@ -50,11 +51,15 @@ fragment_of_item octets state item (Some body) one piece among is = elim (contai
   | inl same ↦ absurd (let clash : None ≡ Some piece = ap (λ (p : PieceAct). p.piece) same ∙ is in cc)
   | inr none ↦ absurd (contains_none one none)
 ]
-fragment_of_item octets state item None one piece among is = by (fragments_at octets item) among
+fragment_of_item octets state item None one piece among is = by (fragments_at octets item) (asks_at octets item) among
   where
-    by : (o : Option DataFragValue) → Contains (fragment_acts state item o) one → IsFragmentAct one piece
-    by None among = absurd (contains_none one among)
-    by (Some value) among = elim (contains_cases _ [] one among) [
+    by : (o : Option DataFragValue) (asks : Option NackFrag) → Contains (skipped_acts state item o asks) one → IsFragmentAct one piece
+    by None None among = absurd (contains_none one among)
+    by None (Some asks) among = elim (contains_cases _ [] one among) [
+      | inl same ↦ absurd (let clash : None ≡ Some piece = ap (λ (p : PieceAct). p.piece) same ∙ is in cc)
+      | inr none ↦ absurd (contains_none one none)
+    ]
+    by (Some value) asks among = elim (contains_cases _ [] one among) [
       | inl same ↦
           let piece_is : piece_of value ≡ piece = (let h : Some (piece_of value) ≡ Some piece = ap (λ (p : PieceAct). p.piece) same ∙ is in cc) in
           record {
@@ -71,11 +76,15 @@ piece_of_item octets state item (Some body) one piece among is = elim (contains_
   | inl same ↦ absurd (let clash : None ≡ Some piece = ap (λ (p : PieceAct). p.piece) same ∙ is in cc)
   | inr none ↦ absurd (contains_none one none)
 ]
-piece_of_item octets state item None one piece among is = by (fragments_at octets item) refl among
+piece_of_item octets state item None one piece among is = by (fragments_at octets item) (asks_at octets item) refl among
   where
-    by : (o : Option DataFragValue) → fragments_at octets item ≡ o → Contains (fragment_acts state item o) one → IsPieceAct one piece
-    by None e among = absurd (contains_none one among)
-    by (Some value) e among = elim (contains_cases _ [] one among) [
+    by : (o : Option DataFragValue) (asks : Option NackFrag) → fragments_at octets item ≡ o → Contains (skipped_acts state item o asks) one → IsPieceAct one piece
+    by None None e among = absurd (contains_none one among)
+    by None (Some asks) e among = elim (contains_cases _ [] one among) [
+      | inl same ↦ absurd (let clash : None ≡ Some piece = ap (λ (p : PieceAct). p.piece) same ∙ is in cc)
+      | inr none ↦ absurd (contains_none one none)
+    ]
+    by (Some value) asks e among = elim (contains_cases _ [] one among) [
       | inl same ↦
           let piece_is : piece_of value ≡ piece = (let h : Some (piece_of value) ≡ Some piece = ap (λ (p : PieceAct). p.piece) same ∙ is in cc) in
           let well = fragments_of_sample (drop item.at octets) value (if_some (is_fragment item.body) (data_frag_at (drop item.at octets)) value e).1 in

@@ -14,7 +14,7 @@ use Rattle.rtps_ids.specs.declared.identity.Guid.{Guid}
 use Rattle.rtps_ids.specs.declared.identity.GuidPrefix.{GuidPrefix}
 use Rattle.rtps_receiver.specs.Speech.{entity_from, is_entity, is_spoken_by, origin_of, reader_named, unknown_entity, writer_named}
 use Rattle.rtps_receiver.specs.Values.{ActBodyValue, ActValue, FragmentValue}
-use Rattle.rtps_receiver.specs.Values.ActBodyValue.{Data, Heartbeat, AckNack, Gap, DataFrag}
+use Rattle.rtps_receiver.specs.Values.ActBodyValue.{Data, Heartbeat, AckNack, Gap, DataFrag, NackFrag}
 use Rattle.rtps_receiver.specs.declared.speech.Audience.{Audience}
 use Rattle.rtps_audit.specs.Speech.{announced_of_body}
 use Rattle.rtps_fragments.specs.Came.{came_from}
@@ -271,6 +271,7 @@ no_acts form act (DataFrag value) = refl
 no_acts form act (Data value) = refl
 no_acts form act (Heartbeat value) = refl
 no_acts form act (AckNack value) = refl
+no_acts form act (NackFrag value) = refl
 no_acts form act (Gap value) = refl
 
 pub number_is : (one : PieceAct) (piece : Piece) → IsFragmentAct one piece → unwrap_or (announced_of_body one.act.body) 0 ≡ piece.number

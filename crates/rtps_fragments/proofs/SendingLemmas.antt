@@ -1,22 +1,27 @@
 -- The acts of a datagram, one item after another.
-use Rattle.std.proofs.Common.{◌≡◌, ℕ, suc, ◌+◌, ◌<◌, ◌≤◌, ◌^◌, Bool, true, false, cond, ◌&&◌, List, [], ◌∷◌, ◌++◌, length, map, Option, Some, None, refl, sym, ◌∙◌, ap, arith, append_assoc, append-nil}
+use Rattle.std.proofs.Common.{◌≡◌, ℕ, suc, ◌+◌, ◌<◌, ◌≤◌, ◌^◌, Bool, true, false, cond, ◌&&◌, List, [], ◌∷◌, ◌++◌, drop, length, map, Option, Some, None, refl, sym, ◌∙◌, ap, subst, arith, append_assoc, append-nil}
 use Rattle.std.specs.Prelude.{All, is_none}
+use Rattle.std.proofs.lemmas.Bool.Decides.{Decides-eqb}
 use Rattle.std.proofs.lemmas.List.{length-append, length-map, map-append}
 use Rattle.std.proofs.lemmas.List.Sums.{sum_by-cons}
 use Rattle.rtps_wire.specs.DataFrag.{DataFragValue}
+use Rattle.rtps_wire.specs.NackFrag.{nack_frag_at}
 use Rattle.rtps_wire.specs.Reading.{Outcome, items_among, reading_of, read_as, refused_with}
 use Rattle.rtps_wire.specs.Values.{BodyValue, ItemValue}
 use Rattle.rtps_wire.specs.Values.BodyValue.{Data, Heartbeat, AckNack, Gap, InfoTs, InfoDst, InfoSrc, Skipped}
 use Rattle.rtps_wire.specs.declared.fault.WireFault.{WireFault}
 use Rattle.rtps_wire.specs.declared.header.Header.{Header}
+use Rattle.rtps_wire.specs.declared.nack_frag.NackFrag.{NackFrag}
 use Rattle.rtps_receiver.specs.Acts.{act_body, state_at_start, state_behind}
 use Rattle.rtps_receiver.specs.Values.{ActBodyValue, act_value}
 use Rattle.rtps_receiver.specs.declared.state.State.{State}
 use Rattle.rtps_receiver.proofs.Offered.{gathered-one}
+use Rattle.rtps_audit.proofs.Offered.{if_some}
 use Rattle.rtps_fragments.specs.Merging.{sent_in, sents_from}
 use Rattle.rtps_fragments.specs.SampleActs.{PieceAct}
-use Rattle.rtps_fragments.specs.Sending.{AddsActs, IsSending, fragment_acts, fragments_at, is_skipped_data_frag, is_unusable, one_unusable, piece_acts_behind, piece_acts_of, piece_acts_of_item, piece_acts_with, unusable_among, unusable_in}
+use Rattle.rtps_fragments.specs.Sending.{AddsActs, IsSending, asks_at, fragments_at, is_skipped_data_frag, is_skipped_nack_frag, is_unusable, one_unusable, piece_acts_behind, piece_acts_of, piece_acts_of_item, piece_acts_with, skipped_acts, unusable_among, unusable_in}
 use Rattle.rtps_fragments.specs.Telling.{IsSent, sent_value}
+use Rattle.rtps_fragments.specs.declared.layout.TheConstants.{NACK_FRAG}
 use Rattle.rtps_fragments.specs.declared.sending.Sending.{Sending}
 
 -- the act of an item comes before those of the items behind it
@@ -66,6 +71,19 @@ unusable_none octets item e = ap (λ (o : Option DataFragValue). one_of (is_skip
     by true = refl
     by false = refl
 
+asks_no_frag : (body : BodyValue) → is_skipped_nack_frag body ≡ true → is_skipped_data_frag body ≡ false
+asks_no_frag (Skipped id) e = subst (λ n. is_skipped_data_frag (Skipped n) ≡ false) (sym ((Decides-eqb id NACK_FRAG).0 e)) refl
+asks_no_frag (Data value) e = refl
+asks_no_frag (Heartbeat value) e = refl
+asks_no_frag (AckNack value) e = refl
+asks_no_frag (Gap value) e = refl
+asks_no_frag (InfoTs time) e = refl
+asks_no_frag (InfoDst prefix) e = refl
+asks_no_frag (InfoSrc version vendor prefix) e = refl
+
+pub unusable_asks : (octets : List ℕ) (item : ItemValue) (asks : NackFrag) → asks_at octets item ≡ Some asks → one_unusable octets item ≡ 0
+unusable_asks octets item asks e = ap (λ b. one_of (b && is_none (fragments_at octets item))) (asks_no_frag item.body (if_some (is_skipped_nack_frag item.body) (nack_frag_at (drop item.at octets)) asks e).0)
+
 pub at_most_one : (b : Bool) → one_of b ≤ 1
 at_most_one true = omega arith
 at_most_one false = omega arith
@@ -74,12 +92,13 @@ at_most_one false = omega arith
 pub one_at_most : (octets : List ℕ) (state : State) (item : ItemValue) (n : ℕ) → one_unusable octets item + length (sents_from n (piece_acts_of_item octets state item (act_body item.body))) ≤ 1
 one_at_most octets state item n = by (act_body item.body)
   where
-    of : (o : Option DataFragValue) → fragments_at octets item ≡ o → one_unusable octets item + length (sents_from n (fragment_acts state item o)) ≤ 1
-    of None e = let few = at_most_one (is_unusable octets item) in omega arith
-    of (Some value) e = let none = unusable_some octets item value e in omega arith
+    of : (o : Option DataFragValue) (asks : Option NackFrag) → fragments_at octets item ≡ o → one_unusable octets item + length (sents_from n (skipped_acts state item o asks)) ≤ 1
+    of None None e = let few = at_most_one (is_unusable octets item) in omega arith
+    of None (Some asks) e = let few = at_most_one (is_unusable octets item) in omega arith
+    of (Some value) asks e = let none = unusable_some octets item value e in omega arith
 
     by : (body : Option ActBodyValue) → one_unusable octets item + length (sents_from n (piece_acts_of_item octets state item body)) ≤ 1
-    by None = of (fragments_at octets item) refl
+    by None = of (fragments_at octets item) (asks_at octets item) refl
     by (Some body) = let few = at_most_one (is_unusable octets item) in omega arith
 
 pub unusable-item : (octets : List ℕ) (item : ItemValue) (items : List ItemValue) → unusable_among octets (item ∷ items) ≡ one_unusable octets item + unusable_among octets items

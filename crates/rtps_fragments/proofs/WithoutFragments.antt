@@ -1,27 +1,31 @@
 -- Recordings in which no submessage belongs to fragments.
-use Rattle.std.proofs.Common.{◌≡◌, ℕ, ◌+◌, ◌<◌, ◌≤◌, Bool, true, false, cond, List, [], ◌∷◌, ◌++◌, drop, filter, length, map, take, get_or, Bor, Option, Some, None, refl, sym, ◌∙◌, ap, subst, arith, inl, inr}
+use Rattle.std.proofs.Common.{◌≡◌, ℕ, ◌+◌, ◌<◌, ◌≤◌, Bool, true, false, cond, List, [], ◌∷◌, ◌++◌, drop, filter, length, map, take, get_or, Bor, Option, Some, None, refl, sym, ◌∙◌, ap, ap₂, subst, arith, inl, inr}
 use Rattle.std.specs.Prelude.{Contains}
+use Rattle.std.proofs.lemmas.Bool.Decides.{Decides-eqb}
 use Rattle.std.proofs.lemmas.List.{length-map, length-take-le, map-append, take_more}
 use Rattle.std.proofs.lemmas.List.Elements.{All-contains, All-push}
 use Rattle.std.proofs.lemmas.List.Sums.{length-filter}
 use Rattle.rtps_wire.specs.DataFrag.{data_frag_at}
+use Rattle.rtps_wire.specs.NackFrag.{nack_frag_at}
 use Rattle.rtps_wire.specs.Reading.{reading_of}
 use Rattle.rtps_wire.specs.Tally.{is_fragment, tally_of}
-use Rattle.rtps_wire.specs.Values.{ItemValue}
+use Rattle.rtps_wire.specs.Values.{BodyValue, ItemValue}
+use Rattle.rtps_wire.specs.Values.BodyValue.{Data, Heartbeat, AckNack, Gap, InfoTs, InfoDst, InfoSrc, Skipped}
 use Rattle.rtps_wire.specs.declared.counts.Tally.{Tally}
 use Rattle.rtps_wire.specs.declared.header.Header.{Header}
-use Rattle.rtps_receiver.specs.Acts.{act_body, acts_behind, acts_of, acts_of_item, acts_with, gathered, state_at_start, state_behind}
+use Rattle.rtps_receiver.specs.Acts.{act_body, acts_behind, acts_in, acts_of, acts_of_item, acts_with, gathered, state_at_start, state_behind}
 use Rattle.rtps_receiver.specs.Values.{ActBodyValue, ActValue}
 use Rattle.rtps_receiver.specs.declared.state.State.{State}
 use Rattle.rtps_audit.specs.Intake.{Intake, intake_of}
 use Rattle.rtps_audit.specs.Speech.{acts_by_datagram}
 use Rattle.rtps_audit.proofs.Offered.{contains_cases, contains_head, contains_mapped, contains_none, contains_tail}
 use Rattle.rtps_fragments.specs.Announcing.{announcing_with}
-use Rattle.rtps_fragments.specs.Laws.{HasNoPieces, IntakeStaysWithoutFragments}
+use Rattle.rtps_fragments.specs.Laws.{ActsStayWithoutFragments, HasNoPieces, IntakeStaysWithoutFragments}
 use Rattle.rtps_fragments.specs.RecordedSamples.{IsWithoutFragments, fragments_left, tally_with}
 use Rattle.rtps_fragments.specs.SampleActs.{PieceAct, acts_with_samples, piece_acts_in}
-use Rattle.rtps_fragments.specs.Sending.{fragment_acts, piece_acts_of, piece_acts_of_item, piece_acts_with, sending_of}
+use Rattle.rtps_fragments.specs.Sending.{all_acts_in, asks_at, is_skipped_nack_frag, piece_acts_of, piece_acts_of_item, piece_acts_with, sending_of, skipped_acts}
 use Rattle.rtps_fragments.specs.Whole.{tally_with_fragments}
+use Rattle.rtps_fragments.specs.declared.layout.TheConstants.{NACK_FRAG}
 use Rattle.rtps_fragments.proofs.ActsTell.{acts_stay_without_pieces}
 use Rattle.rtps_fragments.proofs.NoteLemmas.{announcing_stays}
 use Rattle.rtps_fragments.proofs.FragmentCounts.{no_more}
@@ -44,9 +48,25 @@ none_counted test (y ∷ ys) e x among = by (test y) refl e (λ none there. none
       | inr there ↦ behind e there
     ]
 
+asks_is_fragment : (body : BodyValue) → is_fragment body ≡ false → is_skipped_nack_frag body ≡ false
+asks_is_fragment (Skipped id) e = by (is_skipped_nack_frag (Skipped id)) refl
+  where
+    by : (b : Bool) → is_skipped_nack_frag (Skipped id) ≡ b → is_skipped_nack_frag (Skipped id) ≡ false
+    by false is = is
+    by true is = absurd (let clash : true ≡ false = subst (λ n. is_fragment (Skipped n) ≡ false) ((Decides-eqb id NACK_FRAG).0 is) e in cc)
+asks_is_fragment (Data value) e = refl
+asks_is_fragment (Heartbeat value) e = refl
+asks_is_fragment (AckNack value) e = refl
+asks_is_fragment (Gap value) e = refl
+asks_is_fragment (InfoTs time) e = refl
+asks_is_fragment (InfoDst prefix) e = refl
+asks_is_fragment (InfoSrc version vendor prefix) e = refl
+
 item_plain : (octets : List ℕ) (state : State) (item : ItemValue) (body : Option ActBodyValue) → is_fragment item.body ≡ false → piece_acts_of_item octets state item body ≡ map plain (acts_of_item state item body)
 item_plain octets state item (Some body) none = refl
-item_plain octets state item None none = ap (λ b. fragment_acts state item (cond b (data_frag_at (drop item.at octets)) None)) none
+item_plain octets state item None none =
+    ap (λ b. skipped_acts state item (cond b (data_frag_at (drop item.at octets)) None) (asks_at octets item)) none
+    ∙ ap (λ b. skipped_acts state item None (cond b (nack_frag_at (drop item.at octets)) None)) (asks_is_fragment item.body none)
 
 gathered_plain : (octets : List ℕ) (start : State) (before items : List ItemValue) → ((item : ItemValue) → Contains items item → is_fragment item.body ≡ false)
     → gathered (λ s i. piece_acts_of_item octets s i (act_body i.body)) start before items ≡ map plain (acts_behind start before items)
@@ -99,6 +119,15 @@ tallies_stay all (octets ∷ recording) none =
     let left : fragments_left all octets ≡ (tally_of (reading_of octets)).fragments = omega arith in
     let first : tally_with all octets ≡ tally_of (reading_of octets) = ap (tally_with_fragments (tally_of (reading_of octets))) left in
     ap (λ t. t ∷ map (tally_with all) recording) first ∙ ap (λ ts. tally_of (reading_of octets) ∷ ts) (tallies_stay all recording (λ other among. none other (contains_tail octets recording other among)))
+
+acts_in_plain : (recording : List (List ℕ)) → EachWithout recording → all_acts_in recording ≡ acts_in recording
+acts_in_plain [] none = refl
+acts_in_plain (octets ∷ recording) none =
+    ap₂ ◌++◌ (ap (map (λ (one : PieceAct). one.act)) (datagram_plain octets (none octets (contains_head octets recording))) ∙ acts_of_plain (acts_of (reading_of octets)))
+    (acts_in_plain recording (λ other among. none other (contains_tail octets recording other among)))
+
+pub all_acts_stay : ActsStayWithoutFragments
+all_acts_stay recording all = acts_in_plain recording (λ octets among. All-contains (λ datagram. (tally_of (reading_of datagram)).fragments ≡ 0) recording octets all among)
 
 pub intake_stays : IntakeStaysWithoutFragments
 intake_stays recording all =

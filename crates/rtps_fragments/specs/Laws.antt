@@ -7,14 +7,16 @@ use Rattle.rtps_wire.specs.DataFrag.{DataFragValue, data_frag_at}
 use Rattle.rtps_wire.specs.Reading.{reading_of}
 use Rattle.rtps_wire.specs.Tally.{tally_of}
 use Rattle.rtps_wire.specs.Values.{PayloadValue}
+use Rattle.rtps_receiver.specs.Acts.{acts_in}
 use Rattle.rtps_receiver.specs.Speech.{is_spoken_by, origin_of}
 use Rattle.rtps_receiver.specs.Values.{ActBodyValue, ActValue}
-use Rattle.rtps_receiver.specs.Values.ActBodyValue.{Data, Heartbeat, AckNack, Gap, DataFrag}
+use Rattle.rtps_receiver.specs.Values.ActBodyValue.{Data, Heartbeat, AckNack, Gap, DataFrag, NackFrag}
 use Rattle.rtps_discovery.specs.Notice.{subject_of}
 use Rattle.rtps_audit.specs.Delivery.{Speech, Claims, last_announced_from}
 use Rattle.rtps_audit.specs.RunVerdict.{IsTold, IsVerdictFrom}
 use Rattle.rtps_audit.specs.PlainVerdict.{SpeaksTwo}
 use Rattle.rtps_audit.specs.Intake.{acts_together, intake_of}
+use Rattle.rtps_audit.specs.Said.{datagrams_until}
 use Rattle.rtps_audit.specs.Speech.{announced_of_body, speech_by}
 use Rattle.rtps_audit.specs.declared.verdict.Verdict.{Verdict}
 use Rattle.rtps_fragments.specs.Announcing.{announcing_with, is_built_in}
@@ -22,8 +24,8 @@ use Rattle.rtps_fragments.specs.FragmentDelivery.{Fragment, FragmentSpeech, Give
 use Rattle.rtps_fragments.specs.FragmentVerdict.{IsPayloadBefore, IsWordBefore, IsFragmentVerdictFrom}
 use Rattle.rtps_fragments.specs.RecordedSamples.{IsWithoutFragments, fragments_left, intake_with}
 use Rattle.rtps_fragments.specs.Samples.{payloads_of, told_in}
-use Rattle.rtps_fragments.specs.Sending.{is_skipped_data_frag, sending_of, unusable_in}
-use Rattle.rtps_fragments.specs.SampleActs.{PieceAct, acts_with_samples, fragment_speech_of, piece_acts_in, acts_of_sample, samples_told}
+use Rattle.rtps_fragments.specs.Sending.{all_acts_in, is_skipped_data_frag, sending_of, unusable_in}
+use Rattle.rtps_fragments.specs.SampleActs.{PieceAct, acts_with_samples, datagrams_and_samples, fragment_speech_of, piece_acts_in, acts_of_sample, samples_told}
 use Rattle.rtps_fragments.specs.SamplesSent.{acts_to_note, is_left, noted_act, pieces_left, samples_sent, sent_by}
 
 -- of all that is given, two different payloads are told or can be put together for n
@@ -81,6 +83,28 @@ FragmentVerdictOfActs =
     (from : ℕ) (writer reader : Guid) (recording : List (List PieceAct)) (verdict : Verdict) → ArePieceActs recording
     → IsFragmentVerdictFrom from (fragment_speech_of writer reader recording) verdict ↔ IsVerdictFrom from (speech_by writer reader (acts_with_samples recording)) verdict
 
+-- the same of the first datagrams, with the samples of the whole recording: to whom a sample is told does not depend on what is sent later
+abbrev pub FirstDatagramsTellAlike : Type 0
+FirstDatagramsTellAlike =
+    (from : ℕ) (writer reader : Guid) (until : Option ℕ) (recording : List (List PieceAct)) → ArePieceActs recording
+    → TellsAlike from (fragment_speech_of writer reader (datagrams_until until recording)) (speech_by writer reader (datagrams_until until (acts_with_samples recording)))
+
+-- so the verdict by the first datagrams of what is taken in with samples is that by runs on the recording that ends there
+abbrev pub FirstDatagramsDecideSamples : Type 0
+FirstDatagramsDecideSamples =
+    (from : ℕ) (writer reader : Guid) (until : Option ℕ) (recording : List (List ℕ)) (verdict : Verdict)
+    → IsFragmentVerdictFrom from (fragment_speech_of writer reader (sending_of (datagrams_until until recording))) verdict
+    ↔ IsVerdictFrom from (speech_by writer reader (datagrams_until until (intake_with recording).acts)) verdict
+
+-- the acts of the first datagrams, each with the samples that it tells by what was sent before it. They are told to the audiences that
+-- they have in the whole recording
+abbrev pub first_acts_with_samples : Option ℕ → List (List ℕ) → List (List ActValue)
+first_acts_with_samples until recording = datagrams_and_samples (piece_acts_in (sending_of recording)) [] (sending_of (datagrams_until until recording))
+
+-- the first datagrams of what is taken in with samples have these acts
+abbrev pub FirstDatagramsTellTheSame : Type 0
+FirstDatagramsTellTheSame = (until : Option ℕ) (recording : List (List ℕ)) → datagrams_until until (intake_with recording).acts ≡ first_acts_with_samples until recording
+
 -- no act has a piece
 abbrev pub HasNoPieces : List (List PieceAct) → Type 0
 HasNoPieces recording = (datagram : List PieceAct) (one : PieceAct) → Contains recording datagram → Contains datagram one → one.piece ≡ None
@@ -124,6 +148,7 @@ data_of (Heartbeat value) = None
 data_of (AckNack value) = None
 data_of (Gap value) = None
 data_of (DataFrag value) = None
+data_of (NackFrag value) = None
 
 -- one of these acts is a DATA of the writer with the payload of n
 abbrev pub HasData : List ActValue → Guid → ℕ → PayloadValue → Type 0
@@ -160,6 +185,10 @@ RecordedVerdictIsOfRuns =
 -- where no submessage belongs to fragments, an index with samples takes in what a plain one does
 abbrev pub IntakeStaysWithoutFragments : Type 0
 IntakeStaysWithoutFragments = (recording : List (List ℕ)) → IsWithoutFragments recording → intake_with recording ≡ intake_of recording
+
+-- and its acts are those that are no fragments
+abbrev pub ActsStayWithoutFragments : Type 0
+ActsStayWithoutFragments = (recording : List (List ℕ)) → IsWithoutFragments recording → all_acts_in recording ≡ acts_in recording
 
 -- of all datagrams together those DATA_FRAG are counted that have no fragments that can be used, and those of a number of which no sample
 -- is whole

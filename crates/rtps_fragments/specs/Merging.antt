@@ -4,7 +4,7 @@ use Rattle.std.specs.Prelude.{ℕ, suc, ◌==◌, ◌≡◌, if◌then◌else◌
 use Rattle.std.specs.List.{flat_map}
 use Rattle.rtps_receiver.specs.Speech.{origin_of, reader_named, unknown_entity}
 use Rattle.rtps_receiver.specs.Values.{ActBodyValue, ActValue, FragmentValue}
-use Rattle.rtps_receiver.specs.Values.ActBodyValue.{Data, Heartbeat, AckNack, Gap, DataFrag}
+use Rattle.rtps_receiver.specs.Values.ActBodyValue.{Data, Heartbeat, AckNack, Gap, DataFrag, NackFrag}
 use Rattle.rtps_receiver.specs.declared.speech.Audience.{Audience}
 use Rattle.rtps_fragments.specs.Came.{came_from}
 use Rattle.rtps_fragments.specs.FragmentDelivery.{Piece}
@@ -49,6 +49,7 @@ acts_told form act (DataFrag value) told = map (act_as form act value.number) to
 acts_told form act (Data value) told = []
 acts_told form act (Heartbeat value) told = []
 acts_told form act (AckNack value) told = []
+acts_told form act (NackFrag value) told = []
 acts_told form act (Gap value) told = []
 
 -- the first of these that the act at this place tells

@@ -1,39 +1,51 @@
--- The acts of a datagram, each with the fragments that it sends. DDSI-RTPS 2.5, 8.3.4 "The RTPS Message Receiver" and 8.3.8.3 "DataFrag".
--- own: a DATA_FRAG that has no fragments that can be used is no act.
-use Rattle.std.specs.Prelude.{ℕ, Bool, false, ◌≡◌, ◌+◌, ◌<◌, ◌^◌, ◌==◌, ◌&&◌, if◌then◌else◌, All, List, [], ◌∷◌, ◌++◌, count_by, drop, is_none, length, map, Option, Some, None}
+-- The acts of a datagram, each with the fragments that it sends. DDSI-RTPS 2.5, 8.3.4 "The RTPS Message Receiver", 8.3.8.3 "DataFrag" and
+-- 8.3.8.12 "NackFrag". own: a DATA_FRAG that has no fragments that can be used is no act, and neither is a NACK_FRAG that cannot be read.
+use Rattle.std.specs.Prelude.{ℕ, Bool, false, ◌≡◌, ◌+◌, ◌<◌, ◌^◌, ◌==◌, ◌&&◌, if◌then◌else◌, All, List, [], ◌∷◌, ◌++◌, count_by, drop, flat_map, is_none, length, map, Option, Some, None}
 use Rattle.rtps_wire.specs.DataFrag.{DataFragValue, data_frag_at, parts_of}
+use Rattle.rtps_wire.specs.NackFrag.{nack_frag_at}
 use Rattle.rtps_wire.specs.Reading.{reading_of}
 use Rattle.rtps_wire.specs.Tally.{is_fragment}
 use Rattle.rtps_wire.specs.Values.{BodyValue, ItemValue}
 use Rattle.rtps_wire.specs.Values.BodyValue.{Skipped}
 use Rattle.rtps_wire.specs.declared.header.Header.{Header}
+use Rattle.rtps_wire.specs.declared.nack_frag.NackFrag.{NackFrag as NackFragBody}
 use Rattle.rtps_receiver.specs.Acts.{act_at, act_body, gathered, state_at_start}
-use Rattle.rtps_receiver.specs.Values.{ActBodyValue, act_value}
-use Rattle.rtps_receiver.specs.Values.ActBodyValue.{DataFrag}
+use Rattle.rtps_receiver.specs.Values.{ActBodyValue, ActValue, act_value}
+use Rattle.rtps_receiver.specs.Values.ActBodyValue.{DataFrag, NackFrag}
 use Rattle.rtps_receiver.specs.declared.state.State.{State}
 use Rattle.rtps_fragments.specs.FragmentDelivery.{Piece}
 use Rattle.rtps_fragments.specs.Merging.{sents_from}
 use Rattle.rtps_fragments.specs.SampleActs.{PieceAct}
 use Rattle.rtps_fragments.specs.Telling.{IsSent, sent_value}
-use Rattle.rtps_fragments.specs.declared.layout.TheConstants.{DATA_FRAG}
+use Rattle.rtps_fragments.specs.declared.layout.TheConstants.{DATA_FRAG, NACK_FRAG}
 use Rattle.rtps_fragments.specs.declared.sending.Sending.{Sending}
 
 -- the fragments of a DATA_FRAG, as a piece of their sample
 abbrev pub piece_of : DataFragValue → Piece
 piece_of value = record { number = value.number; shape = value.shape; first = value.first; parts = parts_of value }
 
--- the act that a DATA_FRAG is, if it has fragments
-abbrev pub fragment_acts : State → ItemValue → Option DataFragValue → List PieceAct
-fragment_acts state item (Some value) =
+-- the act that an item is: a DATA_FRAG, if it has fragments, or a NACK_FRAG, if it asks for some
+abbrev pub skipped_acts : State → ItemValue → Option DataFragValue → Option NackFragBody → List PieceAct
+skipped_acts state item (Some value) asks =
     record {
       act = act_at state item.at item.order (DataFrag (record { reader = value.reader; writer = value.writer; number = value.number; told = None }));
       piece = Some (piece_of value);
     } ∷ []
-fragment_acts state item None = []
+skipped_acts state item None (Some asks) = record { act = act_at state item.at item.order (NackFrag asks); piece = None } ∷ []
+skipped_acts state item None None = []
 
 -- the fragments that stand at an item of these octets, if it is a DATA_FRAG that has some
 abbrev pub fragments_at : List ℕ → ItemValue → Option DataFragValue
 fragments_at octets item = if is_fragment item.body then data_frag_at (drop item.at octets) else None
+
+-- the submessage is skipped as a NACK_FRAG
+abbrev pub is_skipped_nack_frag : BodyValue → Bool
+is_skipped_nack_frag (Skipped id) = id == NACK_FRAG
+is_skipped_nack_frag _ = false
+
+-- what a reader asks for at an item of these octets, if it is a NACK_FRAG that can be read
+abbrev pub asks_at : List ℕ → ItemValue → Option NackFragBody
+asks_at octets item = if is_skipped_nack_frag item.body then nack_frag_at (drop item.at octets) else None
 
 -- the submessage is skipped as a DATA_FRAG
 abbrev pub is_skipped_data_frag : BodyValue → Bool
@@ -59,7 +71,7 @@ unusable_in octets = unusable_among octets (reading_of octets).items
 -- the act that an item of these octets is, if it is one
 abbrev pub piece_acts_of_item : List ℕ → State → ItemValue → Option ActBodyValue → List PieceAct
 piece_acts_of_item octets state item (Some body) = record { act = act_at state item.at item.order body; piece = None } ∷ []
-piece_acts_of_item octets state item None = fragment_acts state item (fragments_at octets item)
+piece_acts_of_item octets state item None = skipped_acts state item (fragments_at octets item) (asks_at octets item)
 
 -- the acts among items of these octets, each in the state after all items before it
 abbrev pub piece_acts_behind : List ℕ → State → List ItemValue → List PieceAct
@@ -73,6 +85,10 @@ piece_acts_with octets (Some header) items = piece_acts_behind octets (state_at_
 -- the acts of a datagram of these octets
 unfoldable pub piece_acts_of : List ℕ → List PieceAct
 piece_acts_of octets = piece_acts_with octets (reading_of octets).header (reading_of octets).items
+
+-- the acts of a recording's datagrams, those of fragments among them
+abbrev pub all_acts_in : List (List ℕ) → List ActValue
+all_acts_in recording = flat_map (λ octets. map (λ one. one.act) (piece_acts_of octets)) recording
 
 -- the acts of each datagram of a recording, which is the octets of its datagrams in the order of sending
 abbrev pub sending_of : List (List ℕ) → List (List PieceAct)

@@ -1,6 +1,6 @@
 //! Laws over definitions alone. Each function does nothing: its clause is the law, and its proof the law's proof.
 
-ghost use Rattle.rtps_fragments.specs.Laws.{FragmentsTellAlike, SamplesTellAlike, FragmentVerdictIsTold, ActsTellAlike, FragmentVerdictOfActs, ActsStayWithoutPieces, VerdictStaysWithoutPieces, PiecesLeftAreOfNoSample, NotedSamplesAreSent, BuiltInSamplesAnnounce, AnnouncersAreBuiltIn, FewFragmentsMakeNoSample, SamplesStandAlone, RecordedVerdictIsOfRuns, IntakeStaysWithoutFragments, FragmentsAreCounted, NoMoreFragmentsAreCounted, OnlyDataFragsHaveFragments};
+ghost use Rattle.rtps_fragments.specs.Laws.{FragmentsTellAlike, SamplesTellAlike, FragmentVerdictIsTold, ActsTellAlike, FragmentVerdictOfActs, FirstDatagramsTellAlike, FirstDatagramsDecideSamples, FirstDatagramsTellTheSame, ActsStayWithoutFragments, ActsStayWithoutPieces, VerdictStaysWithoutPieces, PiecesLeftAreOfNoSample, NotedSamplesAreSent, BuiltInSamplesAnnounce, AnnouncersAreBuiltIn, FewFragmentsMakeNoSample, SamplesStandAlone, RecordedVerdictIsOfRuns, IntakeStaysWithoutFragments, FragmentsAreCounted, NoMoreFragmentsAreCounted, OnlyDataFragsHaveFragments};
 
 use rtps_audit::laws::{runs_exist_where_founded, verdicts_agree};
 
@@ -42,6 +42,27 @@ pub fn fragment_verdict_of_acts()
     fragments_tell_alike();
     acts_tell_alike();
 }
+
+/// The first datagrams of a recording with pieces, and the same ones of its acts with the samples among them, tell alike: what is sent
+/// later changes nothing for a reader.
+pub fn first_datagrams_tell_alike()
+    ensures { FirstDatagramsTellAlike }
+{}
+
+/// The verdict by the first datagrams of a recording with its samples is that by all runs, in which the reader takes fragments one by
+/// one, on the recording that ends there.
+pub fn first_datagrams_decide()
+    ensures { FirstDatagramsDecideSamples }
+{
+    fragments_tell_alike();
+    first_datagrams_tell_alike();
+}
+
+/// The first datagrams of a recording with its samples have the acts that they have alone, each with the samples that it tells by what
+/// was sent before it. What is sent later may add audiences that they are told to, and nothing else.
+pub fn first_datagrams_tell_the_same()
+    ensures { FirstDatagramsTellTheSame }
+{}
 
 /// Where no act has a piece, no sample is told: the acts are as they are.
 pub fn acts_stay_without_pieces()
@@ -100,6 +121,11 @@ pub fn recorded_verdict_is_of_runs()
 /// Where no submessage of a recording belongs to fragments, an index with samples takes in what a plain one does.
 pub fn intake_stays_without_fragments()
     ensures { IntakeStaysWithoutFragments }
+{}
+
+/// Where no submessage of a recording belongs to fragments, its acts are the same, whether fragments are read or not.
+pub fn acts_stay_without_fragments()
+    ensures { ActsStayWithoutFragments }
 {}
 
 /// As fragments of a recording with its samples those DATA_FRAG are counted that have no fragments that can be used, and those of a number

@@ -22,4 +22,5 @@ pub use fragments::Fragments;
 pub use piece::{FragmentRun, SampleKey, SentFragments};
 pub use sample_index::{index_as, index_with, judge_with_samples};
 pub use samples::Samples;
+pub use sending::Sending;
 pub use told_sample::ToldSample;

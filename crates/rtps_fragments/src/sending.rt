@@ -2,25 +2,25 @@ ghost use Rattle.std.specs.Prelude.{◌≡◌, ◌≤◌, ◌<◌, ◌+◌, ◌^
 ghost use Rattle.std.specs.Option.{option_map};
 ghost use Rattle.rtps_receiver.specs.Acts.{act_at, act_body, state_behind};
 ghost use Rattle.rtps_receiver.specs.Values.{act_value};
-ghost use Rattle.rtps_receiver.specs.Values.ActBodyValue.{DataFrag as DataFragAct};
+ghost use Rattle.rtps_receiver.specs.Values.ActBodyValue.{DataFrag as DataFragAct, NackFrag as NackFragAct};
 ghost use Rattle.rtps_wire.specs.DataFrag.{IsDataFrag, data_frag_value, parts_of};
 ghost use Rattle.rtps_wire.specs.Reading.{items_among, outcomes_left};
 ghost use Rattle.rtps_wire.specs.Values.{body_value, item_value};
 ghost use Rattle.rtps_fragments.specs.Came.{came_from};
-ghost use Rattle.rtps_fragments.specs.Sending.{AddsActs, IsSending, fragment_acts, fragments_at as fragments_at_lem, is_skipped_data_frag as is_skipped_data_frag_lem, one_unusable, piece_acts_behind, piece_acts_of, piece_acts_of_item, unusable_among, unusable_in};
+ghost use Rattle.rtps_fragments.specs.Sending.{AddsActs, IsSending, asks_at as asks_at_lem, fragments_at as fragments_at_lem, is_skipped_data_frag as is_skipped_data_frag_lem, is_skipped_nack_frag as is_skipped_nack_frag_lem, one_unusable, piece_acts_behind, piece_acts_of, piece_acts_of_item, skipped_acts, unusable_among, unusable_in};
 ghost use Rattle.rtps_fragments.specs.Telling.{IsSent, sent_value};
 
-use crate::layout::DATA_FRAG;
+use crate::layout::{DATA_FRAG, NACK_FRAG};
 use crate::piece::{FragmentRun, SampleKey, SentFragments};
 use rtps_ids::{Guid, Memory};
 use rtps_receiver::{Act, ActBody, Audience, FragmentBody, State};
-use rtps_wire::{Body, DataFrag, Item, Items};
+use rtps_wire::{Body, DataFrag, Item, Items, NackFrag};
 use std::alloc::Global;
 use std::slice;
 
 /// The acts of a datagram, the fragments that its DATA_FRAG send, and how many of these have no fragments that can be used.
 #[derive(Drop)]
-pub(crate) struct Sending<'a> {
+pub struct Sending<'a> {
     pub(crate) acts: Vec<Act<'a>>,
     pub(crate) sents: Vec<SentFragments<'a>>,
     pub(crate) unusable: u64,
@@ -47,6 +47,16 @@ fn is_skipped_data_frag(body: &Body<'_>) -> bool
     }
 }
 
+/// Whether a submessage is skipped as a NACK_FRAG.
+fn is_skipped_nack_frag(body: &Body<'_>) -> bool
+    ensures { result ≡ is_skipped_nack_frag_lem (body_value body.now) }
+{
+    match body {
+        Body::Skipped { id } => *id == NACK_FRAG,
+        _ => false,
+    }
+}
+
 /// The fragments that stand at an item of a datagram, if it is a DATA_FRAG that has some.
 fn fragments_at<'a>(item: &Item<'_>, datagram: &'a [u8]) -> Option<DataFrag<'a>>
     ensures value { option_map data_frag_value result ≡ fragments_at_lem datagram.now (item_value item.now) }
@@ -54,6 +64,17 @@ fn fragments_at<'a>(item: &Item<'_>, datagram: &'a [u8]) -> Option<DataFrag<'a>>
 {
     if item.body.is_fragment() {
         DataFrag::read(octets_from(datagram, item.at))
+    } else {
+        None
+    }
+}
+
+/// What a reader asks for at an item of a datagram, if it is a NACK_FRAG that can be read.
+fn asks_at(item: &Item<'_>, datagram: &[u8]) -> Option<NackFrag>
+    ensures { result ≡ asks_at_lem datagram.now (item_value item.now) }
+{
+    if is_skipped_nack_frag(&item.body) {
+        NackFrag::read(octets_from(datagram, item.at))
     } else {
         None
     }
@@ -122,9 +143,25 @@ fn act_of<'a>(state: &State, item: &Item<'_>, fragments: &DataFrag<'a>) -> Act<'
     }
 }
 
+/// The act that a NACK_FRAG is, which stands there, in this state.
+fn asks_act<'a>(state: &State, item: &Item<'_>, asks: NackFrag) -> Act<'a>
+    ensures { act_value result ≡ act_at state.now (item_value item.now).at (item_value item.now).order (NackFragAct asks) }
+{
+    Act {
+        at: item.at,
+        source: state.source.prefix,
+        version: state.source.version,
+        vendor: state.source.vendor,
+        dest: state.dest,
+        stamp: state.stamp,
+        order: item.order,
+        body: ActBody::NackFrag(asks),
+    }
+}
+
 impl<'a> Sending<'a> {
     /// No acts. It takes no memory.
-    pub(crate) fn new(alloc: Global) -> Sending<'a>
+    pub fn new(alloc: Global) -> Sending<'a>
         ensures { IsSending [] 0 result }
     {
         Sending {
@@ -142,13 +179,22 @@ impl<'a> Sending<'a> {
         fragments: &DataFrag<'a>,
     ) -> Result<(), Memory>
         requires { IsDataFrag (data_frag_value fragments.now) }
-        ensures { OnOk result (AddsActs self.old self.new (fragment_acts state.now (item_value item.now) (Some (data_frag_value fragments.now))) 0) }
+        ensures { OnOk result (AddsActs self.old self.new (skipped_acts state.now (item_value item.now) (Some (data_frag_value fragments.now)) None) 0) }
     {
         let place = self.acts.len();
         let act = act_of(state, item, fragments);
         self.acts.extend_from_slice(slice::from_ref(&act))?;
         let sent = sent_of(place, state, fragments);
         self.sents.extend_from_slice(slice::from_ref(&sent))?;
+        Ok(())
+    }
+
+    /// Adds a NACK_FRAG that stands there, in this state. After `Memory` it is of no use.
+    fn add_asks(&mut self, state: &State, item: &Item<'_>, asks: NackFrag) -> Result<(), Memory>
+        ensures { OnOk result (AddsActs self.old self.new (skipped_acts state.now (item_value item.now) None (Some asks)) 0) }
+    {
+        let act = asks_act(state, item, asks);
+        self.acts.extend_from_slice(slice::from_ref(&act))?;
         Ok(())
     }
 
@@ -164,6 +210,8 @@ impl<'a> Sending<'a> {
             self.acts.extend_from_slice(slice::from_ref(&act))?;
         } else if let Some(fragments) = fragments_at(item, datagram) {
             self.add_fragments(state, item, &fragments)?;
+        } else if let Some(asks) = asks_at(item, datagram) {
+            self.add_asks(state, item, asks)?;
         } else if is_skipped_data_frag(&item.body) {
             self.unusable += 1;
         }
@@ -204,7 +252,7 @@ impl<'a> Sending<'a> {
 
     /// Reads a datagram of any length, up to its refusal, if it has one. Its acts, and the fragments that its DATA_FRAG send, replace
     /// those of the datagram before. After `Memory` it is of no use.
-    pub(crate) fn read(&mut self, datagram: &'a [u8]) -> Result<(), Memory>
+    pub fn read(&mut self, datagram: &'a [u8]) -> Result<(), Memory>
         ensures { OnOk result (IsSending (piece_acts_of datagram.now) (unusable_in datagram.now) self.new) }
     {
         self.clear();
@@ -212,5 +260,12 @@ impl<'a> Sending<'a> {
             Ok((header, items)) => self.add_items(State::at_start(header), items, datagram),
             Err(_) => Ok(()),
         }
+    }
+
+    /// The acts of the datagram that was read last.
+    pub fn acts(&self) -> &[Act<'a>]
+        ensures { result.now ≡ self.now.acts.items }
+    {
+        &self.acts
     }
 }

@@ -1,11 +1,13 @@
 -- How deep the object of a report that is checked nests.
-use Rattle.std.proofs.Common.{◌≤◌, ◌++◌, [], ◌∷◌, ℕ, List, Some, arith, map}
+use Rattle.std.proofs.Common.{◌≤◌, ◌++◌, [], ◌∷◌, ℕ, List, arith, map}
 use Rattle.json.specs.Json.{max_depth, string}
 use Rattle.json.specs.Tree.{depth, items_depth, members_depth}
 use Rattle.rtps_report.specs.FullReport.{AskedValue, RecordingValue, ReportValue, rows_of}
 use Rattle.rtps_report.specs.NoteFacts.{scope_of}
 use Rattle.rtps_lines.specs.CheckMembers.{check_members, notes_members, report_causes, report_notes, status_members}
 use Rattle.rtps_lines.specs.JsonText.{items_of, members_of, object_of, rows_members}
+use Rattle.rtps_lines.specs.declared.json_object.Advised.TheVariants.{All}
+use Rattle.rtps_lines.specs.declared.json_object.Telling.{Telling}
 use Rattle.rtps_lines.proofs.JsonLemmas.{joined, rows_depth}
 
 strings_within : (texts : List (List ℕ)) → items_depth (items_of (map string texts)) ≤ 0
@@ -14,12 +16,13 @@ strings_within (text ∷ texts) = omega (arith, strings_within texts)
 
 pub check_depth : (asked : AskedValue) (recording : RecordingValue) (report : ReportValue) → members_depth (members_of (check_members asked recording report)) ≤ 4
 check_depth asked recording report =
-    let causes = report_causes asked report in
+    let causes = report_causes asked recording report in
     let notes = report_notes asked recording report in
-    let rows = rows_members (Some (scope_of asked recording report)) (rows_of report) report.explained.counts recording in
+    let telling : Telling = record { scope = scope_of asked recording report; advised = All } in
+    let rows = rows_members telling (rows_of report) report.explained.counts recording in
     let few = strings_within causes in
     let last = strings_within notes in
-    let behind = joined 4 rows (notes_members notes) (rows_depth (Some (scope_of asked recording report)) (rows_of report) report.explained.counts recording) (omega (arith, last)) in
+    let behind = joined 4 rows (notes_members notes) (rows_depth telling (rows_of report) report.explained.counts recording) (omega (arith, last)) in
     joined 4 (status_members report.ending causes) (rows ++ notes_members notes) (omega (arith, few)) behind
 
 pub check_within : (asked : AskedValue) (recording : RecordingValue) (report : ReportValue) → depth (object_of (check_members asked recording report)) ≤ max_depth

@@ -1,5 +1,5 @@
 -- Facts on the tokens of a report as JSON, on how deep it nests, and on numbers.
-use Rattle.std.proofs.Common.{◌≡◌, ◌++◌, ◌∷◌, [], ◌∙◌, ◌+◌, ◌<◌, ◌≤◌, ◌^◌, ◌%◌, ◌==◌, ℕ, Bool, true, if◌then◌else◌, List, Option, None, Some, ap, append_assoc, append-nil, arith, cond, decimal, drop, false, get_or, length, map, option_and_then, refl, suc, sym, zero}
+use Rattle.std.proofs.Common.{◌≡◌, ◌++◌, ◌∷◌, [], ◌∙◌, ◌+◌, ◌<◌, ◌≤◌, ◌^◌, ◌%◌, ◌==◌, ℕ, Bool, true, if◌then◌else◌, List, Option, None, Some, ap, append_assoc, append-nil, arith, codes, cond, decimal, drop, false, get_or, length, map, option_and_then, refl, suc, sym, zero}
 use Rattle.std.proofs.lemmas.Bool.{and_from, le-leb, ne_eqb}
 use Rattle.std.proofs.lemmas.Fmt.{decimal_by_steps_wide, decimal_digit, decimal_is_IsNumeral_wide}
 use Rattle.std.proofs.lemmas.List.Concat.{flat_map-append}
@@ -15,12 +15,14 @@ use Rattle.json.specs.Print.{IsNumber, print}
 use Rattle.json.specs.Token.{begin_array, begin_object, end_array, end_object, key}
 use Rattle.json.specs.Tree.{depth, items_depth, items_tokens, json_tokens, members_depth, members_tokens}
 use Rattle.json.specs.Word.{after_exponent, after_fraction, after_number, after_whole, head}
-use Rattle.rtps_report.specs.Vocabulary.{Absent, Announcement, Claim, Complete, CompleteGrounds, Conflict, ConflictGrounds, Counts, EvidenceValue, Explanation, ExplanationValue, FirstMissed, GroundsValue, Key, Location, NotReceived, Open, OpenGrounds, PayloadValue, SentValue, Teller, Unfounded, UnfoundedGrounds, Verdict, Whole, explanation_value}
+use Rattle.rtps_report.specs.Vocabulary.{Absent, Announcement, Claim, Complete, CompleteGrounds, Conflict, ConflictGrounds, Counts, EvidenceValue, Explanation, ExplanationValue, FirstMissed, GroundsValue, InSpan, Key, Location, NotReceived, Open, OpenGrounds, PayloadValue, SentValue, Teller, Unfounded, UnfoundedGrounds, Verdict, Whole, explanation_value}
 use Rattle.rtps_report.specs.declared.recording.Reasons.{Reasons}
 use Rattle.rtps_report.specs.declared.advice.Scope.{Scope}
-use Rattle.rtps_report.specs.Advice.{advice_of, is_noted, sentence_of}
+use Rattle.rtps_report.specs.Advice.{advice_of, sentence_of}
+use Rattle.rtps_report.specs.RowFacts.{is_clean}
 use Rattle.rtps_report.specs.Recording.{RecordingValue}
-use Rattle.rtps_lines.specs.JsonText.{Member, advice_members, announcement_json, array_of, claim_json, counts_members, delivery_members, evidence_members, first_missed_members, ignored_members, items_of, members_of, not_received_json, object_of, pair_members, payload_members, place_json, place_members, reasons_members, report_json, row_json, rows_members, sent_json, shown_members, teller_json, tokens_of, tokens_of_member, verdict_members}
+use Rattle.rtps_lines.specs.JsonText.{Member, advice_json, advice_members, announcement_json, array_of, audit_telling, claim_json, counts_members, delivery_members, evidence_members, first_missed_members, ignored_members, is_advised, items_of, members_of, not_received_json, object_of, pair_members, payload_members, place_json, place_members, reasons_members, report_json, row_json, rows_members, sent_json, shown_members, span_by, span_members, spanned_members, teller_json, tokens_of, tokens_of_member, until_json, verdict_members}
+use Rattle.rtps_lines.specs.declared.json_object.Telling.{Telling}
 
 -- ---- tokens
 
@@ -63,12 +65,12 @@ pub mapped_tokens : {X : Type 0} (f : X → Json) (xs : List X) → json_tokens 
 mapped_tokens f xs = ap (λ rest. begin_array ∷ rest) (list_tokens (map f xs) ∙ ap (λ rest. rest ++ end_array ∷ []) (flat_map-map json_tokens f xs))
 
 -- the array of rows
-pub rows_tokens : (scope : Option Scope) (rows : List Explanation)
-    → flat_map (λ row. json_tokens (row_json scope (explanation_value row))) rows ++ end_array ∷ [] ≡ items_tokens (items_of (map (row_json scope) (map explanation_value rows)))
-rows_tokens scope [] = refl
-rows_tokens scope (row ∷ rows) =
-    let first = json_tokens (row_json scope (explanation_value row)) in
-    append_assoc first (flat_map (λ each. json_tokens (row_json scope (explanation_value each))) rows) (end_array ∷ []) ∙ ap (λ rest. first ++ rest) (rows_tokens scope rows)
+pub rows_tokens : (telling : Telling) (rows : List Explanation)
+    → flat_map (λ row. json_tokens (row_json telling (explanation_value row))) rows ++ end_array ∷ [] ≡ items_tokens (items_of (map (row_json telling) (map explanation_value rows)))
+rows_tokens telling [] = refl
+rows_tokens telling (row ∷ rows) =
+    let first = json_tokens (row_json telling (explanation_value row)) in
+    append_assoc first (flat_map (λ each. json_tokens (row_json telling (explanation_value each))) rows) (end_array ∷ []) ∙ ap (λ rest. first ++ rest) (rows_tokens telling rows)
 
 -- ---- depth
 
@@ -119,7 +121,7 @@ not_received_within (Some kept) = omega (arith, teller_within kept.gone, place_w
 
 first_missed_within : (first : Option FirstMissed) → members_depth (members_of (first_missed_members first)) ≤ 2
 first_missed_within None = omega arith
-first_missed_within (Some first) = omega (arith, teller_within first.gone)
+first_missed_within (Some first) = omega (arith, place_within first.again, teller_within first.gone)
 
 delivery_within : (evidence : EvidenceValue) → members_depth (members_of (delivery_members evidence)) ≤ 2
 delivery_within evidence = omega (arith, not_received_within evidence.not_received, first_missed_within evidence.first_missed)
@@ -130,28 +132,42 @@ shown_within (OpenGrounds teller count last) = omega (arith, teller_within telle
 shown_within (ConflictGrounds first other) = omega (arith, sent_within first, sent_within other)
 shown_within (UnfoundedGrounds teller claim) = omega (arith, claim_within claim, teller_within teller)
 
-sentence_within : (some : Bool) (sentence : List ℕ) → depth (if some then string sentence else null) ≤ 0
+sentence_within : (clean : Bool) (sentence : List ℕ) → depth (if clean then null else string sentence) ≤ 0
 sentence_within true sentence = omega arith
 sentence_within false sentence = omega arith
 
-advice_within : (scope : Option Scope) (row : ExplanationValue) → members_depth (members_of (advice_members scope row)) ≤ 2
-advice_within None row = omega arith
-advice_within (Some scope) row = omega (arith, sentence_within (is_noted row) (sentence_of (advice_of scope row.evidence)))
+until_within : (until : Option ℕ) → depth (until_json until) ≤ 0
+until_within None = omega arith
+until_within (Some datagram) = omega arith
 
-row_within : (scope : Option Scope) (row : ExplanationValue) → depth (row_json scope row) ≤ 3
-row_within scope row =
+span_by_within : (scope : Scope) (evidence : EvidenceValue) (in_span : Option InSpan) → members_depth (members_of (span_by scope evidence in_span)) ≤ 1
+span_by_within scope evidence None = omega arith
+span_by_within scope evidence (Some in_span) = omega (arith, until_within in_span.until)
+
+told_within : (told : Bool) (scope : Scope) (evidence : EvidenceValue) → members_depth (members_of (if told then (codes "advice", advice_json scope evidence) ∷ [] else [])) ≤ 1
+told_within true scope evidence = omega (arith, sentence_within (is_clean scope.tail evidence) (sentence_of (advice_of scope evidence)))
+told_within false scope evidence = omega arith
+
+spanned_within : (telling : Telling) (evidence : EvidenceValue) → members_depth (members_of (spanned_members telling evidence)) ≤ 2
+spanned_within telling evidence =
+    let members = joined 1 (span_members telling.scope evidence) (advice_members telling evidence) (span_by_within telling.scope evidence evidence.in_span)
+    (told_within (is_advised telling.advised evidence.in_span) telling.scope evidence) in
+    omega (arith, members)
+
+row_within : (telling : Telling) (row : ExplanationValue) → depth (row_json telling row) ≤ 3
+row_within telling row =
     let evidence = row.evidence in
-    let advice = advice_members scope row in
-    let shown = joined 2 (shown_members evidence.grounds) advice (shown_within evidence.grounds) (advice_within scope row) in
-    let last = joined 2 (delivery_members evidence) (shown_members evidence.grounds ++ advice) (delivery_within evidence) shown in
-    let late = joined 2 (evidence_members evidence) (delivery_members evidence ++ (shown_members evidence.grounds ++ advice)) (evidence_within evidence) last in
-    let later = joined 2 (verdict_members evidence.verdict) (evidence_members evidence ++ (delivery_members evidence ++ (shown_members evidence.grounds ++ advice))) (verdict_within evidence.verdict) late in
-    let all = joined 2 (pair_members row) (verdict_members evidence.verdict ++ (evidence_members evidence ++ (delivery_members evidence ++ (shown_members evidence.grounds ++ advice)))) (omega arith) later in
+    let spanned = spanned_members telling evidence in
+    let shown = joined 2 (shown_members evidence.grounds) spanned (shown_within evidence.grounds) (spanned_within telling evidence) in
+    let last = joined 2 (delivery_members evidence) (shown_members evidence.grounds ++ spanned) (delivery_within evidence) shown in
+    let late = joined 2 (evidence_members evidence) (delivery_members evidence ++ (shown_members evidence.grounds ++ spanned)) (evidence_within evidence) last in
+    let later = joined 2 (verdict_members evidence.verdict) (evidence_members evidence ++ (delivery_members evidence ++ (shown_members evidence.grounds ++ spanned))) (verdict_within evidence.verdict) late in
+    let all = joined 2 (pair_members row) (verdict_members evidence.verdict ++ (evidence_members evidence ++ (delivery_members evidence ++ (shown_members evidence.grounds ++ spanned)))) (omega arith) later in
     omega (arith, all)
 
-rows_within : (scope : Option Scope) (rows : List ExplanationValue) → items_depth (items_of (map (row_json scope) rows)) ≤ 3
-rows_within scope [] = omega arith
-rows_within scope (row ∷ rows) = omega (arith, row_within scope row, rows_within scope rows)
+rows_within : (telling : Telling) (rows : List ExplanationValue) → items_depth (items_of (map (row_json telling) rows)) ≤ 3
+rows_within telling [] = omega arith
+rows_within telling (row ∷ rows) = omega (arith, row_within telling row, rows_within telling rows)
 
 ignored_within : (ignored : Option ℕ) → members_depth (members_of (ignored_members ignored)) ≤ 0
 ignored_within None = omega arith
@@ -161,14 +177,14 @@ reasons_within : (reasons : Option Reasons) → members_depth (members_of (reaso
 reasons_within None = omega arith
 reasons_within (Some reasons) = omega arith
 
-pub rows_depth : (scope : Option Scope) (rows : List ExplanationValue) (counts : Counts) (recording : RecordingValue) → members_depth (members_of (rows_members scope rows counts recording)) ≤ 4
-rows_depth scope rows counts recording =
+pub rows_depth : (telling : Telling) (rows : List ExplanationValue) (counts : Counts) (recording : RecordingValue) → members_depth (members_of (rows_members telling rows counts recording)) ≤ 4
+rows_depth telling rows counts recording =
     let frames = joined 0 (ignored_members recording.ignored) (reasons_members recording.reasons) (ignored_within recording.ignored) (reasons_within recording.reasons) in
     let last = joined 0 (counts_members counts) (ignored_members recording.ignored ++ reasons_members recording.reasons) (omega arith) frames in
-    omega (arith, rows_within scope rows, last)
+    omega (arith, rows_within telling rows, last)
 
 pub report_depth : (rows : List ExplanationValue) (counts : Counts) (recording : RecordingValue) → depth (report_json rows counts recording) ≤ 5
-report_depth rows counts recording = omega (arith, rows_depth None rows counts recording)
+report_depth rows counts recording = omega (arith, rows_depth (audit_telling counts recording.reasons) rows counts recording)
 
 pub report_within : (rows : List ExplanationValue) (counts : Counts) (recording : RecordingValue) → depth (report_json rows counts recording) ≤ max_depth
 report_within rows counts recording = omega (arith, report_depth rows counts recording)

@@ -3,13 +3,16 @@ use Rattle.std.specs.Prelude.{ℕ, ◌-◌, ◌++◌, ◌==◌, Bool, if◌then�
 use Rattle.std.specs.List.{concat}
 use Rattle.rtps_parts.specs.Parts.{WordsValue, amount, grouped, joined}
 use Rattle.rtps_report.specs.Findings.{no_findings}
+use Rattle.rtps_report.specs.declared.asked.Standard.TheVariants.{AllClean, AllComplete}
+use Rattle.rtps_report.specs.declared.findings.Ending.TheVariants.{Clean, Unmet}
 use Rattle.rtps_report.specs.declared.findings.Ending.{Ending}
 use Rattle.rtps_report.specs.declared.findings.FewRows.{FewRows}
 use Rattle.rtps_report.specs.declared.findings.Findings.{Findings}
+use Rattle.rtps_report.specs.declared.asked.Standard.{Standard}
 use Rattle.rtps_report.specs.declared.totals.Totals.{Totals}
-use Rattle.rtps_report.specs.declared.findings.Ending.TheVariants.{Clean, Unmet}
 use Rattle.rtps_report.specs.declared.recording.Links.{Links as LinksFound}
-use Rattle.rtps_lines.specs.Notes.{detail_of, words_of}
+use Rattle.rtps_lines.specs.Notes.{detail_of, pair_words, words_of}
+use Rattle.rtps_lines.specs.declared.causes.Lost.{Lost}
 use Rattle.rtps_lines.specs.declared.notes.Weakness.TheVariants.{Cut, Fragments, Links, Pieces, Unsettled}
 
 -- what is found by an ending
@@ -17,13 +20,25 @@ abbrev pub findings_in : Ending → Findings
 findings_in (Unmet findings) = findings
 findings_in ending = no_findings
 
--- the words for pairs
-abbrev pub pair_words : WordsValue
-pair_words = record { one = codes "pair"; many = codes "pairs" }
-
--- for those that are not complete
+-- the words for pairs that are not complete
 abbrev pub incomplete_words : WordsValue
 incomplete_words = record { one = codes "pair is not complete"; many = codes "pairs are not complete" }
+
+-- for numbers that were missed
+abbrev pub missed_words : WordsValue
+missed_words = record { one = codes "number was missed in"; many = codes "numbers were missed in" }
+
+-- that were unsent
+abbrev pub unsent_words : WordsValue
+unsent_words = record { one = codes "number was unsent in"; many = codes "numbers were unsent in" }
+
+-- that were unanswered
+abbrev pub unanswered_words : WordsValue
+unanswered_words = record { one = codes "number was unanswered in"; many = codes "numbers were unanswered in" }
+
+-- that are not certain
+abbrev pub uncertain_words : WordsValue
+uncertain_words = record { one = codes "number is not received for certain in"; many = codes "numbers are not received for certain in" }
 
 -- how many there are of a thing; nothing where there is none
 abbrev pub cause : ℕ → WordsValue → List (List ℕ)
@@ -44,26 +59,46 @@ abbrev pub few_cause : Option FewRows → List (List ℕ)
 few_cause None = []
 few_cause (Some few) = concat (amount few.rows pair_words ∷ codes " of " ∷ grouped few.expected ∷ codes " expected" ∷ []) ∷ []
 
--- so many numbers were missed, in so many pairs
-abbrev pub missed_cause : ℕ → ℕ → List (List ℕ)
-missed_cause numbers pairs =
-    let words : WordsValue = record { one = codes "number was missed in"; many = codes "numbers were missed in" } in
-    if pairs == 0 then [] else concat (amount numbers words ∷ codes " " ∷ amount pairs pair_words ∷ []) ∷ []
+-- so many numbers were lost, in so many pairs
+abbrev pub lost_cause : Lost → WordsValue → List (List ℕ)
+lost_cause lost words = if lost.pairs == 0 then [] else concat (amount lost.numbers words ∷ codes " " ∷ amount lost.pairs pair_words ∷ []) ∷ []
 
--- something of the recording was not read
+-- how many numbers are not received for certain, where that is asked
+abbrev pub uncertain_of : Totals → Bool → Lost
+uncertain_of totals certain =
+    if certain then record { numbers = totals.numbers - totals.received; pairs = totals.uncertain_pairs } else record { numbers = 0; pairs = 0 }
+
+-- rows that have to be complete: how many are not, and what they missed, where that is asked
+abbrev pub incomplete_causes : Totals → Findings → List (List ℕ)
+incomplete_causes totals findings =
+    cause (totals.pairs - totals.complete_pairs) incomplete_words
+    ++ lost_cause (record { numbers = totals.missed; pairs = findings.missed }) missed_words
+
+-- rows that have to be clean: how many are not for their verdict, and what they lost
+abbrev pub unclean_causes : Totals → Bool → List (List ℕ)
+unclean_causes totals certain =
+    cause totals.unclean_pairs incomplete_words
+    ++ (lost_cause (record { numbers = totals.missed; pairs = totals.missed_pairs }) missed_words
+    ++ (lost_cause (record { numbers = totals.unsent; pairs = totals.unsent_pairs }) unsent_words
+    ++ (lost_cause (record { numbers = totals.unanswered; pairs = totals.unanswered_pairs }) unanswered_words
+    ++ lost_cause (uncertain_of totals certain) uncertain_words)))
+
+-- rows that are not what they have to be
+abbrev pub row_causes : Standard → Totals → Findings → List (List ℕ)
+row_causes AllComplete totals findings = incomplete_causes totals findings
+row_causes (AllClean tail certain) totals findings = unclean_causes totals certain
+
+-- something of the recording was not read, or is in no row
 abbrev pub unread_causes : Findings → List (List ℕ)
 unread_causes findings =
-    cause findings.pieces (words_of Pieces)
-    ++ (cause findings.cut (words_of Cut)
-    ++ (links_cause findings.links ++ (cause findings.fragments (words_of Fragments) ++ cause findings.unsettled (words_of Unsettled))))
+    cause findings.unsettled (words_of Unsettled)
+    ++ (cause findings.pieces (words_of Pieces)
+    ++ (cause findings.cut (words_of Cut) ++ (links_cause findings.links ++ cause findings.fragments (words_of Fragments))))
 
 -- all of them, for rows of which this is counted
-abbrev pub causes_of : Totals → Findings → List (List ℕ)
-causes_of totals findings =
-    empty_cause findings.empty
-    ++ (few_cause findings.few
-    ++ (cause (totals.pairs - totals.complete_pairs) incomplete_words
-    ++ (missed_cause totals.missed findings.missed ++ unread_causes findings)))
+abbrev pub causes_of : Standard → Totals → Findings → List (List ℕ)
+causes_of standard totals findings =
+    empty_cause findings.empty ++ (row_causes standard totals findings ++ (few_cause findings.few ++ unread_causes findings))
 
 -- the last line
 abbrev pub last_line : Ending → List (List ℕ) → List ℕ

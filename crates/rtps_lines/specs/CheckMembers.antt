@@ -1,6 +1,6 @@
 -- The members of the object of a report that is checked.
 -- own: other programs read the outcome, its reasons and what to do without taking lines apart. They stand around those of `audit --json`.
-use Rattle.std.specs.Prelude.{◌++◌, ℕ, List, [], ◌∷◌, codes, length, map, Some}
+use Rattle.std.specs.Prelude.{◌++◌, ℕ, List, [], ◌∷◌, codes, length, map}
 use Rattle.json.specs.Json.{string}
 use Rattle.rtps_report.specs.FullReport.{AskedValue, RecordingValue, ReportValue, rows_of}
 use Rattle.rtps_report.specs.NoteFacts.{note_facts, scope_of}
@@ -9,6 +9,7 @@ use Rattle.rtps_report.specs.declared.findings.Ending.{Ending}
 use Rattle.rtps_report.specs.declared.findings.Ending.TheVariants.{Clean}
 use Rattle.rtps_lines.specs.Causes.{causes_of, findings_in}
 use Rattle.rtps_lines.specs.JsonText.{Member, array_of, rows_members}
+use Rattle.rtps_lines.specs.declared.json_object.Advised.TheVariants.{All}
 use Rattle.rtps_lines.specs.Notes.{short_notes}
 
 -- how a run ends, in a word
@@ -25,8 +26,8 @@ abbrev pub notes_members : List (List ℕ) → List Member
 notes_members notes = (codes "notes", array_of (map string notes)) ∷ []
 
 -- why the run of this report does not end clean
-abbrev pub report_causes : AskedValue → ReportValue → List (List ℕ)
-report_causes asked report = causes_of (totals_of asked.from (rows_of report)) (findings_in report.ending)
+abbrev pub report_causes : AskedValue → RecordingValue → ReportValue → List (List ℕ)
+report_causes asked recording report = causes_of asked.standard (totals_of (scope_of asked recording report) (rows_of report)) (findings_in report.ending)
 
 -- what weakens it
 abbrev pub report_notes : AskedValue → RecordingValue → ReportValue → List (List ℕ)
@@ -35,6 +36,6 @@ report_notes asked recording report = short_notes (note_facts asked recording re
 -- all members: those of `audit --json`, with what to do for each row, between them
 abbrev pub check_members : AskedValue → RecordingValue → ReportValue → List Member
 check_members asked recording report =
-    status_members report.ending (report_causes asked report)
-    ++ (rows_members (Some (scope_of asked recording report)) (rows_of report) report.explained.counts recording
+    status_members report.ending (report_causes asked recording report)
+    ++ (rows_members (record { scope = scope_of asked recording report; advised = All }) (rows_of report) report.explained.counts recording
     ++ notes_members (report_notes asked recording report))

@@ -1,19 +1,24 @@
 -- A report as an object of JSON. RFC 8259 "The JavaScript Object Notation (JSON) Data Interchange Format".
 -- own: other programs read the rows, what each rests on, and the counts. Members stand in this order, no space stands between tokens,
 -- and numbers are integers in decimal. Names are strings of what `list` writes between the quotes, and places are as `why` writes them.
-use Rattle.std.specs.Prelude.{ℕ, ℤ, ◌≡◌, ◌++◌, if◌then◌else◌, List, [], ◌∷◌, codes, length, map, Option, None, Some}
+use Rattle.std.specs.Prelude.{ℕ, ℤ, ◌≡◌, ◌++◌, Bool, true, if◌then◌else◌, is_some, List, [], ◌∷◌, codes, length, map, Option, None, Some}
 use Rattle.std.specs.Fmt.{decimal, signed_decimal}
 use Rattle.std.specs.List.{flat_map}
-use Rattle.json.specs.Json.{Json, null, number, string, array, object, Items, no_items, item, Members, no_members, member, document}
+use Rattle.json.specs.Json.{Json, null, boolean, number, string, array, object, Items, no_items, item, Members, no_members, member, document}
 use Rattle.json.specs.Print.{print}
 use Rattle.json.specs.Token.{Token, key}
 use Rattle.json.specs.Tree.{json_tokens}
-use Rattle.rtps_report.specs.Vocabulary.{Absent, Announcement, Claim, Complete, CompleteGrounds, Conflict, ConflictGrounds, Counts, EvidenceValue, ExplanationValue, FirstMissed, GroundsValue, Key, Location, NotReceived, Open, OpenGrounds, PayloadValue, SentValue, Teller, Unfounded, UnfoundedGrounds, Verdict, Whole}
+use Rattle.rtps_report.specs.Vocabulary.{Absent, Announcement, Claim, Complete, CompleteGrounds, Conflict, ConflictGrounds, Counts, EvidenceValue, ExplanationValue, FirstMissed, GroundsValue, InSpan, Key, Location, NotReceived, Open, OpenGrounds, Outcomes, PayloadValue, SentValue, Teller, Unfounded, UnfoundedGrounds, Verdict, Whole}
 use Rattle.rtps_report.specs.declared.recording.Reasons.{Reasons}
 use Rattle.rtps_report.specs.declared.advice.Scope.{Scope}
-use Rattle.rtps_report.specs.Advice.{advice_of, is_noted, sentence_of}
+use Rattle.rtps_report.specs.Advice.{advice_of, sentence_of}
+use Rattle.rtps_report.specs.NoteFacts.{is_unread}
+use Rattle.rtps_report.specs.RowFacts.{is_clean, row_from}
 use Rattle.rtps_report.specs.Recording.{RecordingValue}
 use Rattle.rtps_lines.specs.Lines.{kind_text}
+use Rattle.rtps_lines.specs.declared.json_object.Advised.{Advised}
+use Rattle.rtps_lines.specs.declared.json_object.Advised.TheVariants.{InSpans, All}
+use Rattle.rtps_lines.specs.declared.json_object.Telling.{Telling}
 use Rattle.rtps_parts.specs.Names.{guid_text, octet_text}
 
 -- a name and a value of an object
@@ -76,11 +81,14 @@ abbrev pub not_received_json : Option NotReceived → Json
 not_received_json None = null
 not_received_json (Some kept) = object_of ((codes "number", count_json kept.number) ∷ (codes "gone", teller_json kept.gone) ∷ (codes "acknowledged", place_json kept.acknowledged) ∷ [])
 
--- the least number that is missed, the answer that asks for it last, and what told it gone since; no member where none is
+-- the least number that is missed, what asks for it last, where it was sent again since, and what told it gone; no member where none is
 abbrev pub first_missed_members : Option FirstMissed → List Member
 first_missed_members None = []
-first_missed_members (Some first) =
-    (codes "first_missed", object_of ((codes "number", count_json first.number) ∷ (codes "asked", place_json (Some first.asked)) ∷ (codes "gone", teller_json first.gone) ∷ [])) ∷ []
+first_missed_members (Some first) = (
+  codes "first_missed",
+  object_of ((codes "number", count_json first.number) ∷ (codes "asked", place_json (Some first.asked)) ∷ (codes "again", place_json first.again)
+      ∷ (codes "gone", teller_json first.gone) ∷ []),
+) ∷ []
 
 -- the name of a kind of payload, and so many octets
 abbrev pub carried_members : List ℕ → ℕ → List Member
@@ -132,17 +140,55 @@ shown_members (OpenGrounds teller count last) = (codes "told", teller_json telle
 shown_members (ConflictGrounds first other) = (codes "sent", array_of (sent_json first ∷ sent_json other ∷ [])) ∷ []
 shown_members (UnfoundedGrounds teller claim) = (codes "claimed", claim_json claim) ∷ (codes "told", teller_json teller) ∷ []
 
--- what to do for a row that someone has to look at, and null for another, where advice is asked for
-abbrev pub advice_members : Option Scope → ExplanationValue → List Member
-advice_members None row = []
-advice_members (Some scope) row = (codes "advice", if is_noted row then string (sentence_of (advice_of scope row.evidence)) else null) ∷ []
+-- how many numbers have each outcome
+abbrev pub outcome_members : Outcomes → List Member
+outcome_members outcomes = (codes "received", count_json outcomes.received) ∷ (codes "missed", count_json outcomes.missed) ∷ (codes "unsent", count_json outcomes.unsent)
+    ∷ (codes "unanswered", count_json outcomes.unanswered) ∷ (codes "likely", count_json outcomes.likely) ∷ (codes "unconfirmed", count_json outcomes.unconfirmed) ∷ []
+
+-- an object of these
+abbrev pub outcomes_json : Outcomes → Json
+outcomes_json outcomes = object_of (outcome_members outcomes)
+
+-- the datagram in which a reader leaves; null where it does not
+abbrev pub until_json : Option ℕ → Json
+until_json None = null
+until_json (Some datagram) = count_json datagram
+
+-- of a row in a span: its first number, the datagram in which its reader leaves, what became of its numbers, and whether it is clean
+abbrev pub span_by : Scope → EvidenceValue → Option InSpan → List Member
+span_by scope evidence None = []
+span_by scope evidence (Some in_span) = (codes "from", count_json (row_from scope.from evidence.in_span)) ∷ (codes "until", until_json in_span.until)
+    ∷ (codes "outcomes", outcomes_json in_span.outcomes) ∷ (codes "clean", boolean (is_clean scope.tail evidence)) ∷ []
+
+-- what is told of a row in a span; nothing of others
+abbrev pub span_members : Scope → EvidenceValue → List Member
+span_members scope evidence = span_by scope evidence evidence.in_span
+
+-- what to do for a row; null for a clean one
+abbrev pub advice_json : Scope → EvidenceValue → Json
+advice_json scope evidence = if is_clean scope.tail evidence then null else string (sentence_of (advice_of scope evidence))
+
+-- it is told what to do for a row
+abbrev pub is_advised : Advised → Option InSpan → Bool
+is_advised InSpans in_span = is_some in_span
+is_advised All in_span = true
+
+-- the advice, where it is told
+abbrev pub advice_members : Telling → EvidenceValue → List Member
+advice_members telling evidence = if is_advised telling.advised evidence.in_span then (codes "advice", advice_json telling.scope evidence) ∷ [] else []
+
+-- what is told of a row beside its evidence
+abbrev pub spanned_members : Telling → EvidenceValue → List Member
+spanned_members telling evidence = span_members telling.scope evidence ++ advice_members telling evidence
 
 -- a row of the report with its evidence
-abbrev pub row_json : Option Scope → ExplanationValue → Json
-row_json scope row =
+abbrev pub row_json : Telling → ExplanationValue → Json
+row_json telling row =
     object_of (pair_members row
     ++ (verdict_members row.evidence.verdict
-    ++ (evidence_members row.evidence ++ (delivery_members row.evidence ++ (shown_members row.evidence.grounds ++ advice_members scope row)))))
+    ++ (evidence_members row.evidence
+    ++ (delivery_members row.evidence
+    ++ (shown_members row.evidence.grounds ++ spanned_members telling row.evidence)))))
 
 -- how many frames of a capture gave no datagram; a text has none
 abbrev pub ignored_members : Option ℕ → List Member
@@ -161,17 +207,22 @@ counts_members counts = (codes "datagrams", count_json counts.datagrams) ∷ (co
     ∷ (codes "fragments", count_json counts.fragments) ∷ (codes "undirected", count_json counts.undirected) ∷ (codes "unsettled", count_json counts.unsettled) ∷ []
 
 -- the rows, under their name
-abbrev pub pairs_member : Option Scope → List ExplanationValue → Member
-pairs_member scope rows = (codes "pairs", array_of (map (row_json scope) rows))
+abbrev pub pairs_member : Telling → List ExplanationValue → Member
+pairs_member telling rows = (codes "pairs", array_of (map (row_json telling) rows))
 
--- what is told of these rows and counts, and of the frames of this recording; with advice, where that is asked for
-abbrev pub rows_members : Option Scope → List ExplanationValue → Counts → RecordingValue → List Member
-rows_members scope rows counts recording =
-    pairs_member scope rows ∷ (counts_members counts ++ (ignored_members recording.ignored ++ reasons_members recording.reasons))
+-- what is told of these rows and counts, and of the frames of this recording
+abbrev pub rows_members : Telling → List ExplanationValue → Counts → RecordingValue → List Member
+rows_members telling rows counts recording =
+    pairs_member telling rows ∷ (counts_members counts ++ (ignored_members recording.ignored ++ reasons_members recording.reasons))
 
--- the whole report, as an object: `audit --json` tells no advice
+-- by what the rows of an audit are told: with what to do, where they are in spans. No tail is allowed. A row in a span has its own first
+-- number
+abbrev pub audit_telling : Counts → Option Reasons → Telling
+audit_telling counts reasons = record { scope = record { from = 1; tail = 0; unread = is_unread counts reasons }; advised = InSpans }
+
+-- the whole report, as an object of `audit --json`
 abbrev pub report_json : List ExplanationValue → Counts → RecordingValue → Json
-report_json rows counts recording = object_of (rows_members None rows counts recording)
+report_json rows counts recording = object_of (rows_members (audit_telling counts recording.reasons) rows counts recording)
 
 -- the tokens of a member: its name, and those of its value
 abbrev pub tokens_of_member : Member → List Token

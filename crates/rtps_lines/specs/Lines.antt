@@ -4,7 +4,7 @@ use Rattle.std.specs.Prelude.{ℕ, ℤ, ◌++◌, List, [], ◌∷◌, codes, le
 use Rattle.std.specs.Fmt.{decimal, signed_decimal}
 use Rattle.rtps_report.specs.Vocabulary.{Absent, Announcement, Claim, Complete, Conflict, FirstMissed, Key, Location, Open, PayloadValue, SentValue, Teller, Unfounded, Verdict, Whole}
 use Rattle.rtps_evidence.specs.declared.location.Kind.{Kind}
-use Rattle.rtps_evidence.specs.declared.location.Kind.TheVariants.{Data, Heartbeat, AckNack, Gap, DataFrag}
+use Rattle.rtps_evidence.specs.declared.location.Kind.TheVariants.{Data, Heartbeat, AckNack, Gap, DataFrag, NackFrag}
 
 -- a line of fields: a space (32) after each, but a line feed (10) after the last
 abbrev pub line_of : List (List ℕ) → List ℕ
@@ -36,6 +36,7 @@ kind_text Heartbeat = codes "heartbeat"
 kind_text AckNack = codes "acknack"
 kind_text Gap = codes "gap"
 kind_text DataFrag = codes "data_frag"
+kind_text NackFrag = codes "nack_frag"
 
 -- where an act stands in the recording
 unfoldable pub place_text : Location → List ℕ
@@ -83,9 +84,14 @@ unfoldable pub since_text : Option Teller → List ℕ
 since_text None = codes "not told gone since"
 since_text (Some teller) = codes "told gone by " ++ (kind_text teller.kind ++ 32 ∷ place_text teller.place)
 
--- the line of a number that is missed, behind four spaces: the answer that asks for it last, and what told it gone since
+-- where a number was sent again since it was asked for, and a comma; nothing where it was not
+unfoldable pub again_text : Option Location → List ℕ
+again_text None = []
+again_text (Some place) = codes "sent again " ++ (place_comma place ++ codes " ")
+
+-- the line of a number that is missed, behind four spaces: what asks for it last, where it was sent again since, and what told it gone
 abbrev pub asked_line : FirstMissed → List ℕ
-asked_line first = 32 ∷ 32 ∷ inner_line (codes "number" ∷ decimal first.number ∷ codes "asked for" ∷ place_comma first.asked ∷ since_text first.gone ∷ [])
+asked_line first = 32 ∷ 32 ∷ inner_line (codes "number" ∷ decimal first.number ∷ codes "asked for" ∷ place_comma first.asked ∷ (again_text first.again ++ since_text first.gone) ∷ [])
 
 -- how often the writer asked for an answer since the last one
 abbrev pub questions_line : ℕ → Option Location → List ℕ

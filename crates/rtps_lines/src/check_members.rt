@@ -5,9 +5,9 @@ ghost use Rattle.rtps_report.specs.FullReport.{report_value};
 ghost use Rattle.rtps_lines.specs.CheckMembers.{check_members, report_causes, status_members, status_text};
 ghost use Rattle.rtps_lines.specs.JsonText.{tokens_of};
 
-use crate::causes::causes_of;
+use crate::causes::{Judged, causes_of};
 use crate::json_members::{push_text, push_texts};
-use crate::json_object::push_report_members;
+use crate::json_object::{Advised, Telling, push_report_members};
 use crate::notes::short_notes;
 use json::Writer;
 use rtps_report::{Ending, FullReport, notes_on, scope_of, totals_of};
@@ -32,10 +32,14 @@ fn push_status(writer: &mut Writer, ending: &Ending, causes: &[String]) -> Resul
 }
 
 fn report_causes_of(alloc: Global, report: &FullReport<'_>) -> Result<Vec<String>, AllocError>
-    ensures { IfOk result (λ causes. map string_bytes causes.items ≡ report_causes (asked_value report.now.asked.now) (report_value report.now)) }
+    ensures { IfOk result (λ causes. map string_bytes causes.items ≡ report_causes (asked_value report.now.asked.now) report.now.recording.now (report_value report.now)) }
 {
-    let totals = totals_of(&report.explained.rows, report.asked.first_asked());
-    causes_of(alloc, &totals, &report.ending)
+    let totals = totals_of(&report.explained.rows, scope_of(report));
+    let judged = Judged {
+        totals: &totals,
+        standard: report.asked.standard,
+    };
+    causes_of(alloc, judged, &report.ending)
 }
 
 /// Appends the members of the object of a report that is checked. After an `Err` what was written is of no use.
@@ -51,6 +55,10 @@ pub fn push_check_members(
     let causes = report_causes_of(alloc, report)?;
     let notes = short_notes(alloc, &notes_on(report), report.left_out.len())?;
     push_status(writer, &report.ending, &causes)?;
-    push_report_members(alloc, writer, report, Some(scope_of(report)))?;
+    let telling = Telling {
+        scope: scope_of(report),
+        advised: Advised::All,
+    };
+    push_report_members(alloc, writer, report, telling)?;
     push_texts(writer, "notes", &notes)
 }

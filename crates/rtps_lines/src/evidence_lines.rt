@@ -2,7 +2,7 @@ ghost use Rattle.std.specs.Prelude.{◌≡◌, ◌++◌, OnOk, Some};
 ghost use Rattle.std.specs.Option.{option_map};
 ghost use Rattle.std.specs.String.{string_bytes};
 ghost use Rattle.rtps_evidence.specs.Locations.{sent_value};
-ghost use Rattle.rtps_lines.specs.Lines.{acknowledged_line, announced_line, asked_line, claimed_line, questions_line, sent_line, since_text, told_line, verdict_text};
+ghost use Rattle.rtps_lines.specs.Lines.{acknowledged_line, again_text, announced_line, asked_line, claimed_line, questions_line, sent_line, since_text, told_line, verdict_text};
 
 use crate::fields::{PlaceComma, PlaceText, kind_name, push_field, push_payload};
 use rtps_audit::Verdict;
@@ -98,8 +98,28 @@ impl fmt::Display for AskedLine {
 
     fn fmt<W: fmt::Write>(&self, f: &mut fmt::Formatter<W>) -> fmt::Result {
         let first = self.0;
-        let (asked, since) = (PlaceComma(first.asked), SinceText(first.gone));
-        writeln!(f, "    number {} asked for {asked} {since}", first.number)
+        let (again, since) = (AgainText(first.again), SinceText(first.gone));
+        let asked = PlaceComma(first.asked);
+        writeln!(
+            f,
+            "    number {} asked for {asked} {again}{since}",
+            first.number
+        )
+    }
+}
+
+#[derive(Drop)]
+struct AgainText(Option<Location>);
+
+impl fmt::Display for AgainText {
+    ghost output = { λ text. Some (again_text text.0) };
+
+    #[tactic(auto, unfolding(crate::specs::Lines::again_text))]
+    fn fmt<W: fmt::Write>(&self, f: &mut fmt::Formatter<W>) -> fmt::Result {
+        match self.0 {
+            None => Ok(()),
+            Some(place) => write!(f, "sent again {} ", PlaceComma(place)),
+        }
     }
 }
 

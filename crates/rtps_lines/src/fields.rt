@@ -38,6 +38,7 @@ pub fn kind_name(kind: Kind) -> &'static str
         Kind::AckNack => "acknack",
         Kind::Gap => "gap",
         Kind::DataFrag => "data_frag",
+        Kind::NackFrag => "nack_frag",
     }
 }
 

@@ -255,6 +255,7 @@ fn push_first_missed(writer: &mut Writer, first: Option<FirstMissed>) -> Result<
     writer.begin_object()?;
     push_count(writer, "number", first.number)?;
     push_standing(writer, "asked", Some(first.asked))?;
+    push_standing(writer, "again", first.again)?;
     push_teller(writer, "gone", first.gone)?;
     writer.end_object()
 }

@@ -4,10 +4,10 @@ ghost use Rattle.std.specs.String.{string_bytes};
 ghost use Rattle.json.specs.Json.{Json, max_depth};
 ghost use Rattle.json.specs.Token.{key, number as number_token, string as string_token};
 ghost use Rattle.json.specs.Tree.{depth, json_tokens};
-ghost use Rattle.rtps_evidence.specs.Explanation.{explanation_value};
+ghost use Rattle.rtps_evidence.specs.Explanation.{evidence_value, explanation_value};
 ghost use Rattle.rtps_evidence.specs.Grounds.{grounds_value};
 ghost use Rattle.rtps_report.specs.FullReport.{report_value, rows_of};
-ghost use Rattle.rtps_lines.specs.JsonText.{IsJsonLine, advice_members, counts_members, ignored_members, pair_members, pairs_member, reasons_members, report_json, row_json, rows_members, shown_members, tokens_of, tokens_of_member, verdict_members};
+ghost use Rattle.rtps_lines.specs.JsonText.{IsJsonLine, advice_members, audit_telling as audit_telling_lem, counts_members, ignored_members, is_advised as is_advised_lem, outcome_members, outcomes_json, pair_members, pairs_member, reasons_members, report_json, row_json, rows_members, shown_members, span_members, spanned_members, tokens_of, tokens_of_member, until_json, verdict_members};
 
 use crate::json_members::{
     push_claim, push_count, push_delivery, push_evidence, push_guid, push_name, push_number,
@@ -15,8 +15,8 @@ use crate::json_members::{
 };
 use json::Writer;
 use rtps_audit::{Counts, Verdict};
-use rtps_evidence::{Explanation, Grounds};
-use rtps_report::{FullReport, Reasons, Scope, advice_of, is_noted};
+use rtps_evidence::{Evidence, Explanation, Grounds, Outcomes};
+use rtps_report::{FullReport, Reasons, Scope, advice_of, is_clean, is_unread, row_from};
 use std::alloc::{AllocError, Global};
 
 /// The line of the value that was written, and nothing before it.
@@ -30,6 +30,35 @@ pub fn json_line(writer: Writer) -> Result<String, AllocError>
     Ok(text)
 }
 
+/// By what the objects of rows are told.
+#[derive(Clone, Copy)]
+pub struct Telling {
+    pub scope: Scope,
+    pub advised: Advised,
+}
+
+/// Of which rows it is told what to do.
+#[derive(Clone, Copy, PartialEq, Eq, Debug)]
+pub enum Advised {
+    /// Of rows in spans.
+    InSpans,
+    /// Of all rows.
+    All,
+}
+
+fn audit_telling(counts: &Counts, reasons: Option<Reasons>) -> Telling
+    ensures { result ≡ audit_telling_lem counts.now reasons }
+{
+    Telling {
+        scope: Scope {
+            from: 1,
+            tail: 0,
+            unread: is_unread(counts, reasons),
+        },
+        advised: Advised::InSpans,
+    }
+}
+
 /// Appends the object of a report. After an `Err` what was written is of no use.
 pub fn push_report(
     alloc: Global,
@@ -41,23 +70,24 @@ pub fn push_report(
     ensures before { writer.new.before ≡ writer.old.before }
 {
     writer.begin_object()?;
-    push_report_members(alloc, writer, report, None)?;
+    let telling = audit_telling(&report.explained.counts, report.recording.reasons());
+    push_report_members(alloc, writer, report, telling)?;
     writer.end_object()
 }
 
-/// Appends the members of a report's object, with advice where that is asked for. After an `Err` what was written is of no use.
+/// Appends the members of a report's object, with spans and advice where these are told. After an `Err` what was written is of no use.
 pub fn push_report_members(
     alloc: Global,
     writer: &mut Writer,
     report: &FullReport<'_>,
-    scope: Option<Scope>,
+    telling: Telling,
 ) -> Result<(), AllocError>
     ensures tokens { OnOk result (writer.new.tokens
-        ≡ writer.old.tokens ++ tokens_of (rows_members scope (rows_of (report_value report.now)) report.now.explained.counts report.now.recording.now)) }
+        ≡ writer.old.tokens ++ tokens_of (rows_members telling (rows_of (report_value report.now)) report.now.explained.counts report.now.recording.now)) }
     ensures before { writer.new.before ≡ writer.old.before }
 {
     let mut text = String::new(alloc);
-    push_pairs(writer, &mut text, &report.explained.rows, scope)?;
+    push_pairs(writer, &mut text, &report.explained.rows, telling)?;
     push_counts(writer, report.explained.counts)?;
     push_ignored(writer, report.recording.ignored())?;
     push_reasons(writer, report.recording.reasons())
@@ -68,16 +98,16 @@ fn push_pairs(
     writer: &mut Writer,
     text: &mut String,
     rows: &[Explanation<'_>],
-    scope: Option<Scope>,
+    telling: Telling,
 ) -> Result<(), AllocError>
     ensures tokens { OnOk result (writer.new.tokens
-        ≡ writer.old.tokens ++ tokens_of_member (pairs_member scope (map explanation_value rows.now))) }
+        ≡ writer.old.tokens ++ tokens_of_member (pairs_member telling (map explanation_value rows.now))) }
     ensures before { writer.new.before ≡ writer.old.before }
 {
     writer.key("pairs")?;
     writer.begin_array()?;
     for row in rows {
-        push_row(writer, text, row, scope)?;
+        push_row(writer, text, row, telling)?;
     }
     writer.end_array()
 }
@@ -86,9 +116,9 @@ fn push_row(
     writer: &mut Writer,
     text: &mut String,
     row: &Explanation<'_>,
-    scope: Option<Scope>,
+    telling: Telling,
 ) -> Result<(), AllocError>
-    ensures tokens { OnOk result (writer.new.tokens ≡ writer.old.tokens ++ json_tokens (row_json scope (explanation_value row.now))) }
+    ensures tokens { OnOk result (writer.new.tokens ≡ writer.old.tokens ++ json_tokens (row_json telling (explanation_value row.now))) }
     ensures before { writer.new.before ≡ writer.old.before }
 {
     writer.begin_object()?;
@@ -97,26 +127,96 @@ fn push_row(
     push_evidence(writer, &row.evidence)?;
     push_delivery(writer, &row.evidence)?;
     push_shown(writer, &row.evidence.grounds)?;
-    push_advice(writer, row, scope)?;
+    push_spanned(writer, &row.evidence, telling)?;
     writer.end_object()
 }
 
-fn push_advice(
+fn push_spanned(
     writer: &mut Writer,
-    row: &Explanation<'_>,
-    scope: Option<Scope>,
+    evidence: &Evidence<'_>,
+    telling: Telling,
 ) -> Result<(), AllocError>
-    ensures tokens { OnOk result (writer.new.tokens ≡ writer.old.tokens ++ tokens_of (advice_members scope (explanation_value row.now))) }
+    ensures tokens { OnOk result (writer.new.tokens ≡ writer.old.tokens ++ tokens_of (spanned_members telling (evidence_value evidence.now))) }
     ensures before { writer.new.before ≡ writer.old.before }
 {
-    let Some(scope) = scope else {
+    push_span(writer, evidence, telling.scope)?;
+    push_advice(writer, evidence, telling)
+}
+
+/// Appends the span of a row, what became of its numbers, and whether it is clean; nothing where it is in no span.
+fn push_span(writer: &mut Writer, evidence: &Evidence<'_>, scope: Scope) -> Result<(), AllocError>
+    ensures tokens { OnOk result (writer.new.tokens ≡ writer.old.tokens ++ tokens_of (span_members scope (evidence_value evidence.now))) }
+    ensures before { writer.new.before ≡ writer.old.before }
+{
+    let Some(in_span) = &evidence.in_span else {
         return Ok(());
     };
+    push_count(writer, "from", row_from(scope.from, evidence))?;
+    push_until(writer, in_span.until)?;
+    push_outcomes(writer, in_span.outcomes)?;
+    writer.key("clean")?;
+    writer.boolean(is_clean(scope.tail, evidence))
+}
+
+fn push_until(writer: &mut Writer, until: Option<u64>) -> Result<(), AllocError>
+    ensures tokens { OnOk result (writer.new.tokens ≡ writer.old.tokens ++ key (codes "until") ∷ json_tokens (until_json until)) }
+    ensures before { writer.new.before ≡ writer.old.before }
+{
+    writer.key("until")?;
+    match until {
+        Some(datagram) => writer.u64(datagram),
+        None => writer.null(),
+    }
+}
+
+fn push_outcomes(writer: &mut Writer, outcomes: Outcomes) -> Result<(), AllocError>
+    ensures tokens { OnOk result (writer.new.tokens ≡ writer.old.tokens ++ key (codes "outcomes") ∷ json_tokens (outcomes_json outcomes)) }
+    ensures before { writer.new.before ≡ writer.old.before }
+{
+    writer.key("outcomes")?;
+    writer.begin_object()?;
+    push_outcome_members(writer, outcomes)?;
+    writer.end_object()
+}
+
+fn push_outcome_members(writer: &mut Writer, outcomes: Outcomes) -> Result<(), AllocError>
+    ensures tokens { OnOk result (writer.new.tokens ≡ writer.old.tokens ++ tokens_of (outcome_members outcomes)) }
+    ensures before { writer.new.before ≡ writer.old.before }
+{
+    push_count(writer, "received", outcomes.received)?;
+    push_count(writer, "missed", outcomes.missed)?;
+    push_count(writer, "unsent", outcomes.unsent)?;
+    push_count(writer, "unanswered", outcomes.unanswered)?;
+    push_count(writer, "likely", outcomes.likely)?;
+    push_count(writer, "unconfirmed", outcomes.unconfirmed)
+}
+
+fn is_advised(evidence: &Evidence<'_>, advised: Advised) -> bool
+    ensures { result ≡ is_advised_lem advised evidence.now.in_span }
+{
+    match advised {
+        Advised::InSpans => evidence.in_span.is_some(),
+        Advised::All => true,
+    }
+}
+
+/// Appends what to do for a row, where that is told; null for a clean one.
+fn push_advice(
+    writer: &mut Writer,
+    evidence: &Evidence<'_>,
+    telling: Telling,
+) -> Result<(), AllocError>
+    ensures tokens { OnOk result (writer.new.tokens ≡ writer.old.tokens ++ tokens_of (advice_members telling (evidence_value evidence.now))) }
+    ensures before { writer.new.before ≡ writer.old.before }
+{
+    if !is_advised(evidence, telling.advised) {
+        return Ok(());
+    }
     writer.key("advice")?;
-    if !is_noted(row) {
+    if is_clean(telling.scope.tail, evidence) {
         return writer.null();
     }
-    writer.string(advice_of(scope, &row.evidence).sentence())
+    writer.string(advice_of(telling.scope, evidence).sentence())
 }
 
 fn push_pair(

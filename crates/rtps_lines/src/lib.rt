@@ -1,4 +1,4 @@
-//! What the forms of a report say alike: names and places as text, the lines of what a verdict rests on, and the report as an object of
+//! What the forms of a report say alike: places, numbers and payloads as text, the lines of what a verdict rests on, and the report as an object of
 //! JSON.
 #![tactic(auto)]
 
@@ -10,7 +10,7 @@ mod json_members;
 mod json_object;
 mod notes;
 
-pub use causes::{causes_of, push_last};
+pub use causes::{Judged, causes_of, push_last};
 pub use check_members::push_check_members;
 pub use evidence_lines::{
     AcknowledgedLine, AnnouncedLine, AskedLine, ClaimedLine, QuestionsLine, ToldLine, VerdictText,
@@ -21,5 +21,5 @@ pub use fields::{
     reliability_name, side_name,
 };
 pub use json_members::{push_count, push_guid, push_name, push_number, push_text, push_texts};
-pub use json_object::{json_line, push_report, push_report_members};
-pub use notes::{notes_of, topic_name};
+pub use json_object::{Advised, Telling, json_line, push_report, push_report_members};
+pub use notes::{NotedRows, names_of, notes_of, number_words, topic_name};

@@ -3,7 +3,8 @@ ghost use Rattle.std.specs.List.{flat_map};
 ghost use Rattle.std.specs.String.{string_bytes};
 ghost use Rattle.rtps_evidence.specs.Explanation.{explanation_value};
 ghost use Rattle.rtps_parts.specs.Parts.{part_text, words_value};
-ghost use Rattle.rtps_lines.specs.Notes.{detail_of, joined_names as joined_names_lem, left_out_by as left_out_by_lem, left_out_note, note, notes as notes_lem, remedy_of, short_notes as short_notes_lem, topic_name as topic_name_lem, weaknesses as weaknesses_lem, words_of};
+ghost use Rattle.rtps_report.specs.ByTopic.{topics_of as topics_of_lem};
+ghost use Rattle.rtps_lines.specs.Notes.{detail_of, joined_names as joined_names_lem, late_by as late_by_lem, late_note, left_out_by as left_out_by_lem, left_out_note, note, notes as notes_lem, number_words as number_words_lem, pair_words as pair_words_lem, remedy_of, short_notes as short_notes_lem, tail_note, topic_name as topic_name_lem, weaknesses as weaknesses_lem, words_of};
 
 use rtps_evidence::Explanation;
 use rtps_parts::{Part, Words, push_rendered, render};
@@ -13,7 +14,7 @@ use std::alloc::{AllocError, Global};
 /// What weakens a report.
 #[derive(Clone, Copy)]
 pub(crate) enum Weakness {
-    Unsure,
+    Likely,
     Pieces,
     Cut,
     /// Frames of links that are not read; the link type of the first, where it is known.
@@ -30,9 +31,9 @@ impl Weakness {
         ensures { words_value result ≡ words_of self }
     {
         match self {
-            Weakness::Unsure => Words {
-                one: "number of a complete pair may not have been received",
-                many: "numbers of complete pairs may not have been received",
+            Weakness::Likely => Words {
+                one: "number is likely received",
+                many: "numbers are likely received",
             },
             Weakness::Pieces => Words {
                 one: "frame is a fragment of a packet that is not whole",
@@ -87,8 +88,8 @@ impl Weakness {
         ensures { result.now ≡ remedy_of self }
     {
         match self {
-            Weakness::Unsure =>
-                "they may have come: with KEEP_LAST a writer drops samples before it asks, and late readers get no older ones; why names the first",
+            Weakness::Likely =>
+                "they were sent, and acknowledged without being asked for again: with KEEP_LAST a writer drops samples before it asks",
             Weakness::Pieces =>
                 "record at the writer's side, and see that tcpdump drops nothing: they may have samples or announcements",
             Weakness::Cut =>
@@ -102,8 +103,27 @@ impl Weakness {
             Weakness::Unsettled =>
                 "they are in no pair: see that no process starts again with its old GUID, and that no QoS changes",
             Weakness::Refused =>
-                "rtps-audit show prints refused and the fault: what stands behind it is not read",
+                "rtps-audit show --any FILE prints refused and the fault: what stands behind it is not read",
         }
+    }
+}
+
+pub(crate) fn pair_words() -> Words
+    ensures { words_value result ≡ pair_words_lem }
+{
+    Words {
+        one: "pair",
+        many: "pairs",
+    }
+}
+
+/// The words for numbers.
+pub fn number_words() -> Words
+    ensures { words_value result ≡ number_words_lem }
+{
+    Words {
+        one: "number",
+        many: "numbers",
     }
 }
 
@@ -112,7 +132,7 @@ fn weaknesses(facts: &NoteFacts) -> [(u128, Weakness); 8]
 {
     let links = facts.links;
     [
-        (facts.unsure, Weakness::Unsure),
+        (facts.likely, Weakness::Likely),
         (u128::from(facts.pieces), Weakness::Pieces),
         (u128::from(facts.cut), Weakness::Cut),
         (u128::from(links.number), Weakness::Links(links.first)),
@@ -170,6 +190,14 @@ fn joined_names(alloc: Global, topics: &[&[Explanation<'_>]]) -> Result<String, 
     Ok(names)
 }
 
+/// The names of the topics of rows, which stand by topic, behind a colon; empty where there is no row.
+pub fn names_of(alloc: Global, rows: &[Explanation<'_>]) -> Result<String, AllocError>
+    ensures { IfOk result (λ names. string_bytes names ≡ joined_names_lem (topics_of_lem (map explanation_value rows.now))) }
+{
+    let topics = topics_of(alloc, rows)?;
+    joined_names(alloc, &topics)
+}
+
 fn left_out_by(pairs: usize, names: &str) -> [Part<'_>; 3]
     ensures { flat_map part_text result ≡ left_out_by_lem pairs names.now }
 {
@@ -194,8 +222,7 @@ fn push_left_out(
     if rows.is_empty() {
         return Ok(());
     }
-    let topics = topics_of(alloc, rows)?;
-    let names = joined_names(alloc, &topics)?;
+    let names = names_of(alloc, rows)?;
     push_rendered(alloc, notes, &left_out_by(rows.len(), &names))
 }
 
@@ -213,17 +240,71 @@ fn push_weaknesses(
     Ok(())
 }
 
-/// What weakens a report, and before what is to be done this arrow. The rows that are left out stand by topic.
+fn late_by(pairs: u64, names: &str) -> [Part<'_>; 3]
+    ensures { flat_map part_text result ≡ late_by_lem pairs names.now }
+{
+    [
+        Part::Text("the writer wrote nothing since the reader joined: "),
+        Part::Amount(u128::from(pairs), pair_words()),
+        Part::Text(names),
+    ]
+}
+
+fn push_late(
+    alloc: Global,
+    notes: &mut Vec<String>,
+    rows: &[Explanation<'_>],
+) -> Result<(), AllocError>
+    ensures { OnOk result (map string_bytes notes.new.items ≡ map string_bytes notes.old.items ++ late_note (map explanation_value rows.now)) }
+{
+    if rows.is_empty() {
+        return Ok(());
+    }
+    let names = names_of(alloc, rows)?;
+    push_rendered(alloc, notes, &late_by(rows.len() as u64, &names))
+}
+
+fn push_tails(alloc: Global, notes: &mut Vec<String>, facts: &NoteFacts) -> Result<(), AllocError>
+    ensures { OnOk result (map string_bytes notes.new.items ≡ map string_bytes notes.old.items ++ tail_note facts.now) }
+{
+    if facts.tails == 0 {
+        return Ok(());
+    }
+    let pairs = Words {
+        one: "pair is",
+        many: "pairs are",
+    };
+    let parts = [
+        Part::Amount(u128::from(facts.tails), pairs),
+        Part::Text(" clean with a tail, of at most "),
+        Part::Amount(u128::from(facts.longest), number_words()),
+    ];
+    push_rendered(alloc, notes, &parts)
+}
+
+/// Rows of which notes tell, each by topic.
+#[derive(Clone, Copy)]
+pub struct NotedRows<'r, 'a> {
+    /// Those that are left out.
+    pub left_out: &'r [Explanation<'a>],
+    /// Those whose writer wrote nothing since their reader joined.
+    pub late: &'r [Explanation<'a>],
+}
+
+/// What weakens a report, and before what is to be done this arrow.
 pub fn notes_of(
     alloc: Global,
     facts: &NoteFacts,
-    left_out: &[Explanation<'_>],
+    rows: NotedRows<'_, '_>,
     arrow: &str,
 ) -> Result<Vec<String>, AllocError>
-    ensures { IfOk result (λ notes. map string_bytes notes.items ≡ notes_lem arrow.now facts.now (map explanation_value left_out.now)) }
+    ensures { IfOk result (λ notes. map string_bytes notes.items
+        ≡ notes_lem arrow.now facts.now (map explanation_value rows.entry.left_out.now) (map explanation_value rows.entry.late.now)) }
 {
     let mut notes = Vec::new(alloc);
-    push_left_out(alloc, &mut notes, left_out)?;
+    push_left_out(alloc, &mut notes, rows.left_out)?;
+    push_late(alloc, &mut notes, rows.late)?;
+    push_tails(alloc, &mut notes, facts)?;
     push_weaknesses(alloc, &mut notes, facts, arrow)?;
     Ok(notes)
 }
@@ -241,6 +322,10 @@ pub(crate) fn short_notes(
     if left_out > 0 {
         push_rendered(alloc, &mut notes, &left_out_by(left_out, ""))?;
     }
+    if facts.late > 0 {
+        push_rendered(alloc, &mut notes, &late_by(facts.late, ""))?;
+    }
+    push_tails(alloc, &mut notes, facts)?;
     push_weaknesses(alloc, &mut notes, facts, " -> ")?;
     Ok(notes)
 }

@@ -23,7 +23,7 @@ function showOverview(report) {
 function askedText(options) {
   const words = [
     options.from !== 1 && `--from ${options.from}`,
-    ...['any', 'fragments', 'observed', 'strict'].map((name) => options[name] && `--${name}`),
+    ...['any', 'fragments', 'observed', 'strict', 'spans'].map((name) => options[name] && `--${name}`),
     ...options.topics.map((pattern) => `--topic '${pattern}'`),
     options.expect !== null && `--expect ${options.expect}`,
   ].filter(Boolean);

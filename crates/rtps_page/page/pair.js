@@ -16,7 +16,7 @@ function pairDetail(report, row) {
       make('dl', { class: 'ends-list' }, ...endParts(report, 'Writer', row.writer), ...endParts(report, 'Reader', row.reader),
         make('dt', null, 'Type'), make('dd', null, ...typeName(row.type))),
       placeHelp(report, row)),
-    make('div', { class: 'detail-chart' }, chartOf(report, row)));
+    make('div', null, chartOf(report, row)));
 }
 
 function endParts(report, side, guid) {
@@ -44,6 +44,4 @@ function chartOf(report, row) {
     + 'section 7, “Larger recordings”, says how).');
 }
 
-function redrawChart() {
-  if (chartInSight) chartInSight.draw();
-}
+const redrawChart = () => chartInSight && chartInSight.draw();

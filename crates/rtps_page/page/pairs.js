@@ -15,12 +15,12 @@ function placeColumn(name, head, member) {
   return { name, head, class: 'count', compare: byCount(numberOf), cell: (report, row) => (row[name] ? String(numberOf(row)) : '–') };
 }
 
-function countColumn(name, head, isBad) {
-  const cell = (report, row) => (isBad && isAbove(row[name], 0) ? make('b', { class: 'bad' }, counted(row[name])) : counted(row[name]));
-  return { name, head, class: 'count', compare: byCount((row) => row[name]), cell };
+function countColumn(name, head, isBad, numberOf = (row) => row[name]) {
+  const cell = (report, row) => (isBad && isAbove(numberOf(row), 0) ? make('b', { class: 'bad' }, counted(numberOf(row))) : counted(numberOf(row)));
+  return { name, head, class: 'count', compare: byCount(numberOf), cell };
 }
 
-// The columns: name, head, order, and what stands in a cell.
+// The columns: name, head, order, and what stands in a cell. Rows in spans have others in the place of the last five.
 const COLUMNS = [
   { name: 'verdict', head: 'Verdict', compare: (a, b) => worse(a, b) || compareNumbers(a.number, b.number), cell: verdictCell },
   { name: 'writer', head: 'Writer', compare: byText('writer'), cell: (report, row) => endpointName(report, row.writer) },
@@ -33,23 +33,30 @@ const COLUMNS = [
   countColumn('received', 'Proved received', false),
   countColumn('missed', 'Missed', true),
 ];
+const OUTCOMES = { received: false, likely: false, missed: true, unsent: true, unanswered: true, unconfirmed: false };
+const SPAN_COLUMNS = [...COLUMNS.slice(0, 5), ...Object.entries(OUTCOMES).map(([name, isBad]) => (
+  countColumn(name, name[0].toUpperCase() + name.slice(1), isBad, ({ outcomes }) => outcomes[name])))];
 
 const WORST_FIRST = { name: 'worst', head: 'Worst first', compare: worse };
 const BY_TOPIC = { name: 'topic', head: 'Topic', compare: (a, b) => byText('topic')(a, b) || worse(a, b) };
 const BY_TYPE = { name: 'type', head: 'Type', compare: (a, b) => byText('type')(a, b) || worse(a, b) };
-const ORDERS = [WORST_FIRST, BY_TOPIC, BY_TYPE, ...COLUMNS];
 
 function verdictCell(report, row) {
-  const lost = row.kind === 'missed' || row.kind === 'gone';
+  const bad = row.outcomes ? Object.keys(OUTCOMES).filter((name) => OUTCOMES[name] && row.outcomes[name] > 0)
+    : ['missed', 'gone'].filter((name) => name === row.kind);
   return make('a', { href: `#pair-${row.at + 1}`, 'aria-expanded': 'false' },
     badge(row.verdict, row.verdict), ' ', make('span', { class: 'number' }, String(row.number)),
     row.datagram !== undefined && make('span', { class: 'in-datagram' }, ` in datagram ${row.datagram}`),
-    lost && [' ', badge(row.kind, `${row.kind} ${counted(row[row.kind])}`)], make('span', { class: 'hidden' }, `, pair ${row.at + 1}`));
+    bad.flatMap((name) => [' ', badge(name === 'gone' ? name : 'missed', `${name} ${counted((row.outcomes || row)[name])}`)]),
+    row.clean === true && [' ', badge('clean', 'clean')],
+    make('span', { class: 'hidden' }, `, pair ${row.at + 1}`));
 }
 
 class Pairs {
   constructor(report) {
     Object.assign(this, { report, words: [], kinds: new Set(), order: WORST_FIRST, isDown: false, most: FIRST_ROWS, chosen: null });
+    this.columns = report.data.options.spans ? SPAN_COLUMNS : COLUMNS;
+    this.orders = [WORST_FIRST, BY_TOPIC, BY_TYPE, ...this.columns];
     this.sort();
     this.build();
     this.render();
@@ -104,8 +111,8 @@ class Pairs {
   build() {
     this.filter = make('input', { type: 'search', id: 'filter', autocomplete: 'off', spellcheck: 'false', placeholder: 'topic, node, verdict, GUID' });
     this.filter.addEventListener('input', () => this.setFilter(this.filter.value));
-    this.select = make('select', { id: 'order' }, ...ORDERS.map(({ name, head }) => make('option', { value: name }, head)));
-    this.select.addEventListener('change', () => this.setOrder(ORDERS.find(({ name }) => name === this.select.value)));
+    this.select = make('select', { id: 'order' }, ...this.orders.map(({ name, head }) => make('option', { value: name }, head)));
+    this.select.addEventListener('change', () => this.setOrder(this.orders.find(({ name }) => name === this.select.value)));
     this.status = make('p', { id: 'shown', role: 'status' });
     this.more = makeButton({ class: 'more' }, 'Show more', () => this.showMore());
     this.table = make('table', { class: 'pairs' }, make('caption', { class: 'hidden' }, 'Pairs by topic'), this.heads());
@@ -120,7 +127,7 @@ class Pairs {
   }
 
   heads() {
-    return make('thead', null, make('tr', null, ...COLUMNS.map((column) => make('th',
+    return make('thead', null, make('tr', null, ...this.columns.map((column) => make('th',
       { scope: 'col', class: `${column.name} ${column.class || ''}` }, makeButton(null, column.head, () => this.setOrder(column))))));
   }
 
@@ -162,7 +169,7 @@ class Pairs {
     this.table.querySelectorAll('tbody').forEach((body) => body.remove());
     this.table.append(...this.bodies(rows, shown));
     this.table.querySelectorAll('thead th').forEach((head, at) => {
-      if (COLUMNS[at] === this.order) head.setAttribute('aria-sort', this.isDown ? 'descending' : 'ascending');
+      if (this.columns[at] === this.order) head.setAttribute('aria-sort', this.isDown ? 'descending' : 'ascending');
       else head.removeAttribute('aria-sort');
     });
     this.select.value = this.order.name;
@@ -190,12 +197,12 @@ class Pairs {
   }
 
   groupRow({ topic, type, rows }, size) {
-    return make('tr', { class: 'group' }, make('th', { scope: 'rowgroup', colspan: COLUMNS.length }, ...topicName(topic),
+    return make('tr', { class: 'group' }, make('th', { scope: 'rowgroup', colspan: this.columns.length }, ...topicName(topic),
       make('span', { class: 'type' }, ...typeName(type)), make('span', { class: 'size' }, partOf(size, rows.length, 'pair'))));
   }
 
   row(row) {
-    const cells = COLUMNS.map((column, at) => make(at === 0 ? 'th' : 'td',
+    const cells = this.columns.map((column, at) => make(at === 0 ? 'th' : 'td',
       { class: `${column.name} ${column.class || ''}`, ...(at === 0 ? { scope: 'row' } : {}) }, column.cell(this.report, row)));
     return make('tr', { id: `pair-${row.at + 1}`, class: `pair ${row.kind}` }, ...cells);
   }
@@ -242,7 +249,7 @@ class Pairs {
     line.classList.add('chosen');
     line.querySelector('th a').setAttribute('aria-expanded', 'true');
     line.after(make('tr', { class: 'detail' },
-      make('td', { colspan: COLUMNS.length }, pairDetail(this.report, this.report.rows[this.chosen]))));
+      make('td', { colspan: this.columns.length }, pairDetail(this.report, this.report.rows[this.chosen]))));
     redrawChart();
   }
 }

@@ -39,7 +39,7 @@ function participantBody(report, participant, pairsOf) {
 function endpointRow(report, endpoint, rows) {
   const links = rows.slice(0, NAMED_PAIRS).flatMap((row, at) => [at > 0 && ', ', pairLink(report, row)]);
   const pairs = rows.length === 0 ? 'in no pair' : [...links, rows.length > NAMED_PAIRS && ` and ${counted(rows.length - NAMED_PAIRS)} more`];
-  return make('tr', { class: rows.length > 0 ? 'paired' : 'unpaired' },
+  return make('tr', rows.length > 0 ? null : { class: 'unpaired' },
     make('th', { scope: 'row' }, endpoint.side, ' ', make('code', { class: 'guid' }, endpoint.guid.slice(25))),
     make('td', null, make('div', null, ...topicName(endpoint.topic)), make('div', { class: 'type' }, ...typeName(endpoint.type))),
     make('td', null, `${endpoint.reliability}, ${endpoint.durability}`),

@@ -1,30 +1,27 @@
 'use strict';
 // The recorded part of the page, put in order: rows by topic, endpoints by participant, and what the charts show by pair.
 
-// The verdicts as they stand in a row, worst first, and two of rows that are complete although numbers were lost.
-const KINDS = ['unfounded', 'conflict', 'open', 'missed', 'gone', 'complete'];
+// The verdicts, worst first, and those of rows that are complete although numbers were lost. Which rows in spans are clean stands there.
+const KINDS = ['unfounded', 'conflict', 'open', 'lost', 'missed', 'gone', 'complete', 'clean'];
 
 // How a kind is called on the page. What is complete is said to be so first.
-const KIND_WORDS = {
-  unfounded: 'unfounded', conflict: 'conflict', open: 'open',
-  missed: 'complete, missed', gone: 'complete, gone', complete: 'complete',
-};
+const KIND_WORDS = Object.fromEntries(KINDS.map((kind) => [kind, ['lost', 'missed', 'gone'].includes(kind) ? `complete, ${kind}` : kind]));
 
 // A string of JSON, or an integer that can pass what a number of JavaScript holds.
 const STRING_OR_LARGE = /"(?:[^"\\]|\\.)*"|\d{16,}/g;
 
 const isLarge = (n) => n > Number.MAX_SAFE_INTEGER;
 
-// Whether a number of a row was rounded when it was read. All others of the page are below one of these.
-function isRounded({ number, announced, acknowledged }) {
-  return isLarge(number) || (announced !== null && isLarge(announced.number)) || (acknowledged !== null && isLarge(acknowledged.below));
+// Whether a number of a row was rounded when it was read. All others that are told as numbers are below one of these.
+function isRounded({ number, announced, acknowledged, from = 0 }) {
+  return isLarge(number) || isLarge(from) || (announced !== null && isLarge(announced.number)) || (acknowledged !== null && isLarge(acknowledged.below));
 }
 
 // The value of a text of JSON. Where a number is too large, each such becomes a string of its digits; what stands in a string
 // stays as it is.
 function valueOf(text) {
   const value = JSON.parse(text);
-  if (!isLarge(value.options.from) && !value.pairs.some(isRounded)) return value;
+  if (!isLarge(value.options.from) && !isLarge(value.options.expect) && !value.pairs.some(isRounded)) return value;
   return JSON.parse(text.replace(STRING_OR_LARGE, (found) => (found[0] === '"' ? found : `"${found}"`)));
 }
 
@@ -55,8 +52,10 @@ const askedAbout = ({ payloads, gone, untold }) => BigInt(payloads) + BigInt(gon
 const prefixOf = (guid) => guid.slice(0, 24);
 const entityOf = (guid) => guid.slice(24);
 
-function kindOf({ verdict, missed, gone }) {
+function kindOf({ verdict, missed, gone, clean }) {
+  if (clean) return 'clean';
   if (verdict !== 'complete') return verdict;
+  if (clean === false) return 'lost';
   return isAbove(missed, 0) ? 'missed' : isAbove(gone, 0) ? 'gone' : 'complete';
 }
 

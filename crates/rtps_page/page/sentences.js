@@ -16,7 +16,7 @@ const VERDICTS = {
   complete: completeSentence,
 };
 
-const verdictSentence = (report, row) => VERDICTS[row.verdict](row, report.data.options.from);
+const verdictSentence = (report, row) => VERDICTS[row.verdict](row, row.from === undefined ? report.data.options.from : row.from);
 
 // All numbers from that of the verdict on are not acknowledged.
 function openSentence({ number, announced }) {
@@ -33,8 +33,13 @@ function completeSentence({ kind, number, announced, missed, first_missed: first
 }
 
 // What a verdict rests on, a sentence for each line of `why`.
-function evidenceSentences(row) {
-  return [...commonSentences(row), ...receivedSentences(row), ...OWN_SENTENCES[row.verdict](row)];
+const evidenceSentences = (row) => [...spanSentences(row), ...commonSentences(row), ...receivedSentences(row), ...OWN_SENTENCES[row.verdict](row)];
+
+function spanSentences({ from, until, outcomes }) {
+  if (!outcomes) return [];
+  const kinds = Object.keys(OUTCOMES).filter((name) => outcomes[name] > 0).map((name) => `${counted(outcomes[name])} ${name}`);
+  const left = until === null ? '' : `, until datagram ${until}, in which the reader left`;
+  return [`The row is about the numbers from ${from} on${left}: ${kinds.join(', ') || 'none is announced'}.`];
 }
 
 function commonSentences(row) {
@@ -53,7 +58,8 @@ function receivedSentences(row) {
   const { missed, first_missed: first, not_received: lacked } = row;
   const found = [`The recording proves ${counted(row.received)} of ${plural(askedAbout(row), 'number')} received.`];
   if (first) {
-    found.push(`The reader missed ${plural(missed, 'number')}: it asked for ${first.number} in ${placeText(first.asked)}, and `
+    const again = first.again ? `it was sent again in ${placeText(first.again)}, and ` : '';
+    found.push(`The reader missed ${plural(missed, 'number')}: it asked for ${first.number} in ${placeText(first.asked)}, and ${again}`
       + (first.gone ? `then ${first.number} was told gone by ${actText(first.gone)}.` : `${first.number} was not told gone since.`));
   }
   if (lacked) found.push(`Number ${lacked.number} may not be received: ${lackedText(lacked)}.`);
@@ -74,27 +80,29 @@ const OWN_SENTENCES = {
   complete: () => [],
 };
 
-function tellerSentence({ number, told }) {
-  return told ? `Number ${number} was first told by ${actText(told)}.` : `Nothing in the recording tells number ${number} to this reader.`;
-}
+const tellerSentence = ({ number, told }) => (
+  told ? `Number ${number} was first told by ${actText(told)}.` : `Nothing in the recording tells number ${number} to this reader.`);
 
 function askedSentence({ asked_since: count, last_asked: last }) {
   if (!last) return 'The writer did not ask for an answer since the reader’s last one.';
   return `The writer asked ${plural(count, 'time')} for an answer since the reader’s last one, last in ${placeText(last)}.`;
 }
 
-function payloadText({ payload, octets }) {
-  return payload === 'absent' ? 'no payload' : `${payload === 'key' ? 'a key' : 'a sample'} of ${plural(octets, 'octet')}`;
-}
+const payloadText = ({ payload, octets }) => (payload === 'absent' ? 'no payload' : `${payload === 'key' ? 'a key' : 'a sample'} of ${plural(octets, 'octet')}`);
 
 // The outcome of the report: why it is not clean.
-const outcomeSentence = ({ status, because }) => (status === 'clean' ? 'Clean' : `Not clean: ${because.join('; ')}`);
+function outcomeSentence({ status, because, options, pairs }) {
+  if (status !== 'clean') return `Not clean: ${because.join('; ')}`;
+  if (pairs.length === 0) return 'No pair was audited';
+  return options.strict || options.spans ? 'Clean' : 'All pairs are complete';
+}
 
-// How many pairs are complete, and how many numbers are surely received.
+// How many pairs are complete, or clean where they are in spans, and how many numbers are surely received.
 function receivedSentence(rows) {
-  if (rows.length === 0) return 'No pair was audited.';
-  const complete = rows.filter(({ verdict }) => verdict === 'complete').length;
+  if (rows.length === 0) return '';
+  const [word, isGood] = rows[0].outcomes ? ['clean', ({ clean }) => clean] : ['complete', ({ verdict }) => verdict === 'complete'];
+  const good = rows.filter(isGood).length;
   const [received, asked] = [sumOf(rows, (row) => row.received), sumOf(rows, askedAbout)];
-  return `${counted(complete)} of ${plural(rows.length, 'pair')} ${rows.length === 1 ? 'is' : 'are'} complete. The recording proves `
+  return `${counted(good)} of ${plural(rows.length, 'pair')} ${rows.length === 1 ? 'is' : 'are'} ${word}. The recording proves `
     + `${counted(received)} of ${plural(asked, 'number')} received.`;
 }

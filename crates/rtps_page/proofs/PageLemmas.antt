@@ -5,7 +5,7 @@ use Rattle.json.specs.Tree.{depth, items_depth, members_depth}
 use Rattle.rtps_report.specs.Vocabulary.{Location, Pair, PayloadValue}
 use Rattle.rtps_ids.specs.declared.identity.Guid.{Guid}
 use Rattle.rtps_receiver.specs.Values.{ActBodyValue}
-use Rattle.rtps_receiver.specs.Values.ActBodyValue.{Data, Heartbeat, AckNack, Gap, DataFrag}
+use Rattle.rtps_receiver.specs.Values.ActBodyValue.{Data, Heartbeat, AckNack, Gap, DataFrag, NackFrag}
 use Rattle.rtps_discovery.specs.Directory.{DirectoryValue, settled_in}
 use Rattle.rtps_receiver.specs.Speech.{is_spoken_by}
 use Rattle.rtps_audit.specs.Placed.{PlacedValue, answers_among}
@@ -65,6 +65,7 @@ entries_within place named (Gap value) =
     (mapped_within 1 (one_gone_json place named) (λ n. entry_within place named (codes "gone") (pos n ∷ pos n ∷ [])) (numbers_of value.list))
 entries_within place named (DataFrag value) = piece_within place named value.number value.told
 entries_within place named (AckNack value) = omega arith
+entries_within place named (NackFrag value) = omega arith
 
 writer_within : (acts : List PlacedValue) (writer : Guid) → depth (writer_json acts writer) ≤ 3
 writer_within acts writer =

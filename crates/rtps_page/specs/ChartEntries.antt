@@ -13,7 +13,7 @@ use Rattle.rtps_ids.specs.declared.identity.GuidPrefix.{GuidPrefix}
 use Rattle.rtps_receiver.specs.Audience.{audience_of}
 use Rattle.rtps_receiver.specs.Speech.{is_entity, is_spoken_by, unknown_entity}
 use Rattle.rtps_receiver.specs.Values.{ActBodyValue}
-use Rattle.rtps_receiver.specs.Values.ActBodyValue.{Data, Heartbeat, AckNack, Gap, DataFrag}
+use Rattle.rtps_receiver.specs.Values.ActBodyValue.{Data, Heartbeat, AckNack, Gap, DataFrag, NackFrag}
 use Rattle.rtps_receiver.specs.declared.speech.Audience.{Audience}
 use Rattle.rtps_wire.specs.Values.{PayloadValue}
 use Rattle.rtps_audit.specs.Placed.{PlacedValue}
@@ -69,6 +69,7 @@ entries_at place named (Heartbeat value) = gone_json place named 1 value.first +
 entries_at place named (Gap value) = gone_json place named value.start value.list.base ++ map (one_gone_json place named) (members_of value.list)
 entries_at place named (DataFrag value) = piece_json place named value.number value.told
 entries_at place named (AckNack value) = []
+entries_at place named (NackFrag value) = []
 
 -- the entries of an act
 abbrev pub entries_of : PlacedValue → List Json

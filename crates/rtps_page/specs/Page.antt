@@ -35,7 +35,7 @@ expect_json (Some rows) = count_json rows
 -- what was asked, and whether any capture was read
 abbrev pub option_members : AskedValue → Bool → List Member
 option_members asked any = (codes "from", count_json asked.from) ∷ (codes "any", boolean any) ∷ (codes "fragments", boolean (are_read asked.fragments))
-    ∷ (codes "observed", boolean asked.rows.observed) ∷ (codes "strict", boolean asked.strict)
+    ∷ (codes "observed", boolean asked.rows.observed) ∷ (codes "strict", boolean asked.strict) ∷ (codes "spans", boolean asked.spans)
     ∷ (codes "topics", array_of (map string asked.rows.topics)) ∷ (codes "expect", expect_json asked.expect) ∷ []
 
 -- a GUID as a string

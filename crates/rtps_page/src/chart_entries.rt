@@ -166,6 +166,6 @@ fn push_said(writer: &mut Writer, head: EntryHead<'_>, body: &ActBody<'_>) -> Re
             Some(_) => Ok(()),
             None => push_entry(writer, head, "data", &[piece.number.get()]),
         },
-        ActBody::AckNack(_) => Ok(()),
+        ActBody::AckNack(_) | ActBody::NackFrag(_) => Ok(()),
     }
 }

@@ -63,7 +63,7 @@ fn entries_in(body: &ActBody<'_>) -> u64
             one_if_gone(start, gap.list.base().cast_unsigned()) + members_among(&gap.list)
         }
         ActBody::DataFrag(piece) => one_if_piece(piece),
-        ActBody::AckNack(_) => 0,
+        ActBody::AckNack(_) | ActBody::NackFrag(_) => 0,
     }
 }
 

@@ -55,6 +55,7 @@ fn push_option_members(writer: &mut Writer, asked: &Asked<'_>, any: bool) -> Res
     push_flag(writer, "fragments", asked.reads_fragments())?;
     push_flag(writer, "observed", asked.rows.observed)?;
     push_flag(writer, "strict", asked.strict)?;
+    push_flag(writer, "spans", asked.spans)?;
     push_texts(writer, "topics", asked.rows.topics)?;
     push_expect(writer, asked.expect)
 }

@@ -6,7 +6,7 @@ pub(crate) const HEAD: &str = "\
 <html lang=\"en\">\n\
 <head>\n\
 <meta charset=\"utf-8\">\n\
-<meta http-equiv=\"Content-Security-Policy\" content=\"default-src 'none'; style-src 'sha256-5Matp3vUqurPM/celnTcJM8H1diRfsGjsIYZDLuPO+E='; script-src 'sha256-hpmW3mDyoQhB9f0WRZW6RarG+nvTxqFH2yl+nJ5/Zek=' 'sha256-4m0Zvp4yPhZU+hsOPdCLwwGTTtPNMvonLvPVGj1daow=' 'sha256-t/Fy7qbxOivCta0h5rWNDMDLtqWiE1QQyxkTIcElvIY=' 'sha256-V9i+tQzAWYr0brjHPpBlo5biQJI+1S1KgTOuMpTYcLQ=' 'sha256-NikLX9/5lTItUh3Sn3PpUOZ5YaqjeB3+nnpq7SuYFk4=' 'sha256-d7We5lL4dteDLFrr8UpIwIw5zKj82CL+aKdX1LPBTDM=' 'sha256-wbJhtUpqsk0s9oyp/Ft8r5IaPHYg8yqqV5kbJCrDo14=' 'sha256-a64MlvRxtMk09t4YyIQ2yu/FeH0hkM4c9/vl0ecHmEo=' 'sha256-sCXFjC7sAIBdHE94tOm7YOLCTC/RZZdFccZuApfVqCs=' 'sha256-L5++YkTFEJl3kdO/H0jWJMkHnWI15lupByHpRLDl5VA='; base-uri 'none'; form-action 'none'\">\n\
+<meta http-equiv=\"Content-Security-Policy\" content=\"default-src 'none'; style-src 'sha256-EsjPlaLQdsplW+pFUNk4/Yovx6OO+8wmB2ZdAJ8N/Qs='; script-src 'sha256-hpmW3mDyoQhB9f0WRZW6RarG+nvTxqFH2yl+nJ5/Zek=' 'sha256-6aXhXjVN3WJyNNclRZcqeTlXEpiGglpl1v5IFrGHKyg=' 'sha256-t/Fy7qbxOivCta0h5rWNDMDLtqWiE1QQyxkTIcElvIY=' 'sha256-n2EgmHhWWpnml3YTzI6c2fFT9d1c1NfLrdJeY+ysa88=' 'sha256-mW7V3oyQYlMFmJ+BVtBgg2afj3dIkU8ZriDR3gN8v0U=' 'sha256-d7We5lL4dteDLFrr8UpIwIw5zKj82CL+aKdX1LPBTDM=' 'sha256-7mX1/jJqBaTbsRrKZhqN0u+b0Wx2ckFhGtp5TJHu0EQ=' 'sha256-mUTKrhY1ZfucvOGBdh1oOA04GC7XSXVnZlo1ezN51s8=' 'sha256-tK+f51bkBVmKIAOZdAtJ8a8JsRXNe1zyARAk76U1MgU=' 'sha256-L5++YkTFEJl3kdO/H0jWJMkHnWI15lupByHpRLDl5VA='; base-uri 'none'; form-action 'none'\">\n\
 <meta name=\"viewport\" content=\"width=device-width, initial-scale=1\">\n\
 <meta name=\"color-scheme\" content=\"light dark\">\n\
 <meta name=\"referrer\" content=\"no-referrer\">\n\
@@ -25,7 +25,6 @@ pub(crate) const HEAD: &str = "\
 --missed: #9a3b00;\n\
 --gone: #5a5100;\n\
 --complete: #17652f;\n\
---none: #55606b;\n\
 --data: #0a54a8;\n\
 --band: #d9dde2;\n\
 --band-edge: #6b7681;\n\
@@ -48,7 +47,6 @@ pub(crate) const HEAD: &str = "\
 --missed: #ff9d6b;\n\
 --gone: #d6cb5a;\n\
 --complete: #74d08f;\n\
---none: #a9b2bb;\n\
 --data: #85b9ff;\n\
 --band: #343b43;\n\
 --band-edge: #8b95a0;\n\
@@ -98,11 +96,11 @@ white-space: nowrap;\n\
 .badge.open { background: var(--open); color: var(--sheet); }\n\
 .badge.missed { border: 1.5px dashed var(--missed); color: var(--missed); }\n\
 .badge.gone { border: 1.5px dashed var(--gone); color: var(--gone); }\n\
-.badge.complete { border-color: var(--complete); color: var(--complete); }\n\
-.badge.none { border: 1.5px dashed var(--none); color: var(--ink); }\n\
+.badge.lost { border: 1.5px dashed var(--missed); color: var(--missed); }\n\
+.badge.complete, .badge.clean { border-color: var(--complete); color: var(--complete); }\n\
 #verdicts { display: flex; flex-wrap: wrap; gap: 8px; margin: 10px 0 0; }\n\
 #verdicts .badge { cursor: pointer; font-family: inherit; font-size: 0.95rem; padding: 3px 12px; }\n\
-#verdicts .badge.missed, #verdicts .badge.gone, #verdicts .badge.complete { background: none; }\n\
+#verdicts .badge.lost, #verdicts .badge.missed, #verdicts .badge.gone, #verdicts .badge.complete, #verdicts .badge.clean { background: none; }\n\
 #verdicts .badge[aria-pressed='true'] { outline: 3px double var(--ink); outline-offset: 2px; }\n\
 #verdicts .badge[aria-pressed='true']::before { content: '✓ '; }\n\
 .dds, .type, .hint, .qos { color: var(--faint); font-size: 0.85rem; font-weight: 400; }\n\
@@ -237,7 +235,7 @@ tr.group .type, tr.group .size { display: block; margin-left: 0; }\n\
 @media print {\n\
 html { font-size: 11px; }\n\
 body { max-width: none; padding: 0; }\n\
-.skip, .tools, .controls, .readout, .more, figcaption { display: none; }\n\
+.skip, .tools, .controls, .readout, figcaption { display: none; }\n\
 .wide { overflow: visible; }\n\
 .scripted #text { display: block; break-before: page; }\n\
 #text pre { white-space: pre-wrap; overflow-wrap: anywhere; }\n\
@@ -268,7 +266,7 @@ document.documentElement.classList.add('scripted');\n\
 <h1 id=\"outcome\"></h1>\n\
 <p id=\"received\"></p>\n\
 <p id=\"explained\">A pair is a reliable writer and a reliable reader of one topic that match. It is complete if the reader acknowledged every\n\
-sample that the writer announced.</p>\n\
+number that is asked about and that the writer announced.</p>\n\
 <p id=\"line\"></p>\n\
 <div id=\"verdicts\" role=\"group\" aria-label=\"Show only pairs with these verdicts\"></div>\n\
 </header>\n\
@@ -293,7 +291,7 @@ sample that the writer announced.</p>\n\
 <h2>What the report rests on</h2>\n\
 <p>A row always follows from the recording. It is true of your test if the recording has all datagrams that were sent, no\n\
 others, in the order of sending; if a reader acknowledges only what it received or what was said to be gone; and if it\n\
-learns of numbers only by DATA, GAP and HEARTBEAT. A recording at the writer’s side lacks only those answers that the\n\
+learns of numbers only by DATA, GAP and HEARTBEAT, and with --fragments by DATA_FRAG. A recording at the writer’s side lacks only those answers that the\n\
 network lost, and that can only leave a row open.</p>\n\
 </footer>\n\
 </div>\n\
@@ -316,19 +314,16 @@ pub(crate) const MIDDLE: &str = "\
 pub(crate) const TAIL: &str = "\
 </script>\n\
 <script>'use strict';\n\
-const KINDS = ['unfounded', 'conflict', 'open', 'missed', 'gone', 'complete'];\n\
-const KIND_WORDS = {\n\
-unfounded: 'unfounded', conflict: 'conflict', open: 'open',\n\
-missed: 'complete, missed', gone: 'complete, gone', complete: 'complete',\n\
-};\n\
+const KINDS = ['unfounded', 'conflict', 'open', 'lost', 'missed', 'gone', 'complete', 'clean'];\n\
+const KIND_WORDS = Object.fromEntries(KINDS.map((kind) => [kind, ['lost', 'missed', 'gone'].includes(kind) ? `complete, ${kind}` : kind]));\n\
 const STRING_OR_LARGE = /\"(?:[^\"\\\\]|\\\\.)*\"|\\d{16,}/g;\n\
 const isLarge = (n) => n > Number.MAX_SAFE_INTEGER;\n\
-function isRounded({ number, announced, acknowledged }) {\n\
-return isLarge(number) || (announced !== null && isLarge(announced.number)) || (acknowledged !== null && isLarge(acknowledged.below));\n\
+function isRounded({ number, announced, acknowledged, from = 0 }) {\n\
+return isLarge(number) || isLarge(from) || (announced !== null && isLarge(announced.number)) || (acknowledged !== null && isLarge(acknowledged.below));\n\
 }\n\
 function valueOf(text) {\n\
 const value = JSON.parse(text);\n\
-if (!isLarge(value.options.from) && !value.pairs.some(isRounded)) return value;\n\
+if (!isLarge(value.options.from) && !isLarge(value.options.expect) && !value.pairs.some(isRounded)) return value;\n\
 return JSON.parse(text.replace(STRING_OR_LARGE, (found) => (found[0] === '\"' ? found : `\"${found}\"`)));\n\
 }\n\
 function compareNumbers(a, b) {\n\
@@ -344,8 +339,10 @@ const partOf = (n, all, noun) => (n === all ? plural(all, noun) : `${counted(n)}
 const askedAbout = ({ payloads, gone, untold }) => BigInt(payloads) + BigInt(gone) + BigInt(untold);\n\
 const prefixOf = (guid) => guid.slice(0, 24);\n\
 const entityOf = (guid) => guid.slice(24);\n\
-function kindOf({ verdict, missed, gone }) {\n\
+function kindOf({ verdict, missed, gone, clean }) {\n\
+if (clean) return 'clean';\n\
 if (verdict !== 'complete') return verdict;\n\
+if (clean === false) return 'lost';\n\
 return isAbove(missed, 0) ? 'missed' : isAbove(gone, 0) ? 'gone' : 'complete';\n\
 }\n\
 function entryOf(map, key, made) {\n\
@@ -487,7 +484,7 @@ conflict: ({ number }) => `The writer sent two different payloads for sample ${n
 open: openSentence,\n\
 complete: completeSentence,\n\
 };\n\
-const verdictSentence = (report, row) => VERDICTS[row.verdict](row, report.data.options.from);\n\
+const verdictSentence = (report, row) => VERDICTS[row.verdict](row, row.from === undefined ? report.data.options.from : row.from);\n\
 function openSentence({ number, announced }) {\n\
 if (number === announced.number) return `The reader may lack sample ${number}: it is announced, and the reader never acknowledged it.`;\n\
 return `The reader may lack samples ${number} to ${announced.number}: they are announced, and the reader never acknowledged them.`;\n\
@@ -499,8 +496,12 @@ if (kind === 'missed') return `${all}, but it missed ${missed === 1 ? `sample ${
 if (kind === 'gone') return `${all}, but ${counted(gone)} of them ${gone === 1 ? 'was' : 'were'} only said to be gone.`;\n\
 return `${all}.`;\n\
 }\n\
-function evidenceSentences(row) {\n\
-return [...commonSentences(row), ...receivedSentences(row), ...OWN_SENTENCES[row.verdict](row)];\n\
+const evidenceSentences = (row) => [...spanSentences(row), ...commonSentences(row), ...receivedSentences(row), ...OWN_SENTENCES[row.verdict](row)];\n\
+function spanSentences({ from, until, outcomes }) {\n\
+if (!outcomes) return [];\n\
+const kinds = Object.keys(OUTCOMES).filter((name) => outcomes[name] > 0).map((name) => `${counted(outcomes[name])} ${name}`);\n\
+const left = until === null ? '' : `, until datagram ${until}, in which the reader left`;\n\
+return [`The row is about the numbers from ${from} on${left}: ${kinds.join(', ') || 'none is announced'}.`];\n\
 }\n\
 function commonSentences(row) {\n\
 const { announced, acknowledged } = row;\n\
@@ -517,7 +518,8 @@ function receivedSentences(row) {\n\
 const { missed, first_missed: first, not_received: lacked } = row;\n\
 const found = [`The recording proves ${counted(row.received)} of ${plural(askedAbout(row), 'number')} received.`];\n\
 if (first) {\n\
-found.push(`The reader missed ${plural(missed, 'number')}: it asked for ${first.number} in ${placeText(first.asked)}, and `\n\
+const again = first.again ? `it was sent again in ${placeText(first.again)}, and ` : '';\n\
+found.push(`The reader missed ${plural(missed, 'number')}: it asked for ${first.number} in ${placeText(first.asked)}, and ${again}`\n\
 + (first.gone ? `then ${first.number} was told gone by ${actText(first.gone)}.` : `${first.number} was not told gone since.`));\n\
 }\n\
 if (lacked) found.push(`Number ${lacked.number} may not be received: ${lackedText(lacked)}.`);\n\
@@ -534,22 +536,24 @@ conflict: ({ number, sent }) => sent.map((one) => `Number ${number} was sent wit
 unfounded: (row) => [`The reader acknowledged all numbers below ${row.claimed.below} in ${placeText(row.claimed)}.`, tellerSentence(row)],\n\
 complete: () => [],\n\
 };\n\
-function tellerSentence({ number, told }) {\n\
-return told ? `Number ${number} was first told by ${actText(told)}.` : `Nothing in the recording tells number ${number} to this reader.`;\n\
-}\n\
+const tellerSentence = ({ number, told }) => (\n\
+told ? `Number ${number} was first told by ${actText(told)}.` : `Nothing in the recording tells number ${number} to this reader.`);\n\
 function askedSentence({ asked_since: count, last_asked: last }) {\n\
 if (!last) return 'The writer did not ask for an answer since the reader’s last one.';\n\
 return `The writer asked ${plural(count, 'time')} for an answer since the reader’s last one, last in ${placeText(last)}.`;\n\
 }\n\
-function payloadText({ payload, octets }) {\n\
-return payload === 'absent' ? 'no payload' : `${payload === 'key' ? 'a key' : 'a sample'} of ${plural(octets, 'octet')}`;\n\
+const payloadText = ({ payload, octets }) => (payload === 'absent' ? 'no payload' : `${payload === 'key' ? 'a key' : 'a sample'} of ${plural(octets, 'octet')}`);\n\
+function outcomeSentence({ status, because, options, pairs }) {\n\
+if (status !== 'clean') return `Not clean: ${because.join('; ')}`;\n\
+if (pairs.length === 0) return 'No pair was audited';\n\
+return options.strict || options.spans ? 'Clean' : 'All pairs are complete';\n\
 }\n\
-const outcomeSentence = ({ status, because }) => (status === 'clean' ? 'Clean' : `Not clean: ${because.join('; ')}`);\n\
 function receivedSentence(rows) {\n\
-if (rows.length === 0) return 'No pair was audited.';\n\
-const complete = rows.filter(({ verdict }) => verdict === 'complete').length;\n\
+if (rows.length === 0) return '';\n\
+const [word, isGood] = rows[0].outcomes ? ['clean', ({ clean }) => clean] : ['complete', ({ verdict }) => verdict === 'complete'];\n\
+const good = rows.filter(isGood).length;\n\
 const [received, asked] = [sumOf(rows, (row) => row.received), sumOf(rows, askedAbout)];\n\
-return `${counted(complete)} of ${plural(rows.length, 'pair')} ${rows.length === 1 ? 'is' : 'are'} complete. The recording proves `\n\
+return `${counted(good)} of ${plural(rows.length, 'pair')} ${rows.length === 1 ? 'is' : 'are'} ${word}. The recording proves `\n\
 + `${counted(received)} of ${plural(asked, 'number')} received.`;\n\
 }\n\
 </script>\n\
@@ -571,7 +575,7 @@ showCounts(report, at('counts'));\n\
 function askedText(options) {\n\
 const words = [\n\
 options.from !== 1 && `--from ${options.from}`,\n\
-...['any', 'fragments', 'observed', 'strict'].map((name) => options[name] && `--${name}`),\n\
+...['any', 'fragments', 'observed', 'strict', 'spans'].map((name) => options[name] && `--${name}`),\n\
 ...options.topics.map((pattern) => `--topic '${pattern}'`),\n\
 options.expect !== null && `--expect ${options.expect}`,\n\
 ].filter(Boolean);\n\
@@ -1041,7 +1045,7 @@ make('h4', null, 'Who they are'),\n\
 make('dl', { class: 'ends-list' }, ...endParts(report, 'Writer', row.writer), ...endParts(report, 'Reader', row.reader),\n\
 make('dt', null, 'Type'), make('dd', null, ...typeName(row.type))),\n\
 placeHelp(report, row)),\n\
-make('div', { class: 'detail-chart' }, chartOf(report, row)));\n\
+make('div', null, chartOf(report, row)));\n\
 }\n\
 function endParts(report, side, guid) {\n\
 const [endpoint, participant] = [report.endpointOf.get(guid), report.participantOf(guid)];\n\
@@ -1063,9 +1067,7 @@ return make('p', { class: 'no-chart' }, 'The chart of this pair was left out: a 
 + 'came first. A recording of fewer participants brings it: cut one by tshark, so that all traffic of some participants stays (the guide, '\n\
 + 'section 7, “Larger recordings”, says how).');\n\
 }\n\
-function redrawChart() {\n\
-if (chartInSight) chartInSight.draw();\n\
-}\n\
+const redrawChart = () => chartInSight && chartInSight.draw();\n\
 </script>\n\
 <script>'use strict';\n\
 const FIRST_ROWS = 100;\n\
@@ -1077,9 +1079,9 @@ function placeColumn(name, head, member) {\n\
 const numberOf = (row) => (row[name] ? row[name][member] : 0);\n\
 return { name, head, class: 'count', compare: byCount(numberOf), cell: (report, row) => (row[name] ? String(numberOf(row)) : '–') };\n\
 }\n\
-function countColumn(name, head, isBad) {\n\
-const cell = (report, row) => (isBad && isAbove(row[name], 0) ? make('b', { class: 'bad' }, counted(row[name])) : counted(row[name]));\n\
-return { name, head, class: 'count', compare: byCount((row) => row[name]), cell };\n\
+function countColumn(name, head, isBad, numberOf = (row) => row[name]) {\n\
+const cell = (report, row) => (isBad && isAbove(numberOf(row), 0) ? make('b', { class: 'bad' }, counted(numberOf(row))) : counted(numberOf(row)));\n\
+return { name, head, class: 'count', compare: byCount(numberOf), cell };\n\
 }\n\
 const COLUMNS = [\n\
 { name: 'verdict', head: 'Verdict', compare: (a, b) => worse(a, b) || compareNumbers(a.number, b.number), cell: verdictCell },\n\
@@ -1093,20 +1095,27 @@ countColumn('untold', 'Untold', true),\n\
 countColumn('received', 'Proved received', false),\n\
 countColumn('missed', 'Missed', true),\n\
 ];\n\
+const OUTCOMES = { received: false, likely: false, missed: true, unsent: true, unanswered: true, unconfirmed: false };\n\
+const SPAN_COLUMNS = [...COLUMNS.slice(0, 5), ...Object.entries(OUTCOMES).map(([name, isBad]) => (\n\
+countColumn(name, name[0].toUpperCase() + name.slice(1), isBad, ({ outcomes }) => outcomes[name])))];\n\
 const WORST_FIRST = { name: 'worst', head: 'Worst first', compare: worse };\n\
 const BY_TOPIC = { name: 'topic', head: 'Topic', compare: (a, b) => byText('topic')(a, b) || worse(a, b) };\n\
 const BY_TYPE = { name: 'type', head: 'Type', compare: (a, b) => byText('type')(a, b) || worse(a, b) };\n\
-const ORDERS = [WORST_FIRST, BY_TOPIC, BY_TYPE, ...COLUMNS];\n\
 function verdictCell(report, row) {\n\
-const lost = row.kind === 'missed' || row.kind === 'gone';\n\
+const bad = row.outcomes ? Object.keys(OUTCOMES).filter((name) => OUTCOMES[name] && row.outcomes[name] > 0)\n\
+: ['missed', 'gone'].filter((name) => name === row.kind);\n\
 return make('a', { href: `#pair-${row.at + 1}`, 'aria-expanded': 'false' },\n\
 badge(row.verdict, row.verdict), ' ', make('span', { class: 'number' }, String(row.number)),\n\
 row.datagram !== undefined && make('span', { class: 'in-datagram' }, ` in datagram ${row.datagram}`),\n\
-lost && [' ', badge(row.kind, `${row.kind} ${counted(row[row.kind])}`)], make('span', { class: 'hidden' }, `, pair ${row.at + 1}`));\n\
+bad.flatMap((name) => [' ', badge(name === 'gone' ? name : 'missed', `${name} ${counted((row.outcomes || row)[name])}`)]),\n\
+row.clean === true && [' ', badge('clean', 'clean')],\n\
+make('span', { class: 'hidden' }, `, pair ${row.at + 1}`));\n\
 }\n\
 class Pairs {\n\
 constructor(report) {\n\
 Object.assign(this, { report, words: [], kinds: new Set(), order: WORST_FIRST, isDown: false, most: FIRST_ROWS, chosen: null });\n\
+this.columns = report.data.options.spans ? SPAN_COLUMNS : COLUMNS;\n\
+this.orders = [WORST_FIRST, BY_TOPIC, BY_TYPE, ...this.columns];\n\
 this.sort();\n\
 this.build();\n\
 this.render();\n\
@@ -1148,8 +1157,8 @@ this.renderFirst();\n\
 build() {\n\
 this.filter = make('input', { type: 'search', id: 'filter', autocomplete: 'off', spellcheck: 'false', placeholder: 'topic, node, verdict, GUID' });\n\
 this.filter.addEventListener('input', () => this.setFilter(this.filter.value));\n\
-this.select = make('select', { id: 'order' }, ...ORDERS.map(({ name, head }) => make('option', { value: name }, head)));\n\
-this.select.addEventListener('change', () => this.setOrder(ORDERS.find(({ name }) => name === this.select.value)));\n\
+this.select = make('select', { id: 'order' }, ...this.orders.map(({ name, head }) => make('option', { value: name }, head)));\n\
+this.select.addEventListener('change', () => this.setOrder(this.orders.find(({ name }) => name === this.select.value)));\n\
 this.status = make('p', { id: 'shown', role: 'status' });\n\
 this.more = makeButton({ class: 'more' }, 'Show more', () => this.showMore());\n\
 this.table = make('table', { class: 'pairs' }, make('caption', { class: 'hidden' }, 'Pairs by topic'), this.heads());\n\
@@ -1163,7 +1172,7 @@ document.getElementById('pairs').append(tools, this.status, wide, this.more);\n\
 this.buildVerdicts();\n\
 }\n\
 heads() {\n\
-return make('thead', null, make('tr', null, ...COLUMNS.map((column) => make('th',\n\
+return make('thead', null, make('tr', null, ...this.columns.map((column) => make('th',\n\
 { scope: 'col', class: `${column.name} ${column.class || ''}` }, makeButton(null, column.head, () => this.setOrder(column))))));\n\
 }\n\
 buildVerdicts() {\n\
@@ -1195,7 +1204,7 @@ const shown = rows.slice(0, this.most);\n\
 this.table.querySelectorAll('tbody').forEach((body) => body.remove());\n\
 this.table.append(...this.bodies(rows, shown));\n\
 this.table.querySelectorAll('thead th').forEach((head, at) => {\n\
-if (COLUMNS[at] === this.order) head.setAttribute('aria-sort', this.isDown ? 'descending' : 'ascending');\n\
+if (this.columns[at] === this.order) head.setAttribute('aria-sort', this.isDown ? 'descending' : 'ascending');\n\
 else head.removeAttribute('aria-sort');\n\
 });\n\
 this.select.value = this.order.name;\n\
@@ -1218,11 +1227,11 @@ entryOf(bodies, row.group, () => make('tbody', null, this.groupRow(row.group, si
 return bodies.values();\n\
 }\n\
 groupRow({ topic, type, rows }, size) {\n\
-return make('tr', { class: 'group' }, make('th', { scope: 'rowgroup', colspan: COLUMNS.length }, ...topicName(topic),\n\
+return make('tr', { class: 'group' }, make('th', { scope: 'rowgroup', colspan: this.columns.length }, ...topicName(topic),\n\
 make('span', { class: 'type' }, ...typeName(type)), make('span', { class: 'size' }, partOf(size, rows.length, 'pair'))));\n\
 }\n\
 row(row) {\n\
-const cells = COLUMNS.map((column, at) => make(at === 0 ? 'th' : 'td',\n\
+const cells = this.columns.map((column, at) => make(at === 0 ? 'th' : 'td',\n\
 { class: `${column.name} ${column.class || ''}`, ...(at === 0 ? { scope: 'row' } : {}) }, column.cell(this.report, row)));\n\
 return make('tr', { id: `pair-${row.at + 1}`, class: `pair ${row.kind}` }, ...cells);\n\
 }\n\
@@ -1263,7 +1272,7 @@ if (!line) return;\n\
 line.classList.add('chosen');\n\
 line.querySelector('th a').setAttribute('aria-expanded', 'true');\n\
 line.after(make('tr', { class: 'detail' },\n\
-make('td', { colspan: COLUMNS.length }, pairDetail(this.report, this.report.rows[this.chosen]))));\n\
+make('td', { colspan: this.columns.length }, pairDetail(this.report, this.report.rows[this.chosen]))));\n\
 redrawChart();\n\
 }\n\
 }\n\
@@ -1303,7 +1312,7 @@ return make('tbody', null, head, ...lines, endpoints.length === 0 && make('tr', 
 function endpointRow(report, endpoint, rows) {\n\
 const links = rows.slice(0, NAMED_PAIRS).flatMap((row, at) => [at > 0 && ', ', pairLink(report, row)]);\n\
 const pairs = rows.length === 0 ? 'in no pair' : [...links, rows.length > NAMED_PAIRS && ` and ${counted(rows.length - NAMED_PAIRS)} more`];\n\
-return make('tr', { class: rows.length > 0 ? 'paired' : 'unpaired' },\n\
+return make('tr', rows.length > 0 ? null : { class: 'unpaired' },\n\
 make('th', { scope: 'row' }, endpoint.side, ' ', make('code', { class: 'guid' }, endpoint.guid.slice(25))),\n\
 make('td', null, make('div', null, ...topicName(endpoint.topic)), make('div', { class: 'type' }, ...typeName(endpoint.type))),\n\
 make('td', null, `${endpoint.reliability}, ${endpoint.durability}`),\n\

@@ -6,9 +6,9 @@ use Rattle.std.proofs.lemmas.Bool.Decides.{Decides-and, Decides-like}
 use Rattle.rtps_ids.specs.declared.identity.EntityId.{EntityId}
 use Rattle.rtps_ids.specs.declared.identity.Guid.{Guid}
 use Rattle.rtps_ids.specs.declared.identity.GuidPrefix.{GuidPrefix}
-use Rattle.rtps_receiver.specs.Speech.{IsAnswer, IsHeardBy, IsSpokenBy, NamesPair, is_answer, is_entity, is_for, is_for_all, is_heard_by, is_prefix, is_spoken_by, names, names_pair, reader_named, unknown_entity, writer_named}
+use Rattle.rtps_receiver.specs.Speech.{AsksPair, IsAnswer, IsHeardBy, IsRequest, IsSpokenBy, NamesPair, asks_pair, is_answer, is_entity, is_for, is_for_all, is_heard_by, is_prefix, is_request, is_spoken_by, names, names_pair, reader_named, unknown_entity, writer_named}
 use Rattle.rtps_receiver.specs.Values.{ActBodyValue, ActValue}
-use Rattle.rtps_receiver.specs.Values.ActBodyValue.{Data, Heartbeat, AckNack, Gap, DataFrag}
+use Rattle.rtps_receiver.specs.Values.ActBodyValue.{Data, Heartbeat, AckNack, Gap, DataFrag, NackFrag}
 
 prefix_decides : (one other : GuidPrefix) → Decides (is_prefix one other) (one ≡ other)
 prefix_decides one other = Decides-like _ (λ e. ap (λ (octets : _). let made : GuidPrefix = record { 0 = octets } in made) e) (λ e. ap (λ (p : GuidPrefix). p.0) e) (bytes_eq-Decides one.0 other.0)
@@ -38,6 +38,15 @@ pair_decides (Data value) reader writer = (λ e. cc, λ e. absurd e)
 pair_decides (Heartbeat value) reader writer = (λ e. cc, λ e. absurd e)
 pair_decides (Gap value) reader writer = (λ e. cc, λ e. absurd e)
 pair_decides (DataFrag value) reader writer = (λ e. cc, λ e. absurd e)
+pair_decides (NackFrag value) reader writer = (λ e. cc, λ e. absurd e)
+
+asked_decides : (body : ActBodyValue) (reader writer : EntityId) → Decides (asks_pair body reader writer) (AsksPair body reader writer)
+asked_decides (AckNack value) reader writer = Decides-and _ _ (entity_decides value.reader reader) (entity_decides value.writer writer)
+asked_decides (NackFrag value) reader writer = Decides-and _ _ (entity_decides value.reader reader) (entity_decides value.writer writer)
+asked_decides (Data value) reader writer = (λ e. cc, λ e. absurd e)
+asked_decides (Heartbeat value) reader writer = (λ e. cc, λ e. absurd e)
+asked_decides (Gap value) reader writer = (λ e. cc, λ e. absurd e)
+asked_decides (DataFrag value) reader writer = (λ e. cc, λ e. absurd e)
 
 pub spoken_decides : (act : ActValue) (writer : Guid) → Decides (is_spoken_by act writer) (IsSpokenBy act writer)
 spoken_decides act writer =
@@ -55,3 +64,9 @@ answer_decides act reader writer =
     Decides-like _ (λ h. record { source = h.0; dest = h.1.0; entities = h.1.1 }) (λ h. (h.source, (h.dest, h.entities)))
     (Decides-and _ _ (prefix_decides act.source reader.prefix)
     (Decides-and _ _ (for_decides act.dest writer.prefix) (pair_decides act.body reader.entity writer.entity)))
+
+pub request_decides : (act : ActValue) (reader writer : Guid) → Decides (is_request act reader writer) (IsRequest act reader writer)
+request_decides act reader writer =
+    Decides-like _ (λ h. record { source = h.0; dest = h.1.0; entities = h.1.1 }) (λ h. (h.source, (h.dest, h.entities)))
+    (Decides-and _ _ (prefix_decides act.source reader.prefix)
+    (Decides-and _ _ (for_decides act.dest writer.prefix) (asked_decides act.body reader.entity writer.entity)))

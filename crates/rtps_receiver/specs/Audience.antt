@@ -20,6 +20,6 @@ abbrev pub audience_at : Option GuidPrefix → Option EntityId → Option Audien
 audience_at dest (Some reader) = Some (record { dest = dest; reader = reader })
 audience_at dest None = None
 
--- the readers that an act of a writer is sent to; an ACKNACK has no audience
+-- the readers that an act of a writer is sent to; an ACKNACK and a NACK_FRAG have none
 abbrev pub audience_of : ActValue → Option Audience
 audience_of act = audience_at act.dest (reader_named act.body)

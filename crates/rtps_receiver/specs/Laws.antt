@@ -6,7 +6,7 @@ use Rattle.rtps_wire.specs.Values.{BodyValue, ItemValue}
 use Rattle.rtps_wire.specs.declared.header.Header.{Header}
 use Rattle.rtps_receiver.specs.Acts.{act_at, act_body, acts_of, says_destination, says_source, says_time, state_at_start, state_behind}
 use Rattle.rtps_ids.specs.declared.identity.Guid.{Guid}
-use Rattle.rtps_receiver.specs.Speech.{IsSpokenBy, is_ack_nack, origin_of}
+use Rattle.rtps_receiver.specs.Speech.{IsSpokenBy, is_of_reader, origin_of}
 use Rattle.rtps_receiver.specs.Values.{ActBodyValue, ActValue}
 use Rattle.rtps_receiver.specs.declared.state.State.{State}
 
@@ -51,6 +51,6 @@ TheStateIsWhatStands = (start : State) (items : List ItemValue) → StandsBehind
 abbrev pub ActsAreOfItems : Type 0
 ActsAreOfItems = (reading : Reading) (header : Header) (act : ActValue) → reading.header ≡ Some header → Contains (acts_of reading) act ↔ IsActOf header reading.items act
 
--- the acts that a writer speaks are exactly those from it that are no ACKNACK
+-- the acts that a writer speaks are exactly those from it that are no ACKNACK and no NACK_FRAG
 abbrev pub SpeakersAreOrigins : Type 0
-SpeakersAreOrigins = (act : ActValue) (writer : Guid) → IsSpokenBy act writer ↔ ((is_ack_nack act.body ≡ false) × (origin_of act ≡ writer))
+SpeakersAreOrigins = (act : ActValue) (writer : Guid) → IsSpokenBy act writer ↔ ((is_of_reader act.body ≡ false) × (origin_of act ≡ writer))

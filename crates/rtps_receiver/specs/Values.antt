@@ -13,6 +13,7 @@ use Rattle.rtps_wire.specs.declared.body.AckNackBody.{AckNackBody}
 use Rattle.rtps_wire.specs.declared.body.GapBody.{GapBody}
 use Rattle.rtps_wire.specs.declared.body.HeartbeatBody.{HeartbeatBody}
 use Rattle.rtps_wire.specs.declared.fault.Refusal.{Refusal}
+use Rattle.rtps_wire.specs.declared.nack_frag.NackFrag.{NackFrag as NackFragBody}
 use Rattle.rtps_receiver.specs.declared.act.Act.{Act}
 use Rattle.rtps_receiver.specs.declared.act.ActBody.{ActBody}
 use Rattle.rtps_receiver.specs.declared.act.ActBody.TheVariants as body
@@ -32,6 +33,7 @@ pub data ActBodyValue : Type 0 where
   AckNack : (value : AckNackBody) → ActBodyValue
   Gap : (value : GapBody) → ActBodyValue
   DataFrag : (value : FragmentValue) → ActBodyValue
+  NackFrag : (value : NackFragBody) → ActBodyValue
 
 -- an act with the receiver's state at its place
 pub record ActValue : Type 0 where
@@ -55,6 +57,7 @@ act_body_value (body.Heartbeat value) = Heartbeat value
 act_body_value (body.AckNack value) = AckNack value
 act_body_value (body.Gap value) = Gap value
 act_body_value (body.DataFrag value) = DataFrag (fragment_value value)
+act_body_value (body.NackFrag value) = NackFrag value
 
 -- what an act of the code stands for
 abbrev pub act_value : Act → ActValue

@@ -1,5 +1,5 @@
 use rtps_ids::{EntityId, GuidPrefix, Order, SeqNum, Stamp, Vendor, Version};
-use rtps_wire::{AckNackBody, DataBody, GapBody, HeartbeatBody, Payload};
+use rtps_wire::{AckNackBody, DataBody, GapBody, HeartbeatBody, NackFrag, Payload};
 
 /// What a DATA_FRAG says: that a sample of this number exists, and, where its fragments were put together, the sample
 /// (DDSI-RTPS 2.5, 8.3.8.3 "DataFrag").
@@ -21,10 +21,11 @@ pub enum ActBody<'a> {
     AckNack(AckNackBody),
     Gap(GapBody),
     DataFrag(FragmentBody<'a>),
+    NackFrag(NackFrag),
 }
 
-/// A DATA, HEARTBEAT, ACKNACK, GAP or DATA_FRAG with the receiver's state at its place (DDSI-RTPS 2.5, 8.3.4 "The RTPS Message
-/// Receiver").
+/// A DATA, HEARTBEAT, ACKNACK, GAP, DATA_FRAG or NACK_FRAG with the receiver's state at its place (DDSI-RTPS 2.5, 8.3.4 "The
+/// RTPS Message Receiver").
 #[derive(Clone, Copy, PartialEq, Eq, Debug)]
 pub struct Act<'a> {
     /// The place of its first octet in the datagram, from 0.

@@ -3,15 +3,16 @@
 ghost use Rattle.std.specs.Prelude.{◌≡◌, ◌↔◌, true};
 ghost use Rattle.rtps_ids.specs.declared.identity.Guid.{Guid};
 ghost use Rattle.rtps_receiver.specs.Laws.{ActsAreOfItems, SpeakersAreOrigins, TheStateIsWhatStands};
-ghost use Rattle.rtps_receiver.specs.Speech.{IsAnswer, IsHeardBy, IsSpokenBy, is_answer, is_heard_by, is_spoken_by};
+ghost use Rattle.rtps_receiver.specs.Speech.{IsAnswer, IsHeardBy, IsRequest, IsSpokenBy, is_answer, is_heard_by, is_request, is_spoken_by};
 ghost use Rattle.rtps_receiver.specs.Values.{ActValue};
 
-/// `is_spoken_by`, `is_heard_by` and `is_answer` are true if and only if the relations of these names hold.
-#[tactic(auto, using(crate::proofs::SpeechTests::spoken_decides, crate::proofs::SpeechTests::heard_decides, crate::proofs::SpeechTests::answer_decides))]
+/// `is_spoken_by`, `is_heard_by`, `is_answer` and `is_request` are true if and only if the relations of these names hold.
+#[tactic(auto, using(crate::proofs::SpeechTests::spoken_decides, crate::proofs::SpeechTests::heard_decides, crate::proofs::SpeechTests::answer_decides, crate::proofs::SpeechTests::request_decides))]
 pub fn tests_say_what_relations_say()
     ensures spoken { (act : ActValue) (writer : Guid) → (is_spoken_by act writer ≡ true) ↔ IsSpokenBy act writer }
     ensures heard { (act : ActValue) (reader : Guid) → (is_heard_by act reader ≡ true) ↔ IsHeardBy act reader }
     ensures answers { (act : ActValue) (reader : Guid) (writer : Guid) → (is_answer act reader writer ≡ true) ↔ IsAnswer act reader writer }
+    ensures asks { (act : ActValue) (reader : Guid) (writer : Guid) → (is_request act reader writer ≡ true) ↔ IsRequest act reader writer }
 {}
 
 /// The receiver's state at a place: the source is that of the last INFO_SRC before it, or of the header if there is
@@ -26,7 +27,7 @@ pub fn acts_are_of_items()
     ensures { ActsAreOfItems }
 {}
 
-/// The acts that a writer speaks are exactly those that have its GUID as origin and are no ACKNACK.
+/// The acts that a writer speaks are exactly those that have its GUID as origin and are no ACKNACK and no NACK_FRAG.
 pub fn speakers_are_origins()
     ensures { SpeakersAreOrigins }
 {}

@@ -37,11 +37,11 @@ impl<'a> Act<'a> {
     ghost use Rattle.std.specs.Prelude.{◌↔◌, ◌≡◌, IsTrue, Some};
     ghost use Rattle.rtps_ids.specs.declared.identity.Guid.{Guid as GuidValue};
     ghost use Rattle.rtps_receiver.specs.Audience.{audience_of};
-    ghost use Rattle.rtps_receiver.specs.Speech.{IsAnswer, IsHeardBy, IsSpokenBy, is_answer, is_heard_by, is_spoken_by, origin_of, reader_named, writer_answered, writer_named};
+    ghost use Rattle.rtps_receiver.specs.Speech.{IsAnswer, IsHeardBy, IsRequest, IsSpokenBy, asks_pair, is_answer, is_heard_by, is_request, is_spoken_by, origin_of, reader_named, writer_answered, writer_named};
     ghost use Rattle.rtps_receiver.specs.Values.{act_value};
 
-    /// The GUID that the act is from: its source, and the reader that an ACKNACK names or the writer that any other act
-    /// names.
+    /// The GUID that the act is from: its source, and the reader that an ACKNACK or a NACK_FRAG names, or the writer that any
+    /// other act names.
     pub fn origin(&self) -> Guid
         ensures { result ≡ origin_of (act_value self.now) }
     {
@@ -51,6 +51,7 @@ impl<'a> Act<'a> {
             ActBody::Gap(gap) => gap.writer,
             ActBody::DataFrag(fragment) => fragment.writer,
             ActBody::AckNack(ack_nack) => ack_nack.reader,
+            ActBody::NackFrag(nack_frag) => nack_frag.reader,
         };
         Guid {
             prefix: self.source,
@@ -58,8 +59,8 @@ impl<'a> Act<'a> {
         }
     }
 
-    /// Whether this writer sent the act: an act from its participant that names it as the writer. False for an
-    /// ACKNACK.
+    /// Whether this writer sent the act: an act from its participant that names it as the writer. False for an ACKNACK and a
+    /// NACK_FRAG.
     pub fn spoken_by(&self, writer: Guid) -> bool
         ensures relation { IsTrue result ↔ IsSpokenBy (act_value self.now) writer }
         ensures test { result ≡ is_spoken_by (act_value self.now) writer }
@@ -68,7 +69,7 @@ impl<'a> Act<'a> {
     }
 
     /// Whether the act is sent to this reader: an act to everyone or to its participant that names
-    /// this reader or every reader. False for an ACKNACK. It does not say whether the reader received it.
+    /// this reader or every reader. False for an ACKNACK and a NACK_FRAG. It does not say whether the reader received it.
     pub fn heard_by(&self, reader: Guid) -> bool
         ensures relation { IsTrue result ↔ IsHeardBy (act_value self.now) reader }
         ensures test { result ≡ is_heard_by (act_value self.now) reader }
@@ -79,7 +80,7 @@ impl<'a> Act<'a> {
         }
     }
 
-    /// The readers that an act of a writer is sent to. None for an ACKNACK.
+    /// The readers that an act of a writer is sent to. None for an ACKNACK and a NACK_FRAG.
     pub fn audience(&self) -> Option<Audience>
         ensures { result ≡ audience_of (act_value self.now) }
     {
@@ -114,7 +115,31 @@ impl<'a> Act<'a> {
         })
     }
 
-    /// The writer that the act names, unless it is an ACKNACK.
+    /// Whether the act is a request of this reader to this writer: an ACKNACK or a NACK_FRAG of the reader, whose destination is
+    /// the writer's participant. False for any other act, and for one to everyone.
+    pub fn asks(&self, reader: Guid, writer: Guid) -> bool
+        ensures relation { IsTrue result ↔ IsRequest (act_value self.now) reader writer }
+        ensures test { result ≡ is_request (act_value self.now) reader writer }
+    {
+        self.source == reader.prefix
+            && self.dest == Some(writer.prefix)
+            && self.asks_pair(reader.entity, writer.entity)
+    }
+
+    /// Whether the act is an ACKNACK or a NACK_FRAG that names these two.
+    fn asks_pair(&self, reader: EntityId, writer: EntityId) -> bool
+        ensures { result ≡ asks_pair (act_value self.now).body reader writer }
+    {
+        match &self.body {
+            ActBody::AckNack(ack_nack) => ack_nack.reader == reader && ack_nack.writer == writer,
+            ActBody::NackFrag(nack_frag) => {
+                nack_frag.reader == reader && nack_frag.writer == writer
+            }
+            _ => false,
+        }
+    }
+
+    /// The writer that the act names, unless it is an ACKNACK or a NACK_FRAG.
     fn writer_named(&self) -> Option<EntityId>
         ensures { result ≡ writer_named (act_value self.now).body }
     {
@@ -123,11 +148,11 @@ impl<'a> Act<'a> {
             ActBody::Heartbeat(heartbeat) => Some(heartbeat.writer),
             ActBody::Gap(gap) => Some(gap.writer),
             ActBody::DataFrag(fragment) => Some(fragment.writer),
-            ActBody::AckNack(_) => None,
+            ActBody::AckNack(_) | ActBody::NackFrag(_) => None,
         }
     }
 
-    /// The reader that the act names, unless it is an ACKNACK.
+    /// The reader that the act names, unless it is an ACKNACK or a NACK_FRAG.
     fn reader_named(&self) -> Option<EntityId>
         ensures { result ≡ reader_named (act_value self.now).body }
     {
@@ -136,7 +161,7 @@ impl<'a> Act<'a> {
             ActBody::Heartbeat(heartbeat) => Some(heartbeat.reader),
             ActBody::Gap(gap) => Some(gap.reader),
             ActBody::DataFrag(fragment) => Some(fragment.reader),
-            ActBody::AckNack(_) => None,
+            ActBody::AckNack(_) | ActBody::NackFrag(_) => None,
         }
     }
 }

@@ -1,17 +1,20 @@
 -- What is kept of rows, and what is found of them.
-use Rattle.std.proofs.Common.{◌≡◌, ◌∙◌, ◌&&◌, ◌||◌, ◌==◌, ◌∷◌, [], ℕ, Bool, true, false, cond, List, All, ap, ap₂, filter, length, map, not, refl, subst, sym}
+use Rattle.std.proofs.Common.{◌≡◌, ◌∙◌, ◌&&◌, ◌||◌, ◌==◌, ◌∷◌, [], ℕ, Bool, true, false, cond, List, All, Option, None, ap, ap₂, filter, length, map, not, refl, subst, sym}
 use Rattle.std.proofs.lemmas.List.{length-map}
-use Rattle.std.proofs.lemmas.List.Elements.{All-cons, All-filter, All-head, All-nil, All-same, All-tail, All-weaker}
+use Rattle.std.proofs.lemmas.List.Elements.{All-filter, All-head, All-same, All-tail, All-weaker}
 use Rattle.std.proofs.lemmas.List.Sums.{length-filter}
 use Rattle.std.specs.Prelude.{count_by}
-use Rattle.rtps_report.specs.Vocabulary.{ActValue, Counts, DirectoryValue, Explained, Explanation, ExplanationValue, Fragments, HasOneExplanation, IsJudgedFrom, IsNamed, IsReportBy, Pair, Read, Report, Row, Skipped, acts_in, explanation_value, intake_as, intake_of, row_of}
-use Rattle.rtps_evidence.specs.Evidence.{IsEvidenceFrom}
-use Rattle.rtps_fragments.specs.Laws.{RecordedVerdictIsOfRuns}
-use Rattle.rtps_report.specs.Rows.{RowsValue, is_kept}
-use Rattle.rtps_report.specs.Asked.{AskedValue, are_read, asks_all_rows, is_plain}
-use Rattle.rtps_report.specs.Reported.{IsReportAs, facts_of_report, is_row_kept, missed_of, missed_rows}
+use Rattle.rtps_report.specs.Vocabulary.{ActValue, Counts, DirectoryValue, Explained, Explanation, ExplanationValue, Fragments, HasOneExplanation, Intake, IsNamed, Location, Pair, Read, Report, Row, Skipped, explanation_value, intake_as, intake_of, row_of}
+use Rattle.rtps_audit.specs.Placed.{placed_in}
+use Rattle.rtps_audit.specs.Said.{datagrams_until}
+use Rattle.rtps_evidence.specs.Evidence.{IsEvidenceBy, IsEvidenceFrom}
+use Rattle.rtps_evidence.specs.Spans.{IsWhole, is_joined_here, since_of}
+use Rattle.rtps_evidence.specs.declared.evidence.Evidence.{Evidence}
+use Rattle.rtps_report.specs.Rows.{RowsValue, acts_read, is_kept}
+use Rattle.rtps_report.specs.Asked.{AskedValue, are_read, asks_all_rows, is_of_complete, is_plain}
+use Rattle.rtps_report.specs.Reported.{IsReportAs, facts_of_report, is_row_kept, missed_of, missed_rows, missed_since, since_in}
 use Rattle.rtps_report.specs.Findings.{ending_as, ending_by, findings_of, when}
-use Rattle.rtps_report.specs.Laws.{ExplainedRowsAreByFragments, HasOneFullReport, IsFragmentRow, RowsAreByFragments}
+use Rattle.rtps_report.specs.Laws.{HasOneFullReport}
 use Rattle.rtps_report.specs.FullReport.{IsExplainedAs, RecordingValue, facts_of_rows, is_left_out, missed_in, of_all_pairs}
 
 -- ---- lists
@@ -42,12 +45,6 @@ count_same p q xs all = sym (length-filter p xs) ∙ ap length (filter_same p q 
 
 pub count_map : {X Y : Type 0} (f : X → Y) (p : Y → Bool) (xs : List X) → count_by p (map f xs) ≡ count_by (λ x. p (f x)) xs
 count_map f p xs = sym (length-filter p (map f xs)) ∙ ap length (sym (map_filter f p xs)) ∙ length-map (filter (λ x. p (f x)) xs) f ∙ length-filter (λ x. p (f x)) xs
-
--- what is so of all that elements are mapped to
-all_unmapped : {X Y : Type 0} (f : Y → X) (P : X → Type 0) (ys : List Y) → All P (map f ys) → All (λ y. P (f y)) ys
-all_unmapped f P [] all = All-nil (λ y. P (f y))
-all_unmapped f P (y ∷ ys) all =
-    All-cons (λ y. P (f y)) y ys (All-head P (f y) (map f ys) all) (all_unmapped f P ys (All-tail P (f y) (map f ys) all))
 
 -- ---- rows
 
@@ -106,61 +103,76 @@ rows_kept rows acts directory explained named =
     ap (map row_of) (filter_same (λ (row : Explanation). is_kept rows acts row.topic.now row.pair) (λ (row : Explanation). is_row_kept rows acts directory (row_of row)) explained by_name)
     ∙ map_filter row_of (is_row_kept rows acts directory) explained
 
--- a report whose rows are those of explained ones
-pub report_of_explained : (asked : AskedValue) (recording : List (List ℕ)) (explained : Explained) (report : Report) → IsExplainedAs asked recording explained
+-- a report whose rows are those of explained ones, which are by the whole recording
+pub report_of_explained : (asked : AskedValue) (recording : List (List ℕ)) (explained : Explained) (report : Report) → asked.spans ≡ false → IsExplainedAs asked recording explained
     → report.rows.items ≡ map row_of explained.rows.items → report.counts ≡ explained.counts → IsReportAs asked recording report
-report_of_explained asked recording explained report explains rows counts =
+report_of_explained asked recording explained report spans explains rows counts =
     let whole = explains.explains in
     record {
       whole = whole.report;
       reports = whole.reports;
       directory = whole.directory;
       is_map = whole.is_map;
-      rows = rows ∙ ap (map row_of) explains.rows ∙ rows_kept asked.rows (acts_in recording) whole.directory explains.whole.rows.items whole.named
-          ∙ ap (filter (is_row_kept asked.rows (acts_in recording) whole.directory)) whole.rows;
+      rows = rows ∙ ap (map row_of) explains.rows ∙ rows_kept asked.rows (acts_read asked.fragments recording) whole.directory explains.whole.rows.items whole.named
+          ∙ ap (filter (is_row_kept asked.rows (acts_read asked.fragments recording) whole.directory)) (whole.rows spans);
       counts = counts ∙ explains.counts ∙ whole.counts;
     }
 
+-- a row has as many missed numbers by its evidence as by what is taken in
+missed_by_evidence : (from : ℕ) (pair : Pair) (intake : Intake) (evidence : Evidence) → IsEvidenceFrom from pair intake evidence → evidence.missed ≡ missed_of from intake pair
+missed_by_evidence from pair intake evidence is =
+    let span = is.span in
+    let whole : IsWhole from pair intake span = is.extent in
+    let since : since_of span ≡ since_in intake pair =
+    ap₂ (λ (here : Bool) (joined : Option Location). cond here joined None) (whole.here ∙ ap (λ joined. is_joined_here joined pair (placed_in intake.acts)) whole.joined) whole.joined in
+    is.shown.missed.count
+    ∙ ap (λ until. missed_since span.from (since_of span) pair (datagrams_until until intake.acts)) whole.until
+    ∙ ap (λ first. missed_since first (since_of span) pair intake.acts) whole.first
+    ∙ ap (λ place. missed_since from place pair intake.acts) since
+
 -- the rows with missed numbers are as many by their evidence as by the recording
-pub missed_of_explained : (asked : AskedValue) (recording : List (List ℕ)) (explained : Explained) → IsExplainedAs asked recording explained
+pub missed_of_explained : (asked : AskedValue) (recording : List (List ℕ)) (explained : Explained) → asked.spans ≡ false → IsExplainedAs asked recording explained
     → missed_in (map explanation_value explained.rows.items) ≡ missed_rows asked.from (intake_as asked.fragments recording) (map row_of explained.rows.items)
-missed_of_explained asked recording explained explains =
-    let shown : All (λ (row : Explanation). IsEvidenceFrom asked.from row.pair (intake_as asked.fragments recording) row.evidence) explained.rows.items =
-    All-same (λ (row : Explanation). IsEvidenceFrom asked.from row.pair (intake_as asked.fragments recording) row.evidence) _ _ explains.rows
-    (All-filter _ (λ (row : Explanation). IsEvidenceFrom asked.from row.pair (intake_as asked.fragments recording) row.evidence) explains.whole.rows.items explains.explains.shown) in
+missed_of_explained asked recording explained spans explains =
+    let intake = intake_as asked.fragments recording in
+    let IsShownRow : Explanation → Type 0 = λ row. IsEvidenceFrom asked.from row.pair intake row.evidence in
+    let whole : All IsShownRow explains.whole.rows.items =
+    subst (λ spans. All (λ (row : Explanation). IsEvidenceBy spans asked.from row.pair intake row.evidence) explains.whole.rows.items) spans explains.explains.shown in
+    let shown : All IsShownRow explained.rows.items = All-same IsShownRow _ _ explains.rows (All-filter _ IsShownRow explains.whole.rows.items whole) in
     let by_evidence = λ (row : ExplanationValue). not (row.evidence.missed == 0) in
-    let by_recording = λ (row : Row). not (missed_of asked.from (intake_as asked.fragments recording) row.pair == 0) in
+    let by_recording = λ (row : Row). not (missed_of asked.from intake row.pair == 0) in
     count_map explanation_value by_evidence explained.rows.items
     ∙ count_same (λ (row : Explanation). not (row.evidence.missed == 0)) (λ (row : Explanation). by_recording (row_of row)) explained.rows.items
-    (All-weaker (λ (row : Explanation). IsEvidenceFrom asked.from row.pair (intake_as asked.fragments recording) row.evidence)
-    (λ (row : Explanation). not (row.evidence.missed == 0) ≡ by_recording (row_of row)) (λ row evidence. ap (λ (n : ℕ). not (n == 0)) evidence.missed.count) explained.rows.items shown)
+    (All-weaker IsShownRow (λ (row : Explanation). not (row.evidence.missed == 0) ≡ by_recording (row_of row))
+    (λ row evidence. ap (λ (n : ℕ). not (n == 0)) (missed_by_evidence asked.from row.pair intake row.evidence evidence)) explained.rows.items shown)
     ∙ sym (count_map row_of by_recording explained.rows.items)
 
 -- ---- endings
 
-when_same : (asked : Bool) (n other : ℕ) → (asked ≡ true → n ≡ other) → when asked n ≡ when asked other
-when_same true n other same = same refl
-when_same false n other same = refl
+when_same : (strict more : Bool) (n other : ℕ) → (strict ≡ true → n ≡ other) → when (strict && more) n ≡ when (strict && more) other
+when_same true true n other same = same refl
+when_same true false n other same = refl
+when_same false more n other same = refl
 
 -- how many rows have missed numbers matters only where it is asked
 pub ending_same : (asked : AskedValue) (missed other : ℕ) (rows : List Row) (counts : Counts) (recording : RecordingValue) → (asked.strict ≡ true → missed ≡ other)
     → ending_as asked (facts_of_report missed rows counts recording) ≡ ending_as asked (facts_of_report other rows counts recording)
 ending_same asked missed other rows counts recording same =
     let facts = facts_of_report other rows counts recording in
-    ap (λ n. ending_by (record (findings_of asked facts) { missed = n }) facts.complete) (when_same asked.strict missed other same)
+    ap (λ n. ending_by (record (findings_of asked facts) { missed = n }) facts.met) (when_same asked.strict (is_of_complete asked.standard) missed other same)
 
 -- ---- one report
 
 pub one_rows : (asked : AskedValue) (recording : List (List ℕ)) (one other : Report) (is : IsReportAs asked recording one) (also : IsReportAs asked recording other)
     → is.whole.rows.items ≡ also.whole.rows.items → is.directory ≡ also.directory → one.rows.items ≡ other.rows.items
 one_rows asked recording one other is also rows directory =
-    is.rows ∙ ap (filter (is_row_kept asked.rows (acts_in recording) is.directory)) rows
-    ∙ ap (λ found. filter (is_row_kept asked.rows (acts_in recording) found) also.whole.rows.items) directory ∙ sym also.rows
+    is.rows ∙ ap (filter (is_row_kept asked.rows (acts_read asked.fragments recording) is.directory)) rows
+    ∙ ap (λ found. filter (is_row_kept asked.rows (acts_read asked.fragments recording) found) also.whole.rows.items) directory ∙ sym also.rows
 
 pub one_explained : (asked : AskedValue) (recording : List (List ℕ)) (one other : Explained) (is : IsExplainedAs asked recording one) (also : IsExplainedAs asked recording other)
     → map explanation_value is.whole.rows.items ≡ map explanation_value also.whole.rows.items → map explanation_value one.rows.items ≡ map explanation_value other.rows.items
 one_explained asked recording one other is also rows =
-    let test = λ (row : ExplanationValue). is_kept asked.rows (acts_in recording) row.topic row.pair in
+    let test = λ (row : ExplanationValue). is_kept asked.rows (acts_read asked.fragments recording) row.topic row.pair in
     ap (map explanation_value) is.rows ∙ map_filter explanation_value test is.whole.rows.items ∙ ap (filter test) rows
     ∙ sym (map_filter explanation_value test also.whole.rows.items) ∙ sym (ap (map explanation_value) also.rows)
 
@@ -174,8 +186,8 @@ pub one_full_report : HasOneExplanation → HasOneFullReport
 one_full_report law asked recording one other is also =
     let explains = is.parts.explains in
     let explained = also.parts.explains in
-    let acts = acts_in recording.datagrams in
-    let whole = law asked.from (intake_as asked.fragments recording.datagrams) explains.whole explained.whole explains.explains explained.explains in
+    let acts = acts_read asked.fragments recording.datagrams in
+    let whole = law asked.spans asked.from (intake_as asked.fragments recording.datagrams) explains.whole explained.whole explains.explains explained.explains in
     let rows = one_explained asked recording.datagrams one.explained other.explained explains explained whole.0 in
     let counts = explains.counts ∙ whole.1 ∙ sym explained.counts in
     record {
@@ -183,27 +195,5 @@ one_full_report law asked recording one other is also =
       counts = counts;
       left_out = ap (map explanation_value) is.parts.left_out_too ∙ one_left_out asked acts explains.whole.rows.items explained.whole.rows.items whole.0
           ∙ sym (ap (map explanation_value) also.parts.left_out_too);
-      ending = is.ends ∙ ap₂ (λ (rows : List ExplanationValue) (counts : Counts). ending_as asked (facts_of_rows rows counts recording)) rows counts ∙ sym also.ends;
+      ending = is.ends ∙ ap₂ (λ (rows : List ExplanationValue) (counts : Counts). ending_as asked (facts_of_rows asked rows counts recording)) rows counts ∙ sym also.ends;
     }
-
--- ---- verdicts where fragments are read
-
-whole_by_fragments : RecordedVerdictIsOfRuns → (asked : AskedValue) (recording : List (List ℕ)) (report : Report) → asked.fragments ≡ Read
-    → IsReportBy asked.from (intake_as asked.fragments recording) report → All (IsFragmentRow asked.from recording) report.rows.items
-whole_by_fragments law asked recording report reads is =
-    let judged = subst (λ choice. All (IsJudgedFrom asked.from (intake_as choice recording).acts) report.rows.items) reads is.judged in
-    All-weaker (IsJudgedFrom asked.from (intake_as Read recording).acts) (IsFragmentRow asked.from recording)
-    (λ row verdict. (law asked.from row.pair.writer row.pair.reader recording row.verdict).1 verdict) report.rows.items judged
-
-pub rows_by_fragments : RecordedVerdictIsOfRuns → RowsAreByFragments
-rows_by_fragments law asked recording report reads is =
-    let whole = whole_by_fragments law asked recording is.whole reads is.reports in
-    All-same (IsFragmentRow asked.from recording) _ _ is.rows (All-filter _ (IsFragmentRow asked.from recording) is.whole.rows.items whole)
-
-pub explained_by_fragments : RecordedVerdictIsOfRuns → ExplainedRowsAreByFragments
-explained_by_fragments law asked recording explained reads is =
-    let ByFragments = IsFragmentRow asked.from recording in
-    let whole = whole_by_fragments law asked recording is.explains.report reads is.explains.reports in
-    let rows : All (λ (row : Explanation). ByFragments (row_of row)) is.whole.rows.items =
-    all_unmapped row_of ByFragments is.whole.rows.items (All-same ByFragments _ _ is.explains.rows whole) in
-    All-same (λ (row : Explanation). ByFragments (row_of row)) _ _ is.rows (All-filter _ (λ (row : Explanation). ByFragments (row_of row)) is.whole.rows.items rows)

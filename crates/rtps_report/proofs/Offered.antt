@@ -1,6 +1,6 @@
 -- Lemmas for the crates above: rows that are asked for are the same where the report is; texts of rows and their endings are decided by
 -- the recording; where nothing but a number is asked, they are those by this number.
-use Rattle.std.proofs.Common.{◌≡◌, ◌∙◌, ℕ, List, ap, filter, map, refl, subst, sym}
+use Rattle.std.proofs.Common.{◌≡◌, ◌∙◌, ℕ, false, List, ap, filter, map, refl, subst, sym}
 use Rattle.rtps_report.specs.Vocabulary.{Counts, ExplanationValue, HasOneExplanation, acts_in, explanation_value}
 use Rattle.rtps_report.specs.Asked.{AskedValue, plainly}
 use Rattle.rtps_report.specs.FullReport.{AreRowsTold, AreRowsToldFrom, RecordingValue, RowsForm, ending_of_rows, is_left_out, rows_of}
@@ -30,7 +30,7 @@ rows_told_once law IsForm unique asked = λ recording one other ending last is a
 
 pub rows_told_from_once : HasOneExplanation → (IsForm : RowsForm) → HasOneForm IsForm → (from : ℕ) → HasOneText (AreRowsToldFrom IsForm from)
 rows_told_from_once law IsForm unique from = λ recording one other ending last is also.
-    let whole = law from _ is.explained also.explained is.explains also.explains in (
+    let whole = law false from _ is.explained also.explained is.explains also.explains in (
       unique (map explanation_value also.explained.rows.items) also.explained.counts recording one other
           (form_of IsForm _ _ is.explained.counts also.explained.counts recording one whole.0 whole.1 is.is_text) also.is_text,
       is.ends ∙ ap ending_of_rows whole.0 ∙ sym also.ends,

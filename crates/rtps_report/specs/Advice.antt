@@ -1,18 +1,38 @@
--- What to do for a pair that is not complete, or has missed numbers. own: it is chosen by what the recording shows of the
--- pair, and nothing else, so that one case has one advice. The guide prints the cases and their sentences.
-use Rattle.std.specs.Prelude.{ℕ, ℤ, ◌==◌, ◌||◌, not, nat_lt, int_lt, Bool, true, false, if◌then◌else◌, List, codes, length, Option, Some, None, is_none}
+-- What to do for a pair that is not clean. own: it is chosen by what the recording shows of the
+-- pair, by what was not read of it, and by the first number asked for, so that one case has one advice. The guide prints the cases and their sentences.
+use Rattle.std.specs.Prelude.{ℕ, ℤ, ◌==◌, ◌&&◌, not, nat_lt, int_lt, Bool, true, false, if◌then◌else◌, List, codes, length, Option, Some, None, is_none, is_some}
 use Rattle.rtps_audit.specs.Speech.{natural}
-use Rattle.rtps_report.specs.Vocabulary.{Absent, Announcement, Claim, CompleteGrounds, ConflictGrounds, EvidenceValue, ExplanationValue, GroundsValue, Key, OpenGrounds, PayloadValue, Scope, SentValue, Teller, UnfoundedGrounds, Whole}
-use Rattle.rtps_report.specs.Reported.{is_complete, number_of}
+use Rattle.rtps_report.specs.Vocabulary.{Absent, Announcement, Claim, CompleteGrounds, ConflictGrounds, EvidenceValue, FirstMissed, GroundsValue, Key, OpenGrounds, PayloadValue, Scope, SentValue, Teller, UnfoundedGrounds, Whole}
+use Rattle.rtps_report.specs.Reported.{number_of}
+use Rattle.rtps_report.specs.RowFacts.{is_joined_in, is_tail, left_in, outcomes_of, row_from}
 use Rattle.rtps_report.specs.declared.advice.Advice.{Advice}
-use Rattle.rtps_report.specs.declared.advice.Advice.TheVariants.{Dropped, AskedFor, OpenUnread, OpenUntold, NotAsked, NeverAnswered, Silent, Alike, Unlike, Relayed, UnfoundedUnread, Late, Unannounced, BeganLate, Lacking}
+use Rattle.rtps_report.specs.declared.advice.Advice.TheVariants.{MissedUnsent, MissedAgain, MissedOnce, Unsent, Unanswered, Tail, Left, OpenUnread, OpenUntold, NotAsked, NeverAnswered, Silent, Alike, Unlike, Relayed, UnfoundedUnread, Late, Unannounced, BeganLate, Lacking}
 
--- of an open pair, by what told its number, and by how often its reader was asked since its last answer
+-- of a pair with missed numbers, by the least of them
+abbrev pub missed_advice : FirstMissed → Advice
+missed_advice first = if not first.is_sent then MissedUnsent else (if is_some first.again then MissedAgain else MissedOnce)
+
+-- of a pair that has missed numbers, or else another
+abbrev pub missed_or : Option FirstMissed → Advice → Advice
+missed_or None other = other
+missed_or (Some first) other = missed_advice first
+
+-- of a complete pair
+abbrev pub complete_advice : EvidenceValue → Advice
+complete_advice evidence = missed_or evidence.first_missed (if nat_lt 0 (outcomes_of evidence).unsent then Unsent else Unanswered)
+
+-- of an open pair whose number nothing tells
+abbrev pub untold_open_advice : Scope → Advice
+untold_open_advice scope = if scope.unread then OpenUnread else OpenUntold
+
+-- of an open pair without missed numbers, by what told its number, and by how often its reader was asked since its last answer
 abbrev pub open_advice : Scope → EvidenceValue → Option Teller → ℕ → Advice
 open_advice scope evidence teller count =
-    if nat_lt 0 evidence.missed then AskedFor
-    else (if is_none teller then (if scope.unread then OpenUnread else OpenUntold)
-    else (if count == 0 then NotAsked else (if is_none evidence.acknowledgement then NeverAnswered else Silent)))
+    let left = is_some (left_in evidence.in_span) in
+    if is_tail evidence && not left then Tail
+    else (if is_none evidence.acknowledgement && left then Left
+    else (if is_none teller then untold_open_advice scope
+    else (if count == 0 then NotAsked else (if is_none evidence.acknowledgement then NeverAnswered else Silent))))
 
 -- two payloads are of one kind and have as many octets
 abbrev pub are_alike : PayloadValue → PayloadValue → Bool
@@ -51,12 +71,12 @@ unfounded_advice scope evidence teller claim =
     if stand_together teller claim then Relayed
     else (if scope.unread then UnfoundedUnread
     else (if is_none teller then (if is_above evidence.announcement (number_of evidence.verdict) then Unannounced
-    else (if natural (number_of evidence.verdict) == scope.from then BeganLate else Lacking)) else Late))
+    else (if (natural (number_of evidence.verdict) == row_from scope.from evidence.in_span) && not (is_joined_in evidence.in_span) then BeganLate else Lacking)) else Late))
 
 -- what to do for a pair whose verdict rests on this
 abbrev pub advice_by : Scope → EvidenceValue → GroundsValue → Advice
-advice_by scope evidence CompleteGrounds = Dropped
-advice_by scope evidence (OpenGrounds teller count last) = open_advice scope evidence teller count
+advice_by scope evidence CompleteGrounds = complete_advice evidence
+advice_by scope evidence (OpenGrounds teller count last) = missed_or evidence.first_missed (open_advice scope evidence teller count)
 advice_by scope evidence (ConflictGrounds first other) = conflict_advice first other
 advice_by scope evidence (UnfoundedGrounds teller claim) = unfounded_advice scope evidence teller claim
 
@@ -64,14 +84,15 @@ advice_by scope evidence (UnfoundedGrounds teller claim) = unfounded_advice scop
 abbrev pub advice_of : Scope → EvidenceValue → Advice
 advice_of scope evidence = advice_by scope evidence evidence.grounds
 
--- someone has to look at a row
-abbrev pub is_noted : ExplanationValue → Bool
-is_noted row = not (is_complete row.evidence.verdict) || nat_lt 0 row.evidence.missed
-
 -- in one sentence
 unfoldable pub sentence_of : Advice → List ℕ
-sentence_of Dropped = codes "the writer dropped it before the reader got it: look at the network, or raise the history depth or the lifespan"
-sentence_of AskedFor = codes "the reader asked for it and may still lack it: look at the network and the writer, or record longer"
+sentence_of MissedUnsent = codes "the reader asked for it and the recording has none: it was lost before this recording, or record at the writer's side"
+sentence_of MissedAgain = codes "it was sent again, and nothing shows that it arrived: look at the network; a recording at the reader's side tells"
+sentence_of MissedOnce = codes "the reader asked for it and the writer did not send it again: raise the history depth or the lifespan, and look at the network"
+sentence_of Unsent = codes "the recording has none for this reader: at the reader's side it was lost on the way; at the writer's side a content filter or a short history kept it back"
+sentence_of Unanswered = codes "it was asked about and gave no answer until the writer had dropped them: an outage of the network or of the reader; raise the history depth if these must not be lost"
+sentence_of Tail = codes "stop publishing some seconds before the recording ends, or allow a tail (--tail)"
+sentence_of Left = codes "it was never asked, or its answers are not in the recording: see that it took anything"
 sentence_of OpenUnread = codes "it may be in a fragment or frame that was not read: see below what to do for these"
 sentence_of OpenUntold = codes "the recording does not have it: record at the writer's side, on the interface that it uses"
 sentence_of NotAsked = codes "the reader may have all: stop publishing, wait some seconds, and only then end the recording"
@@ -83,5 +104,5 @@ sentence_of Relayed = codes "the sample and the answer are in one datagram: a re
 sentence_of UnfoundedUnread = codes "it may be in a fragment or frame that was not read: see below what to do for these"
 sentence_of Late = codes "the datagrams are out of order, or the copy that the reader received is not here: record on one host"
 sentence_of Unannounced = codes "the reader acknowledged what nobody announced: it has a defect, or another writer had this GUID before"
-sentence_of BeganLate = codes "record from before the start; for a reader that joined late, --from gives the first number that it should get"
+sentence_of BeganLate = codes "record from before the start of the participants"
 sentence_of Lacking = codes "the recording lacks it: see how many packets tcpdump says it dropped, and switch off shared memory"

@@ -1,7 +1,7 @@
 -- What is found of a report against what was asked of it, and how its run ends.
 -- own: a report of no row, or of a recording of which something was left out, is no good news, though each row is complete.
 use Rattle.std.specs.Prelude.{ℕ, Bool, false, ◌==◌, ◌&&◌, not, nat_le, if◌then◌else◌, is_none, Option, None, Some}
-use Rattle.rtps_report.specs.Asked.{AskedValue}
+use Rattle.rtps_report.specs.Asked.{AskedValue, is_of_complete}
 use Rattle.rtps_report.specs.Recording.{known}
 use Rattle.rtps_report.specs.Vocabulary.{Clean, Ending, Facts, FewRows, Findings, Unclean, Unmet}
 
@@ -20,8 +20,8 @@ findings_of asked facts =
     record {
       few = few_of asked.expect facts.rows;
       empty = asked.strict && (facts.rows == 0);
-      missed = when asked.strict facts.missed;
-      fragments = when asked.strict facts.counts.fragments;
+      missed = when (asked.strict && is_of_complete asked.standard) facts.missed;
+      fragments = when (asked.strict && is_of_complete asked.standard) facts.counts.fragments;
       unsettled = when asked.strict facts.counts.unsettled;
       pieces = when asked.strict (known facts.reasons).pieces;
       cut = when asked.strict (known facts.reasons).cut;
@@ -39,10 +39,10 @@ are_none findings =
     && (not findings.empty
     && ((findings.missed == 0) && ((findings.fragments == 0) && ((findings.unsettled == 0) && ((findings.pieces == 0) && ((findings.cut == 0) && (findings.links.number == 0)))))))
 
--- how a run ends by what is found, and by whether each row is complete
+-- how a run ends by what is found, and by whether each row is what it has to be
 abbrev pub ending_by : Findings → Bool → Ending
-ending_by findings complete = if are_none findings then (if complete then Clean else Unclean) else Unmet findings
+ending_by findings met = if are_none findings then (if met then Clean else Unclean) else Unmet findings
 
 -- how a run ends that prints a report of which this is known
 abbrev pub ending_as : AskedValue → Facts → Ending
-ending_as asked facts = ending_by (findings_of asked facts) facts.complete
+ending_as asked facts = ending_by (findings_of asked facts) facts.met

@@ -1,21 +1,22 @@
 -- The report that is asked for, with what each row rests on, and how its run ends.
--- own: all that is told of a recording beside its acts is told of this one value, so no two forms of it can disagree.
-use Rattle.std.specs.Prelude.{ℕ, ◌≡◌, ◌==◌, ◌&&◌, Bool, false, not, if◌then◌else◌, List, count_by, filter, length, map}
+-- own: `why`, `page`, `check` and JSON tell this one value, so no two of them can disagree.
+use Rattle.std.specs.Prelude.{ℕ, ◌≡◌, ◌==◌, ◌&&◌, ◌||◌, Bool, false, not, if◌then◌else◌, List, count_by, filter, length, map}
 use Rattle.std.specs.List.{list_all}
 use Rattle.rtps_audit.specs.Index.{IsIndexBy}
-use Rattle.rtps_report.specs.Vocabulary.{ActValue, Clean, Counts, Ending, Explained, Explanation, ExplanationValue, Facts, IsExplainedBy, IsExplainedFrom, Unclean, acts_in, explanation_value, intake_as}
+use Rattle.rtps_report.specs.Vocabulary.{ActValue, AllClean, AllComplete, Clean, Counts, Ending, EvidenceValue, Explained, Explanation, ExplanationValue, Facts, IsExplainedBy, IsExplainedFrom, Standard, Unclean, explanation_value, intake_as}
 pub use Rattle.rtps_report.specs.Asked.{AskedValue, asked_value}
 use Rattle.rtps_report.specs.Findings.{ending_as}
 pub use Rattle.rtps_report.specs.Recording.{RecordingValue}
 use Rattle.rtps_report.specs.Reported.{is_complete}
-use Rattle.rtps_report.specs.Rows.{RowsValue, is_kept}
+use Rattle.rtps_report.specs.RowFacts.{is_certain, is_clean}
+use Rattle.rtps_report.specs.Rows.{RowsValue, acts_read, is_kept}
 use Rattle.rtps_report.specs.declared.full_report.FullReport.{FullReport}
 
 -- The rows are those of the report that are asked for, each explained, in its order, and the counts are the report's.
 pub record IsExplainedAs (asked : AskedValue) (recording : List (List ℕ)) (explained : Explained) : Type 0 where
   pub whole : Explained
-  pub explains : IsExplainedBy asked.from (intake_as asked.fragments recording) whole
-  pub rows : explained.rows.items ≡ filter (λ row. is_kept asked.rows (acts_in recording) row.topic.now row.pair) whole.rows.items
+  pub explains : IsExplainedBy asked.spans asked.from (intake_as asked.fragments recording) whole
+  pub rows : explained.rows.items ≡ filter (λ row. is_kept asked.rows (acts_read asked.fragments recording) row.topic.now row.pair) whole.rows.items
   pub counts : explained.counts ≡ whole.counts
 
 -- these topics, of whatever pairs
@@ -29,19 +30,28 @@ is_left_out rows acts row = is_kept (of_all_pairs rows) acts row.topic.now row.p
 -- the rows that are asked for, and those that are left out, in the order of the report
 pub record IsPartedAs (asked : AskedValue) (recording : List (List ℕ)) (explained : Explained) (left_out : List Explanation) : Type 0 where
   pub explains : IsExplainedAs asked recording explained
-  pub left_out_too : left_out ≡ filter (is_left_out asked.rows (acts_in recording)) explains.whole.rows.items
+  pub left_out_too : left_out ≡ filter (is_left_out asked.rows (acts_read asked.fragments recording)) explains.whole.rows.items
 
 -- how many of these rows have missed numbers
 abbrev pub missed_in : List ExplanationValue → ℕ
 missed_in rows = count_by (λ row. not (row.evidence.missed == 0)) rows
 
+-- a row is what it has to be: complete; or clean, and each of its numbers certain where that is asked
+abbrev pub is_met_by : ℕ → Standard → EvidenceValue → Bool
+is_met_by from AllComplete evidence = is_complete evidence.verdict
+is_met_by from (AllClean tail certain) evidence = is_clean tail evidence && (not certain || is_certain from evidence)
+
+-- the same by what is asked
+abbrev pub is_met : AskedValue → EvidenceValue → Bool
+is_met asked evidence = is_met_by asked.from asked.standard evidence
+
 -- what is known of a report with these rows and counts
-abbrev pub facts_of_rows : List ExplanationValue → Counts → RecordingValue → Facts
-facts_of_rows rows counts recording =
+abbrev pub facts_of_rows : AskedValue → List ExplanationValue → Counts → RecordingValue → Facts
+facts_of_rows asked rows counts recording =
     record {
       rows = length rows;
       missed = missed_in rows;
-      complete = list_all (λ row. is_complete row.evidence.verdict) rows;
+      met = list_all (λ row. is_met asked row.evidence) rows;
       counts = counts;
       reasons = recording.reasons;
     }
@@ -63,7 +73,7 @@ rows_of report = map explanation_value report.explained.rows.items
 -- what is told of this recording, of what is asked
 pub record IsFullReport (asked : AskedValue) (recording : RecordingValue) (report : ReportValue) : Type 0 where
   pub parts : IsPartedAs asked recording.datagrams report.explained report.left_out
-  pub ends : report.ending ≡ ending_as asked (facts_of_rows (rows_of report) report.explained.counts recording)
+  pub ends : report.ending ≡ ending_as asked (facts_of_rows asked (rows_of report) report.explained.counts recording)
 
 -- the code has it, beside what it is of and the index that it is by
 pub record IsReportOf (asked : AskedValue) (recording : RecordingValue) (report : FullReport) : Type 0 where
@@ -94,6 +104,6 @@ ending_of_rows rows = if list_all (λ row. is_complete row.evidence.verdict) row
 -- such a text of all rows by the numbers from `from` on
 pub record AreRowsToldFrom (IsForm : RowsForm) (from : ℕ) (recording : RecordingValue) (text : List ℕ) (ending : Ending) : Type 0 where
   pub explained : Explained
-  pub explains : IsExplainedFrom from recording.datagrams explained
+  pub explains : IsExplainedFrom false from recording.datagrams explained
   pub is_text : IsForm (map explanation_value explained.rows.items) explained.counts recording text
   pub ends : ending ≡ ending_of_rows (map explanation_value explained.rows.items)

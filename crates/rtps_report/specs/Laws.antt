@@ -1,13 +1,21 @@
 -- What one would ask of what is told of a recording. own: a text can be trusted only if nothing but the recording decides it.
-use Rattle.std.specs.Prelude.{ℕ, ◌≡◌, ◌↔◌, All, List, map}
-use Rattle.rtps_report.specs.Vocabulary.{Ending, Explained, Report, Row, explanation_value, row_of}
+use Rattle.std.specs.Prelude.{ℕ, ◌≡◌, ◌↔◌, All, List, Option, map}
+use Rattle.rtps_audit.specs.Delivered.{IsExactVerdictFrom}
+use Rattle.rtps_audit.specs.Said.{datagrams_until}
+use Rattle.rtps_audit.specs.Speech.{acts_by_datagram, speech_of}
+use Rattle.rtps_evidence.specs.Evidence.{IsBeside, IsShown}
+use Rattle.rtps_evidence.specs.Spans.{IsExtent, since_of}
+use Rattle.rtps_evidence.specs.declared.span.Span.{Span}
+use Rattle.rtps_report.specs.Vocabulary.{ActValue, Ending, Explained, Explanation, Fragments, Pair, Report, Verdict, explanation_value, intake_as}
 use Rattle.rtps_fragments.specs.FragmentVerdict.{IsFragmentVerdictFrom}
+use Rattle.rtps_fragments.specs.Laws.{first_acts_with_samples}
 use Rattle.rtps_fragments.specs.RecordedSamples.{IsWithoutFragments}
 use Rattle.rtps_fragments.specs.SampleActs.{fragment_speech_of}
 use Rattle.rtps_fragments.specs.Sending.{sending_of}
 use Rattle.rtps_fragments.specs.declared.fragments.Fragments.TheVariants as fragments
-use Rattle.rtps_report.specs.FullReport.{AskedValue, IsExplainedAs, IsFullReport, RecordingValue, ReportValue, rows_of}
+use Rattle.rtps_report.specs.FullReport.{AskedValue, IsExplainedAs, IsFullReport, IsPartedAs, RecordingValue, ReportValue, rows_of}
 use Rattle.rtps_report.specs.Reported.{IsReportAs}
+use Rattle.rtps_report.specs.RowFacts.{left_in, row_from}
 
 -- of each recording there is one such text, and one ending
 abbrev pub HasOneText : (RecordingValue → List ℕ → Ending → Type 0) → Type 0
@@ -19,21 +27,45 @@ HasOneText IsText =
 abbrev pub HaveOneText : (RecordingValue → List ℕ → Ending → Type 0) → (RecordingValue → List ℕ → Ending → Type 0) → Type 0
 HaveOneText IsText IsOther = (recording : RecordingValue) (text : List ℕ) (ending : Ending) → IsText recording text ending ↔ IsOther recording text ending
 
--- the verdict of a row is that by all runs in which its reader takes fragments one by one
-abbrev pub IsFragmentRow : ℕ → List (List ℕ) → Row → Type 0
-IsFragmentRow from recording row = IsFragmentVerdictFrom from (fragment_speech_of row.pair.writer row.pair.reader (sending_of recording)) row.verdict
+-- it is the verdict on a pair by these datagrams, by the numbers from `from` on: the exact one by all runs; where fragments are read, that
+-- by all runs in which the reader takes them one by one
+abbrev pub IsVerdictAs : Fragments → ℕ → Pair → List (List ℕ) → Verdict → Type 0
+IsVerdictAs fragments.Skipped from pair recording verdict = IsExactVerdictFrom from (speech_of pair.writer pair.reader recording) verdict
+IsVerdictAs fragments.Read from pair recording verdict = IsFragmentVerdictFrom from (fragment_speech_of pair.writer pair.reader (sending_of recording)) verdict
 
--- where fragments are read, each row of a report has this verdict
-abbrev pub RowsAreByFragments : Type 0
-RowsAreByFragments =
-    (asked : AskedValue) (recording : List (List ℕ)) (report : Report)
-    → asked.fragments ≡ fragments.Read → IsReportAs asked recording report → All (IsFragmentRow asked.from recording) report.rows.items
+-- each row of a report has the verdict of the recording, by the numbers that are asked about
+abbrev pub ReportedRowsAreExact : Type 0
+ReportedRowsAreExact =
+    (asked : AskedValue) (recording : List (List ℕ)) (report : Report) → IsReportAs asked recording report
+    → All (λ row. IsVerdictAs asked.fragments asked.from row.pair recording row.verdict) report.rows.items
 
--- and so has each row that is explained
-abbrev pub ExplainedRowsAreByFragments : Type 0
-ExplainedRowsAreByFragments =
-    (asked : AskedValue) (recording : List (List ℕ)) (explained : Explained)
-    → asked.fragments ≡ fragments.Read → IsExplainedAs asked recording explained → All (λ row. IsFragmentRow asked.from recording (row_of row)) explained.rows.items
+-- the acts of the first datagrams; where fragments are read, each with the samples that it tells
+abbrev pub first_acts : Fragments → Option ℕ → List (List ℕ) → List (List ActValue)
+first_acts fragments.Skipped until recording = acts_by_datagram (datagrams_until until recording)
+first_acts fragments.Read until recording = first_acts_with_samples until recording
+
+-- An explained row has the verdict of the recording that ends before the datagram in which its reader leaves, by the numbers from its first
+-- one on, and the evidence of their acts. Both are those of the span of its pair; where rows are in no span, the row is by the whole
+-- recording and all numbers that are asked about.
+pub record IsExactRow (asked : AskedValue) (recording : List (List ℕ)) (row : Explanation) : Type 0 where
+  pub verdict : IsVerdictAs asked.fragments (row_from asked.from row.evidence.in_span) row.pair (datagrams_until (left_in row.evidence.in_span) recording) row.evidence.verdict
+  pub span : Span
+  pub extent : IsExtent asked.spans asked.from row.pair (intake_as asked.fragments recording) span
+  pub first : row_from asked.from row.evidence.in_span ≡ span.from
+  pub until : left_in row.evidence.in_span ≡ span.until
+  pub shown : IsShown span.from (since_of span) row.pair (first_acts asked.fragments span.until recording) row.evidence
+  pub beside : IsBeside asked.spans span row.pair (first_acts asked.fragments span.until recording) row.evidence.in_span
+
+-- each row that is explained is such a row
+abbrev pub ExplainedRowsAreExact : Type 0
+ExplainedRowsAreExact =
+    (asked : AskedValue) (recording : List (List ℕ)) (explained : Explained) → IsExplainedAs asked recording explained → All (IsExactRow asked recording) explained.rows.items
+
+-- and so is each row that is left out
+abbrev pub LeftOutRowsAreExact : Type 0
+LeftOutRowsAreExact =
+    (asked : AskedValue) (recording : List (List ℕ)) (explained : Explained) (left_out : List Explanation) → IsPartedAs asked recording explained left_out
+    → All (IsExactRow asked recording) left_out
 
 -- of a recording of which no submessage belongs to fragments the texts and endings are the same, whether fragments are read or not
 abbrev pub StaysWithoutFragments : (AskedValue → RecordingValue → List ℕ → Ending → Type 0) → Type 0

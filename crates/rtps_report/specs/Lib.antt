@@ -9,6 +9,7 @@ pub mod NoteFacts
 pub mod Patterns
 pub mod Recording
 pub mod Reported
+pub mod RowFacts
 pub mod Rows
 pub mod Totals
 pub mod Vocabulary

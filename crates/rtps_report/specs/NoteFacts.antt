@@ -1,6 +1,8 @@
 -- What weakens a report, in numbers. own: rows speak of what was read, so what was not read has to be told beside them.
-use Rattle.std.specs.Prelude.{ℕ, ◌-◌, ◌||◌, nat_le, nat_lt, Bool, List, count_by, length, Option}
-use Rattle.rtps_report.specs.Vocabulary.{Counts, Reasons, Scope}
+use Rattle.std.specs.Prelude.{ℕ, ◌-◌, ◌||◌, if◌then◌else◌, max, nat_le, nat_lt, Bool, List, count_by, fold, length, Option}
+use Rattle.rtps_report.specs.Vocabulary.{Counts, EvidenceValue, ExplanationValue, Reasons, Scope}
+use Rattle.rtps_report.specs.Asked.{tail_of}
+use Rattle.rtps_report.specs.RowFacts.{is_clean_tail, outcomes_of}
 use Rattle.rtps_report.specs.FullReport.{AskedValue, ReportValue, rows_of}
 use Rattle.rtps_report.specs.Recording.{RecordingValue, known}
 use Rattle.rtps_report.specs.Totals.{totals_of}
@@ -14,15 +16,27 @@ short_in datagrams = count_by (λ datagram. nat_le (length datagram) 1) datagram
 abbrev pub is_unread : Counts → Option Reasons → Bool
 is_unread counts reasons = nat_lt 0 counts.fragments || (nat_lt 0 (known reasons).pieces || nat_lt 0 (known reasons).cut)
 
--- what an advice needs to know beside its pair
+-- what a row is told by beside its pair
 abbrev pub scope_of : AskedValue → RecordingValue → ReportValue → Scope
-scope_of asked recording report = record { from = asked.from; unread = is_unread report.explained.counts recording.reasons }
+scope_of asked recording report =
+    record { from = asked.from; tail = tail_of asked.standard; unread = is_unread report.explained.counts recording.reasons }
 
--- what is known of a report with these counts, of rows of which so many numbers are neither known to be received nor missed
-abbrev pub facts_by : ℕ → Counts → RecordingValue → NoteFacts
-facts_by unsure counts recording =
+-- how many numbers the tail of a row has, if it is clean with one
+abbrev pub clean_tail_of : ℕ → EvidenceValue → ℕ
+clean_tail_of tail evidence = if is_clean_tail tail evidence then (outcomes_of evidence).unconfirmed else 0
+
+-- how many the longest of these has
+abbrev pub longest_clean_tail : ℕ → List ExplanationValue → ℕ
+longest_clean_tail tail rows = fold (λ longest row. max longest (clean_tail_of tail row.evidence)) 0 rows
+
+-- what is known of a report with these rows and counts
+abbrev pub facts_by : List ExplanationValue → Scope → Counts → RecordingValue → NoteFacts
+facts_by rows scope counts recording =
     record {
-      unsure = unsure;
+      late = (totals_of scope rows).late_pairs;
+      tails = (totals_of scope rows).tail_pairs;
+      longest = longest_clean_tail scope.tail rows;
+      likely = (totals_of scope rows).likely;
       pieces = (known recording.reasons).pieces;
       cut = (known recording.reasons).cut;
       links = (known recording.reasons).links;
@@ -34,4 +48,4 @@ facts_by unsure counts recording =
 
 -- what weakens this report
 abbrev pub note_facts : AskedValue → RecordingValue → ReportValue → NoteFacts
-note_facts asked recording report = facts_by (totals_of asked.from (rows_of report)).unsure report.explained.counts recording
+note_facts asked recording report = facts_by (rows_of report) (scope_of asked recording report) report.explained.counts recording

@@ -1,18 +1,19 @@
 -- The report that is asked for, by verdicts alone. own: rows are chosen by what a job knows; counts are of the whole recording.
-use Rattle.std.specs.Prelude.{ℕ, ℤ, ◌≡◌, ◌+◌, ◌==◌, Bool, true, false, not, List, count_by, filter, length}
+use Rattle.std.specs.Prelude.{ℕ, ℤ, ◌≡◌, ◌+◌, ◌==◌, Bool, true, false, not, if◌then◌else◌, List, Option, None, count_by, filter, length}
 use Rattle.std.specs.List.{list_all}
-use Rattle.rtps_report.specs.Vocabulary.{ActValue, Complete, Conflict, Counts, DirectoryValue, Facts, Intake, IsMapOf, IsReportBy, Open, Pair, Report, Row, Unfounded, Verdict, acts_in, acts_together, intake_as, settled_at, topic_of}
+use Rattle.rtps_report.specs.Vocabulary.{ActValue, Complete, Conflict, Counts, DirectoryValue, Facts, Intake, IsMapOf, IsReportBy, Location, Open, Pair, Report, Row, Unfounded, Verdict, acts_together, intake_as, settled_at, topic_of}
 use Rattle.rtps_audit.specs.Delivery.{last_announced_from}
 use Rattle.rtps_audit.specs.Placed.{placed_in}
 use Rattle.rtps_audit.specs.Speech.{speech_by}
 use Rattle.rtps_evidence.specs.Amount.{count_in}
 use Rattle.rtps_evidence.specs.Missed.{is_missed, place_announced}
+use Rattle.rtps_evidence.specs.Spans.{is_joined_here}
 use Rattle.rtps_report.specs.Asked.{AskedValue}
 use Rattle.rtps_report.specs.Recording.{RecordingValue}
-use Rattle.rtps_report.specs.Rows.{RowsValue, is_kept}
+use Rattle.rtps_report.specs.Rows.{RowsValue, acts_read, is_kept}
 use Rattle.rtps_report.specs.declared.asked_report.AskedReport.{AskedReport}
 
--- whether the verdict is that the reader got all
+-- the verdict is that each number is acknowledged
 abbrev pub is_complete : Verdict → Bool
 is_complete (Complete last) = true
 is_complete verdict = false
@@ -35,13 +36,23 @@ pub record IsReportAs (asked : AskedValue) (recording : List (List ℕ)) (report
   pub reports : IsReportBy asked.from (intake_as asked.fragments recording) whole
   pub directory : DirectoryValue
   pub is_map : IsMapOf (acts_together (intake_as asked.fragments recording).announcing) directory
-  pub rows : report.rows.items ≡ filter (is_row_kept asked.rows (acts_in recording) directory) whole.rows.items
+  pub rows : report.rows.items ≡ filter (is_row_kept asked.rows (acts_read asked.fragments recording) directory) whole.rows.items
   pub counts : report.counts ≡ whole.counts
 
--- how many numbers from `from` on the reader of a pair missed
+-- the place behind which the reader of a pair is there; None where it did not join in this recording
+abbrev pub since_in : Intake → Pair → Option Location
+since_in intake pair =
+    let joined = place_announced pair.reader (placed_in intake.announcing) in
+    if is_joined_here joined pair (placed_in intake.acts) then joined else None
+
+-- how many numbers from `from` on the reader of a pair missed, by this that is taken in of acts
+abbrev pub missed_since : ℕ → Option Location → Pair → List (List ActValue) → ℕ
+missed_since from since pair acts =
+    count_in (is_missed since pair.writer pair.reader (placed_in acts)) from (last_announced_from from (speech_by pair.writer pair.reader acts) + 1)
+
+-- the same, since the reader is there
 abbrev pub missed_of : ℕ → Intake → Pair → ℕ
-missed_of from intake pair =
-    count_in (is_missed (place_announced pair.reader (placed_in intake.announcing)) pair.writer pair.reader (placed_in intake.acts)) from (last_announced_from from (speech_by pair.writer pair.reader intake.acts) + 1)
+missed_of from intake pair = missed_since from (since_in intake pair) pair intake.acts
 
 -- how many of these rows have missed numbers
 abbrev pub missed_rows : ℕ → Intake → List Row → ℕ
@@ -58,7 +69,7 @@ facts_of_report missed rows counts recording =
     record {
       rows = length rows;
       missed = missed;
-      complete = list_all (λ row. is_complete row.verdict) rows;
+      met = list_all (λ row. is_complete row.verdict) rows;
       counts = counts;
       reasons = recording.reasons;
     }

@@ -1,4 +1,4 @@
--- Which rows of a report are kept. DDSI-RTPS 2.5, 8.3.8.7 "InfoDestination", for whom an act names. own: where a reader's participant
+-- Which rows of a report are kept. DDSI-RTPS 2.5, 8.3.8.8 "InfoDestination", for whom an act names. own: where a reader's participant
 -- never names the writer's, their datagrams took another way, and a recording can say nothing of the two.
 use Rattle.std.specs.Prelude.{ℕ, ◌≡◌, Bool, false, true, ◌==◌, ◌&&◌, ◌||◌, not, List, length, map, Option, Some, None}
 use Rattle.std.specs.BTreeSet.{contains}
@@ -8,7 +8,8 @@ use Rattle.std.specs.Ordering.{nat_cmp, ordering_then}
 use Rattle.std.specs.String.{string_bytes}
 use Rattle.std.specs.declared.cmp.Ordering.{Ordering}
 use Rattle.rtps_receiver.specs.Speech.{is_for, is_prefix}
-use Rattle.rtps_report.specs.Vocabulary.{ActValue, Pair}
+use Rattle.rtps_fragments.specs.Sending.{all_acts_in}
+use Rattle.rtps_report.specs.Vocabulary.{ActValue, Fragments, Pair, Read, Skipped, acts_in}
 use Rattle.rtps_report.specs.Patterns.{fits}
 use Rattle.rtps_report.specs.declared.contacts.Contact.{Contact}
 use Rattle.rtps_report.specs.declared.contacts.Contacts.{Contacts}
@@ -22,6 +23,11 @@ is_contact contact act = is_prefix act.source contact.source && is_for act.dest 
 -- by source, and then by destination
 abbrev pub contact_cmp : Contact → Contact → Ordering
 contact_cmp a b = ordering_then (slice_cmp nat_cmp a.source.0 b.source.0) (slice_cmp nat_cmp a.dest.0 b.dest.0)
+
+-- the acts that are read in a recording's datagrams
+abbrev pub acts_read : Fragments → List (List ℕ) → List ActValue
+acts_read Skipped datagrams = acts_in datagrams
+acts_read Read datagrams = all_acts_in datagrams
 
 -- the contacts are those of these acts
 abbrev pub AreContactsOf : List ActValue → Contacts → Type 0

@@ -1,73 +1,85 @@
 -- What is counted of rows. own: a topic with thousands of samples is read at a glance only as sums.
-use Rattle.std.specs.Prelude.{ℕ, ◌+◌, ◌-◌, ◌*◌, ◌≤◌, ◌==◌, not, Bool, true, false, if◌then◌else◌, List, Option, Some, None, count_by, length, sum_by}
-use Rattle.rtps_audit.specs.Speech.{natural}
-use Rattle.rtps_report.specs.Vocabulary.{Announcement, Conflict, EvidenceValue, ExplanationValue, Open, Totals, Unfounded, Verdict}
+use Rattle.std.specs.Prelude.{ℕ, ◌+◌, ◌-◌, ◌*◌, ◌≤◌, ◌&&◌, nat_lt, not, Bool, if◌then◌else◌, List, count_by, length, sum_by}
 use Rattle.rtps_report.specs.Reported.{is_complete}
+use Rattle.rtps_report.specs.RowFacts.{asked_about, is_certain, is_clean, is_clean_tail, is_late, outcomes_of, row_from}
+use Rattle.rtps_report.specs.Vocabulary.{EvidenceValue, ExplanationValue, Scope, Totals}
 
--- the reader may lack a number
-abbrev pub is_open : Verdict → Bool
-is_open (Open number) = true
-is_open verdict = false
+-- the row is neither complete nor clean
+abbrev pub is_unclean : ℕ → EvidenceValue → Bool
+is_unclean tail evidence = not (is_complete evidence.verdict) && not (is_clean tail evidence)
 
--- a number has two payloads
-abbrev pub is_conflict : Verdict → Bool
-is_conflict (Conflict number) = true
-is_conflict verdict = false
+-- how many of the numbers from `from` on stand before the first of a row
+abbrev pub before_of : ℕ → EvidenceValue → ℕ
+before_of from evidence = row_from from evidence.in_span - from
 
--- a number was acknowledged too early
-abbrev pub is_unfounded : Verdict → Bool
-is_unfounded (Unfounded datagram number) = true
-is_unfounded verdict = false
+-- how many numbers a row asks about
+abbrev pub numbers_of : ℕ → EvidenceValue → ℕ
+numbers_of from evidence = asked_about (row_from from evidence.in_span) evidence.announcement
 
--- how many numbers are asked about: those from `from` on, up to the last announced one
-abbrev pub asked_about : ℕ → Option Announcement → ℕ
-asked_about from None = 0
-asked_about from (Some announcement) = natural announcement.number + 1 - from
-
--- how many numbers of a complete pair are neither known to be received nor missed
-abbrev pub unsure_of : ℕ → EvidenceValue → ℕ
-unsure_of from evidence = if is_complete evidence.verdict then asked_about from evidence.announcement - evidence.received - evidence.missed else 0
-
--- what is counted of rows that ask for the numbers from `from` on
-abbrev pub totals_of : ℕ → List ExplanationValue → Totals
-totals_of from rows =
+-- what is counted of rows
+abbrev pub totals_of : Scope → List ExplanationValue → Totals
+totals_of scope rows =
     record {
       pairs = length rows;
       complete_pairs = count_by (λ row. is_complete row.evidence.verdict) rows;
-      open_pairs = count_by (λ row. is_open row.evidence.verdict) rows;
-      conflict_pairs = count_by (λ row. is_conflict row.evidence.verdict) rows;
-      unfounded_pairs = count_by (λ row. is_unfounded row.evidence.verdict) rows;
-      numbers = sum_by (λ row. asked_about from row.evidence.announcement) rows;
-      received = sum_by (λ row. row.evidence.received) rows;
-      missed = sum_by (λ row. row.evidence.missed) rows;
-      missed_pairs = count_by (λ row. not (row.evidence.missed == 0)) rows;
-      unsure = sum_by (λ row. unsure_of from row.evidence) rows;
+      clean_pairs = count_by (λ row. is_clean scope.tail row.evidence) rows;
+      unclean_pairs = count_by (λ row. is_unclean scope.tail row.evidence) rows;
+      tail_pairs = count_by (λ row. is_clean_tail scope.tail row.evidence) rows;
+      late_pairs = count_by (λ row. is_late scope.from row.evidence) rows;
+      missed_pairs = count_by (λ row. nat_lt 0 (outcomes_of row.evidence).missed) rows;
+      unsent_pairs = count_by (λ row. nat_lt 0 (outcomes_of row.evidence).unsent) rows;
+      unanswered_pairs = count_by (λ row. nat_lt 0 (outcomes_of row.evidence).unanswered) rows;
+      uncertain_pairs = count_by (λ row. not (is_certain scope.from row.evidence)) rows;
+      before = sum_by (λ row. before_of scope.from row.evidence) rows;
+      numbers = sum_by (λ row. numbers_of scope.from row.evidence) rows;
+      received = sum_by (λ row. (outcomes_of row.evidence).received) rows;
+      likely = sum_by (λ row. (outcomes_of row.evidence).likely) rows;
+      missed = sum_by (λ row. (outcomes_of row.evidence).missed) rows;
+      unsent = sum_by (λ row. (outcomes_of row.evidence).unsent) rows;
+      unanswered = sum_by (λ row. (outcomes_of row.evidence).unanswered) rows;
+      unconfirmed = sum_by (λ row. (outcomes_of row.evidence).unconfirmed) rows;
     }
 
 -- with one more row
-abbrev pub with_row : ℕ → Totals → ExplanationValue → Totals
-with_row from totals row =
+abbrev pub with_row : Scope → Totals → ExplanationValue → Totals
+with_row scope totals row =
     record {
       pairs = totals.pairs + 1;
       complete_pairs = totals.complete_pairs + (if is_complete row.evidence.verdict then 1 else 0);
-      open_pairs = totals.open_pairs + (if is_open row.evidence.verdict then 1 else 0);
-      conflict_pairs = totals.conflict_pairs + (if is_conflict row.evidence.verdict then 1 else 0);
-      unfounded_pairs = totals.unfounded_pairs + (if is_unfounded row.evidence.verdict then 1 else 0);
-      numbers = totals.numbers + asked_about from row.evidence.announcement;
-      received = totals.received + row.evidence.received;
-      missed = totals.missed + row.evidence.missed;
-      missed_pairs = totals.missed_pairs + (if not (row.evidence.missed == 0) then 1 else 0);
-      unsure = totals.unsure + unsure_of from row.evidence;
+      clean_pairs = totals.clean_pairs + (if is_clean scope.tail row.evidence then 1 else 0);
+      unclean_pairs = totals.unclean_pairs + (if is_unclean scope.tail row.evidence then 1 else 0);
+      tail_pairs = totals.tail_pairs + (if is_clean_tail scope.tail row.evidence then 1 else 0);
+      late_pairs = totals.late_pairs + (if is_late scope.from row.evidence then 1 else 0);
+      missed_pairs = totals.missed_pairs + (if nat_lt 0 (outcomes_of row.evidence).missed then 1 else 0);
+      unsent_pairs = totals.unsent_pairs + (if nat_lt 0 (outcomes_of row.evidence).unsent then 1 else 0);
+      unanswered_pairs = totals.unanswered_pairs + (if nat_lt 0 (outcomes_of row.evidence).unanswered then 1 else 0);
+      uncertain_pairs = totals.uncertain_pairs + (if not (is_certain scope.from row.evidence) then 1 else 0);
+      before = totals.before + before_of scope.from row.evidence;
+      numbers = totals.numbers + numbers_of scope.from row.evidence;
+      received = totals.received + (outcomes_of row.evidence).received;
+      likely = totals.likely + (outcomes_of row.evidence).likely;
+      missed = totals.missed + (outcomes_of row.evidence).missed;
+      unsent = totals.unsent + (outcomes_of row.evidence).unsent;
+      unanswered = totals.unanswered + (outcomes_of row.evidence).unanswered;
+      unconfirmed = totals.unconfirmed + (outcomes_of row.evidence).unconfirmed;
     }
 
 -- no pair counts twice, and each counts fewer than 2 ^ 64 numbers
 pub record AreWithin (totals : Totals) : Type 0 where
   pub complete_pairs : totals.complete_pairs ≤ totals.pairs
-  pub open_pairs : totals.open_pairs ≤ totals.pairs
-  pub conflict_pairs : totals.conflict_pairs ≤ totals.pairs
-  pub unfounded_pairs : totals.unfounded_pairs ≤ totals.pairs
+  pub clean_pairs : totals.clean_pairs ≤ totals.pairs
+  pub unclean_pairs : totals.unclean_pairs ≤ totals.pairs
+  pub tail_pairs : totals.tail_pairs ≤ totals.pairs
+  pub late_pairs : totals.late_pairs ≤ totals.pairs
   pub missed_pairs : totals.missed_pairs ≤ totals.pairs
+  pub unsent_pairs : totals.unsent_pairs ≤ totals.pairs
+  pub unanswered_pairs : totals.unanswered_pairs ≤ totals.pairs
+  pub uncertain_pairs : totals.uncertain_pairs ≤ totals.pairs
+  pub before : totals.before ≤ totals.pairs * 18446744073709551615
   pub numbers : totals.numbers ≤ totals.pairs * 18446744073709551615
   pub received : totals.received ≤ totals.pairs * 18446744073709551615
+  pub likely : totals.likely ≤ totals.pairs * 18446744073709551615
   pub missed : totals.missed ≤ totals.pairs * 18446744073709551615
-  pub unsure : totals.unsure ≤ totals.pairs * 18446744073709551615
+  pub unsent : totals.unsent ≤ totals.pairs * 18446744073709551615
+  pub unanswered : totals.unanswered ≤ totals.pairs * 18446744073709551615
+  pub unconfirmed : totals.unconfirmed ≤ totals.pairs * 18446744073709551615

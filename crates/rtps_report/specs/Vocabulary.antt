@@ -20,6 +20,8 @@ pub use Rattle.rtps_evidence.specs.declared.acknowledgement.Claim.{Claim}
 pub use Rattle.rtps_evidence.specs.declared.explanation.Explained.{Explained}
 pub use Rattle.rtps_evidence.specs.declared.explanation.Explanation.{Explanation}
 pub use Rattle.rtps_evidence.specs.declared.first_missed.FirstMissed.{FirstMissed}
+pub use Rattle.rtps_evidence.specs.declared.in_span.InSpan.{InSpan}
+pub use Rattle.rtps_evidence.specs.declared.outcome.Outcomes.{Outcomes}
 pub use Rattle.rtps_evidence.specs.declared.last_announcement.Announcement.{Announcement}
 pub use Rattle.rtps_evidence.specs.declared.location.Location.{Location}
 pub use Rattle.rtps_evidence.specs.declared.not_received.NotReceived.{NotReceived}
@@ -28,6 +30,8 @@ pub use Rattle.rtps_fragments.specs.RecordedSamples.{intake_as}
 pub use Rattle.rtps_fragments.specs.declared.fragments.Fragments.{Fragments}
 pub use Rattle.rtps_fragments.specs.declared.fragments.Fragments.TheVariants.{Skipped, Read}
 pub use Rattle.rtps_report.specs.declared.advice.Scope.{Scope}
+pub use Rattle.rtps_report.specs.declared.asked.Standard.{Standard}
+pub use Rattle.rtps_report.specs.declared.asked.Standard.TheVariants.{AllComplete, AllClean}
 pub use Rattle.rtps_report.specs.declared.findings.Ending.{Ending}
 pub use Rattle.rtps_report.specs.declared.findings.Ending.TheVariants.{Clean, Unclean, Unmet}
 pub use Rattle.rtps_report.specs.declared.findings.Facts.{Facts}

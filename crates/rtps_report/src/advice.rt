@@ -1,19 +1,21 @@
 ghost use Rattle.std.specs.Prelude.{◌≡◌};
 ghost use Rattle.std.specs.Option.{option_map};
-ghost use Rattle.rtps_evidence.specs.Explanation.{evidence_value, explanation_value};
+ghost use Rattle.rtps_evidence.specs.Explanation.{evidence_value};
 ghost use Rattle.rtps_evidence.specs.Locations.{sent_value};
 ghost use Rattle.rtps_wire.specs.Values.{payload_value};
-ghost use Rattle.rtps_report.specs.Advice.{advice_of as advice_of_lem, are_alike as are_alike_lem, conflict_advice as conflict_advice_lem, is_above as is_above_lem, is_noted as is_noted_lem, open_advice as open_advice_lem, sentence_of, stand_together as stand_together_lem, unfounded_advice as unfounded_advice_lem};
+ghost use Rattle.rtps_report.specs.Advice.{advice_of as advice_of_lem, are_alike as are_alike_lem, complete_advice as complete_advice_lem, conflict_advice as conflict_advice_lem, is_above as is_above_lem, missed_advice as missed_advice_lem, open_advice as open_advice_lem, sentence_of, stand_together as stand_together_lem, unfounded_advice as unfounded_advice_lem, untold_open_advice as untold_open_advice_lem};
 
-use crate::totals::{is_complete, natural, number_of};
-use rtps_evidence::{Announcement, Claim, Evidence, Explanation, Grounds, Sent, Teller};
+use crate::row_facts::{is_joined, is_tail, left_at, natural, number_of, outcomes_of, row_from};
+use rtps_evidence::{Announcement, Claim, Evidence, FirstMissed, Grounds, Sent, Teller};
 use rtps_wire::Payload;
 
-/// What an advice needs to know beside its pair.
+/// What a row is told by beside its pair.
 #[derive(Clone, Copy)]
 pub struct Scope {
     /// The number from which on numbers are asked for.
     pub from: u64,
+    /// The most numbers that a tail may have.
+    pub tail: u64,
     /// Whether parts of the recording were not read that may have samples.
     pub unread: bool,
 }
@@ -21,10 +23,20 @@ pub struct Scope {
 /// What to do for a pair.
 #[derive(Clone, Copy, PartialEq, Eq, Debug)]
 pub enum Advice {
-    /// Complete: numbers are missed.
-    Dropped,
-    /// Open: numbers are missed.
-    AskedFor,
+    /// Missed: nothing of the first number is sent to the reader.
+    MissedUnsent,
+    /// Missed: the first number was sent again.
+    MissedAgain,
+    /// Missed: it was not.
+    MissedOnce,
+    /// Complete: numbers are unsent.
+    Unsent,
+    /// Complete: numbers are unanswered.
+    Unanswered,
+    /// Open: only a tail, of a reader that did not leave.
+    Tail,
+    /// Open: nothing is acknowledged, and the reader left.
+    Left,
     /// Open: nothing tells the number, and not all was read.
     OpenUnread,
     /// Open: nothing tells the number.
@@ -47,10 +59,34 @@ pub enum Advice {
     Late,
     /// Unfounded: told nowhere, and not announced.
     Unannounced,
-    /// Unfounded: told nowhere, the first number that is asked for.
+    /// Unfounded: told nowhere, the first number of the row, of a reader that did not join in this recording.
     BeganLate,
     /// Unfounded: told nowhere.
     Lacking,
+}
+
+fn missed_advice(first: FirstMissed) -> Advice
+    ensures { result ≡ missed_advice_lem first }
+{
+    if !first.is_sent {
+        Advice::MissedUnsent
+    } else if first.again.is_some() {
+        Advice::MissedAgain
+    } else {
+        Advice::MissedOnce
+    }
+}
+
+fn complete_advice(evidence: &Evidence<'_>) -> Advice
+    ensures { result ≡ complete_advice_lem (evidence_value evidence.now) }
+{
+    if let Some(first) = evidence.first_missed {
+        missed_advice(first)
+    } else if outcomes_of(evidence).unsent > 0 {
+        Advice::Unsent
+    } else {
+        Advice::Unanswered
+    }
 }
 
 fn open_advice(
@@ -61,20 +97,29 @@ fn open_advice(
 ) -> Advice
     ensures { result ≡ open_advice_lem scope (evidence_value evidence.now) teller asked_since }
 {
-    if evidence.missed > 0 {
-        Advice::AskedFor
+    let left = left_at(evidence).is_some();
+    if is_tail(evidence) && !left {
+        Advice::Tail
+    } else if evidence.acknowledgement.is_none() && left {
+        Advice::Left
     } else if teller.is_none() {
-        if scope.unread {
-            Advice::OpenUnread
-        } else {
-            Advice::OpenUntold
-        }
+        untold_open_advice(scope)
     } else if asked_since == 0 {
         Advice::NotAsked
     } else if evidence.acknowledgement.is_none() {
         Advice::NeverAnswered
     } else {
         Advice::Silent
+    }
+}
+
+fn untold_open_advice(scope: Scope) -> Advice
+    ensures { result ≡ untold_open_advice_lem scope }
+{
+    if scope.unread {
+        Advice::OpenUnread
+    } else {
+        Advice::OpenUntold
     }
 }
 
@@ -132,7 +177,7 @@ fn unfounded_advice(
         let number = number_of(&evidence.verdict);
         if is_above(evidence.announcement, number) {
             Advice::Unannounced
-        } else if natural(number) == scope.from {
+        } else if natural(number) == row_from(scope.from, evidence) && !is_joined(evidence) {
             Advice::BeganLate
         } else {
             Advice::Lacking
@@ -142,24 +187,20 @@ fn unfounded_advice(
     }
 }
 
-/// Whether someone has to look at a row.
-pub fn is_noted(row: &Explanation<'_>) -> bool
-    ensures { result ≡ is_noted_lem (explanation_value row.now) }
-{
-    !is_complete(&row.evidence.verdict) || row.evidence.missed > 0
-}
-
 /// What to do for a pair.
 pub fn advice_of(scope: Scope, evidence: &Evidence<'_>) -> Advice
     ensures { result ≡ advice_of_lem scope (evidence_value evidence.now) }
 {
     match evidence.grounds {
-        Grounds::Complete => Advice::Dropped,
+        Grounds::Complete => complete_advice(evidence),
         Grounds::Open {
             teller,
             asked_since,
             ..
-        } => open_advice(scope, evidence, teller, asked_since),
+        } => match evidence.first_missed {
+            Some(first) => missed_advice(first),
+            None => open_advice(scope, evidence, teller, asked_since),
+        },
         Grounds::Conflict { first, other } => conflict_advice(first, other),
         Grounds::Unfounded { teller, claim } => unfounded_advice(scope, evidence, teller, claim),
     }
@@ -172,10 +213,20 @@ impl Advice {
         ensures { result.now ≡ sentence_of self }
     {
         match self {
-            Advice::Dropped =>
-                "the writer dropped it before the reader got it: look at the network, or raise the history depth or the lifespan",
-            Advice::AskedFor =>
-                "the reader asked for it and may still lack it: look at the network and the writer, or record longer",
+            Advice::MissedUnsent =>
+                "the reader asked for it and the recording has none: it was lost before this recording, or record at the writer's side",
+            Advice::MissedAgain =>
+                "it was sent again, and nothing shows that it arrived: look at the network; a recording at the reader's side tells",
+            Advice::MissedOnce =>
+                "the reader asked for it and the writer did not send it again: raise the history depth or the lifespan, and look at the network",
+            Advice::Unsent =>
+                "the recording has none for this reader: at the reader's side it was lost on the way; at the writer's side a content filter or a short history kept it back",
+            Advice::Unanswered =>
+                "it was asked about and gave no answer until the writer had dropped them: an outage of the network or of the reader; raise the history depth if these must not be lost",
+            Advice::Tail =>
+                "stop publishing some seconds before the recording ends, or allow a tail (--tail)",
+            Advice::Left =>
+                "it was never asked, or its answers are not in the recording: see that it took anything",
             Advice::OpenUnread =>
                 "it may be in a fragment or frame that was not read: see below what to do for these",
             Advice::OpenUntold =>
@@ -198,8 +249,7 @@ impl Advice {
                 "the datagrams are out of order, or the copy that the reader received is not here: record on one host",
             Advice::Unannounced =>
                 "the reader acknowledged what nobody announced: it has a defect, or another writer had this GUID before",
-            Advice::BeganLate =>
-                "record from before the start; for a reader that joined late, --from gives the first number that it should get",
+            Advice::BeganLate => "record from before the start of the participants",
             Advice::Lacking =>
                 "the recording lacks it: see how many packets tcpdump says it dropped, and switch off shared memory",
         }

@@ -1,8 +1,23 @@
-ghost use Rattle.std.specs.Prelude.{◌≡◌};
+ghost use Rattle.std.specs.Prelude.{◌≡◌, false};
 
 use crate::rows::Rows;
+use rtps_evidence::Extent;
 use rtps_fragments::Fragments;
 use rtps_ids::SeqNum;
+
+/// What each row has to be for a run to end clean.
+#[derive(Clone, Copy, PartialEq, Eq, Debug)]
+pub enum Standard {
+    /// Complete.
+    AllComplete,
+    /// Clean: complete and nothing lost, or what is lacking is a tail alone.
+    AllClean {
+        /// The most numbers that a tail may have, of a reader that did not leave.
+        tail: u64,
+        /// Whether each number also has to be received for certain.
+        certain: bool,
+    },
+}
 
 /// What is asked of an audit: by which numbers, which rows, and what else has to be so for its run to end clean.
 #[derive(Clone, Copy, Debug)]
@@ -13,12 +28,16 @@ pub struct Asked<'a> {
     pub rows: Rows<'a>,
     /// How many rows it has to have, or more; None where any number will do.
     pub expect: Option<u64>,
-    /// Whether it also has to have a row, no row with missed numbers, and nothing that is left out of the recording: no
-    /// fragments, no unsettled GUIDs, and, where any capture was read, no frame that was ignored as a piece, as cut, or for its
-    /// link type.
+    /// Whether it also has to have a row, and nothing that is left out of the recording: no unsettled GUIDs, and, where any
+    /// capture was read, no frame that was ignored as a piece, as cut, or for its link type. Where rows have to be complete, also
+    /// no row with missed numbers, and no fragments.
     pub strict: bool,
     /// What becomes of samples that come in fragments.
     pub fragments: Fragments,
+    /// Whether each row is in the span of its pair: from the first number that was for the reader on, until it left.
+    pub spans: bool,
+    /// What each row has to be.
+    pub standard: Standard,
 }
 
 impl Asked<'_> {
@@ -37,6 +56,28 @@ impl Asked<'_> {
             expect: None,
             strict: false,
             fragments: Fragments::Skipped,
+            spans: false,
+            standard: Standard::AllComplete,
+        }
+    }
+
+    /// The same of rows that are in no spans.
+    pub(crate) fn by_whole(&self) -> Self
+        ensures { asked_value result ≡ record (asked_value self.now) { spans = false } }
+    {
+        Asked {
+            spans: false,
+            ..*self
+        }
+    }
+
+    /// Which numbers and which datagrams rows are by.
+    pub(crate) fn extent(&self) -> Extent
+        ensures { result ≡ record { from = self.now.from; in_spans = self.now.spans } }
+    {
+        Extent {
+            from: self.from,
+            in_spans: self.spans,
         }
     }
 

@@ -10,8 +10,8 @@ use crate::asked::Asked;
 use crate::full_report::index_asked;
 use crate::parted::parted_of;
 use crate::recording::{Recording, datagrams_of};
+use crate::row_facts::missed_among;
 use crate::rows::RowFilter;
-use crate::totals::missed_among;
 use rtps_audit::{Report, Row, Watch};
 use rtps_discovery::Directory;
 use rtps_evidence::{Explanation, explain_index};
@@ -53,8 +53,9 @@ fn strict_report<P: Watch>(
 {
     let mut samples = Samples::none(alloc);
     let index = index_asked(alloc, recording, asked, &mut samples)?;
-    let whole = explain_index(alloc, &index, asked.from, watch)?;
-    let parted = parted_of(alloc, whole, asked, recording)?;
+    let asked = asked.by_whole();
+    let whole = explain_index(alloc, &index, asked.extent(), watch)?;
+    let parted = parted_of(alloc, whole, &asked, recording)?;
     let explained = &parted.explained;
     let rows = rows_in(alloc, &explained.rows)?;
     Ok(AskedReport {
@@ -94,7 +95,7 @@ fn plain_report<P: Watch>(
     let mut samples = Samples::none(alloc);
     let index = index_asked(alloc, recording, asked, &mut samples)?;
     let Report { mut rows, counts } = index.report_from(asked.from, watch)?;
-    let wanted = RowFilter::of(alloc, asked.rows, recording)?;
+    let wanted = RowFilter::of(alloc, asked.rows, recording, asked.fragments)?;
     let directory = index.directory();
     rows.retain(|row| is_kept(*row, directory, &wanted));
     Ok(Report { rows, counts })

@@ -3,10 +3,12 @@ ghost use Rattle.std.specs.BTreeSet.{contains};
 ghost use Rattle.std.specs.List.{list_any};
 ghost use Rattle.rtps_receiver.specs.Acts.{acts_in};
 ghost use Rattle.rtps_receiver.specs.Values.{act_value};
-ghost use Rattle.rtps_report.specs.Rows.{AreContactsOf, contact_cmp, is_contact};
+ghost use Rattle.rtps_fragments.specs.Sending.{all_acts_in};
+ghost use Rattle.rtps_report.specs.Rows.{AreContactsOf, acts_read, contact_cmp, is_contact};
 ghost use Rattle.rtps_report.specs.declared.contacts.Contact.{Contact as ContactValue};
 
 use rtps_discovery::Pair;
+use rtps_fragments::{Fragments, Sending};
 use rtps_ids::{GuidPrefix, Memory};
 use rtps_receiver::{Act, Walk};
 use std::alloc::Global;
@@ -30,8 +32,31 @@ impl Contacts {
     ghost use Rattle.rtps_receiver.specs.Values.{ActValue};
     ghost use Rattle.rtps_report.specs.Rows.{is_observed};
 
-    /// Those of a recording, any datagrams. `Memory` is answered where they cannot grow.
-    pub fn of(alloc: Global, recording: &[&[u8]]) -> Result<Contacts, Memory>
+    /// Those of a recording, any datagrams, by all acts that are read. `Memory` is answered where they cannot grow.
+    pub fn of(alloc: Global, recording: &[&[u8]], fragments: Fragments) -> Result<Contacts, Memory>
+        ensures { IfOk result (AreContactsOf (acts_read fragments (map (λ datagram. datagram.now) recording.now))) }
+    {
+        match fragments {
+            Fragments::Skipped => Contacts::by_messages(alloc, recording),
+            Fragments::Read => Contacts::by_all_acts(alloc, recording),
+        }
+    }
+
+    /// Those by all acts, those of fragments among them.
+    fn by_all_acts(alloc: Global, recording: &[&[u8]]) -> Result<Contacts, Memory>
+        ensures { IfOk result (AreContactsOf (all_acts_in (map (λ datagram. datagram.now) recording.now))) }
+    {
+        let mut known = BTreeSet::new(alloc);
+        let mut sending = Sending::new(alloc);
+        for datagram in recording {
+            sending.read(datagram)?;
+            note_acts(&mut known, sending.acts())?;
+        }
+        Ok(Contacts { known })
+    }
+
+    /// Those by acts that are no fragments.
+    fn by_messages(alloc: Global, recording: &[&[u8]]) -> Result<Contacts, Memory>
         ensures { IfOk result (AreContactsOf (acts_in (map (λ datagram. datagram.now) recording.now))) }
     {
         let mut known = BTreeSet::new(alloc);

@@ -60,8 +60,7 @@ impl DatagramSpan {
     }
 }
 
-/// Appends octets. The room for them grows sparingly: it is never much more than what they need. They stay as they are
-/// after an `Err`.
+/// Appends octets, in room that [`make_room`] makes. They stay as they are after an `Err`.
 pub fn push_octets(octets: &mut Vec<u8>, more: &[u8]) -> Result<(), AllocError>
     ensures ok { OnOk result (octets.new.items ≡ octets.old.items ++ more.now) }
     ensures err { OnErr result (octets.new.items ≡ octets.old.items) }

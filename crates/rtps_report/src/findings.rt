@@ -1,8 +1,8 @@
 ghost use Rattle.std.specs.Prelude.{◌≡◌, Option};
-ghost use Rattle.rtps_report.specs.Asked.{asked_value};
+ghost use Rattle.rtps_report.specs.Asked.{asked_value, is_of_complete as is_of_complete_lem};
 ghost use Rattle.rtps_report.specs.Findings.{are_none, ending_by, few_of as few_of_lem, findings_of as findings_of_lem, no_findings};
 
-use crate::asked::Asked;
+use crate::asked::{Asked, Standard};
 use crate::recording::{Links, Reasons, known, no_links};
 use rtps_audit::Counts;
 
@@ -11,9 +11,9 @@ use rtps_audit::Counts;
 pub enum Ending {
     /// There is nothing to report.
     Clean,
-    /// An audit found a pair that is not complete, and what else was asked of its report is so.
+    /// A pair is not what it has to be, and what else was asked of the report is so.
     Unclean,
-    /// Something that was asked of a report beside complete pairs is not so.
+    /// Something that was asked of a report beside its pairs is not so.
     Unmet(Findings),
 }
 
@@ -50,8 +50,8 @@ pub struct Facts {
     pub rows: u64,
     /// How many of them have missed numbers.
     pub missed: u64,
-    /// Whether each is complete.
-    pub complete: bool,
+    /// Whether each is what it has to be.
+    pub met: bool,
     pub counts: Counts,
     pub reasons: Option<Reasons>,
 }
@@ -97,6 +97,12 @@ fn few_of(expect: Option<u64>, rows: u64) -> Option<FewRows>
     }
 }
 
+fn is_of_complete(standard: Standard) -> bool
+    ensures { result ≡ is_of_complete_lem standard }
+{
+    matches!(standard, Standard::AllComplete)
+}
+
 fn findings_of(asked: &Asked<'_>, facts: &Facts) -> Findings
     ensures { result ≡ findings_of_lem (asked_value asked.now) facts.now }
 {
@@ -108,11 +114,16 @@ fn findings_of(asked: &Asked<'_>, facts: &Facts) -> Findings
         };
     }
     let reasons = known(facts.reasons);
+    let of_complete = is_of_complete(asked.standard);
     Findings {
         few,
         empty: facts.rows == 0,
-        missed: facts.missed,
-        fragments: facts.counts.fragments,
+        missed: if of_complete { facts.missed } else { 0 },
+        fragments: if of_complete {
+            facts.counts.fragments
+        } else {
+            0
+        },
         unsettled: facts.counts.unsettled,
         pieces: reasons.pieces,
         cut: reasons.cut,
@@ -122,12 +133,12 @@ fn findings_of(asked: &Asked<'_>, facts: &Facts) -> Findings
 
 /// How a run ends that printed a report of which this is known.
 pub fn ending_of(asked: &Asked<'_>, facts: &Facts) -> Ending
-    ensures { result ≡ ending_by (findings_of_lem (asked_value asked.now) facts.now) facts.now.complete }
+    ensures { result ≡ ending_by (findings_of_lem (asked_value asked.now) facts.now) facts.now.met }
 {
     let findings = findings_of(asked, facts);
     if !findings.is_none() {
         Ending::Unmet(findings)
-    } else if facts.complete {
+    } else if facts.met {
         Ending::Clean
     } else {
         Ending::Unclean

@@ -8,7 +8,7 @@ use crate::asked::Asked;
 use crate::findings::{Ending, ending_of};
 use crate::parted::parted_of;
 use crate::recording::{Recording, datagrams_of};
-use crate::totals::facts_of;
+use crate::row_facts::facts_of;
 use rtps_audit::{Index, Watch};
 use rtps_evidence::{Explained, Explanation, explain_index};
 use rtps_fragments::{Samples, index_as};
@@ -27,7 +27,7 @@ pub struct Subject<'a> {
 pub struct FullReport<'a> {
     pub recording: &'a Recording,
     pub asked: &'a Asked<'a>,
-    /// By which the rows are: what was announced, and what writers and readers say.
+    /// What was announced, and what writers and readers say: the rows are judged from it.
     pub index: Index<'a>,
     /// The rows that are asked for, in the order of the report, and what was counted.
     pub explained: Explained<'a>,
@@ -37,7 +37,7 @@ pub struct FullReport<'a> {
     pub ending: Ending,
 }
 
-/// The index of a recording by which the verdicts are that are asked for. `samples` is where the samples are put that it borrows.
+/// The index of a recording from which the verdicts are judged. The samples that it borrows are put into `samples`.
 /// `Memory` is answered where there is none for it.
 pub(crate) fn index_asked<'a>(
     alloc: Global,
@@ -64,9 +64,9 @@ pub fn report_on<'a, P: Watch>(
 {
     let Subject { recording, asked } = subject;
     let index = index_asked(alloc, recording, asked, samples)?;
-    let whole = explain_index(alloc, &index, asked.from, watch)?;
+    let whole = explain_index(alloc, &index, asked.extent(), watch)?;
     let parted = parted_of(alloc, whole, asked, recording)?;
-    let ending = ending_of(asked, &facts_of(&parted.explained, recording));
+    let ending = ending_of(asked, &facts_of(asked, &parted.explained, recording));
     Ok(FullReport {
         recording,
         asked,

@@ -1,23 +1,28 @@
 //! Laws of the definitions, each the contract of a function that does nothing.
 
-ghost use Rattle.rtps_report.specs.Laws.{ExplainedRowsAreByFragments, HasOneFullReport, RowsAreByFragments};
+ghost use Rattle.rtps_report.specs.Laws.{ExplainedRowsAreExact, HasOneFullReport, LeftOutRowsAreExact, ReportedRowsAreExact};
 ghost use Rattle.rtps_report.specs.Patterns.{FitsAsFilled};
 
+use rtps_audit::laws::first_datagrams_say_the_same;
 use rtps_evidence::laws::one_explanation;
-use rtps_fragments::laws::recorded_verdict_is_of_runs;
+use rtps_fragments::laws::{first_datagrams_decide, first_datagrams_tell_the_same};
 
 /// A topic fits a pattern exactly where it is the pattern with some octets in the place of each `*`.
 pub fn fits_as_filled()
     ensures { FitsAsFilled }
 {}
 
-/// Where fragments are read, the verdict of each row of the report is that by all runs in which its reader takes fragments one by one,
-/// of the numbers that are asked about; so is the verdict of each row that is explained.
-pub fn rows_are_by_fragments()
-    ensures reported { RowsAreByFragments }
-    ensures explained { ExplainedRowsAreByFragments }
+/// The verdict of each row is that by all runs, in which its reader takes fragments one by one where they are read. A row of a report is
+/// by the whole recording and the numbers that are asked about. A row in the span of its pair, told or left out, is by the datagrams
+/// before the one in which its reader leaves and the numbers from the span's first one on: its verdict is as if nothing stood behind them.
+pub fn rows_are_exact()
+    ensures reported { ReportedRowsAreExact }
+    ensures explained { ExplainedRowsAreExact }
+    ensures left_out { LeftOutRowsAreExact }
 {
-    recorded_verdict_is_of_runs();
+    first_datagrams_say_the_same();
+    first_datagrams_decide();
+    first_datagrams_tell_the_same();
 }
 
 /// What is told of a recording is decided by the recording and by what is asked.

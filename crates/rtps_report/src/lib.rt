@@ -1,5 +1,5 @@
 //! The report on a recording, of what is asked: which rows are kept, what each rests on, what is counted of them, what to do, and
-//! how a run ends that tells of it. All that is printed of a recording beside its acts is a form of this one value.
+//! how a run ends that tells of it. What `why`, `page`, `check` and JSON print is a form of this one value; `audit` prints its rows alone.
 #![tactic(auto)]
 
 mod advice;
@@ -15,23 +15,28 @@ mod note_facts;
 mod parted;
 mod pattern;
 mod recording;
+mod row_facts;
 mod rows;
 mod topics;
 mod totals;
 
-pub use advice::{Advice, Scope, advice_of, is_noted};
-pub use asked::Asked;
+pub use advice::{Advice, Scope, advice_of};
+pub use asked::{Asked, Standard};
 pub use asked_report::{AskedReport, audit_asked};
 pub use contacts::Contacts;
 pub use datagram_list::{DatagramList, Datagrams};
 pub use datagram_span::{DatagramSpan, make_room, push_octets};
 pub use findings::{Ending, Facts, FewRows, Findings, ending_of};
 pub use full_report::{FullReport, Subject, report_on};
-pub use note_facts::{NoteFacts, notes_on, scope_of};
+pub use note_facts::{NoteFacts, is_unread, notes_on, scope_of};
 pub use pattern::fits;
 pub use recording::{Links, Reasons, Recording};
+pub use row_facts::{
+    asked_about, is_clean, is_complete, is_late, is_noted, is_tail_alone, left_at, number_of,
+    outcomes_of, row_from,
+};
 pub use rows::{RowFilter, Rows};
 pub use rtps_audit::{Unwatched, Watch};
 pub use rtps_fragments::{Fragments, Samples};
 pub use topics::{by_topic, topics_of};
-pub use totals::{Totals, asked_about, is_complete, number_of, totals_of};
+pub use totals::{Totals, totals_of};

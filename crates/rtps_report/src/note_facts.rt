@@ -1,19 +1,29 @@
-ghost use Rattle.std.specs.Prelude.{◌≡◌};
-ghost use Rattle.rtps_report.specs.Asked.{asked_value};
+ghost use Rattle.std.specs.Prelude.{◌≡◌, map};
+ghost use Rattle.rtps_evidence.specs.Explanation.{evidence_value, explanation_value};
+ghost use Rattle.rtps_report.specs.Asked.{asked_value, tail_of as tail_of_lem};
 ghost use Rattle.rtps_report.specs.FullReport.{report_value};
-ghost use Rattle.rtps_report.specs.NoteFacts.{facts_by as facts_by_lem, is_unread as is_unread_lem, note_facts as note_facts_lem, scope_of as scope_of_lem, short_in as short_in_lem};
+ghost use Rattle.rtps_report.specs.NoteFacts.{clean_tail_of as clean_tail_of_lem, facts_by as facts_by_lem, is_unread as is_unread_lem, longest_clean_tail as longest_clean_tail_lem, note_facts as note_facts_lem, scope_of as scope_of_lem, short_in as short_in_lem};
 
 use crate::advice::Scope;
+use crate::asked::Standard;
 use crate::full_report::FullReport;
 use crate::recording::{Links, Reasons, Recording, known};
+use crate::row_facts::{is_clean_tail, outcomes_of};
 use crate::totals::totals_of;
 use rtps_audit::Counts;
+use rtps_evidence::{Evidence, Explanation};
 
 /// What weakens a report, in numbers.
 #[derive(Clone, Copy, PartialEq, Eq, Debug)]
 pub struct NoteFacts {
-    /// How many numbers of complete pairs are neither known to be received nor missed.
-    pub unsure: u128,
+    /// The complete rows before which all numbers stand that their writer announced.
+    pub late: u64,
+    /// The rows that are clean with a tail.
+    pub tails: u64,
+    /// How many numbers the longest of these tails has.
+    pub longest: u64,
+    /// How many numbers are likely received.
+    pub likely: u128,
     // Frames of a capture, by the reasons that it knows.
     pub pieces: u64,
     pub cut: u64,
@@ -26,7 +36,8 @@ pub struct NoteFacts {
     pub refused: u64,
 }
 
-fn is_unread(counts: &Counts, reasons: Option<Reasons>) -> bool
+/// Whether parts of the recording were not read that may have samples.
+pub fn is_unread(counts: &Counts, reasons: Option<Reasons>) -> bool
     ensures { result ≡ is_unread_lem counts.now reasons }
 {
     let reasons = known(reasons);
@@ -40,22 +51,61 @@ fn short_in(recording: &Recording) -> u64
     datagrams.filter(|octets| octets.len() <= 1).count() as u64
 }
 
-/// What an advice needs to know beside its pair.
+fn tail_of(standard: Standard) -> u64
+    ensures { result ≡ tail_of_lem standard }
+{
+    match standard {
+        Standard::AllComplete => 0,
+        Standard::AllClean { tail, .. } => tail,
+    }
+}
+
+/// What a row of a report is told by beside its pair.
 pub fn scope_of(report: &FullReport<'_>) -> Scope
     ensures { result ≡ scope_of_lem (asked_value report.now.asked.now) report.now.recording.now (report_value report.now) }
 {
     Scope {
         from: report.asked.first_asked(),
+        tail: tail_of(report.asked.standard),
         unread: is_unread(&report.explained.counts, report.recording.reasons()),
     }
 }
 
-fn facts_by(unsure: u128, counts: &Counts, recording: &Recording) -> NoteFacts
-    ensures { result ≡ facts_by_lem unsure counts.now recording.now }
+fn longest_clean_tail(tail: u64, rows: &[Explanation<'_>]) -> u64
+    ensures { result ≡ longest_clean_tail_lem tail (map explanation_value rows.now) }
 {
+    let mut longest = 0u64;
+    for row in rows {
+        longest = longest.max(clean_tail_of(tail, &row.evidence));
+    }
+    longest
+}
+
+fn clean_tail_of(tail: u64, evidence: &Evidence<'_>) -> u64
+    ensures { result ≡ clean_tail_of_lem tail (evidence_value evidence.now) }
+{
+    if is_clean_tail(tail, evidence) {
+        outcomes_of(evidence).unconfirmed
+    } else {
+        0
+    }
+}
+
+fn facts_by(
+    rows: &[Explanation<'_>],
+    scope: Scope,
+    counts: &Counts,
+    recording: &Recording,
+) -> NoteFacts
+    ensures { result ≡ facts_by_lem (map explanation_value rows.now) scope counts.now recording.now }
+{
+    let totals = totals_of(rows, scope);
     let reasons = known(recording.reasons());
     NoteFacts {
-        unsure,
+        late: totals.late_pairs,
+        tails: totals.tail_pairs,
+        longest: longest_clean_tail(scope.tail, rows),
+        likely: totals.likely,
         pieces: reasons.pieces,
         cut: reasons.cut,
         links: reasons.links,
@@ -71,6 +121,10 @@ pub fn notes_on(report: &FullReport<'_>) -> NoteFacts
     ensures { result ≡ note_facts_lem (asked_value report.now.asked.now) report.now.recording.now (report_value report.now) }
 {
     let explained = &report.explained;
-    let totals = totals_of(&explained.rows, report.asked.first_asked());
-    facts_by(totals.unsure, &explained.counts, report.recording)
+    facts_by(
+        &explained.rows,
+        scope_of(report),
+        &explained.counts,
+        report.recording,
+    )
 }

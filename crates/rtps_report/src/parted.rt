@@ -36,7 +36,7 @@ pub(crate) fn parted_of<'a>(
     asked: &Asked<'_>,
     recording: &Recording,
 ) -> Result<Parted<'a>, Memory>
-    ensures { IsExplainedBy asked.now.from (intake_as asked.now.fragments recording.now.datagrams) whole.entry
+    ensures { IsExplainedBy asked.now.spans asked.now.from (intake_as asked.now.fragments recording.now.datagrams) whole.entry
         → IfOk result (λ parted. IsPartedAs (asked_value asked.now) recording.now.datagrams parted.explained parted.left_out.items) }
 {
     if asked.asks_all_rows() {
@@ -45,12 +45,12 @@ pub(crate) fn parted_of<'a>(
             left_out: Vec::new(alloc),
         });
     }
-    let wanted = RowFilter::of(alloc, asked.rows, recording)?;
+    let wanted = RowFilter::of(alloc, asked.rows, recording, asked.fragments)?;
     let of_all_pairs = Rows {
         observed: false,
         ..asked.rows
     };
-    let of_topic = RowFilter::of(alloc, of_all_pairs, recording)?;
+    let of_topic = RowFilter::of(alloc, of_all_pairs, recording, asked.fragments)?;
     let Explained { mut rows, counts } = whole;
     let mut left_out = Vec::from_slice(alloc, &rows)?;
     left_out.retain(|row| is_left_out(row, &wanted, &of_topic));

@@ -1,12 +1,12 @@
 ghost use Rattle.std.specs.Prelude.{◌≡◌, map, IfOk};
 ghost use Rattle.std.specs.String.{string_bytes};
-ghost use Rattle.rtps_receiver.specs.Acts.{acts_in};
-ghost use Rattle.rtps_report.specs.Rows.{fits_one as fits_one_lem};
+ghost use Rattle.rtps_report.specs.Rows.{acts_read, fits_one as fits_one_lem};
 
 use crate::contacts::Contacts;
 use crate::pattern::fits;
 use crate::recording::{Recording, datagrams_of};
 use rtps_discovery::Pair;
+use rtps_fragments::Fragments;
 use rtps_ids::Memory;
 use std::alloc::Global;
 
@@ -32,8 +32,13 @@ impl<'a> RowFilter<'a> {
     ghost use Rattle.rtps_report.specs.Rows.{IsFilterOf, RowsValue, is_kept, is_observed, rows_value};
 
     /// The filter of a recording. `Memory` is answered where what is kept cannot grow.
-    pub fn of(alloc: Global, rows: Rows<'a>, recording: &Recording) -> Result<Self, Memory>
-        ensures { IfOk result (IsFilterOf (rows_value rows.entry) (acts_in recording.now.datagrams)) }
+    pub fn of(
+        alloc: Global,
+        rows: Rows<'a>,
+        recording: &Recording,
+        fragments: Fragments,
+    ) -> Result<Self, Memory>
+        ensures { IfOk result (IsFilterOf (rows_value rows.entry) (acts_read fragments recording.now.datagrams)) }
     {
         let topics = rows.topics;
         if !rows.observed {
@@ -43,7 +48,7 @@ impl<'a> RowFilter<'a> {
             });
         }
         let datagrams = datagrams_of(alloc, recording)?;
-        let contacts = Contacts::of(alloc, &datagrams)?;
+        let contacts = Contacts::of(alloc, &datagrams, fragments)?;
         Ok(RowFilter {
             topics,
             contacts: Some(contacts),

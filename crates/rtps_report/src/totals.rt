@@ -1,197 +1,144 @@
-ghost use Rattle.std.specs.Prelude.{◌≡◌, ◌+◌, ◌<◌, ◌^◌, map};
-ghost use Rattle.std.specs.List.{list_all};
-ghost use Rattle.rtps_audit.specs.Speech.{natural as natural_lem};
+ghost use Rattle.std.specs.Prelude.{◌≡◌, ◌+◌, ◌<◌, ◌≤◌, ◌^◌, map};
 ghost use Rattle.rtps_evidence.specs.Explanation.{evidence_value, explanation_value};
-ghost use Rattle.rtps_report.specs.FullReport.{facts_of_rows, missed_in};
-ghost use Rattle.rtps_report.specs.Reported.{is_complete as completes, number_of as number_of_lem};
-ghost use Rattle.rtps_report.specs.Totals.{asked_about as asked_about_lem, is_conflict as is_conflict_lem, is_open as is_open_lem, is_unfounded as is_unfounded_lem, totals_of as totals_of_lem, unsure_of as unsure_of_lem};
+ghost use Rattle.rtps_report.specs.Totals.{before_of as before_of_lem, is_unclean as is_unclean_lem, numbers_of as numbers_of_lem, totals_of as totals_of_lem};
 
-use crate::findings::Facts;
-use crate::recording::Recording;
-use rtps_audit::Verdict;
-use rtps_evidence::{Announcement, Evidence, Explained, Explanation};
+use crate::advice::Scope;
+use crate::row_facts::{
+    asked_about, is_certain, is_clean, is_clean_tail, is_complete, is_late, outcomes_of, row_from,
+};
+use rtps_evidence::{Evidence, Explanation};
 
 /// What is counted of rows.
 #[derive(Clone, Copy, Debug, PartialEq, Eq)]
 pub struct Totals {
+    /// How many rows there are.
     pub pairs: u64,
+    /// Those that are complete.
     pub complete_pairs: u64,
-    pub open_pairs: u64,
-    pub conflict_pairs: u64,
-    pub unfounded_pairs: u64,
-    /// How many numbers are asked about, in all rows.
+    /// Those that are clean.
+    pub clean_pairs: u64,
+    /// Those that are neither complete nor clean.
+    pub unclean_pairs: u64,
+    /// Those that are clean with a tail.
+    pub tail_pairs: u64,
+    /// Complete ones, before which all numbers stand that their writer announced.
+    pub late_pairs: u64,
+    /// Those with missed numbers.
+    pub missed_pairs: u64,
+    /// Those with unsent numbers.
+    pub unsent_pairs: u64,
+    /// Those with unanswered numbers.
+    pub unanswered_pairs: u64,
+    /// Those of which not each number is received for certain.
+    pub uncertain_pairs: u64,
+    /// How many of the numbers that are asked for stand before the first of their row.
+    pub before: u128,
+    /// How many numbers are asked about.
     pub numbers: u128,
     /// How many of them are received.
     pub received: u128,
+    /// How many of them are likely.
+    pub likely: u128,
     /// How many of them are missed.
     pub missed: u128,
-    /// The rows with missed numbers.
-    pub missed_pairs: u64,
-    /// How many numbers of complete pairs are neither known to be received nor missed.
-    pub unsure: u128,
+    /// How many of them are unsent.
+    pub unsent: u128,
+    /// How many of them are unanswered.
+    pub unanswered: u128,
+    /// How many of them are unconfirmed.
+    pub unconfirmed: u128,
 }
 
-/// A number, or 0 for one below it.
-pub(crate) fn natural(number: i64) -> u64
-    ensures value { result ≡ natural_lem number }
-    ensures in_range { result < 2 ^ 63 }
+fn is_unclean(tail: u64, evidence: &Evidence<'_>) -> bool
+    ensures { result ≡ is_unclean_lem tail (evidence_value evidence.now) }
 {
-    number.max(0).cast_unsigned()
+    !is_complete(&evidence.verdict) && !is_clean(tail, evidence)
 }
 
-/// How many numbers are asked about, from `from` on.
-pub fn asked_about(from: u64, announcement: Option<Announcement>) -> u64
-    ensures { result ≡ asked_about_lem from announcement }
+/// How many of the numbers from `from` on stand before the first of a row.
+fn before_of(from: u64, evidence: &Evidence<'_>) -> u64
+    ensures { result ≡ before_of_lem from (evidence_value evidence.now) }
 {
-    match announcement {
-        None => 0,
-        Some(announcement) => { (natural(announcement.number) + 1).saturating_sub(from) }
-    }
+    row_from(from, evidence).saturating_sub(from)
 }
 
-fn unsure_of(from: u64, evidence: &Evidence<'_>) -> u64
-    ensures { result ≡ unsure_of_lem from (evidence_value evidence.now) }
+/// How many numbers a row asks about.
+fn numbers_of(from: u64, evidence: &Evidence<'_>) -> u64
+    ensures { result ≡ numbers_of_lem from (evidence_value evidence.now) }
 {
-    match evidence.verdict {
-        Verdict::Complete { .. } => asked_about(from, evidence.announcement)
-            .saturating_sub(evidence.received)
-            .saturating_sub(evidence.missed),
-        Verdict::Open { .. } | Verdict::Conflict { .. } | Verdict::Unfounded { .. } => 0,
-    }
-}
-
-fn received_of(evidence: &Evidence<'_>) -> u64
-    ensures { result ≡ evidence.now.received }
-{
-    evidence.received
-}
-
-fn missed_of(evidence: &Evidence<'_>) -> u64
-    ensures { result ≡ evidence.now.missed }
-{
-    evidence.missed
+    asked_about(row_from(from, evidence), evidence.announcement)
 }
 
 impl Totals {
-    ghost use Rattle.std.specs.Prelude.{ℕ, []};
+    ghost use Rattle.std.specs.Prelude.{[]};
     ghost use Rattle.rtps_report.specs.Totals.{AreWithin, with_row as with_row_lem};
+    ghost use Rattle.rtps_report.specs.declared.advice.Scope.{Scope as ScopeOf};
 
     fn none() -> Totals
-        ensures counted { (from : ℕ) → result ≡ totals_of_lem from [] }
+        ensures counted { (scope : ScopeOf) → result ≡ totals_of_lem scope [] }
         ensures pairs { result.pairs ≡ 0 }
         ensures within { AreWithin result }
     {
         Totals {
             pairs: 0,
             complete_pairs: 0,
-            open_pairs: 0,
-            conflict_pairs: 0,
-            unfounded_pairs: 0,
+            clean_pairs: 0,
+            unclean_pairs: 0,
+            tail_pairs: 0,
+            late_pairs: 0,
+            missed_pairs: 0,
+            unsent_pairs: 0,
+            unanswered_pairs: 0,
+            uncertain_pairs: 0,
+            before: 0,
             numbers: 0,
             received: 0,
+            likely: 0,
             missed: 0,
-            missed_pairs: 0,
-            unsure: 0,
+            unsent: 0,
+            unanswered: 0,
+            unconfirmed: 0,
         }
     }
 
-    fn with_row(self, row: &Explanation<'_>, from: u64) -> Totals
+    fn with_row(self, row: &Explanation<'_>, scope: Scope) -> Totals
         requires counted { AreWithin self }
         requires few { self.pairs + 1 < 2 ^ 64 }
-        ensures counted { result ≡ with_row_lem from self (explanation_value row.now) }
+        ensures counted { result ≡ with_row_lem scope self (explanation_value row.now) }
         ensures within { AreWithin result }
     {
         let evidence = &row.evidence;
-        let verdict = &evidence.verdict;
+        let outcomes = outcomes_of(evidence);
         Totals {
             pairs: self.pairs + 1,
-            complete_pairs: self.complete_pairs + u64::from(is_complete(verdict)),
-            open_pairs: self.open_pairs + u64::from(is_open(verdict)),
-            conflict_pairs: self.conflict_pairs + u64::from(is_conflict(verdict)),
-            unfounded_pairs: self.unfounded_pairs + u64::from(is_unfounded(verdict)),
-            numbers: self.numbers + u128::from(asked_about(from, evidence.announcement)),
-            received: self.received + u128::from(received_of(evidence)),
-            missed: self.missed + u128::from(missed_of(evidence)),
-            missed_pairs: self.missed_pairs + u64::from(evidence.missed > 0),
-            unsure: self.unsure + u128::from(unsure_of(from, evidence)),
+            complete_pairs: self.complete_pairs + u64::from(is_complete(&evidence.verdict)),
+            clean_pairs: self.clean_pairs + u64::from(is_clean(scope.tail, evidence)),
+            unclean_pairs: self.unclean_pairs + u64::from(is_unclean(scope.tail, evidence)),
+            tail_pairs: self.tail_pairs + u64::from(is_clean_tail(scope.tail, evidence)),
+            late_pairs: self.late_pairs + u64::from(is_late(scope.from, evidence)),
+            missed_pairs: self.missed_pairs + u64::from(outcomes.missed > 0),
+            unsent_pairs: self.unsent_pairs + u64::from(outcomes.unsent > 0),
+            unanswered_pairs: self.unanswered_pairs + u64::from(outcomes.unanswered > 0),
+            uncertain_pairs: self.uncertain_pairs + u64::from(!is_certain(scope.from, evidence)),
+            before: self.before + u128::from(before_of(scope.from, evidence)),
+            numbers: self.numbers + u128::from(numbers_of(scope.from, evidence)),
+            received: self.received + u128::from(outcomes.received),
+            likely: self.likely + u128::from(outcomes.likely),
+            missed: self.missed + u128::from(outcomes.missed),
+            unsent: self.unsent + u128::from(outcomes.unsent),
+            unanswered: self.unanswered + u128::from(outcomes.unanswered),
+            unconfirmed: self.unconfirmed + u128::from(outcomes.unconfirmed),
         }
     }
 }
 
-/// Whether nothing is to be reported of a pair with this verdict.
-pub fn is_complete(verdict: &Verdict) -> bool
-    ensures { result ≡ completes verdict.now }
-{
-    matches!(verdict, Verdict::Complete { .. })
-}
-
-/// The number of a verdict.
-pub fn number_of(verdict: &Verdict) -> i64
-    ensures { result ≡ number_of_lem verdict.now }
-{
-    match *verdict {
-        Verdict::Complete { last } => last,
-        Verdict::Open { number }
-        | Verdict::Conflict { number }
-        | Verdict::Unfounded { number, .. } => number,
-    }
-}
-
-fn is_open(verdict: &Verdict) -> bool
-    ensures { result ≡ is_open_lem verdict.now }
-{
-    matches!(verdict, Verdict::Open { .. })
-}
-
-fn is_conflict(verdict: &Verdict) -> bool
-    ensures { result ≡ is_conflict_lem verdict.now }
-{
-    matches!(verdict, Verdict::Conflict { .. })
-}
-
-fn is_unfounded(verdict: &Verdict) -> bool
-    ensures { result ≡ is_unfounded_lem verdict.now }
-{
-    matches!(verdict, Verdict::Unfounded { .. })
-}
-
-/// What is counted of rows that ask for the numbers from `from` on.
-pub fn totals_of(rows: &[Explanation<'_>], from: u64) -> Totals
-    ensures { result ≡ totals_of_lem from (map explanation_value rows.now) }
+/// What is counted of rows.
+pub fn totals_of(rows: &[Explanation<'_>], scope: Scope) -> Totals
+    ensures { result ≡ totals_of_lem scope (map explanation_value rows.now) }
 {
     let mut totals = Totals::none();
     for row in rows {
-        totals = totals.with_row(row, from);
+        totals = totals.with_row(row, scope);
     }
     totals
-}
-
-pub(crate) fn missed_among(rows: &[Explanation<'_>]) -> u64
-    ensures { result ≡ missed_in (map explanation_value rows.now) }
-{
-    let mut missed = 0;
-    for row in rows {
-        if row.evidence.missed > 0 {
-            missed += 1;
-        }
-    }
-    missed
-}
-
-fn are_complete(rows: &[Explanation<'_>]) -> bool
-    ensures { result ≡ list_all (λ row. completes row.evidence.verdict) (map explanation_value rows.now) }
-{
-    rows.iter().all(|row| is_complete(&row.evidence.verdict))
-}
-
-pub(crate) fn facts_of(explained: &Explained<'_>, recording: &Recording) -> Facts
-    ensures { result ≡ facts_of_rows (map explanation_value explained.now.rows.items) explained.now.counts recording.now }
-{
-    Facts {
-        rows: explained.rows.len() as u64,
-        missed: missed_among(&explained.rows),
-        complete: are_complete(&explained.rows),
-        counts: explained.counts,
-        reasons: recording.reasons(),
-    }
 }

@@ -2,10 +2,11 @@
 -- Interchange Format".
 -- own: `audit` prints a line of how many pairs there are, one for each with its verdict, and one of what was counted, of fields with one
 -- space between them. `why` prints behind the line of a pair what its verdict rests on, place by place, so that it can be checked with
--- `show`; each such line begins with two spaces. Other programs read the rows as JSON. A run is clean where each pair is complete.
+-- `show`; each such line begins with two spaces. Other programs read the rows as JSON. Where nothing else is asked, a run is clean where each
+-- pair is complete.
 use Rattle.std.specs.Prelude.{ℕ, ◌≡◌, ◌++◌, if◌then◌else◌, List, [], ◌∷◌, codes, length, Option, Some, None, ℤ, ◌+◌, decimal, flat_map}
 use Rattle.std.specs.List.{list_all}
-use Rattle.rtps_report.specs.Vocabulary.{CompleteGrounds, ConflictGrounds, Counts, EvidenceValue, ExplanationValue, FirstMissed, GroundsValue, intake_as, IsReportFrom, Location, NotReceived, OpenGrounds, Report, Row, Teller, UnfoundedGrounds}
+use Rattle.rtps_report.specs.Vocabulary.{CompleteGrounds, ConflictGrounds, Counts, EvidenceValue, ExplanationValue, FirstMissed, GroundsValue, InSpan, intake_as, IsReportFrom, Location, NotReceived, OpenGrounds, Report, Row, Teller, UnfoundedGrounds}
 use Rattle.rtps_report.specs.declared.findings.Ending.{Ending}
 use Rattle.rtps_report.specs.declared.findings.Ending.TheVariants.{Clean, Unclean}
 use Rattle.rtps_report.specs.Asked.{AskedValue}
@@ -63,7 +64,7 @@ pub record IsAuditedAs (asked : AskedValue) (recording : RecordingValue) (text :
   pub is_text : text ≡ report_text report.rows.items report.counts recording.ignored
   pub ends : ending ≡ ending_as asked (facts_of_report (missed_rows asked.from (intake_as asked.fragments recording.datagrams) report.rows.items) report.rows.items report.counts recording)
 
--- and of all numbers
+-- the text of `audit` of all numbers, where nothing else is asked
 abbrev pub IsAudited : RecordingValue → List ℕ → Ending → Type 0
 IsAudited recording text ending = IsAuditedFrom 1 recording text ending
 
@@ -76,6 +77,16 @@ pair_line row = line_of (codes "pair" ∷ guid_text row.pair.writer ∷ guid_tex
 -- the line of the names of its topic and its type
 abbrev pub names_line : List ℕ → List ℕ → List ℕ
 names_line topic type_name = inner_line (codes "topic" ∷ name_text topic ∷ codes "type" ∷ name_text type_name ∷ [])
+
+-- the datagram in which a reader leaves; nothing where it does not
+abbrev pub until_text : Option ℕ → List ℕ
+until_text None = []
+until_text (Some datagram) = codes " until datagram " ++ decimal datagram
+
+-- the span of a row: its first number, and the datagram in which its reader leaves; nothing where it is in no span
+abbrev pub span_line : Option InSpan → List ℕ
+span_line None = []
+span_line (Some in_span) = codes "  from " ++ (decimal in_span.from ++ (until_text in_span.until ++ codes "\n"))
 
 -- of the numbers asked for, up to the last announced one: how many have a payload, are gone without one, have no word
 abbrev pub amounts_line : ℕ → ℕ → ℕ → List ℕ
@@ -122,10 +133,11 @@ abbrev pub explanation_text : ExplanationValue → List ℕ
 explanation_text row =
     pair_line row
     ++ (names_line row.topic row.type_name
+    ++ (span_line row.evidence.in_span
     ++ (announced_line row.evidence.announcement
     ++ (acknowledged_line row.evidence.acknowledgement
     ++ (amounts_line row.evidence.payloads row.evidence.gone row.evidence.untold
-    ++ rest_lines row.evidence))))
+    ++ rest_lines row.evidence)))))
 
 -- the lines of these rows and counts
 abbrev pub explained_text : List ExplanationValue → Counts → Option ℕ → List ℕ

@@ -17,7 +17,8 @@ use Rattle.rtps_params.specs.Lists.{ListValue}
 use Rattle.rtps_receiver.specs.Acts.{gathered, says_destination, says_source, says_time, state_at_start}
 use Rattle.rtps_receiver.specs.declared.state.State.{State}
 use Rattle.rtps_wire.specs.DataFrag.{DataFragValue, data_frag_at}
-use Rattle.rtps_wire.specs.Message.{Reading}
+use Rattle.rtps_wire.specs.Message.{Reading, flags_of, order_of}
+use Rattle.rtps_wire.specs.NackFrag.{nack_frag_at}
 use Rattle.rtps_wire.specs.Reading.{Outcome, items_among, reading_of, refusal_among}
 use Rattle.rtps_wire.specs.Skipped.{skipped_id}
 use Rattle.rtps_wire.specs.Values.{BodyValue, DataValue, ItemValue}
@@ -28,6 +29,7 @@ use Rattle.rtps_wire.specs.declared.body.HeartbeatBody.{HeartbeatBody}
 use Rattle.rtps_wire.specs.declared.fault.Refusal.{Refusal}
 use Rattle.rtps_wire.specs.FaultText.{fault_name}
 use Rattle.rtps_wire.specs.declared.header.Header.{Header}
+use Rattle.rtps_wire.specs.declared.nack_frag.NackFrag.{NackFrag}
 use Rattle.rtps_report.specs.Recording.{RecordingValue}
 use Rattle.rtps_lines.specs.Lines.{line_of, payload_text}
 use Rattle.rtps_report.specs.declared.findings.Ending.{Ending}
@@ -123,6 +125,13 @@ ack_nack_line state at order value = line_of (codes "acknack" ∷ decimal at ∷
     ∷ codes "base" ∷ decimal value.set.base ∷ codes "bits" ∷ decimal value.set.count ∷ bitmap_text value.set
     ∷ codes "count" ∷ decimal value.count ∷ codes "final" ∷ digit_of value.is_final ∷ state_text state ∷ [])
 
+-- the line of a NACK_FRAG that is read: the number of the sample, and the set of the fragments that the reader lacks
+abbrev pub nack_frag_line : State → ℕ → Order → NackFrag → List ℕ
+nack_frag_line state at order value = line_of (codes "nack_frag" ∷ decimal at ∷ order_text order
+    ∷ codes "reader" ∷ encode_lower value.reader.0 ∷ codes "writer" ∷ encode_lower value.writer.0 ∷ codes "number" ∷ decimal value.number
+    ∷ codes "base" ∷ decimal value.set.base ∷ codes "bits" ∷ decimal value.set.count ∷ bitmap_text value.set
+    ∷ codes "count" ∷ decimal value.count ∷ state_text state ∷ [])
+
 -- the line of a GAP
 abbrev pub gap_line : State → ℕ → Order → GapBody → List ℕ
 gap_line state at order value = line_of (codes "gap" ∷ decimal at ∷ order_text order
@@ -161,29 +170,49 @@ body_line state at order (Skipped id) = skipped_line at id
 abbrev pub item_line : State → ItemValue → List ℕ
 item_line state item = body_line state item.at item.order item.body
 
--- the line of a submessage that is not read, or of the fragments that it has
-abbrev pub unread_line : State → ℕ → ℕ → Option DataFragValue → List ℕ
+-- what a submessage says that is read only where fragments are: fragments that it has, or which ones a reader lacks
+pub data FragmentsValue : Type 0 where
+  Sent : (value : DataFragValue) → FragmentsValue
+  Lacked : (order : Order) → (value : NackFrag) → FragmentsValue
+
+-- the line of it
+abbrev pub fragments_text : State → ℕ → FragmentsValue → List ℕ
+fragments_text state at (Sent value) = data_frag_line state at value
+fragments_text state at (Lacked order value) = nack_frag_line state at order value
+
+-- the line of a submessage that is not read, or of what it says of fragments
+abbrev pub unread_line : State → ℕ → ℕ → Option FragmentsValue → List ℕ
 unread_line state at id None = skipped_line at id
-unread_line state at id (Some value) = data_frag_line state at value
+unread_line state at id (Some value) = fragments_text state at value
 
--- the line of an item that has fragments. Only one that is skipped can have some
-abbrev pub fragments_line : State → ItemValue → DataFragValue → Option ℕ → List ℕ
+-- the line of an item that says this of fragments. Only one that is skipped can say something
+abbrev pub fragments_line : State → ItemValue → FragmentsValue → Option ℕ → List ℕ
 fragments_line state item value None = item_line state item
-fragments_line state item value (Some id) = data_frag_line state item.at value
+fragments_line state item value (Some id) = fragments_text state item.at value
 
--- the line of an item that has these fragments, if it has some
-abbrev pub line_with : State → ItemValue → Option DataFragValue → List ℕ
+-- the line of an item that says this of fragments, if it says something
+abbrev pub line_with : State → ItemValue → Option FragmentsValue → List ℕ
 line_with state item None = item_line state item
 line_with state item (Some value) = fragments_line state item value (skipped_id item.body)
 
--- the line of an item by the fragments at each place
-abbrev pub shown_line : (ℕ → Option DataFragValue) → State → ItemValue → List ℕ
+-- the line of an item by what is said of fragments at each place
+abbrev pub shown_line : (ℕ → Option FragmentsValue) → State → ItemValue → List ℕ
 shown_line fragments state item = line_with state item (fragments item.at)
 
--- the fragments at a place of a datagram, if they are read
-abbrev pub fragments_at : Fragments → List ℕ → ℕ → Option DataFragValue
+-- a DATA_FRAG or a NACK_FRAG, whichever there is
+abbrev pub said_of : Order → Option DataFragValue → Option NackFrag → Option FragmentsValue
+said_of order (Some value) lacked = Some (Sent value)
+said_of order None (Some value) = Some (Lacked order value)
+said_of order None None = None
+
+-- what the octets from the first one of a submessage on say of fragments
+unfoldable pub said_at : List ℕ → Option FragmentsValue
+said_at rest = said_of (order_of (flags_of rest)) (data_frag_at rest) (nack_frag_at rest)
+
+-- what is said of fragments at a place of a datagram, if it is read
+abbrev pub fragments_at : Fragments → List ℕ → ℕ → Option FragmentsValue
 fragments_at fragments.Skipped datagram at = None
-fragments_at fragments.Read datagram at = data_frag_at (drop at datagram)
+fragments_at fragments.Read datagram at = said_at (drop at datagram)
 
 -- the line of a refusal: where it is and why
 abbrev pub refusal_line : Refusal → List ℕ
@@ -201,17 +230,17 @@ ending_text None = []
 ending_text (Some refusal) = refusal_line refusal
 
 -- the lines of items and of the refusal that ends them, if one does, from a state on
-abbrev pub outcomes_text : (ℕ → Option DataFragValue) → State → List Outcome → List ℕ
+abbrev pub outcomes_text : (ℕ → Option FragmentsValue) → State → List Outcome → List ℕ
 outcomes_text fragments state outcomes = gathered (shown_line fragments) state [] (items_among outcomes) ++ ending_text (refusal_among outcomes)
 
 -- the lines of items behind a header; none where there is no header
-abbrev pub items_text : (ℕ → Option DataFragValue) → Option Header → List ItemValue → List ℕ
+abbrev pub items_text : (ℕ → Option FragmentsValue) → Option Header → List ItemValue → List ℕ
 items_text fragments None items = []
 items_text fragments (Some header) items = gathered (shown_line fragments) (state_at_start header) [] items
 
 -- the lines of a datagram of this number that is read so: its own, one for each item, in the state behind all items
 -- before it, and that of its refusal, if it has one
-abbrev pub reading_text : (ℕ → Option DataFragValue) → ℕ → Reading → List ℕ
+abbrev pub reading_text : (ℕ → Option FragmentsValue) → ℕ → Reading → List ℕ
 reading_text fragments number reading =
     datagram_line number reading.header ++ (items_text fragments reading.header reading.items ++ ending_text reading.ending)
 
@@ -237,9 +266,9 @@ IsShown = IsShownWith fragments.Skipped
 
 -- ---- what holds of it
 
--- no submessage of these datagrams is a DATA_FRAG with fragments that can be used
+-- no submessage of these datagrams is a DATA_FRAG or a NACK_FRAG that can be used
 abbrev pub HasNoFragments : List (List ℕ) → Type 0
-HasNoFragments datagrams = All (λ datagram. All (λ item. data_frag_at (drop item.at datagram) ≡ None) (reading_of datagram).items) datagrams
+HasNoFragments datagrams = All (λ datagram. All (λ item. said_at (drop item.at datagram) ≡ None) (reading_of datagram).items) datagrams
 
 -- Of such datagrams `show` prints the same, whether fragments are read or not. own: an option must change nothing where there is
 -- nothing of what it asks for.

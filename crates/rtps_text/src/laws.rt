@@ -11,7 +11,7 @@ ghost use Rattle.rtps_fragments.specs.declared.fragments.Fragments.{Fragments};
 use rtps_audit::laws::one_report;
 use rtps_discovery::laws::one_map;
 use rtps_evidence::laws::one_explanation;
-use rtps_fragments::laws::intake_stays_without_fragments;
+use rtps_fragments::laws::{acts_stay_without_fragments, intake_stays_without_fragments};
 use rtps_report::laws::one_full_report;
 
 /// What is printed of a recording, and how a run on it ends, is decided by its datagrams alone; by `audit`, as JSON too,
@@ -56,4 +56,5 @@ pub fn texts_stay_without_fragments()
     ensures json { StaysWithoutFragments IsJsonTextAs }
 {
     intake_stays_without_fragments();
+    acts_stay_without_fragments();
 }

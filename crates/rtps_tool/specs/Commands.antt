@@ -1,5 +1,5 @@
 -- What is printed of a recording.
--- own: a text, and how the run ends. All forms of a report are forms of one value.
+-- own: a text, and how the run ends. `why`, `page`, `check` and JSON are forms of one value.
 use Rattle.std.specs.Prelude.{ℕ, List}
 use Rattle.rtps_report.specs.Asked.{AskedValue}
 use Rattle.rtps_report.specs.FullReport.{IsTold, ReportValue, rows_of}

@@ -34,4 +34,6 @@ asked_by demands from =
       expect = demands.expect;
       strict = demands.strict;
       fragments = demands.fragments;
+      spans = demands.spans;
+      standard = demands.standard;
     }

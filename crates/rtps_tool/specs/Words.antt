@@ -2,7 +2,7 @@
 -- own: a subcommand and one FILE; `sample` reads none. Two options say how large a recording may be, and a flag asks for any capture
 -- to be read. A flag of `show` and of what judges asks for samples in fragments to be read. What judges has options that say from
 -- which number on verdicts ask, which rows are asked for, and what else has to be so. A flag of `check` and of `audit` asks for
--- JSON.
+-- JSON. Of `audit`, `why` and `page` a flag asks for rows in spans; options of `check` say when a row is clean.
 use Rattle.std.specs.Prelude.{ℕ, ◌≡◌, ◌≢◌, ◌-◌, ◌^◌, ◌||◌, codes, Bool, true, false, List, [], ◌∷◌, IfSome, Option, None, Some, map, unwrap_or}
 use Rattle.std.specs.Option.{option_and_then}
 use Rattle.std.specs.Str.Parse.{digits_value, without_leading_plus}
@@ -16,6 +16,8 @@ use Rattle.std.specs.String.{string_bytes}
 use Rattle.rtps_fragments.specs.declared.fragments.Fragments.{Fragments}
 use Rattle.rtps_fragments.specs.declared.fragments.Fragments.TheVariants.{Read}
 use Rattle.rtps_report.specs.Asked.{are_read}
+use Rattle.rtps_report.specs.declared.asked.Standard.{Standard}
+use Rattle.rtps_report.specs.declared.asked.Standard.TheVariants.{AllComplete, AllClean}
 use Rattle.rtps_tool.specs.Limits.{usual}
 use Rattle.rtps_capture.specs.declared.captures.Captures.{Captures}
 use Rattle.rtps_capture.specs.declared.captures.Captures.TheVariants.{Classic, Any}
@@ -66,10 +68,16 @@ pattern_rule = record (new_rule (codes "PATTERN")) { long = Some (codes "topic")
 abbrev pub expect_rule : Rule
 expect_rule = record (new_rule (codes "PAIRS")) { long = Some (codes "expect"); action = Some Set; parser = Some (Unsigned 0 (2 ^ 63 - 1)) }
 
+-- how many numbers a tail may have, which may be none
+abbrev pub tail_rule : Rule
+tail_rule = record (new_rule (codes "TAIL")) { long = Some (codes "tail"); action = Some Set; parser = Some (Unsigned 0 (2 ^ 63 - 1)) }
+
 -- a subcommand with the options that ask more of a report
 abbrev pub demanding : App → App
 demanding app =
-    with_rule (with_rule (with_rule (with_rule app pattern_rule) (flag_rule (codes "observed"))) expect_rule) (flag_rule (codes "strict"))
+    with_rule
+    (with_rule (with_rule (with_rule (with_rule app pattern_rule) (flag_rule (codes "observed"))) expect_rule) (flag_rule (codes "strict")))
+    (flag_rule (codes "spans"))
 
 -- a subcommand that judges
 abbrev pub report_app : Text → App
@@ -82,7 +90,10 @@ audit_app = with_rule (report_app (codes "audit")) (flag_rule (codes "json"))
 -- the subcommand `check`: it reads any capture and samples in fragments, and what else `audit` may ask of its report is asked
 -- always
 abbrev pub check_app : App
-check_app = with_rule (with_rule (with_rule (with_rule (limited_app (codes "check")) from_rule) pattern_rule) expect_rule) (flag_rule (codes "json"))
+check_app =
+    with_rule
+    (with_rule (with_rule (with_rule (with_rule (with_rule (limited_app (codes "check")) from_rule) pattern_rule) expect_rule) tail_rule) (flag_rule (codes "certain")))
+    (flag_rule (codes "json"))
 
 -- a program that has a version and wants a subcommand
 abbrev pub bare_program : App
@@ -161,12 +172,20 @@ abbrev pub is_any : Captures → Bool
 is_any Classic = false
 is_any Any = true
 
+-- JSON is asked for by one flag of two: spans are told in JSON alone
+pub record IsFormGiven (rows : List Row) (form : ReportForm) : Type 0 where
+  pub json : Bool
+  pub spans : Bool
+  pub json_given : IsFlagGiven (one_of (codes "json") rows) json
+  pub spans_given : IsFlagGiven (one_of (codes "spans") rows) spans
+  pub either : is_json form ≡ (json || spans)
+
 -- its form is the one that was asked for; only `check` and `audit` have one
 abbrev pub HasItsFlag : Choice → List Row → Type 0
 HasItsFlag (Check file from limits form demands) rows = IsFlagGiven (one_of (codes "json") rows) (is_json form)
 HasItsFlag (Show file limits captures fragments) rows = Unit {0}
 HasItsFlag (ListChoice file limits captures) rows = Unit {0}
-HasItsFlag (Audit file from limits captures form demands) rows = IsFlagGiven (one_of (codes "json") rows) (is_json form)
+HasItsFlag (Audit file from limits captures form demands) rows = IsFormGiven rows form
 HasItsFlag (Why file from limits captures demands) rows = Unit {0}
 HasItsFlag (Page file from limits captures demands) rows = Unit {0}
 HasItsFlag Sample rows = Unit {0}
@@ -196,6 +215,18 @@ IsExpectGiven None expect = expect ≡ None
 IsExpectGiven (Some text) expect =
     (IsUnsignedIn 0 (2 ^ 63 - 1) text → expect ≡ Some (digits_value 10 (without_leading_plus text))) × (¬ IsUnsignedIn 0 (2 ^ 63 - 1) text → expect ≡ None)
 
+-- the number of a tail that was given, and 0 where none was, with texts as above
+abbrev pub IsTailGiven : Option Text → ℕ → Type 0
+IsTailGiven text tail = (expect : Option ℕ) × IsExpectGiven text expect × (tail ≡ unwrap_or expect 0)
+
+-- a row is clean with such a tail, and each number has to be certain where that was given
+pub record IsCleanGiven (rows : List Row) (standard : Standard) : Type 0 where
+  pub tail : ℕ
+  pub certain : Bool
+  pub tail_given : IsTailGiven (first_of (codes "TAIL") rows) tail
+  pub certain_given : IsFlagGiven (one_of (codes "certain") rows) certain
+  pub is : standard ≡ AllClean tail certain
+
 -- what was given that asks more of a report: all patterns, in their order, flags, and a number
 pub record AreDemandsGiven (rows : List Row) (demands : Demands) : Type 0 where
   pub topics : map string_bytes demands.topics.items ≡ unwrap_or (all_of (codes "PATTERN") rows) []
@@ -203,6 +234,22 @@ pub record AreDemandsGiven (rows : List Row) (demands : Demands) : Type 0 where
   pub expect : IsExpectGiven (first_of (codes "PAIRS") rows) demands.expect
   pub strict : IsFlagGiven (one_of (codes "strict") rows) demands.strict
   pub fragments : IsFlagGiven (one_of (codes "fragments") rows) (are_read demands.fragments)
+  pub spans : IsFlagGiven (one_of (codes "spans") rows) demands.spans
+
+-- of `audit` and `why`: each row has to be complete
+pub record AreReportDemandsGiven (rows : List Row) (demands : Demands) : Type 0 where
+  pub given : AreDemandsGiven rows demands
+  pub standard : demands.standard ≡ AllComplete
+
+-- what rows of a page have to be: clean where they are in spans, since the page then says of each whether it is
+abbrev pub page_standard : Bool → Standard
+page_standard true = AllClean 0 false
+page_standard false = AllComplete
+
+-- of `page`
+pub record ArePageDemandsGiven (rows : List Row) (demands : Demands) : Type 0 where
+  pub given : AreDemandsGiven rows demands
+  pub standard : demands.standard ≡ page_standard demands.spans
 
 -- what `check` asks: the patterns and the number that were given, and all that the flags ask for
 pub record AreChecksGiven (rows : List Row) (demands : Demands) : Type 0 where
@@ -211,6 +258,8 @@ pub record AreChecksGiven (rows : List Row) (demands : Demands) : Type 0 where
   pub expect : IsExpectGiven (first_of (codes "PAIRS") rows) demands.expect
   pub strict : demands.strict ≡ true
   pub fragments : demands.fragments ≡ Read
+  pub spans : demands.spans ≡ true
+  pub standard : IsCleanGiven rows demands.standard
 
 -- it asks of its report what was given; only `check`, `audit`, `why` and `page` have one. `show` asks alone whether fragments are
 -- read
@@ -218,9 +267,9 @@ abbrev pub HasItsDemands : Choice → List Row → Type 0
 HasItsDemands (Check file from limits form demands) rows = AreChecksGiven rows demands
 HasItsDemands (Show file limits captures fragments) rows = IsFlagGiven (one_of (codes "fragments") rows) (are_read fragments)
 HasItsDemands (ListChoice file limits captures) rows = Unit {0}
-HasItsDemands (Audit file from limits captures form demands) rows = AreDemandsGiven rows demands
-HasItsDemands (Why file from limits captures demands) rows = AreDemandsGiven rows demands
-HasItsDemands (Page file from limits captures demands) rows = AreDemandsGiven rows demands
+HasItsDemands (Audit file from limits captures form demands) rows = AreReportDemandsGiven rows demands
+HasItsDemands (Why file from limits captures demands) rows = AreReportDemandsGiven rows demands
+HasItsDemands (Page file from limits captures demands) rows = ArePageDemandsGiven rows demands
 HasItsDemands Sample rows = Unit {0}
 
 -- the limits are those that were given, each the usual one where it was not
@@ -352,3 +401,11 @@ pub record WordsAreWanted : Type 0 where
   pub strict_of_sample : faults_of_words (codes "sample" ∷ codes "--strict" ∷ []) ≡ UnknownArgument ∷ []
   pub any_of_sample : faults_of_words (codes "sample" ∷ codes "--any" ∷ []) ≡ UnknownArgument ∷ []
   pub limit_of_sample : faults_of_words (codes "sample" ∷ codes "--max-octets" ∷ codes "1" ∷ []) ≡ UnknownArgument ∷ []
+  pub spans_to_audit : faults_of_words (codes "audit" ∷ codes "--spans" ∷ codes "--json" ∷ codes "a.rec" ∷ []) ≡ []
+  pub spans_are_asked : flag_of_words (codes "spans") (codes "why" ∷ codes "--spans" ∷ codes "a.rec" ∷ []) ≡ Some (codes "true")
+  pub spans_of_check : faults_of_words (codes "check" ∷ codes "--spans" ∷ codes "a.rec" ∷ []) ≡ UnknownArgument ∷ []
+  pub spans_of_list : faults_of_words (codes "list" ∷ codes "--spans" ∷ codes "a.rec" ∷ []) ≡ UnknownArgument ∷ []
+  pub tail : faults_of_words (codes "check" ∷ codes "--tail" ∷ codes "0" ∷ codes "--certain" ∷ codes "a.rec" ∷ []) ≡ []
+  pub no_number_of_a_tail : faults_of_words (codes "check" ∷ codes "--tail" ∷ codes "x" ∷ codes "a.rec" ∷ []) ≡ ValueValidation ∷ []
+  pub tail_of_audit : faults_of_words (codes "audit" ∷ codes "--tail" ∷ codes "1" ∷ codes "a.rec" ∷ []) ≡ UnknownArgument ∷ []
+  pub certain_of_why : faults_of_words (codes "why" ∷ codes "--certain" ∷ codes "a.rec" ∷ []) ≡ UnknownArgument ∷ []

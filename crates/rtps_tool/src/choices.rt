@@ -11,7 +11,7 @@ use crate::follow::Follow;
 use crate::runs::{Command, Options, run, run_sample};
 use rtps_capture::Captures;
 use rtps_ids::SeqNum;
-use rtps_report::{Asked, Ending, Fragments, Rows, Watch};
+use rtps_report::{Asked, Ending, Fragments, Watch};
 use std::alloc::Global;
 use std::io::{Read, Write};
 
@@ -116,14 +116,8 @@ fn shown_with(fragments: Fragments) -> Asked<'static>
     ensures { asked_value result ≡ shown_with_lem fragments }
 {
     Asked {
-        from: SeqNum::first(),
-        rows: Rows {
-            topics: &[],
-            observed: false,
-        },
-        expect: None,
-        strict: false,
         fragments,
+        ..Asked::plainly(SeqNum::first())
     }
 }
 

@@ -3,9 +3,11 @@ ghost use Rattle.std.specs.String.{string_bytes};
 ghost use Rattle.clap.specs.Words.{app_of, fault_of, first_of, found_of, new_app, one_of, rows_of, rule_of, subcommand_of, subcommand_rows_of, takes};
 ghost use Rattle.clap.specs.declared.builder.command.Command.TheViews.{out-Command};
 ghost use Rattle.rtps_report.specs.Asked.{are_read};
-ghost use Rattle.rtps_tool.specs.Words.{bare_program as bare_app, audit_app, check_app, fragments_app, limited_app, flag_rule, is_any, is_json, number_rule, program as program_app, reading_app, report_app, AreCapturesGiven, AreLimitsGiven, IsChoice, IsFlagGiven, IsGivenOr, IsNumberGiven, IsOneOf, HasItsKind};
+ghost use Rattle.rtps_tool.specs.Words.{bare_program as bare_app, audit_app, check_app, fragments_app, limited_app, flag_rule, is_any, is_json, number_rule, program as program_app, reading_app, report_app, AreCapturesGiven, AreLimitsGiven, IsChoice, IsFlagGiven, IsGivenOr, IsNumberGiven, IsOneOf, HasItsKind, IsFormGiven};
 
-use crate::demands::{Demands, checks_of, demands_of, with_demands, with_rows};
+use crate::demands::{
+    Demands, checks_of, demands_of, page_demands_of, with_demands, with_rows, with_standard,
+};
 use crate::runs::Limits;
 use clap::builder::ValueParser;
 use clap::error::ErrorKind;
@@ -286,7 +288,8 @@ fn check_subcommand<'a>(alloc: Global) -> Result<Command<'a>, AllocError>
     let limited = limited_subcommand(alloc, "check", CHECKS, CHECK_STATUSES)?;
     let numbered = limited.arg(from)?;
     let chosen = with_rows(alloc, numbered)?;
-    chosen.arg(flag(alloc, "json", JSON_HELP))
+    let held = with_standard(alloc, chosen)?;
+    held.arg(flag(alloc, "json", JSON_HELP))
 }
 
 /// A subcommand that judges: it reads a FILE, asks for numbers from some number on, and may ask more of its report.
@@ -431,6 +434,26 @@ fn form_of(found: &ArgMatches) -> ReportForm
     }
 }
 
+/// The form that is asked for by one flag of two.
+fn form_by(json: bool, spans: bool) -> ReportForm
+    ensures { is_json result ≡ (json || spans) }
+{
+    if json || spans {
+        ReportForm::Json
+    } else {
+        ReportForm::Lines
+    }
+}
+
+/// The form that is asked for, also by `--spans`.
+fn audit_form_of(found: &ArgMatches) -> ReportForm
+    ensures { IsFormGiven (rows_of (found_of found.now)) result }
+{
+    let json = is_given(found, "json");
+    let spans = is_given(found, "spans");
+    form_by(json, spans)
+}
+
 /// What is asked to become of samples in fragments.
 pub(crate) fn fragments_of(found: &ArgMatches) -> Fragments
     ensures { IsFlagGiven (one_of (codes "fragments") (rows_of (found_of found.now))) (are_read result) }
@@ -519,7 +542,7 @@ fn audit_of(alloc: Global, audit: &ArgMatches) -> Result<Choice, AllocError>
         from,
         limits: limits_of(audit),
         captures: report_captures_of(audit),
-        form: form_of(audit),
+        form: audit_form_of(audit),
         demands: demands_of(alloc, audit)?,
     })
 }
@@ -546,7 +569,7 @@ fn page_of(alloc: Global, page: &ArgMatches) -> Result<Choice, AllocError>
         from: number_of(page),
         limits: limits_of(page),
         captures: report_captures_of(page),
-        demands: demands_of(alloc, page)?,
+        demands: page_demands_of(alloc, page)?,
     })
 }
 

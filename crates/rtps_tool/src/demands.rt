@@ -2,13 +2,13 @@ ghost use Rattle.std.specs.Prelude.{◌≡◌, [], IfOk, Some, codes, false, map
 ghost use Rattle.std.specs.String.{string_bytes};
 ghost use Rattle.clap.specs.Words.{all_of, app_of, first_of, found_of, rows_of, rule_of, with_rule};
 ghost use Rattle.clap.specs.declared.builder.command.Command.TheViews.{out-Command};
-ghost use Rattle.rtps_tool.specs.Words.{AreChecksGiven, AreDemandsGiven, IsExpectGiven, demanding, expect_rule, pattern_rule};
+ghost use Rattle.rtps_tool.specs.Words.{AreChecksGiven, ArePageDemandsGiven, AreReportDemandsGiven, IsExpectGiven, IsTailGiven, demanding, expect_rule, flag_rule, page_standard as page_standard_lem, pattern_rule, tail_rule};
 
 use crate::command::{GREATEST, flag, fragments_of, is_given};
 use clap::builder::ValueParser;
 use clap::{Arg, ArgAction, ArgMatches, Command};
 use rtps_ids::SeqNum;
-use rtps_report::{Asked, Fragments, Rows};
+use rtps_report::{Asked, Fragments, Rows, Standard};
 use std::alloc::{AllocError, Global};
 
 /// What the words ask of a report, beside the number from which on it asks.
@@ -24,6 +24,10 @@ pub struct Demands {
     pub strict: bool,
     /// What becomes of samples that come in fragments.
     pub fragments: Fragments,
+    /// That each row is in the span of its pair.
+    pub spans: bool,
+    /// What each row has to be.
+    pub standard: Standard,
 }
 
 impl Demands {
@@ -43,6 +47,8 @@ impl Demands {
             expect: self.expect,
             strict: self.strict,
             fragments: self.fragments,
+            spans: self.spans,
+            standard: self.standard,
         }
     }
 }
@@ -61,6 +67,16 @@ const STRICT_HELP: &str =
     "Status 1 also if there is no row, a row has missed numbers, or something of \
     the recording is left out: fragments, unsettled endpoints, frames in pieces, cut, or of \
     links that are not read. Sets --any";
+
+const SPANS_HELP: &str =
+    "Each row from the first number that was for the reader on, until the reader left, \
+    with what became of its numbers; audit prints it as JSON";
+
+const TAIL_HELP: &str =
+    "A pair is clean though the last numbers, N at most, are not acknowledged and \
+    nothing else is lacking, 0 to 9223372036854775807; 0 if it is not given";
+
+const CERTAIN_HELP: &str = "Status 1 also if a number of a pair is not received for certain";
 
 /// The option that chooses rows by their topics.
 fn pattern_option<'a>(alloc: Global) -> Arg<'a>
@@ -85,6 +101,31 @@ fn expect_option<'a>(alloc: Global) -> Arg<'a>
         .help(EXPECT_HELP)
 }
 
+/// The option that says how long a tail may be.
+fn tail_option<'a>(alloc: Global) -> Arg<'a>
+    ensures rule { rule_of result ≡ tail_rule }
+    ensures local { result.global ≡ false }
+{
+    Arg::new(alloc, "TAIL")
+        .long("tail")
+        .action(ArgAction::Set)
+        .value_parser(ValueParser::unsigned(0, GREATEST))
+        .help(TAIL_HELP)
+}
+
+/// A subcommand with the options that say when a row is clean, and a run.
+pub(crate) fn with_standard<'a>(
+    alloc: Global,
+    command: Command<'a>,
+) -> Result<Command<'a>, AllocError>
+    requires { (out-Command command).has_globals ≡ false }
+    ensures app { IfOk result (λ made. app_of made ≡ with_rule (with_rule (app_of command.entry) tail_rule) (flag_rule (codes "certain"))) }
+    ensures local { IfOk result (λ made. (out-Command made).has_globals ≡ false) }
+{
+    let one = command.arg(tail_option(alloc))?;
+    one.arg(flag(alloc, "certain", CERTAIN_HELP))
+}
+
 /// A subcommand with the options that choose rows.
 pub(crate) fn with_rows<'a>(alloc: Global, command: Command<'a>) -> Result<Command<'a>, AllocError>
     requires { (out-Command command).has_globals ≡ false }
@@ -107,7 +148,8 @@ pub(crate) fn with_demands<'a>(
     let one = command.arg(pattern_option(alloc))?;
     let two = one.arg(flag(alloc, "observed", OBSERVED_HELP))?;
     let three = two.arg(expect_option(alloc))?;
-    three.arg(flag(alloc, "strict", STRICT_HELP))
+    let four = three.arg(flag(alloc, "strict", STRICT_HELP))?;
+    four.arg(flag(alloc, "spans", SPANS_HELP))
 }
 
 /// The texts as texts of their own.
@@ -152,9 +194,19 @@ fn expect_of(found: &ArgMatches) -> Option<u64>
     }
 }
 
+/// How long a tail may be; 0 where that is not given.
+fn tail_of(found: &ArgMatches) -> u64
+    ensures { IsTailGiven (first_of (codes "TAIL") (rows_of (found_of found.now))) result }
+{
+    match found.get_str("TAIL") {
+        Some(text) => expected_in(text).unwrap_or(0),
+        None => 0,
+    }
+}
+
 /// What the matches of a subcommand ask of a report.
 pub(crate) fn demands_of(alloc: Global, found: &ArgMatches) -> Result<Demands, AllocError>
-    ensures { IfOk result (AreDemandsGiven (rows_of (found_of found.now))) }
+    ensures { IfOk result (AreReportDemandsGiven (rows_of (found_of found.now))) }
 {
     Ok(Demands {
         topics: topics_of(alloc, found)?,
@@ -162,6 +214,33 @@ pub(crate) fn demands_of(alloc: Global, found: &ArgMatches) -> Result<Demands, A
         expect: expect_of(found),
         strict: is_given(found, "strict"),
         fragments: fragments_of(found),
+        spans: is_given(found, "spans"),
+        standard: Standard::AllComplete,
+    })
+}
+
+/// What rows of a page have to be: clean where they are in spans, since the page then says of each whether it is.
+fn page_standard(spans: bool) -> Standard
+    ensures { result ≡ page_standard_lem spans }
+{
+    if spans {
+        Standard::AllClean {
+            tail: 0,
+            certain: false,
+        }
+    } else {
+        Standard::AllComplete
+    }
+}
+
+/// What the matches of `page` ask.
+pub(crate) fn page_demands_of(alloc: Global, found: &ArgMatches) -> Result<Demands, AllocError>
+    ensures { IfOk result (ArePageDemandsGiven (rows_of (found_of found.now))) }
+{
+    let demands = demands_of(alloc, found)?;
+    Ok(Demands {
+        standard: page_standard(demands.spans),
+        ..demands
     })
 }
 
@@ -175,5 +254,10 @@ pub(crate) fn checks_of(alloc: Global, found: &ArgMatches) -> Result<Demands, Al
         expect: expect_of(found),
         strict: true,
         fragments: Fragments::Read,
+        spans: true,
+        standard: Standard::AllClean {
+            tail: tail_of(found),
+            certain: is_given(found, "certain"),
+        },
     })
 }

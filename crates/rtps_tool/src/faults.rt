@@ -21,7 +21,7 @@ pub enum RecFault {
     /// There are more datagrams, or more octets of the input, than the limits allow ([`crate::Limits`]).
     /// Its one text, `too many datagrams`, stands for both.
     TooMany,
-    /// There was no memory for the recording, or no span for a datagram ([`rtps_text::DatagramSpan`]): one that begins at 2^48
+    /// There was no memory for the recording, or no span for a datagram ([`rtps_report::DatagramSpan`]): one that begins at 2^48
     /// octets or behind has none.
     Memory,
     /// A capture's header is cut, its major version is not 2, or its link type is neither Ethernet nor raw IP. Where any

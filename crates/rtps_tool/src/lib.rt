@@ -24,7 +24,7 @@ pub use rtps_capture::{
     CAPTURE_HEADER_SIZE, Captures, LinkType, is_pcapng, link_type_numbered, unread_link_type,
 };
 pub use rtps_report::{
-    Asked, Datagrams, Ending, FewRows, Findings, Recording, Rows, Unwatched, Watch,
+    Asked, Datagrams, Ending, FewRows, Findings, Recording, Rows, Standard, Unwatched, Watch,
 };
 pub use runs::{
     Command, Limits, Options, run, run_audit, run_audit_from, run_list, run_sample, run_show,

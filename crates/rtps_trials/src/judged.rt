@@ -7,7 +7,7 @@ use rtps_audit::{
     Index, MergedRanges, PlainRanges, Unwatched, Verdict, audit_from, judge, judge_by, judge_from,
 };
 use rtps_discovery::Pair;
-use rtps_evidence::{Evidence, explain_from};
+use rtps_evidence::{Evidence, Extent, explain_from};
 use rtps_ids::SeqNum;
 use std::alloc::Global;
 use std::fmt::Write;
@@ -78,7 +78,11 @@ impl Ways<'_, '_> {
     /// Counts the rows of the audit by the numbers from `from` on, which have to be those that are explained.
     fn hold_rows(self, from: SeqNum) -> Result<usize, Fault> {
         let report = audit_from(self.alloc, self.recording, from)?;
-        let explained = explain_from(self.alloc, self.recording, from, &mut Unwatched)?;
+        let extent = Extent {
+            from,
+            in_spans: false,
+        };
+        let explained = explain_from(self.alloc, self.recording, extent, &mut Unwatched)?;
         for (row, other) in report.rows.iter().zip(explained.rows.iter()) {
             self.hold_pair(row.pair, from, row.verdict)?;
             hold(other.evidence.verdict, row.verdict)?;

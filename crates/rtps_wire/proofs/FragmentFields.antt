@@ -1,6 +1,6 @@
 -- What the reader of a DATA_FRAG has found is what the definitions name.
-use Rattle.std.proofs.Common.{◌≡◌, ◌<◌, ◌≤◌, ◌+◌, ℕ, pos, Bool, true, false, List, Option, Some, None, length, drop, ap, refl, ◌∙◌, arith, ◌⊎◌, inl, inr}
-use Rattle.std.specs.Prelude.{◌&&◌, ◌==◌, int_lt, is_err, is_none, nat_le, nat_lt, not, if◌then◌else◌}
+use Rattle.std.proofs.Common.{◌≡◌, ◌<◌, ◌≤◌, ◌+◌, ℕ, pos, Bool, true, false, List, Option, Some, None, length, drop, ap, refl, arith, ◌⊎◌, inl, inr}
+use Rattle.std.specs.Prelude.{◌&&◌, int_lt, is_err, nat_le, not, if◌then◌else◌}
 use Rattle.std.proofs.lemmas.Bool.Decides.{nat_tests}
 use Rattle.rtps_ids.specs.Octets.{read_at}
 use Rattle.rtps_ids.specs.declared.identity.EntityId.{EntityId}
@@ -9,12 +9,10 @@ use Rattle.rtps_params.specs.Lists.{ListValue}
 use Rattle.rtps_params.specs.Reading.{list_end}
 use Rattle.rtps_wire.specs.Data.{behind_fields, has_qos, octets_to_inline_qos}
 use Rattle.rtps_wire.specs.DataFrag.{DataFragValue, begins_with_fragments, data_frag_at, data_frag_in, data_frag_of, fragment_count, is_data_frag, octets_behind, sample_number, spelled_shape, starting_number}
-use Rattle.rtps_wire.specs.Message.{body_fault, fault_at, flags_of, id_of, octets_to_next_header, order_of}
+use Rattle.rtps_wire.specs.Message.{body_octets, flags_of, order_of}
+use Rattle.rtps_wire.specs.Skipped.{begins_with}
 use Rattle.rtps_wire.specs.declared.data_frag.Shape.{Shape}
-use Rattle.rtps_wire.specs.declared.fault.WireFault.{WireFault}
-use Rattle.rtps_wire.specs.declared.fault.WireFault.TheVariants.{CutHeader, Overrun}
 use Rattle.rtps_wire.specs.declared.layout.id.TheConstants.{DATA_FRAG}
-use Rattle.rtps_wire.proofs.Submessages.{IsTakenApart}
 
 -- what was read at an offset is there
 pub read_there : {X : Type 0} (value : List ℕ → X) (width at : ℕ) (octets : List ℕ) (x : X) → Some x ≡ read_at value width octets at
@@ -96,46 +94,12 @@ same_value order reader reader' writer writer' number number' first first' count
 
 -- ---- the submessage
 
-none_at : (rest : List ℕ) → (id_of rest == DATA_FRAG && is_none (fault_at rest)) ≡ false → None ≡ data_frag_at rest
+-- another submessage, or one with a fault
+pub none_of_other : (rest : List ℕ) → begins_with DATA_FRAG rest ≡ false → None ≡ data_frag_at rest
 unfolding data_frag_at
-none_at rest fails = rw fails refl
+none_of_other rest other = rw other refl
 
--- another submessage
-pub none_of_other : (rest : List ℕ) → (id_of rest ≡ DATA_FRAG → ⊥) → None ≡ data_frag_at rest
-none_of_other rest other = none_at rest (by (id_of rest == DATA_FRAG) refl)
-  where
-    by : (b : Bool) → (id_of rest == DATA_FRAG) ≡ b → (b && is_none (fault_at rest)) ≡ false
-    by true e = absurd (other (grind (arith, nat_tests)))
-    by false e = refl
-
-none_of_fault : (rest : List ℕ) (fault : WireFault) → fault_at rest ≡ Some fault → None ≡ data_frag_at rest
-none_of_fault rest fault is = none_at rest (by (id_of rest == DATA_FRAG) (fault_at rest) is)
-  where
-    by : (b : Bool) (found : Option WireFault) → found ≡ Some fault → (b && is_none found) ≡ false
-    by true found is = rw is refl
-    by false found is = refl
-
--- a submessage that is cut, and one that overruns
-pub none_cut : (rest : List ℕ) → length rest < 4 → None ≡ data_frag_at rest
-unfolding fault_at
-none_cut rest short =
-    let cut : nat_lt (length rest) 4 ≡ true = grind (arith, nat_tests) in
-    let fault : fault_at rest ≡ Some CutHeader = rw cut refl in
-    none_of_fault rest CutHeader fault
-
-pub none_overrun : (rest : List ℕ) → 4 ≤ length rest → length (drop 4 rest) < octets_to_next_header rest → None ≡ data_frag_at rest
-unfolding fault_at
-none_overrun rest whole beyond =
-    let not_cut : nat_lt (length rest) 4 ≡ false = grind (arith, nat_tests) in
-    let over : nat_lt (length (drop 4 rest)) (octets_to_next_header rest) ≡ true = grind (arith, nat_tests) in
-    let fault : fault_at rest ≡ Some Overrun = rw (not_cut, over) refl in
-    none_of_fault rest Overrun fault
-
--- a DATA_FRAG that is taken apart
-pub of_parts : (rest body : List ℕ) (size : ℕ) → id_of rest ≡ DATA_FRAG → IsTakenApart rest body size
-    → data_frag_in (order_of (flags_of rest)) (flags_of rest) body ≡ data_frag_at rest
+-- a DATA_FRAG without a fault
+pub of_whole : (rest : List ℕ) → begins_with DATA_FRAG rest ≡ true → data_frag_in (order_of (flags_of rest)) (flags_of rest) (body_octets rest) ≡ data_frag_at rest
 unfolding data_frag_at
-of_parts rest body size is parts =
-    let good : fault_at rest ≡ None = parts.fault ∙ ap (λ id. body_fault id (flags_of rest) body) is in
-    let passes : (id_of rest == DATA_FRAG && is_none (fault_at rest)) ≡ true = rw (is, good) refl in
-    rw passes (ap (data_frag_in (order_of (flags_of rest)) (flags_of rest)) parts.octets)
+of_whole rest whole = rw whole refl

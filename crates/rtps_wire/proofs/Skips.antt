@@ -18,7 +18,7 @@ kept id flags body read = grind arith
 left_out : (id flags : ℕ) (body : List ℕ) → is_read id ≡ false → skipped_id (body_of id flags body) ≡ Some id
 left_out id flags body other = grind arith
 
-without_fault : (id flags : ℕ) (body : List ℕ) → is_read id ≡ false → body_fault id flags body ≡ None
+pub without_fault : (id flags : ℕ) (body : List ℕ) → is_read id ≡ false → body_fault id flags body ≡ None
 without_fault id flags body other = grind arith
 
 -- the item, if there is one, by the id

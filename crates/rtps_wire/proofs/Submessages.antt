@@ -1,9 +1,15 @@
 -- What the reader of a submessage has taken apart is what the definitions name.
-use Rattle.std.proofs.Common.{◌≡◌, ◌≤◌, ℕ, List, length, drop, take, ap, sym, ◌∙◌}
+use Rattle.std.proofs.Common.{◌≡◌, ◌<◌, ◌≤◌, ℕ, Bool, true, false, List, Option, None, Some, length, drop, take, ap, arith, refl, sym, ◌∙◌}
+use Rattle.std.specs.Prelude.{◌==◌, ◌&&◌, is_none, nat_lt}
+use Rattle.std.proofs.lemmas.Bool.Decides.{nat_tests}
 use Rattle.rtps_ids.specs.declared.order.Order.{Order}
 use Rattle.rtps_wire.specs.Message.{body_fault, body_length, body_octets, body_of, extent_of, fault_at, flags_of, id_of, item_at, octets_to_next_header, order_of}
+use Rattle.rtps_wire.specs.Skipped.{is_read, begins_with}
 use Rattle.rtps_wire.specs.Values.{BodyValue, ItemValue}
+use Rattle.rtps_wire.specs.declared.fault.WireFault.{WireFault}
+use Rattle.rtps_wire.specs.declared.fault.WireFault.TheVariants.{CutHeader, Overrun}
 use Rattle.rtps_wire.proofs.Readings.{fault_at-body}
+use Rattle.rtps_wire.proofs.Skips.{without_fault}
 
 pub record IsTakenApart (rest body : List ℕ) (taken : ℕ) : Type 0 where
   pub size : taken ≡ body_length rest
@@ -31,3 +37,45 @@ item_of_parts rest octets at order body order_is octets_is body_is =
     let with_order : Order → ItemValue = λ o. record { at = at; order = o; body = body } in
     let with_body : BodyValue → ItemValue = λ b. record { at = at; order = order_of (flags_of rest); body = b } in
     ap with_order order_is ∙ ap with_body same
+
+-- ---- a submessage of one id
+
+-- it is another one
+pub other_id : (id : ℕ) (rest : List ℕ) → (id_of rest ≡ id → ⊥) → begins_with id rest ≡ false
+other_id id rest other = by (id_of rest == id) refl
+  where
+    by : (b : Bool) → (id_of rest == id) ≡ b → (b && is_none (fault_at rest)) ≡ false
+    by true e = absurd (other (grind (arith, nat_tests)))
+    by false e = refl
+
+with_fault : (id : ℕ) (rest : List ℕ) (fault : WireFault) → fault_at rest ≡ Some fault → begins_with id rest ≡ false
+with_fault id rest fault is = by (id_of rest == id) (fault_at rest) is
+  where
+    by : (b : Bool) (found : Option WireFault) → found ≡ Some fault → (b && is_none found) ≡ false
+    by true found is = rw is refl
+    by false found is = refl
+
+-- it is cut, and it overruns
+pub whole_not_cut : (id : ℕ) (rest : List ℕ) → length rest < 4 → begins_with id rest ≡ false
+unfolding fault_at
+whole_not_cut id rest short =
+    let cut : nat_lt (length rest) 4 ≡ true = grind (arith, nat_tests) in
+    let fault : fault_at rest ≡ Some CutHeader = rw cut refl in
+    with_fault id rest CutHeader fault
+
+pub whole_not_overrun : (id : ℕ) (rest : List ℕ) → 4 ≤ length rest → length (drop 4 rest) < octets_to_next_header rest → begins_with id rest ≡ false
+unfolding fault_at
+whole_not_overrun id rest whole beyond =
+    let not_cut : nat_lt (length rest) 4 ≡ false = grind (arith, nat_tests) in
+    let over : nat_lt (length (drop 4 rest)) (octets_to_next_header rest) ≡ true = grind (arith, nat_tests) in
+    let fault : fault_at rest ≡ Some Overrun = rw (not_cut, over) refl in
+    with_fault id rest Overrun fault
+
+-- it is taken apart, and its id is not read
+pub whole_parts : (id : ℕ) (rest body : List ℕ) (size : ℕ) → is_read id ≡ false → id_of rest ≡ id → IsTakenApart rest body size → begins_with id rest ≡ true
+whole_parts id rest body size skipped is parts =
+    let good : fault_at rest ≡ None = parts.fault ∙ ap (λ id. body_fault id (flags_of rest) body) is ∙ without_fault id (flags_of rest) body skipped in
+    rw (is, good) (by id)
+  where
+    by : (n : ℕ) → (n == n && true) ≡ true
+    by n = grind (arith, nat_tests)

@@ -1,6 +1,6 @@
 -- DATA_FRAG: consecutive fragments of a sample. DDSI-RTPS 2.5, 8.3.8.3 "DataFrag" and 9.4.5.5 "DataFrag Submessage".
 -- own: if its body breaks a rule, it has no fault, but no fragments that can be used either. It is skipped then.
-use Rattle.std.specs.Prelude.{ℕ, zero, suc, ℤ, ◌≡◌, ◌<◌, ◌≤◌, ◌+◌, ◌-◌, ◌*◌, ◌/◌, ◌==◌, ◌&&◌, bit_and, not, min, pos, int_lt, nat_le, Bool, List, [], ◌∷◌, length, take, drop, is_err, is_none, Option, Some, None, if◌then◌else◌}
+use Rattle.std.specs.Prelude.{ℕ, zero, suc, ℤ, ◌≡◌, ◌<◌, ◌≤◌, ◌+◌, ◌-◌, ◌*◌, ◌/◌, ◌==◌, ◌&&◌, bit_and, not, min, pos, int_lt, nat_le, Bool, List, [], ◌∷◌, length, take, drop, is_err, Option, Some, None, if◌then◌else◌}
 use Rattle.std.specs.Int.RustNames.{unsigned_abs}
 use Rattle.std.specs.Option.{option_map}
 use Rattle.rtps_ids.specs.Octets.{number_of, sequence_number_of}
@@ -10,7 +10,8 @@ use Rattle.rtps_params.specs.Reading.{list_end}
 use Rattle.rtps_params.specs.Lists.{ListValue, list_value}
 use Rattle.rtps_wire.specs.Data.{behind_fields, behind_qos, has_qos, octets_to_inline_qos, qos_of}
 use Rattle.rtps_wire.specs.Fields.{entity_at}
-use Rattle.rtps_wire.specs.Message.{body_octets, fault_at, flags_of, id_of, order_of}
+use Rattle.rtps_wire.specs.Message.{body_octets, flags_of, order_of}
+use Rattle.rtps_wire.specs.Skipped.{begins_with}
 use Rattle.rtps_wire.specs.declared.data_frag.DataFrag.{DataFrag}
 use Rattle.rtps_wire.specs.declared.data_frag.Shape.{Shape}
 use Rattle.rtps_wire.specs.declared.layout.data.TheConstants.{QOS_FROM}
@@ -117,7 +118,7 @@ data_frag_in order flags body = if is_data_frag order flags body then Some (data
 -- the fragments of the first submessage of these octets, if it is a DATA_FRAG without a fault and has some that can be used
 unfoldable pub data_frag_at : List ℕ → Option DataFragValue
 data_frag_at rest =
-    if id_of rest == DATA_FRAG && is_none (fault_at rest) then data_frag_in (order_of (flags_of rest)) (flags_of rest) (body_octets rest) else None
+    if begins_with DATA_FRAG rest then data_frag_in (order_of (flags_of rest)) (flags_of rest) (body_octets rest) else None
 
 -- a DATA_FRAG of the code, as a value
 abbrev pub data_frag_value : DataFrag → DataFragValue

@@ -7,6 +7,7 @@ use Rattle.rtps_wire.specs.declared.layout.id.TheConstants as id
 use Rattle.rtps_wire.specs.declared.layout.ack_nack.TheConstants as ack_nack
 use Rattle.rtps_wire.specs.declared.layout.data.TheConstants as data_fields
 use Rattle.rtps_wire.specs.declared.layout.data_frag.TheConstants as data_frag
+use Rattle.rtps_wire.specs.declared.layout.nack_frag.TheConstants as nack_frag
 use Rattle.rtps_wire.specs.declared.layout.gap.TheConstants as gap
 use Rattle.rtps_wire.specs.declared.layout.heartbeat.TheConstants as heartbeat
 use Rattle.rtps_wire.specs.declared.layout.info_ts.TheConstants as info_ts
@@ -36,6 +37,10 @@ data_is = (data_fields.OCTETS_TO_QOS ≡ 2) × (data_fields.QOS_FROM ≡ 4) × (
 -- DATA_FRAG (DDSI-RTPS 2.5, 9.4.5.5 "DataFrag Submessage"). octetsToInlineQos and flag Q are as in a DATA.
 abbrev pub data_frag_is : Type 0
 data_frag_is = (data_frag.READER ≡ 4) × (data_frag.WRITER ≡ 8) × (data_frag.NUMBER ≡ 12) × (data_frag.FIRST ≡ 20) × (data_frag.COUNT ≡ 24) × (data_frag.FRAGMENT ≡ 26) × (data_frag.SAMPLE ≡ 28) × (data_frag.SIZE ≡ 32) × (data_frag.K ≡ 0x04)
+
+-- NACK_FRAG (DDSI-RTPS 2.5, 9.4.5.14 "NackFrag Submessage"). Its count comes after the words of its set.
+abbrev pub nack_frag_is : Type 0
+nack_frag_is = (nack_frag.READER ≡ 0) × (nack_frag.WRITER ≡ 4) × (nack_frag.NUMBER ≡ 8) × (nack_frag.BASE ≡ 16) × (nack_frag.BITS ≡ 20) × (nack_frag.WORDS ≡ 24)
 
 -- GAP (DDSI-RTPS 2.5, 9.4.5.6 "Gap Submessage").
 abbrev pub gap_is : Type 0

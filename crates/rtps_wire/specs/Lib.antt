@@ -14,6 +14,7 @@ pub mod Info
 pub mod InlineQos
 pub mod Layout
 pub mod Message
+pub mod NackFrag
 pub mod Reading
 pub mod SetField
 pub mod Skipped

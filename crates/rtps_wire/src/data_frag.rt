@@ -2,10 +2,9 @@ ghost use Rattle.std.specs.Prelude.{◌≡◌, ◌<◌, IfSome};
 ghost use Rattle.std.specs.Option.{option_map};
 ghost use Rattle.rtps_wire.specs.DataFrag.{IsDataFrag, data_frag_at, data_frag_value, last_fragment};
 
-use crate::layout::{id, submessage};
-use crate::message::{declared_by, extent, order_of};
+use crate::layout::id;
+use crate::message::{order_of, skipped_body};
 use crate::read;
-use crate::read::fields::rest_at;
 use rtps_ids::{EntityId, Order, SeqNum};
 use rtps_params::ParamList;
 
@@ -54,21 +53,12 @@ impl<'a> DataFrag<'a> {
     /// Reads the DATA_FRAG at the beginning of these octets: those of a datagram from the first octet of a submessage on.
     /// None if it is another submessage, if it has a fault, or if it has no fragments that can be used: fields are absent
     /// or out of range, its sample does not have these fragments, or octets of them are absent.
+    #[tactic(auto, using(crate::proofs::FragmentFields::of_whole, crate::proofs::FragmentFields::none_of_other))]
     pub fn read(submessage: &'a [u8]) -> Option<DataFrag<'a>>
         ensures value { option_map data_frag_value result ≡ data_frag_at submessage.now }
         ensures fragments { IfSome result (λ read. IsDataFrag (data_frag_value read)) }
     {
-        if submessage.len() < submessage::SIZE || submessage[submessage::ID] != id::DATA_FRAG {
-            return None;
-        }
-        let flags = submessage[submessage::FLAGS];
-        let declared = declared_by(submessage);
-        let behind = rest_at(submessage, submessage::SIZE);
-        if declared > behind.len() {
-            return None;
-        }
-        let size = extent(id::DATA_FRAG, declared, behind.len());
-        let (body, _) = behind.split_at(size);
+        let (flags, body) = skipped_body(submessage, id::DATA_FRAG)?;
         read::data_frag(order_of(flags), flags, body)
     }
 }

@@ -2,7 +2,7 @@
 
 ghost use Rattle.std.specs.Prelude.{◌≡◌, ◌<◌, ◌++◌, ℕ, List, All, map, option_to_list, Ok, Err, None};
 ghost use Rattle.rtps_wire.specs.Held.{IsHeldHeader, IsHeldItem};
-ghost use Rattle.rtps_wire.specs.Layout.{ack_nack_is, data_frag_is, data_is, gap_is, header_is, heartbeat_is, id_is, info_dst_is, info_ts_is, submessage_is};
+ghost use Rattle.rtps_wire.specs.Layout.{ack_nack_is, data_frag_is, data_is, gap_is, header_is, heartbeat_is, id_is, info_dst_is, info_ts_is, nack_frag_is, submessage_is};
 ghost use Rattle.rtps_wire.specs.Message.{Reading, Reads};
 ghost use Rattle.rtps_wire.specs.Reading.{items_among, outcomes, reading_of, refusal_among};
 ghost use Rattle.rtps_wire.specs.Spelling.{AreAlike, IsReadAs, Spells};
@@ -56,6 +56,7 @@ pub fn layout_is_that_of_the_standard()
     ensures ack_nack { ack_nack_is }
     ensures data { data_is }
     ensures data_frag { data_frag_is }
+    ensures nack_frag { nack_frag_is }
     ensures gap { gap_is }
     ensures heartbeat { heartbeat_is }
     ensures info_ts { info_ts_is }

@@ -116,6 +116,21 @@ pub(crate) mod data_frag {
     pub(crate) const K: u8 = 0x04;
 }
 
+/// NACK_FRAG (DDSI-RTPS 2.5, 9.4.5.14 "NackFrag Submessage"). Its count comes after the words of its set.
+pub(crate) mod nack_frag {
+    pub(crate) const READER: usize = 0;
+
+    pub(crate) const WRITER: usize = 4;
+
+    pub(crate) const NUMBER: usize = 8;
+    /// The offset of the base of the set of fragment numbers.
+    pub(crate) const BASE: usize = 16;
+    /// The offset of how many bits the set has.
+    pub(crate) const BITS: usize = 20;
+    /// The offset of the words of the set.
+    pub(crate) const WORDS: usize = 24;
+}
+
 /// GAP (DDSI-RTPS 2.5, 9.4.5.6 "Gap Submessage").
 pub(crate) mod gap {
     pub(crate) const READER: usize = 0;

@@ -2,9 +2,9 @@ ghost use Rattle.std.specs.Prelude.{◌≡◌, ◌≤◌, ◌+◌, drop, false, 
 ghost use Rattle.std.specs.Iterator.{YieldsFirstBy, item_count};
 ghost use Rattle.rtps_wire.specs.Dataless.{dataless_next, is_dataless_at, is_dataless_with};
 ghost use Rattle.rtps_wire.specs.Fault.{ReadsOrFaults};
-ghost use Rattle.rtps_wire.specs.Message.{body_fault, body_length, body_of, extent_of, fault_at, item_at, octets_to_next_header, order_of as order_of_lem};
+ghost use Rattle.rtps_wire.specs.Message.{body_fault, body_length, body_octets, body_of, extent_of, fault_at, flags_of, item_at, octets_to_next_header, order_of as order_of_lem};
 ghost use Rattle.rtps_wire.specs.Reading.{outcome_value, outcomes_left, read_as, reading_of, refused_with};
-ghost use Rattle.rtps_wire.specs.Skipped.{is_read as is_read_lem, skipped_next};
+ghost use Rattle.rtps_wire.specs.Skipped.{is_read as is_read_lem, begins_with, skipped_next};
 ghost use Rattle.rtps_wire.specs.Values.{body_value, item_value};
 ghost use Rattle.rtps_wire.specs.declared.layout.submessage.TheConstants.{SIZE};
 
@@ -186,6 +186,25 @@ fn dataless_size(rest: &[u8]) -> Option<usize>
     } else {
         None
     }
+}
+
+/// The flags and the body of the submessage at the front, if it has this id, which is not read, and no fault.
+pub(crate) fn skipped_body(rest: &[u8], id: u8) -> Option<(u8, &[u8])>
+    requires { is_read_lem id ≡ false }
+    ensures { MatchOption result (begins_with id rest.now ≡ false)
+        (λ found. (begins_with id rest.now ≡ true) × (found.0 ≡ flags_of rest.now) × (found.1.now ≡ body_octets rest.now)) }
+{
+    if rest.len() < submessage::SIZE || rest[submessage::ID] != id {
+        return None;
+    }
+    let declared = declared_by(rest);
+    let behind = rest_at(rest, submessage::SIZE);
+    if declared > behind.len() {
+        return None;
+    }
+    let size = extent(id, declared, behind.len());
+    let (octets, _) = behind.split_at(size);
+    Some((rest[submessage::FLAGS], octets))
 }
 
 /// Whether the body of a submessage has no fault, is not that of a DATA and does not change the receiver's state.

@@ -40,7 +40,7 @@ fn facts_of(report: &Report, missed: u64, recording: &Recording) -> Facts
     Facts {
         rows: report.rows.len() as u64,
         missed,
-        complete: are_complete(&report.rows),
+        met: are_complete(&report.rows),
         counts: report.counts,
         reasons: recording.reasons(),
     }

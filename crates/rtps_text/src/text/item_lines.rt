@@ -4,7 +4,7 @@ ghost use Rattle.hex.specs.Hex.{encode_lower};
 ghost use Rattle.rtps_params.specs.Lists.{list_value};
 ghost use Rattle.rtps_wire.specs.DataFrag.{data_frag_value};
 ghost use Rattle.rtps_wire.specs.Values.{data_value, item_value};
-ghost use Rattle.rtps_text.specs.ShowText.{IsTailIn, ack_nack_line, data_frag_line, data_line, gap_line, heartbeat_line, info_dst_line, info_src_line, info_ts_line, item_line, bitmap_text, digit_of, order_text, qos_octets as qos_octets_lem, skipped_line, version_text};
+ghost use Rattle.rtps_text.specs.ShowText.{IsTailIn, ack_nack_line, data_frag_line, data_line, gap_line, heartbeat_line, info_dst_line, info_src_line, info_ts_line, item_line, nack_frag_line, bitmap_text, digit_of, order_text, qos_octets as qos_octets_lem, skipped_line, version_text};
 
 use crate::text::parts::{
     order_name, push_bitmap, push_digits, push_flag, push_id, push_tail, push_time, push_version,
@@ -13,7 +13,7 @@ use rtps_ids::{EntityId, GuidPrefix, NumberSet, Order, Stamp, Vendor, Version};
 use rtps_lines::{push_field, push_payload};
 use rtps_params::ParamList;
 use rtps_receiver::State;
-use rtps_wire::{AckNackBody, Body, DataBody, DataFrag, GapBody, HeartbeatBody, Item};
+use rtps_wire::{AckNackBody, Body, DataBody, DataFrag, GapBody, HeartbeatBody, Item, NackFrag};
 use std::alloc::AllocError;
 
 pub(crate) fn push_item(
@@ -208,6 +208,32 @@ fn push_ack_nack(
     push_set(text, &ack_nack.set)?;
     push_field(text, " count ", ack_nack.count)?;
     push_flag(text, " final ", ack_nack.is_final)?;
+    push_tail(text, tail, state)
+}
+
+pub(crate) fn push_nack_frag(
+    text: &mut String,
+    tail: &mut String,
+    state: &State,
+    at: usize,
+    order: Order,
+    nack_frag: &NackFrag,
+) -> Result<(), AllocError>
+    requires { IsTailIn state.now (string_bytes tail.old) }
+    ensures line { OnOk result (string_bytes text.new ≡ string_bytes text.old ++ nack_frag_line state.now at order nack_frag.now) }
+    ensures tail { OnOk result (IsTailIn state.now (string_bytes tail.new)) }
+{
+    push_act(
+        text,
+        "nack_frag ",
+        at,
+        order,
+        nack_frag.reader,
+        nack_frag.writer,
+    )?;
+    push_field(text, " number ", nack_frag.number.get())?;
+    push_set(text, &nack_frag.set)?;
+    push_field(text, " count ", nack_frag.count)?;
     push_tail(text, tail, state)
 }
 

@@ -1,17 +1,19 @@
-ghost use Rattle.std.specs.Prelude.{◌≡◌, [], ◌∷◌, ◌++◌, IfOk, OnOk, Some, string_bytes, option_map};
+ghost use Rattle.std.specs.Prelude.{◌≡◌, [], ◌∷◌, ◌++◌, ◌<◌, length, IfOk, MatchOption, OnOk, Some, None, string_bytes};
 ghost use Rattle.rtps_receiver.specs.Acts.{state_behind};
-ghost use Rattle.rtps_wire.specs.DataFrag.{data_frag_value};
+ghost use Rattle.rtps_wire.specs.Message.{flags_of, order_of as order_of_lem};
 ghost use Rattle.rtps_wire.specs.Reading.{outcomes_left};
 ghost use Rattle.rtps_wire.specs.Values.{body_value, item_value};
-ghost use Rattle.rtps_text.specs.ShowText.{IsTailIn, says_of_state, IsShownWith, datagram_line, datagram_text, fragments_at as fragments_at_lem, outcomes_text, refusal_line, text_from};
+ghost use Rattle.rtps_text.specs.ShowText.{IsTailIn, says_of_state, IsShownWith, datagram_line, datagram_text, fragments_at as fragments_at_lem, outcomes_text, refusal_line, said_at, text_from, unread_line};
 
-use crate::text::item_lines::{push_data_frag, push_item, push_origin, push_skipped};
+use crate::text::item_lines::{
+    push_data_frag, push_item, push_nack_frag, push_origin, push_skipped,
+};
 use rtps_fragments::Fragments;
-use rtps_ids::Memory;
+use rtps_ids::{Memory, Order};
 use rtps_lines::push_field;
 use rtps_receiver::State;
 use rtps_report::{Ending, Recording};
-use rtps_wire::{Body, DataFrag, Header, Item, Items, Refusal};
+use rtps_wire::{Body, DataFrag, Header, Item, Items, NackFrag, Refusal};
 use std::alloc::{AllocError, Global};
 
 /// A datagram, and what becomes of fragments in it.
@@ -99,7 +101,7 @@ fn push_items(
         let at = items.at();
         if let Some(id) = items.take_skipped() {
             match fragments_at(datagram, at) {
-                Some(read) => push_data_frag(text, tail, &state, at, &read)?,
+                Some(submessage) => push_said(text, tail, &state, at, id, submessage)?,
                 None => push_skipped(text, at, id)?,
             }
             continue;
@@ -115,17 +117,52 @@ fn push_items(
     }
 }
 
-/// The fragments of the submessage at this place, if they are read.
+/// The octets from this place on, if what is said of fragments is read.
 #[inline(always)]
-fn fragments_at(datagram: ShownDatagram<'_>, at: usize) -> Option<DataFrag<'_>>
-    ensures { option_map data_frag_value result ≡ fragments_at_lem datagram.entry.fragments datagram.entry.octets.now at }
+fn fragments_at<'a>(datagram: ShownDatagram<'a>, at: usize) -> Option<&'a [u8]>
+    ensures { MatchOption result (fragments_at_lem datagram.entry.fragments datagram.entry.octets.now at ≡ None)
+        (λ submessage. fragments_at_lem datagram.entry.fragments datagram.entry.octets.now at ≡ said_at submessage.now) }
 {
     match datagram.fragments {
         Fragments::Skipped => None,
-        Fragments::Read => match datagram.octets.get(at..) {
-            Some(submessage) => DataFrag::read(submessage),
-            None => None,
-        },
+        Fragments::Read => datagram.octets.get(at..),
+    }
+}
+
+/// The order of the octets of a submessage's numbers, by its flags.
+fn order_of(submessage: &[u8]) -> Order
+    requires { 1 < length submessage.now }
+    ensures { result ≡ order_of_lem (flags_of submessage.now) }
+{
+    if submessage[1] & 1 != 0 {
+        Order::Little
+    } else {
+        Order::Big
+    }
+}
+
+/// The line of a submessage that is not read, or of what it says of fragments.
+fn push_said(
+    text: &mut String,
+    tail: &mut String,
+    state: &State,
+    at: usize,
+    id: u8,
+    submessage: &[u8],
+) -> Result<(), AllocError>
+    requires { IsTailIn state.now (string_bytes tail.old) }
+    ensures line { OnOk result (string_bytes text.new ≡ string_bytes text.old ++ unread_line state.now at id (said_at submessage.now)) }
+    ensures tail { OnOk result (IsTailIn state.now (string_bytes tail.new)) }
+{
+    if let Some(read) = DataFrag::read(submessage) {
+        return push_data_frag(text, tail, state, at, &read);
+    }
+    match NackFrag::read(submessage) {
+        Some(read) => {
+            let order = order_of(submessage);
+            push_nack_frag(text, tail, state, at, order, &read)
+        }
+        None => push_skipped(text, at, id),
     }
 }
 

@@ -3,13 +3,13 @@ ghost use Rattle.rtps_evidence.specs.Explanation.{evidence_value, explanation_va
 ghost use Rattle.rtps_evidence.specs.Grounds.{grounds_value};
 ghost use Rattle.rtps_report.specs.FullReport.{report_value, rows_of};
 ghost use Rattle.rtps_report.specs.Reported.{number_of as number_of_lem};
-ghost use Rattle.rtps_text.specs.ReportText.{explained_text, explanation_text, kept_text, missed_lines, not_received_line, rest_lines, shown_by};
+ghost use Rattle.rtps_text.specs.ReportText.{explained_text, explanation_text, kept_text, missed_lines, not_received_line, rest_lines, shown_by, span_line, until_text};
 
 use crate::text::audit_text::ReportCountsLine;
 use rtps_evidence::{Evidence, Explanation, FirstMissed, Grounds, Location, NotReceived, Teller};
 use rtps_lines::{
     AcknowledgedLine, AnnouncedLine, AskedLine, ClaimedLine, PlaceComma, PlaceText, QuestionsLine,
-    ToldLine, VerdictText, kind_name, push_sent,
+    ToldLine, VerdictText, kind_name, push_field, push_sent,
 };
 use rtps_parts::NameText;
 use rtps_report::{FullReport, number_of};
@@ -60,6 +60,7 @@ fn push_row(text: &mut String, row: &Explanation<'_>) -> Result<(), AllocError>
         NameText(row.topic),
         NameText(row.type_name)
     )?;
+    push_span(text, evidence)?;
     write!(text, "{}", AnnouncedLine(evidence.announcement))?;
     write!(text, "{}", AcknowledgedLine(evidence.acknowledgement))?;
     writeln!(
@@ -68,6 +69,26 @@ fn push_row(text: &mut String, row: &Explanation<'_>) -> Result<(), AllocError>
         evidence.payloads, evidence.gone, evidence.untold
     )?;
     push_rest(text, evidence)
+}
+
+fn push_span(text: &mut String, evidence: &Evidence<'_>) -> Result<(), AllocError>
+    ensures { OnOk result (string_bytes text.new ≡ string_bytes text.old ++ span_line evidence.now.in_span) }
+{
+    let Some(in_span) = &evidence.in_span else {
+        return Ok(());
+    };
+    push_field(text, "  from ", in_span.from)?;
+    push_until(text, in_span.until)?;
+    text.push_str("\n")
+}
+
+fn push_until(text: &mut String, until: Option<u64>) -> Result<(), AllocError>
+    ensures { OnOk result (string_bytes text.new ≡ string_bytes text.old ++ until_text until) }
+{
+    match until {
+        Some(datagram) => push_field(text, " until datagram ", datagram),
+        None => Ok(()),
+    }
 }
 
 fn push_rest(text: &mut String, evidence: &Evidence<'_>) -> Result<(), AllocError>

@@ -17,7 +17,7 @@ returns c =
     let rows = c.in_ok-rows.rows.items in
     let left_out = c.in_ok-left_out.left_out.items in
     let text = λ (scope : Scope) (facts : NoteFacts) (all left : List Explanation).
-    text_by scope facts (map explanation_value all) (map explanation_value left) report.ending in
+    text_by scope (record { facts = facts; left_out = map explanation_value left; standard = asked.standard; ending = report.ending }) (map explanation_value all) in
     let scope = scope_of asked recording (report_value report) in
     let facts = note_facts asked recording (report_value report) in
     record {

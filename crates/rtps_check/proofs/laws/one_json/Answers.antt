@@ -1,15 +1,19 @@
-use Rattle.std.proofs.Common.{◌≡◌, ◌++◌, ◌∙◌, ℕ, List, Some, ap, length, map, sym}
+use Rattle.std.proofs.Common.{◌≡◌, ◌++◌, ◌∙◌, ℕ, List, ap, length, map, sym}
 use Rattle.std.proofs.lemmas.List.{length-map}
-use Rattle.rtps_report.specs.Vocabulary.{Counts, Explanation, explanation_value, ExplanationValue}
-use Rattle.rtps_report.specs.declared.findings.Ending.{Ending}
-use Rattle.rtps_report.specs.Asked.{AskedValue}
+use Rattle.rtps_audit.specs.declared.report.Counts.{Counts}
+use Rattle.rtps_evidence.specs.Explanation.{ExplanationValue, explanation_value}
+use Rattle.rtps_evidence.specs.declared.explanation.Explanation.{Explanation}
+use Rattle.rtps_report.specs.Asked.{AskedValue, tail_of}
 use Rattle.rtps_report.specs.FullReport.{ReportValue, rows_of}
 use Rattle.rtps_report.specs.Laws.{AreSame}
 use Rattle.rtps_report.specs.NoteFacts.{facts_by, is_unread}
 use Rattle.rtps_report.specs.Recording.{RecordingValue}
 use Rattle.rtps_report.specs.Totals.{totals_of}
+use Rattle.rtps_report.specs.declared.advice.Scope.{Scope}
+use Rattle.rtps_report.specs.declared.findings.Ending.{Ending}
 use Rattle.rtps_lines.specs.Causes.{causes_of, findings_in}
 use Rattle.rtps_lines.specs.CheckMembers.{check_members, notes_members, status_members}
+use Rattle.rtps_lines.specs.declared.json_object.Advised.TheVariants.{All}
 use Rattle.rtps_lines.specs.JsonText.{Member, json_line, object_of, rows_members}
 use Rattle.rtps_lines.specs.Notes.{short_notes}
 use Rattle.rtps_check.proofs.laws.one_json.Goals as goal
@@ -17,9 +21,9 @@ use Rattle.rtps_check.proofs.laws.one_json.Goals as goal
 -- the members of these rows and counts, of so many pairs that are left out
 abbrev pub members_with : AskedValue → RecordingValue → Ending → ℕ → Counts → List ExplanationValue → List Member
 members_with asked recording ending left_out counts rows =
-    status_members ending (causes_of (totals_of asked.from rows) (findings_in ending))
-    ++ (rows_members (Some (record { from = asked.from; unread = is_unread counts recording.reasons })) rows counts recording
-    ++ notes_members (short_notes (facts_by (totals_of asked.from rows).unsure counts recording) left_out))
+    let scope : Scope = record { from = asked.from; tail = tail_of asked.standard; unread = is_unread counts recording.reasons } in
+    status_members ending (causes_of asked.standard (totals_of scope rows) (findings_in ending))
+    ++ (rows_members (record { scope = scope; advised = All }) rows counts recording ++ notes_members (short_notes (facts_by rows scope counts recording) left_out))
 
 same_length : (one other : List Explanation) → map explanation_value one ≡ map explanation_value other → length one ≡ length other
 same_length one other same = sym (length-map one explanation_value) ∙ ap (λ (all : List ExplanationValue). length all) same ∙ length-map other explanation_value

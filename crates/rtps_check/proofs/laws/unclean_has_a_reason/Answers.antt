@@ -1,20 +1,27 @@
 -- A run ends clean exactly where it gives no reason.
-use Rattle.std.proofs.Common.{◌≡◌, ◌↔◌, ◌≤◌, ◌<◌, ◌-◌, ◌+◌, ◌==◌, ◌++◌, ◌∷◌, [], ◌∙◌, ◌⊎◌, not, ℕ, Bool, true, false, cond, List, Option, None, Some, ap, arith, inl, inr, is_none, length, refl, sym, count_by, eq-eqb, eqb-true, true≢false}
-use Rattle.std.proofs.lemmas.Bool.{and_cases, and_from, and_parts, false≢true}
+use Rattle.std.proofs.Common.{◌≡◌, ◌↔◌, ◌≤◌, ◌<◌, ◌-◌, ◌+◌, ◌==◌, ◌++◌, ◌&&◌, ◌||◌, ◌∷◌, [], ◌∙◌, ◌⊎◌, not, ℕ, Bool, true, false, cond, List, Option, None, Some, ap, ap₂, arith, inl, inr, is_none, is_some, length, nat_le, nat_lt, refl, sym, count_by, eq-eqb, eqb-true, true≢false}
+use Rattle.std.proofs.lemmas.Bool.Decides.{nat_tests}
+use Rattle.std.proofs.lemmas.Bool.{and_cases, and_from, and_parts, false≢true, or_cases, or_parts}
 use Rattle.std.proofs.lemmas.List.Sums.{count_by-le-length, sum_by-cons}
-use Rattle.std.specs.List.{concat, list_all}
-use Rattle.rtps_report.specs.Vocabulary.{ExplanationValue}
+use Rattle.std.specs.List.{list_all}
+use Rattle.rtps_evidence.specs.Clean.{has_all, is_clean as is_clean_in, is_complete as complete_in, is_open, is_tail as is_tail_in}
+use Rattle.rtps_report.specs.Findings.{are_none, findings_of, no_findings, when}
+use Rattle.rtps_report.specs.Asked.{is_of_complete, tail_of}
+use Rattle.rtps_report.specs.FullReport.{facts_of_rows, is_met_by, missed_in}
+use Rattle.rtps_report.specs.Reported.{is_complete}
+use Rattle.rtps_report.specs.RowFacts.{is_certain, is_clean, is_clean_by, outcomes_by, outcomes_of}
+use Rattle.rtps_report.specs.Totals.{is_unclean, totals_of}
+use Rattle.rtps_report.specs.Vocabulary.{Complete, Conflict, EvidenceValue, ExplanationValue, InSpan, Open, Outcomes, Unfounded, Verdict}
+use Rattle.rtps_report.specs.declared.asked.Standard.TheVariants.{AllClean, AllComplete}
+use Rattle.rtps_report.specs.declared.findings.Ending.TheVariants.{Clean, Unclean, Unmet}
 use Rattle.rtps_report.specs.declared.findings.FewRows.{FewRows}
 use Rattle.rtps_report.specs.declared.findings.Findings.{Findings}
+use Rattle.rtps_report.specs.declared.advice.Scope.{Scope}
+use Rattle.rtps_report.specs.declared.asked.Standard.{Standard}
 use Rattle.rtps_report.specs.declared.totals.Totals.{Totals}
-use Rattle.rtps_report.specs.declared.findings.Ending.TheVariants.{Clean, Unclean, Unmet}
-use Rattle.rtps_report.specs.Reported.{is_complete}
-use Rattle.rtps_report.specs.Findings.{are_none, findings_of, no_findings}
-use Rattle.rtps_report.specs.FullReport.{facts_of_rows}
-use Rattle.rtps_lines.specs.Causes.{cause, causes_of, empty_cause, few_cause, findings_in, incomplete_words, missed_cause}
-use Rattle.rtps_parts.specs.Parts.{amount}
+use Rattle.rtps_lines.specs.Causes.{cause, causes_of, empty_cause, few_cause, findings_in, incomplete_words, lost_cause, missed_words, row_causes, unanswered_words, uncertain_of, uncertain_words, unsent_words}
+use Rattle.rtps_parts.specs.Parts.{WordsValue}
 use Rattle.rtps_check.specs.CheckText.{TellsWhyUnclean}
-use Rattle.rtps_report.specs.Totals.{totals_of}
 use Rattle.rtps_check.proofs.laws.unclean_has_a_reason.Goals as goal
 
 -- ---- rows that are all complete, and those that are not
@@ -40,6 +47,172 @@ not_all_counted p (x ∷ xs) h = by (and_cases (p x) (list_all p xs) h) (not_all
     by (inl fails) less = omega (arith, count_step p x xs, ap {B = ℕ} (λ b. cond b 1 0) fails, count_by-le-length p xs)
     by (inr fail) less = omega (arith, count_step p x xs, at_most_one (p x), less fail)
 
+-- ---- rows that are all clean, and those that are not
+
+positive : (n : ℕ) → (n == 0) ≡ false → nat_lt 0 n ≡ true
+positive n e = grind (arith, nat_tests)
+
+nothing : (n : ℕ) → (n == 0) ≡ true → nat_lt 0 n ≡ false
+nothing n e = grind (arith, nat_tests)
+
+one_of : (b : Bool) → b ≡ true → ◌≡◌ {A = ℕ} (cond b 1 0) 1
+one_of b e = ap {B = ℕ} (λ c. cond c 1 0) e
+
+none_of : (b : Bool) → b ≡ false → ◌≡◌ {A = ℕ} (cond b 1 0) 0
+none_of b e = ap {B = ℕ} (λ c. cond c 1 0) e
+
+-- how many of the numbers of a row are lost, each kind as one
+abbrev lost_kinds : Outcomes → ℕ
+lost_kinds outcomes = cond (nat_lt 0 outcomes.missed) 1 0 + (cond (nat_lt 0 outcomes.unsent) 1 0 + cond (nat_lt 0 outcomes.unanswered) 1 0)
+
+all_there : (outcomes : Outcomes) → has_all outcomes ≡ true → lost_kinds outcomes ≡ 0
+all_there outcomes e =
+    let first = and_parts (outcomes.missed == 0) ((outcomes.unsent == 0) && (outcomes.unanswered == 0)) e in
+    let last = and_parts (outcomes.unsent == 0) (outcomes.unanswered == 0) first.1 in
+    omega (arith, none_of _ (nothing outcomes.missed first.0), none_of _ (nothing outcomes.unsent last.0), none_of _ (nothing outcomes.unanswered last.1))
+
+some_lost : (outcomes : Outcomes) → has_all outcomes ≡ false → 0 < lost_kinds outcomes
+some_lost outcomes e = by (and_cases (outcomes.missed == 0) ((outcomes.unsent == 0) && (outcomes.unanswered == 0)) e)
+  where
+    later : ((outcomes.unsent == 0) ≡ false) ⊎ ((outcomes.unanswered == 0) ≡ false) → 0 < lost_kinds outcomes
+    later (inl unsent) = omega (arith, one_of _ (positive outcomes.unsent unsent))
+    later (inr unanswered) = omega (arith, one_of _ (positive outcomes.unanswered unanswered))
+
+    by : ((outcomes.missed == 0) ≡ false) ⊎ (((outcomes.unsent == 0) && (outcomes.unanswered == 0)) ≡ false) → 0 < lost_kinds outcomes
+    by (inl missed) = omega (arith, one_of _ (positive outcomes.missed missed))
+    by (inr more) = later (and_cases (outcomes.unsent == 0) (outcomes.unanswered == 0) more)
+
+same_complete : (verdict : Verdict) → complete_in verdict ≡ is_complete verdict
+same_complete (Complete last) = refl
+same_complete (Open number) = refl
+same_complete (Conflict number) = refl
+same_complete (Unfounded datagram number) = refl
+
+-- of a row in a span that is clean nothing is lost
+clean_has_all : (tail : ℕ) (left : Bool) (verdict : Verdict) (outcomes : Outcomes) (base : ℕ) → is_clean_in tail left verdict outcomes base ≡ true → has_all outcomes ≡ true
+clean_has_all tail left verdict outcomes base e =
+    by (or_cases (complete_in verdict && has_all outcomes) (is_tail_in verdict outcomes base && (left || nat_le outcomes.unconfirmed tail)) e)
+  where
+    by : ((complete_in verdict && has_all outcomes) ≡ true) ⊎ ((is_tail_in verdict outcomes base && (left || nat_le outcomes.unconfirmed tail)) ≡ true) → has_all outcomes ≡ true
+    by (inl complete) = (and_parts (complete_in verdict) (has_all outcomes) complete).1
+    by (inr lacking) =
+        let is = (and_parts (is_tail_in verdict outcomes base) (left || nat_le outcomes.unconfirmed tail) lacking).0 in
+        (and_parts (nat_lt 1 base) (has_all outcomes) (and_parts (is_open verdict) (nat_lt 1 base && has_all outcomes) is).1).1
+
+none_lost : (tail received missed : ℕ) (verdict : Verdict) (in_span : Option InSpan) → is_clean_by tail verdict missed in_span ≡ true
+    → lost_kinds (outcomes_by received missed in_span) ≡ 0
+none_lost tail received missed verdict None e = omega (arith, none_of _ (nothing missed (and_parts (is_complete verdict) (missed == 0) e).1))
+none_lost tail received missed verdict (Some in_span) e =
+    all_there in_span.outcomes (clean_has_all tail (is_some in_span.until) verdict in_span.outcomes in_span.base e)
+
+-- of a complete row that is not clean something is lost
+complete_lost : (tail received missed : ℕ) (verdict : Verdict) (in_span : Option InSpan) → is_complete verdict ≡ true → is_clean_by tail verdict missed in_span ≡ false
+    → 0 < lost_kinds (outcomes_by received missed in_span)
+complete_lost tail received missed verdict None complete e = by (and_cases (is_complete verdict) (missed == 0) e)
+  where
+    by : (is_complete verdict ≡ false) ⊎ ((missed == 0) ≡ false) → 0 < lost_kinds (outcomes_by received missed None)
+    by (inl not_complete) = absurd (false≢true (sym not_complete ∙ complete))
+    by (inr some) = omega (arith, one_of _ (positive missed some))
+complete_lost tail received missed verdict (Some in_span) complete e =
+    by (and_cases (complete_in verdict) (has_all in_span.outcomes)
+    (or_parts (complete_in verdict && has_all in_span.outcomes) (is_tail_in verdict in_span.outcomes in_span.base && (is_some in_span.until || nat_le in_span.outcomes.unconfirmed tail)) e).0)
+  where
+    by : (complete_in verdict ≡ false) ⊎ (has_all in_span.outcomes ≡ false) → 0 < lost_kinds in_span.outcomes
+    by (inl not_complete) = absurd (false≢true (sym not_complete ∙ same_complete verdict ∙ complete))
+    by (inr some) = some_lost in_span.outcomes some
+
+and_not : (a b : Bool) → b ≡ true → (not a && not b) ≡ false
+and_not true b e = refl
+and_not false true e = refl
+and_not false false e = absurd (true≢false (sym e))
+
+both_not : (a b : Bool) → a ≡ false → b ≡ false → (not a && not b) ≡ true
+both_not false false e f = refl
+both_not true b e f = absurd (true≢false e)
+both_not false true e f = absurd (true≢false f)
+
+sure : (certain is : Bool) → (not certain || is) ≡ true → (certain && not is) ≡ false
+sure true true e = refl
+sure true false e = absurd (true≢false (sym e))
+sure false is e = refl
+
+unsure : (certain is : Bool) → (not certain || is) ≡ false → (certain && not is) ≡ true
+unsure true true e = absurd (true≢false e)
+unsure true false e = refl
+unsure false is e = absurd (true≢false e)
+
+-- how much is wrong with a row
+abbrev wrong : ℕ → ℕ → Bool → EvidenceValue → ℕ
+wrong from tail certain evidence = cond (is_unclean tail evidence) 1 0 + (lost_kinds (outcomes_of evidence) + cond (certain && not (is_certain from evidence)) 1 0)
+
+none_wrong : (from tail : ℕ) (certain : Bool) (evidence : EvidenceValue) → is_met_by from (AllClean tail certain) evidence ≡ true → wrong from tail certain evidence ≡ 0
+none_wrong from tail certain evidence e =
+    let both = and_parts (is_clean tail evidence) (not certain || is_certain from evidence) e in
+    omega (
+      arith,
+      none_of _ (and_not (is_complete evidence.verdict) (is_clean tail evidence) both.0),
+      none_lost tail evidence.received evidence.missed evidence.verdict evidence.in_span both.0,
+      none_of _ (sure certain (is_certain from evidence) both.1),
+    )
+
+unclean_wrong : (from tail : ℕ) (certain : Bool) (evidence : EvidenceValue) (complete : Bool) → is_complete evidence.verdict ≡ complete → is_clean tail evidence ≡ false → 0 < wrong from tail certain evidence
+unclean_wrong from tail certain evidence true is e = omega (arith, complete_lost tail evidence.received evidence.missed evidence.verdict evidence.in_span is e)
+unclean_wrong from tail certain evidence false is e = omega (arith, one_of _ (both_not (is_complete evidence.verdict) (is_clean tail evidence) is e))
+
+some_wrong : (from tail : ℕ) (certain : Bool) (evidence : EvidenceValue) → is_met_by from (AllClean tail certain) evidence ≡ false → 0 < wrong from tail certain evidence
+some_wrong from tail certain evidence e = by (and_cases (is_clean tail evidence) (not certain || is_certain from evidence) e)
+  where
+    by : (is_clean tail evidence ≡ false) ⊎ ((not certain || is_certain from evidence) ≡ false) → 0 < wrong from tail certain evidence
+    by (inl not_clean) = unclean_wrong from tail certain evidence (is_complete evidence.verdict) refl not_clean
+    by (inr not_sure) = omega (arith, one_of _ (unsure certain (is_certain from evidence) not_sure))
+
+-- how much is wrong with rows
+abbrev all_wrong : Scope → Bool → List ExplanationValue → ℕ
+all_wrong scope certain rows =
+    let totals = totals_of scope rows in
+    totals.unclean_pairs
+    + ((totals.missed_pairs + (totals.unsent_pairs + totals.unanswered_pairs)) + count_by (λ row. certain && not (is_certain scope.from row.evidence)) rows)
+
+wrong_step : (scope : Scope) (certain : Bool) (row : ExplanationValue) (rows : List ExplanationValue)
+    → all_wrong scope certain (row ∷ rows) ≡ wrong scope.from scope.tail certain row.evidence + all_wrong scope certain rows
+wrong_step scope certain row rows =
+    omega (
+      arith,
+      count_step (λ (one : ExplanationValue). is_unclean scope.tail one.evidence) row rows,
+      count_step (λ (one : ExplanationValue). nat_lt 0 (outcomes_of one.evidence).missed) row rows,
+      count_step (λ (one : ExplanationValue). nat_lt 0 (outcomes_of one.evidence).unsent) row rows,
+      count_step (λ (one : ExplanationValue). nat_lt 0 (outcomes_of one.evidence).unanswered) row rows,
+      count_step (λ (one : ExplanationValue). certain && not (is_certain scope.from one.evidence)) row rows,
+    )
+
+rows_met : (scope : Scope) (certain : Bool) (rows : List ExplanationValue)
+    → list_all (λ row. is_met_by scope.from (AllClean scope.tail certain) row.evidence) rows ≡ true → all_wrong scope certain rows ≡ 0
+rows_met scope certain [] e = refl
+rows_met scope certain (row ∷ rows) e =
+    let both = and_parts (is_met_by scope.from (AllClean scope.tail certain) row.evidence) _ e in
+    wrong_step scope certain row rows ∙ ap₂ (λ n m. n + m) (none_wrong scope.from scope.tail certain row.evidence both.0) (rows_met scope certain rows both.1)
+
+rows_not_met : (scope : Scope) (certain : Bool) (rows : List ExplanationValue)
+    → list_all (λ row. is_met_by scope.from (AllClean scope.tail certain) row.evidence) rows ≡ false → 0 < all_wrong scope certain rows
+rows_not_met scope certain [] e = absurd (true≢false e)
+rows_not_met scope certain (row ∷ rows) e = by (and_cases (test row) (list_all test rows) e) (rows_not_met scope certain rows)
+  where
+    test : ExplanationValue → Bool
+    test one = is_met_by scope.from (AllClean scope.tail certain) one.evidence
+
+    by : (test row ≡ false) ⊎ (list_all test rows ≡ false) → (list_all test rows ≡ false → 0 < all_wrong scope certain rows) → 0 < all_wrong scope certain (row ∷ rows)
+    by (inl fails) more = omega (arith, wrong_step scope certain row rows, some_wrong scope.from scope.tail certain row.evidence fails)
+    by (inr fail) more = omega (arith, wrong_step scope certain row rows, more fail)
+
+count_none : {X : Type 0} (xs : List X) → count_by (λ x. false) xs ≡ 0
+count_none [] = refl
+count_none {X} (x ∷ xs) = omega (arith, count_step (λ (y : X). false) x xs, count_none xs)
+
+uncertain_counted : (scope : Scope) (certain : Bool) (rows : List ExplanationValue)
+    → (uncertain_of (totals_of scope rows) certain).pairs ≡ count_by (λ row. certain && not (is_certain scope.from row.evidence)) rows
+uncertain_counted scope true rows = refl
+uncertain_counted scope false rows = sym (count_none rows)
+
 -- ---- lists of reasons that are empty
 
 both_empty : {X : Type 0} (xs ys : List X) → xs ++ ys ≡ [] → (xs ≡ []) × (ys ≡ [])
@@ -50,6 +223,74 @@ if_some : {X : Type 0} (b : Bool) (x : X) → cond b [] (x ∷ []) ≡ [] → b 
 if_some true x e = refl
 if_some false x e = absurd (omega (arith, ap length e))
 
+if_none : {X : Type 0} (b : Bool) (x : X) → b ≡ true → cond b [] (x ∷ []) ≡ []
+if_none true x e = refl
+if_none false x e = absurd (true≢false (sym e))
+
+no_parts : {X : Type 0} (xs ys : List X) → xs ≡ [] → ys ≡ [] → xs ++ ys ≡ []
+no_parts xs ys e f = ap₂ (λ one other. one ++ other) e f
+
+no_cause : (number : ℕ) (words : WordsValue) → number ≡ 0 → cause number words ≡ []
+no_cause number words e = if_none (number == 0) _ (eq-eqb number 0 e)
+
+no_lost : (numbers pairs : ℕ) (words : WordsValue) → pairs ≡ 0 → lost_cause (record { numbers = numbers; pairs = pairs }) words ≡ []
+no_lost numbers pairs words e = if_none (pairs == 0) _ (eq-eqb pairs 0 e)
+
+cause_none : (number : ℕ) (words : WordsValue) → cause number words ≡ [] → number ≡ 0
+cause_none number words e = eqb-true number 0 (if_some (number == 0) _ e)
+
+lost_none : (numbers pairs : ℕ) (words : WordsValue) → lost_cause (record { numbers = numbers; pairs = pairs }) words ≡ [] → pairs ≡ 0
+lost_none numbers pairs words e = eqb-true pairs 0 (if_some (pairs == 0) _ e)
+
+-- ---- reasons of rows
+
+-- rows that are what they have to be give no reason
+met_without_reasons : (standard : Standard) (from : ℕ) (unread : Bool) (rows : List ExplanationValue)
+    → list_all (λ row. is_met_by from standard row.evidence) rows ≡ true
+    → row_causes standard (totals_of (record { from = from; tail = tail_of standard; unread = unread }) rows) no_findings ≡ []
+met_without_reasons AllComplete from unread rows e =
+    let totals = totals_of (record { from = from; tail = 0; unread = unread }) rows in
+    no_parts (cause (totals.pairs - totals.complete_pairs) incomplete_words) []
+    (no_cause (totals.pairs - totals.complete_pairs) incomplete_words (omega (arith, all_counted (λ (row : ExplanationValue). is_complete row.evidence.verdict) rows e))) refl
+met_without_reasons (AllClean tail certain) from unread rows e =
+    let scope : Scope = record { from = from; tail = tail; unread = unread } in
+    let totals = totals_of scope rows in
+    let none = rows_met scope certain rows e in
+    let uncertain = uncertain_counted scope certain rows in
+    no_parts _ _ (no_cause totals.unclean_pairs incomplete_words (omega (arith, none)))
+    (no_parts _ _ (no_lost totals.missed totals.missed_pairs missed_words (omega (arith, none)))
+    (no_parts _ _ (no_lost totals.unsent totals.unsent_pairs unsent_words (omega (arith, none)))
+    (no_parts _ _ (no_lost totals.unanswered totals.unanswered_pairs unanswered_words (omega (arith, none)))
+    (no_lost (uncertain_of totals certain).numbers (uncertain_of totals certain).pairs uncertain_words (omega (arith, none, uncertain))))))
+
+-- rows that are not give one
+not_met_has_a_reason : (standard : Standard) (from : ℕ) (unread : Bool) (rows : List ExplanationValue)
+    → list_all (λ row. is_met_by from standard row.evidence) rows ≡ false
+    → row_causes standard (totals_of (record { from = from; tail = tail_of standard; unread = unread }) rows) no_findings ≡ [] → false ≡ true
+not_met_has_a_reason AllComplete from unread rows e none =
+    let totals = totals_of (record { from = from; tail = 0; unread = unread }) rows in
+    let complete = both_empty (cause (totals.pairs - totals.complete_pairs) incomplete_words) _ none in
+    absurd (omega (arith, cause_none (totals.pairs - totals.complete_pairs) incomplete_words complete.0, not_all_counted (λ (row : ExplanationValue). is_complete row.evidence.verdict) rows e))
+not_met_has_a_reason (AllClean tail certain) from unread rows e none =
+    let scope : Scope = record { from = from; tail = tail; unread = unread } in
+    let totals = totals_of scope rows in
+    let unclean = both_empty (cause totals.unclean_pairs incomplete_words) _ none in
+    let missed = both_empty (lost_cause (record { numbers = totals.missed; pairs = totals.missed_pairs }) missed_words) _ unclean.1 in
+    let unsent = both_empty (lost_cause (record { numbers = totals.unsent; pairs = totals.unsent_pairs }) unsent_words) _ missed.1 in
+    let unanswered = both_empty (lost_cause (record { numbers = totals.unanswered; pairs = totals.unanswered_pairs }) unanswered_words) _ unsent.1 in
+    absurd (omega (
+      arith,
+      rows_not_met scope certain rows e,
+      cause_none totals.unclean_pairs incomplete_words unclean.0,
+      lost_none totals.missed totals.missed_pairs missed_words missed.0,
+      lost_none totals.unsent totals.unsent_pairs unsent_words unsent.0,
+      lost_none totals.unanswered totals.unanswered_pairs unanswered_words unanswered.0,
+      lost_none (uncertain_of totals certain).numbers (uncertain_of totals certain).pairs uncertain_words unanswered.1,
+      uncertain_counted scope certain rows,
+    ))
+
+-- ---- what is found
+
 not_empty : (empty : Bool) → empty_cause empty ≡ [] → not empty ≡ true
 not_empty true e = absurd (omega (arith, ap length e))
 not_empty false e = refl
@@ -58,55 +299,55 @@ not_few : (few : Option FewRows) → few_cause few ≡ [] → is_none few ≡ tr
 not_few None e = refl
 not_few (Some few) e = absurd (omega (arith, ap length e))
 
-not_missed : (numbers pairs : ℕ) → missed_cause numbers pairs ≡ [] → (pairs == 0) ≡ true
-not_missed numbers pairs e = if_some (pairs == 0) _ e
+-- rows with missed numbers are found only where they are a reason
+not_missed : (strict : Bool) (standard : Standard) (missed : ℕ) (totals : Totals) (findings : Findings) → findings.missed ≡ when (strict && is_of_complete standard) missed
+    → row_causes standard totals findings ≡ [] → (findings.missed == 0) ≡ true
+not_missed strict AllComplete missed totals findings is e = if_some (findings.missed == 0) _ (both_empty (cause (totals.pairs - totals.complete_pairs) incomplete_words) _ e).1
+not_missed true (AllClean tail certain) missed totals findings is e = eq-eqb findings.missed 0 is
+not_missed false (AllClean tail certain) missed totals findings is e = eq-eqb findings.missed 0 is
 
--- no reason: all pairs are complete, and nothing is found
-nothing_found : (totals : Totals) (findings : Findings) → causes_of totals findings ≡ [] → ((totals.pairs - totals.complete_pairs == 0) ≡ true) × (are_none findings ≡ true)
-nothing_found totals findings e =
+-- no reason: nothing is found, and the rows give none
+nothing_found : (strict : Bool) (standard : Standard) (missed : ℕ) (totals : Totals) (findings : Findings) → findings.missed ≡ when (strict && is_of_complete standard) missed
+    → causes_of standard totals findings ≡ [] → are_none findings ≡ true
+nothing_found strict standard missed totals findings is e =
     let empty = both_empty (empty_cause findings.empty) _ e in
-    let few = both_empty (few_cause findings.few) _ empty.1 in
-    let incomplete = both_empty (cause (totals.pairs - totals.complete_pairs) incomplete_words) _ few.1 in
-    let missed = both_empty (missed_cause totals.missed findings.missed) _ incomplete.1 in
-    let pieces = both_empty _ _ missed.1 in
+    let rows = both_empty (row_causes standard totals findings) _ empty.1 in
+    let few = both_empty (few_cause findings.few) _ rows.1 in
+    let unsettled = both_empty _ _ few.1 in
+    let pieces = both_empty _ _ unsettled.1 in
     let cut = both_empty _ _ pieces.1 in
     let links = both_empty _ _ cut.1 in
-    let last = both_empty _ _ links.1 in (
-      if_some (totals.pairs - totals.complete_pairs == 0) _ incomplete.0,
-      and_from _ _ (not_few findings.few few.0)
-          (and_from _ _ (not_empty findings.empty empty.0)
-          (and_from _ _ (not_missed totals.missed findings.missed missed.0)
-          (and_from _ _ (if_some (findings.fragments == 0) _ last.0)
-          (and_from _ _ (if_some (findings.unsettled == 0) _ last.1)
-          (and_from _ _ (if_some (findings.pieces == 0) _ pieces.0)
-          (and_from _ _ (if_some (findings.cut == 0) _ cut.0) (if_some (findings.links.number == 0) _ links.0))))))),
-    )
-
--- all pairs are complete, and nothing is found: no reason
-no_reason : (totals : Totals) → totals.pairs - totals.complete_pairs ≡ 0 → causes_of totals no_findings ≡ []
-no_reason totals e =
-    ap (λ b. cond b [] (concat (amount (totals.pairs - totals.complete_pairs) incomplete_words ∷ []) ∷ []) ++ []) (eq-eqb (totals.pairs - totals.complete_pairs) 0 e)
+    and_from _ _ (not_few findings.few few.0)
+    (and_from _ _ (not_empty findings.empty empty.0)
+    (and_from _ _ (not_missed strict standard missed totals findings is rows.0)
+    (and_from _ _ (if_some (findings.fragments == 0) _ links.1)
+    (and_from _ _ (if_some (findings.unsettled == 0) _ unsettled.0)
+    (and_from _ _ (if_some (findings.pieces == 0) _ pieces.0)
+    (and_from _ _ (if_some (findings.cut == 0) _ cut.0) (if_some (findings.links.number == 0) _ links.0)))))))
 
 -- ---- the law
 
-by_found : (totals : Totals) (findings : Findings) (complete : Bool) (none : Bool) → are_none findings ≡ none
-    → (complete ≡ true → totals.pairs ≤ totals.complete_pairs) → (complete ≡ false → totals.complete_pairs < totals.pairs)
-    → (cond none (cond complete Clean Unclean) (Unmet findings) ≡ Clean) ↔ (causes_of totals (findings_in (cond none (cond complete Clean Unclean) (Unmet findings))) ≡ [])
-by_found totals findings true true is all some = (λ e. no_reason totals (omega (arith, all refl)), λ e. refl)
-by_found totals findings false true is all some = (
+by_found : (standard : Standard) (totals : Totals) (findings : Findings) (met : Bool) (none : Bool) → are_none findings ≡ none
+    → (met ≡ true → row_causes standard totals no_findings ≡ []) → (met ≡ false → row_causes standard totals no_findings ≡ [] → false ≡ true)
+    → (causes_of standard totals findings ≡ [] → are_none findings ≡ true)
+    → (cond none (cond met Clean Unclean) (Unmet findings) ≡ Clean) ↔ (causes_of standard totals (findings_in (cond none (cond met Clean Unclean) (Unmet findings))) ≡ [])
+by_found standard totals findings true true is all some found = (λ e. no_parts (row_causes standard totals no_findings) [] (all refl) refl, λ e. refl)
+by_found standard totals findings false true is all some found = (
   λ e. absurd (let no : Unclean ≡ Clean = e in cc),
-  λ e. absurd (omega (arith, some refl, eqb-true _ 0 (nothing_found totals no_findings e).0)),
+  λ e. absurd (false≢true (some refl (both_empty (row_causes standard totals no_findings) _ e).0)),
 )
-by_found totals findings complete false is all some = (
+by_found standard totals findings met false is all some found = (
   λ e. absurd (let no : Unmet findings ≡ Clean = e in cc),
-  λ e. absurd (false≢true (sym is ∙ (nothing_found totals findings e).1)),
+  λ e. absurd (false≢true (sym is ∙ found e)),
 )
 
 clean_without_reasons : TellsWhyUnclean
-clean_without_reasons asked rows counts recording =
-    let test = λ (row : ExplanationValue). is_complete row.evidence.verdict in
-    let findings = findings_of asked (facts_of_rows rows counts recording) in
-    by_found (totals_of asked.from rows) findings (list_all test rows) (are_none findings) refl (all_counted test rows) (not_all_counted test rows)
+clean_without_reasons asked unread rows counts recording =
+    let findings = findings_of asked (facts_of_rows asked rows counts recording) in
+    let totals = totals_of (record { from = asked.from; tail = tail_of asked.standard; unread = unread }) rows in
+    by_found asked.standard totals findings (list_all (λ (row : ExplanationValue). is_met_by asked.from asked.standard row.evidence) rows) (are_none findings) refl
+    (met_without_reasons asked.standard asked.from unread rows) (not_met_has_a_reason asked.standard asked.from unread rows)
+    (nothing_found asked.strict asked.standard (missed_in rows) totals findings refl)
 
 pub returns : goal.returns
 returns c = clean_without_reasons

@@ -7,4 +7,4 @@ use Rattle.rtps_check.proofs.topic_table.table_rows.Given as goal
 abbrev pub invariant-loop-topic : goal.invariant-loop-topic
 invariant-loop-topic l =
     map (λ row. map part_text row.items) l.rows.items
-    ≡ table_head ∷ map (topic_row l.from) (map (λ topic. map explanation_value topic.now) (take l.topic-index l.topics))
+    ≡ table_head ∷ map (topic_row l.scope) (map (λ topic. map explanation_value topic.now) (take l.topic-index l.topics))

@@ -9,7 +9,7 @@ use Rattle.rtps_evidence.proofs.AnswerLemmas.{claimed}
 use Rattle.rtps_evidence.proofs.acknowledgement.find_claim.Goals as goal
 
 pub returns : goal.returns
-returns c = λ intake is.
+returns c = λ pair recording is.
     c.first_above.ensures
-    ∙ ap (λ (all : List Answer). find (λ (claim : Claim). (claim.place.datagram == c.args.datagram) && nat_lt c.args.number (natural claim.below)) (map claim_in all)) (c.answers_of.ensures intake is)
-    ∙ claimed c.args.datagram c.args.number c.args.pair (placed_in intake.acts)
+    ∙ ap (λ (all : List Answer). find (λ (claim : Claim). (claim.place.datagram == c.args.datagram) && nat_lt c.args.number (natural claim.below)) (map claim_in all)) is
+    ∙ claimed c.args.datagram c.args.number pair (placed_in recording)

@@ -11,8 +11,11 @@ count_in_order-requires-clause-sorted c =
     let sorted = IsNonDecreasingBy-from_sort_by_key (λ (s : Stretch). s.lo) _ c.in_ok-sort_by_key.ensures.sorted (λ a r q k. search rules) in
     subst (IsNonDecreasingBy (λ (s : Stretch). s.lo)) (sym c.deref.ensures.value) sorted
 
-pub returns : goal.returns
-returns c =
+pub returns-clause-count : goal.returns-clause-count
+returns-clause-count c =
     c.count_in_order.ensures
     ∙ count_same (stretches_have c.deref.result.now) (stretches_have c.args.stretches.now.items) c.args.from c.args.end (λ n a b.
     ap (λ l. stretches_have l n) c.deref.ensures.value ∙ sym (list_any-IsPermutation (stretch_has n) c.args.stretches.now.items c.sort_by_key.new.self.items c.in_ok-sort_by_key.ensures.permutation))
+
+pub returns-clause-same : goal.returns-clause-same
+returns-clause-same c = λ n. sym (list_any-IsPermutation (stretch_has n) c.args.stretches.now.items c.sort_by_key.new.self.items c.in_ok-sort_by_key.ensures.permutation)

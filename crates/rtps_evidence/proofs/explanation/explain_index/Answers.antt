@@ -1,5 +1,6 @@
-use Rattle.std.proofs.Common.{◌∙◌, All, refl, subst, sym}
+use Rattle.std.proofs.Common.{◌∙◌, All, ap, map, refl, subst, sym}
 use Rattle.rtps_audit.specs.Report.{IsJudgedFrom}
+use Rattle.rtps_audit.specs.declared.report.Row.{Row}
 use Rattle.rtps_evidence.proofs.explanation.explain_index.Goals as goal
 
 pub returns : goal.returns
@@ -8,10 +9,11 @@ returns g c = λ intake is.
     record {
       report = c.in_ok-report.report;
       reports = reports;
-      rows = c.in_ok-rows.ensures.rows ∙ c.deref.ensures.value;
+      pairs = c.in_ok-rows.ensures.pairs ∙ ap (map (λ (row : Row). row.pair)) c.deref.ensures.value;
+      rows = λ whole. c.in_ok-rows.ensures.rows intake is whole ∙ c.deref.ensures.value;
       counts = refl;
       directory = c.directory.result.now;
       is_map = c.directory.ensures intake is;
       named = c.in_ok-rows.ensures.named;
-      shown = c.in_ok-rows.ensures.shown intake is (subst (All (IsJudgedFrom c.args.from _)) (sym c.deref.ensures.value) reports.judged);
+      shown = c.in_ok-rows.ensures.shown intake is (subst (All (IsJudgedFrom c.args.extent.from _)) (sym c.deref.ensures.value) reports.judged);
     }

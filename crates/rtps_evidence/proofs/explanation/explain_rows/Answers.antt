@@ -1,23 +1,39 @@
-use Rattle.std.proofs.Common.{All, refl, subst, sym}
+use Rattle.std.proofs.Common.{◌∙◌, All, refl, subst, sym}
 use Rattle.std.proofs.lemmas.List.Elements.{All-push}
 use Rattle.rtps_audit.specs.Index.{IsIndexBy}
 use Rattle.rtps_audit.specs.Intake.{Intake}
-use Rattle.rtps_evidence.specs.Evidence.{IsEvidenceFrom}
+use Rattle.rtps_audit.specs.Said.{datagrams_until}
+use Rattle.rtps_discovery.specs.declared.matching.Pair.{Pair}
+use Rattle.rtps_evidence.specs.Evidence.{IsBeside, IsEvidenceBy}
 use Rattle.rtps_evidence.specs.Explanation.{IsNamed}
-use Rattle.rtps_evidence.specs.WriterSummary.{IsSummary}
+use Rattle.rtps_evidence.specs.Spans.{IsExtent}
+use Rattle.rtps_evidence.specs.WriterSummary.{IsSummaryOf}
 use Rattle.rtps_evidence.specs.declared.explanation.Explanation.{Explanation}
-use Rattle.rtps_evidence.proofs.RowLemmas.{rows_more, shown_row}
+use Rattle.rtps_evidence.proofs.RowLemmas.{judged_row, pairs_more, rows_more}
 use Rattle.rtps_evidence.proofs.explanation.explain_rows.Goals as goal
 
 pub loop-row-preserved : goal.loop-row-preserved
 loop-row-preserved c =
-    let said : (intake : Intake) → IsIndexBy intake c.args.index.now → IsSummary intake.acts c.in_ok-summary.summary = λ intake is. c.in_ok-summary.ensures.summary intake is (c.loop-row.invariant.known intake is) in
+    let extent = c.args.extent in
+    let judgement = c.in_ok-judgement.judgement in
+    let evidence = c.in_ok-evidence.evidence in
+    let known : (intake : Intake) → IsIndexBy intake c.args.index.now → IsSummaryOf intake.acts c.in_ok-summary.summary =
+    λ intake is. c.in_ok-summary.ensures.summary intake is (c.loop-row.invariant.known intake is) in
     record {
-      rows = rows_more c.loop-row.explained.items _ _ c.args.rows.now c.loop-row.row-index _ c.loop-row-test.true c.in_ok-push.ensures.items refl c.in_ok-evidence.ensures.judged c.loop-row.invariant.rows;
+      pairs = pairs_more c.loop-row.explained.items _ _ c.args.rows.now c.loop-row.row-index _ c.loop-row-test.true c.in_ok-push.ensures.items refl c.loop-row.invariant.pairs;
+      rows = λ intake is whole.
+          rows_more c.loop-row.explained.items _ _ c.args.rows.now c.loop-row.row-index _ c.loop-row-test.true c.in_ok-push.ensures.items refl
+          (c.in_ok-evidence.ensures.judged ∙ c.in_ok-judgement.ensures.same intake is whole) (c.loop-row.invariant.rows intake is whole);
       named = subst (All (IsNamed c.args.directory.now.endpoints)) (sym c.in_ok-push.ensures.items) (All-push (IsNamed c.args.directory.now.endpoints) c.loop-row.explained.items _ c.loop-row.invariant.named (record { topic = c.names_of.ensures.topic; type_name = c.names_of.ensures.type_name }));
       shown = λ intake is judged.
-          subst (All (λ (row : Explanation). IsEvidenceFrom c.args.from row.pair intake row.evidence)) (sym c.in_ok-push.ensures.items)
-          (All-push (λ (row : Explanation). IsEvidenceFrom c.args.from row.pair intake row.evidence) c.loop-row.explained.items _ (c.loop-row.invariant.shown intake is judged)
-          (shown_row c.args.from _ intake _ _ c.in_ok-summary.ensures.from (c.in_ok-evidence.ensures.evidence intake is (said intake is)) (judged c.loop-row.row-index _ c.loop-row-test.true)));
-      known = said;
+          let its_verdict = judged_row judgement _ intake.acts c.in_ok-judgement.ensures.pair (c.in_ok-judgement.ensures.judged intake is (judged c.loop-row.row-index _ c.loop-row-test.true)) in
+          subst (All (λ (row : Explanation). IsEvidenceBy extent.in_spans extent.from row.pair intake row.evidence)) (sym c.in_ok-push.ensures.items)
+          (All-push (λ (row : Explanation). IsEvidenceBy extent.in_spans extent.from row.pair intake row.evidence) c.loop-row.explained.items _ (c.loop-row.invariant.shown intake is judged)
+          (subst (λ (p : Pair). IsEvidenceBy extent.in_spans extent.from p intake evidence) c.in_ok-judgement.ensures.pair (record {
+            span = judgement.span;
+            extent = subst (λ (p : Pair). IsExtent extent.in_spans extent.from p intake judgement.span) (sym c.in_ok-judgement.ensures.pair) (c.in_ok-judgement.ensures.extent intake is);
+            shown = c.in_ok-evidence.ensures.shown intake is (known intake is) its_verdict;
+            beside = subst (λ b. IsBeside b judgement.span judgement.pair (datagrams_until judgement.span.until intake.acts) evidence.in_span) c.in_ok-judgement.ensures.in_spans (c.in_ok-evidence.ensures.beside intake is (known intake is) its_verdict);
+          })));
+      known = known;
     }

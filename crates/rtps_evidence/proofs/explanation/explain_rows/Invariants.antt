@@ -1,19 +1,20 @@
-use Rattle.std.proofs.Common.{◌≡◌, All, map, take}
+use Rattle.std.proofs.Common.{◌≡◌, All, false, map, take}
 use Rattle.std.specs.Prelude.{IfSome}
 use Rattle.rtps_audit.specs.Index.{IsIndexBy}
 use Rattle.rtps_audit.specs.Intake.{Intake}
 use Rattle.rtps_audit.specs.Report.{IsJudgedFrom}
-use Rattle.rtps_evidence.specs.Evidence.{IsEvidenceFrom}
+use Rattle.rtps_evidence.specs.Evidence.{IsEvidenceBy}
 use Rattle.rtps_evidence.specs.Explanation.{IsNamed, row_of}
-use Rattle.rtps_evidence.specs.WriterSummary.{IsSummary}
+use Rattle.rtps_evidence.specs.WriterSummary.{IsSummaryOf}
 use Rattle.rtps_evidence.proofs.explanation.explain_rows.Given as goal
 
 -- each row so far is explained, and what the last writer says is known
 abbrev pub invariant-loop-row : goal.invariant-loop-row
 invariant-loop-row l = record {
-  rows : map row_of l.explained.items ≡ take l.row-index l.rows;
+  pairs : map (λ row. row.pair) l.explained.items ≡ map (λ row. row.pair) (take l.row-index l.rows);
+  rows : (intake : Intake) → IsIndexBy intake l.index → l.fn.extent.in_spans ≡ false → map row_of l.explained.items ≡ take l.row-index l.rows;
   named : All (IsNamed l.directory.endpoints) l.explained.items;
-  shown : (intake : Intake) → IsIndexBy intake l.index → All (IsJudgedFrom l.fn.from intake.acts) l.rows
-      → All (λ row. IsEvidenceFrom l.fn.from row.pair intake row.evidence) l.explained.items;
-  known : (intake : Intake) → IsIndexBy intake l.index → IfSome l.before (IsSummary intake.acts);
+  shown : (intake : Intake) → IsIndexBy intake l.index → All (IsJudgedFrom l.fn.extent.from intake.acts) l.rows
+      → All (λ row. IsEvidenceBy l.fn.extent.in_spans l.fn.extent.from row.pair intake row.evidence) l.explained.items;
+  known : (intake : Intake) → IsIndexBy intake l.index → IfSome l.before (IsSummaryOf intake.acts);
 }

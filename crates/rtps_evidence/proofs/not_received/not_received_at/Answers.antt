@@ -12,18 +12,18 @@ use Rattle.rtps_evidence.proofs.NotReceivedLemmas.{kept_claimed, kept_unclaimed}
 use Rattle.rtps_evidence.proofs.not_received.not_received_at.Goals as goal
 
 pub returns-in_default : goal.returns-in_default
-returns-in_default c = λ intake is.
-    kept_unclaimed c.args.pair.writer c.args.pair.reader c.args.number (placed_in intake.acts) (first_claiming c.args.pair.writer c.args.pair.reader c.args.number (placed_in intake.acts))
+returns-in_default c = λ recording is.
+    kept_unclaimed c.args.exchange.now.pair.writer c.args.exchange.now.pair.reader c.args.number (placed_in recording) (first_claiming c.args.exchange.now.pair.writer c.args.exchange.now.pair.reader c.args.number (placed_in recording))
     (c.in_default.ensures
-    ∙ ap (λ (all : List Answer). find (λ (claim : Claim). nat_lt c.args.number (natural claim.below)) (map claim_in all)) (c.answers_of.ensures intake is)
-    ∙ claimed_first c.args.number c.args.pair (placed_in intake.acts))
+    ∙ ap (λ (all : List Answer). find (λ (claim : Claim). nat_lt c.args.number (natural claim.below)) (map claim_in all)) (is.answers)
+    ∙ claimed_first c.args.number c.args.exchange.now.pair (placed_in recording))
 
 pub returns : goal.returns
-returns c = λ intake is.
-    kept_claimed c.args.pair.writer c.args.pair.reader c.args.number (placed_in intake.acts) (first_claiming c.args.pair.writer c.args.pair.reader c.args.number (placed_in intake.acts)) c.in-Some.claim c.first_gone.result
+returns c = λ recording is.
+    kept_claimed c.args.exchange.now.pair.writer c.args.exchange.now.pair.reader c.args.number (placed_in recording) (first_claiming c.args.exchange.now.pair.writer c.args.exchange.now.pair.reader c.args.number (placed_in recording)) c.in-Some.claim c.first_gone.result
     (c.in-Some.ensures
-    ∙ ap (λ (all : List Answer). find (λ (claim : Claim). nat_lt c.args.number (natural claim.below)) (map claim_in all)) (c.answers_of.ensures intake is)
-    ∙ claimed_first c.args.number c.args.pair (placed_in intake.acts))
+    ∙ ap (λ (all : List Answer). find (λ (claim : Claim). nat_lt c.args.number (natural claim.below)) (map claim_in all)) (is.answers)
+    ∙ claimed_first c.args.number c.args.exchange.now.pair (placed_in recording))
     (c.first_gone.ensures
-    ∙ ap (gone_before c.args.pair.writer c.args.pair.reader c.args.number c.in-Some.claim.place.datagram) (c.acts_of.ensures intake is)
-    ∙ gone_same_before c.args.pair.writer c.args.pair.reader c.args.number c.in-Some.claim.place.datagram (placed_in intake.acts))
+    ∙ ap (gone_before c.args.exchange.now.pair.writer c.args.exchange.now.pair.reader c.args.number c.in-Some.claim.place.datagram) (is.acts)
+    ∙ gone_same_before c.args.exchange.now.pair.writer c.args.exchange.now.pair.reader c.args.number c.in-Some.claim.place.datagram (placed_in recording))

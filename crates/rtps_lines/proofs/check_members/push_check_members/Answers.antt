@@ -1,4 +1,4 @@
-use Rattle.std.proofs.Common.{◌++◌, ◌∷◌, ◌∙◌, ℕ, List, Some, append-nil, ap, ap₂, codes, map, sym}
+use Rattle.std.proofs.Common.{◌++◌, ◌∷◌, ◌∙◌, ℕ, List, append-nil, ap, ap₂, codes, map, sym}
 use Rattle.std.proofs.lemmas.List.Concat.{flat_map-append}
 use Rattle.std.proofs.lemmas.Result.{on_ok_weaker}
 use Rattle.std.specs.String.{string_bytes}
@@ -10,6 +10,7 @@ use Rattle.rtps_report.specs.FullReport.{report_value, rows_of}
 use Rattle.rtps_report.specs.NoteFacts.{scope_of}
 use Rattle.rtps_report.specs.declared.advice.Scope.{Scope}
 use Rattle.rtps_lines.specs.CheckMembers.{notes_members, report_causes, report_notes, status_members}
+use Rattle.rtps_lines.specs.declared.json_object.Advised.TheVariants.{All}
 use Rattle.rtps_lines.specs.JsonText.{array_of, rows_members, tokens_of, tokens_of_member}
 use Rattle.rtps_lines.specs.Notes.{short_notes}
 use Rattle.rtps_lines.proofs.PartLemmas.{three_parts}
@@ -23,13 +24,13 @@ returns-clause-tokens c =
     let recording = report.recording.now in
     let value = report_value report in
     let rows = rows_of value in
-    let status = status_members report.ending (report_causes asked value) in
-    let members = rows_members (Some (scope_of asked recording value)) rows report.explained.counts recording in
+    let status = status_members report.ending (report_causes asked recording value) in
+    let members = rows_members (record { scope = scope_of asked recording value; advised = All }) rows report.explained.counts recording in
     let notes = notes_members (report_notes asked recording value) in
     let first = c.in_ok-push_status.ensures.tokens
     ∙ ap (λ (all : List (List ℕ)). start ++ tokens_of (status_members report.ending all)) (ap (map string_bytes) c.deref.ensures.value ∙ c.in_ok-causes.ensures) in
     let second = c.in_ok-push_report_members.ensures.tokens
-    ∙ ap (λ (scope : Scope). c.push_status.new.writer.tokens ++ tokens_of (rows_members (Some scope) rows report.explained.counts recording)) c.scope_of.ensures in
+    ∙ ap (λ (scope : Scope). c.push_status.new.writer.tokens ++ tokens_of (rows_members (record { scope = scope; advised = All }) rows report.explained.counts recording)) c.scope_of.ensures in
     on_ok_weaker c.push_texts.result
     (λ last.
     three_parts start (tokens_of status) (tokens_of members) (tokens_of notes) first second

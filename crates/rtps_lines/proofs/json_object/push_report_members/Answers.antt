@@ -11,8 +11,8 @@ pub returns-clause-tokens : goal.returns-clause-tokens
 returns-clause-tokens c =
     let start : List Token = c.args.writer.now.tokens in
     let report = c.args.report.now in
-    let scope = c.args.scope in
-    let pairs = pairs_member scope (map explanation_value c.deref.result.now) in
+    let telling = c.args.telling in
+    let pairs = pairs_member telling (map explanation_value c.deref.result.now) in
     let counts = counts_members report.explained.counts in
     let recording = report.recording.now in
     let ignored = ignored_members recording.ignored in
@@ -23,5 +23,5 @@ returns-clause-tokens c =
     c.in_ok-push_pairs.ensures.tokens c.in_ok-push_counts.ensures.tokens (c.in_ok-push_ignored.ensures.tokens ∙ ap (λ members. c.push_counts.new.writer.tokens ++ tokens_of (ignored_members members)) c.ignored.ensures)
     (last ∙ ap (λ members. c.push_ignored.new.writer.tokens ++ tokens_of (reasons_members members)) c.reasons.ensures)
     ∙ ap (λ tokens. start ++ tokens) (sym (audit_tokens pairs counts ignored reasons))
-    ∙ ap (λ items. start ++ tokens_of (rows_members scope (map explanation_value items) report.explained.counts recording)) c.deref.ensures.value)
+    ∙ ap (λ items. start ++ tokens_of (rows_members telling (map explanation_value items) report.explained.counts recording)) c.deref.ensures.value)
     c.push_reasons.ensures.tokens

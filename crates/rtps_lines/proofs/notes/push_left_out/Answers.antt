@@ -1,9 +1,9 @@
-use Rattle.std.proofs.Common.{◌≡◌, ◌++◌, ◌∷◌, [], ◌∙◌, ◌==◌, Bor, List, ap, false, length, map, sym}
+use Rattle.std.proofs.Common.{◌≡◌, ◌++◌, ◌∷◌, [], ◌∙◌, ◌==◌, List, ap, false, length, map, sym}
 use Rattle.std.proofs.lemmas.List.{length-map}
 use Rattle.std.proofs.lemmas.Result.{on_ok_weaker}
 use Rattle.std.specs.String.{string_bytes}
 use Rattle.rtps_report.specs.ByTopic.{topics_of}
-use Rattle.rtps_report.specs.Vocabulary.{Explanation, ExplanationValue, explanation_value}
+use Rattle.rtps_report.specs.Vocabulary.{Explanation, explanation_value}
 use Rattle.rtps_lines.specs.Notes.{joined_names, left_out_by, left_out_note}
 use Rattle.rtps_lines.proofs.notes.push_left_out.Goals as goal
 
@@ -15,9 +15,7 @@ some_left (row ∷ rows) some =
 
 pub returns : goal.returns
 returns c =
-    let view : Bor (List Explanation) → List ExplanationValue = λ topic. map explanation_value topic.now in
-    let names = c.deref-2.ensures ∙ c.in_ok-names.ensures ∙ ap joined_names (ap (map view) c.deref.ensures.value ∙ c.in_ok-topics.ensures) in
     on_ok_weaker c.push_rendered.result
     (λ last. last ∙ ap (λ all. map string_bytes c.args.notes.now.items ++ all)
-    (ap (λ text. text ∷ []) (c.left_out_by.ensures ∙ ap (left_out_by (length c.args.rows.now)) names) ∙ some_left c.args.rows.now (sym c.is_empty.ensures ∙ c.if-is_empty.false)))
+    (ap (λ text. text ∷ []) (c.left_out_by.ensures ∙ ap (left_out_by (length c.args.rows.now)) (c.deref.ensures ∙ c.in_ok-names.ensures)) ∙ some_left c.args.rows.now (sym c.is_empty.ensures ∙ c.if-is_empty.false)))
     c.push_rendered.ensures

@@ -2,7 +2,7 @@ use Rattle.std.proofs.Common.{◌≡◌, ◌++◌, ◌∷◌, [], ◌∙◌, Boo
 use Rattle.std.proofs.lemmas.Int.{ints}
 use Rattle.json.specs.Json.{string}
 use Rattle.rtps_report.specs.Asked.{are_read}
-use Rattle.rtps_page.proofs.Written.{array_of, boolean, expect_json, json_tokens, key, number, on_ok_weaker, seven_parts, Token}
+use Rattle.rtps_page.proofs.Written.{array_of, boolean, expect_json, json_tokens, key, number, on_ok_weaker, eight_parts, Token}
 use Rattle.rtps_page.proofs.page_data.push_option_members.Goals as goal
 
 pub returns-clause-tokens : goal.returns-clause-tokens
@@ -18,11 +18,11 @@ returns-clause-tokens c =
     let same : c.cast_unsigned.result ≡ asked.from = omega (arith, ints) in
     on_ok_weaker c.push_expect.result
     (λ last.
-    seven_parts start (count asked.from) (flag (codes "any") any) (flag (codes "fragments") reads) (flag (codes "observed") asked.rows.observed) (flag (codes "strict") asked.strict) topics expect
+    eight_parts start (count asked.from) (flag (codes "any") any) (flag (codes "fragments") reads) (flag (codes "observed") asked.rows.observed) (flag (codes "strict") asked.strict) (flag (codes "spans") asked.spans) topics expect
     (c.in_ok-push_count.ensures.tokens ∙ ap (λ n. start ++ count n) same) c.in_ok-push_flag.ensures.tokens
-    (c.in_ok-push_flag-2.ensures.tokens ∙ ap (λ is. c.push_flag.new.writer.tokens ++ flag (codes "fragments") is) c.reads_fragments.ensures) c.in_ok-push_flag-3.ensures.tokens c.in_ok-push_flag-4.ensures.tokens
+    (c.in_ok-push_flag-2.ensures.tokens ∙ ap (λ is. c.push_flag.new.writer.tokens ++ flag (codes "fragments") is) c.reads_fragments.ensures) c.in_ok-push_flag-3.ensures.tokens c.in_ok-push_flag-4.ensures.tokens c.in_ok-push_flag-5.ensures.tokens
     c.in_ok-push_texts.ensures.tokens last
     ∙ ap
-    (λ l. start ++ (count asked.from ++ (flag (codes "any") any ++ (flag (codes "fragments") reads ++ (flag (codes "observed") asked.rows.observed ++ (flag (codes "strict") asked.strict ++ (topics ++ l)))))))
+    (λ l. start ++ (count asked.from ++ (flag (codes "any") any ++ (flag (codes "fragments") reads ++ (flag (codes "observed") asked.rows.observed ++ (flag (codes "strict") asked.strict ++ (flag (codes "spans") asked.spans ++ (topics ++ l))))))))
     (sym (append-nil expect)))
     c.push_expect.ensures.tokens

@@ -1,10 +1,10 @@
 use Rattle.std.proofs.Common.{◌≡◌, ◌∙◌, ℕ, Bor, List, ap, map, refl, rules, subst, sym}
 use Rattle.std.proofs.lemmas.Fn.{filter_same}
 use Rattle.std.proofs.lemmas.Result.{IfOk-weaker}
-use Rattle.rtps_report.specs.Vocabulary.{ActValue, IsReportBy, IsReportFrom, acts_in}
+use Rattle.rtps_report.specs.Vocabulary.{ActValue, IsReportBy, IsReportFrom}
 use Rattle.rtps_report.specs.Asked.{asked_value}
 use Rattle.rtps_report.specs.Reported.{is_row_kept}
-use Rattle.rtps_report.specs.Rows.{IsFilterOf, RowsValue, rows_value}
+use Rattle.rtps_report.specs.Rows.{IsFilterOf, RowsValue, acts_read, rows_value}
 use Rattle.rtps_report.proofs.AskedLemmas.{all_rows, plain_intake, plain_rows}
 use Rattle.rtps_report.proofs.asked_report.plain_report.Goals as goal
 
@@ -23,14 +23,14 @@ returns-then-is_plain g c =
       reports = reports;
       directory = reports.directory;
       is_map = reports.is_map;
-      rows = sym (all_rows asked (acts_in datagrams) reports.directory (plain_rows asked plain) report.rows.items);
+      rows = sym (all_rows asked (acts_read asked.fragments datagrams) reports.directory (plain_rows asked plain) report.rows.items);
       counts = refl;
     })
     c.audit_watched.ensures
 
 pub returns : goal.returns
 returns g c =
-    let acts = acts_in c.args.recording.now.datagrams in
+    let acts = acts_read c.args.asked.now.fragments c.args.recording.now.datagrams in
     let rows = rows_value c.args.asked.now.rows in
     let wanted : IsFilterOf rows acts c.in_ok-wanted.wanted = c.in_ok-wanted.ensures in
     let by = c.directory-directory.result.now in

@@ -1,16 +1,16 @@
 use Rattle.std.proofs.Common.{◌≡◌, ◌∙◌, List, ap, filter, refl, rules, sym}
 use Rattle.std.proofs.lemmas.Fn.{filter_same}
-use Rattle.rtps_report.specs.Vocabulary.{ActValue, Explanation, acts_in}
+use Rattle.rtps_report.specs.Vocabulary.{ActValue, Explanation}
 use Rattle.rtps_report.specs.Asked.{asked_value}
 use Rattle.rtps_report.specs.FullReport.{is_left_out, of_all_pairs}
-use Rattle.rtps_report.specs.Rows.{IsFilterOf, RowsValue, is_kept, rows_value}
+use Rattle.rtps_report.specs.Rows.{IsFilterOf, RowsValue, acts_read, is_kept, rows_value}
 use Rattle.rtps_report.proofs.AskedLemmas.{all_explained, none_left_out}
 use Rattle.rtps_report.proofs.parted.parted_of.Goals as goal
 
 pub returns-then-asks_all_rows : goal.returns-then-asks_all_rows
 returns-then-asks_all_rows c = λ explains.
     let asked = asked_value c.args.asked.now in
-    let acts = acts_in c.args.recording.now.datagrams in
+    let acts = acts_read c.args.asked.now.fragments c.args.recording.now.datagrams in
     let rows = c.args.whole.rows.items in
     let all = sym c.asks_all_rows.ensures ∙ c.if-asks_all_rows.true in
     record {
@@ -20,7 +20,7 @@ returns-then-asks_all_rows c = λ explains.
 
 pub returns : goal.returns
 returns c = λ explains.
-    let acts = acts_in c.args.recording.now.datagrams in
+    let acts = acts_read c.args.asked.now.fragments c.args.recording.now.datagrams in
     let rows = rows_value c.args.asked.now.rows in
     let wanted : IsFilterOf rows acts c.in_ok-wanted.wanted = c.in_ok-wanted.ensures in
     let of_topic : IsFilterOf (of_all_pairs rows) acts c.in_ok-of_topic.of_topic = c.in_ok-of_topic.ensures in

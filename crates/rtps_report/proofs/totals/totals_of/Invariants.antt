@@ -5,7 +5,7 @@ use Rattle.rtps_report.proofs.totals.totals_of.Given as goal
 
 abbrev pub invariant-loop-row : goal.invariant-loop-row
 invariant-loop-row l = record {
-  counted : l.totals ≡ totals_of l.from (map explanation_value (take l.row-index l.rows));
+  counted : l.totals ≡ totals_of l.scope (map explanation_value (take l.row-index l.rows));
   pairs : l.totals.pairs ≡ l.row-index;
   within : AreWithin l.totals;
 }

@@ -3,32 +3,31 @@ use Rattle.std.proofs.Common.{◌≡◌, ℕ, ◌+◌, List, [], ◌∷◌, ◌+
 use Rattle.std.proofs.lemmas.List.Elements.{All-head, All-tail}
 use Rattle.rtps_receiver.specs.Acts.{gathered, state_at_start, state_behind}
 use Rattle.rtps_receiver.specs.declared.state.State.{State}
-use Rattle.rtps_wire.specs.DataFrag.{DataFragValue, data_frag_at}
 use Rattle.rtps_wire.specs.Reading.{reading_of}
 use Rattle.rtps_wire.specs.Values.{ItemValue}
 use Rattle.rtps_wire.specs.declared.header.Header.{Header}
 use Rattle.rtps_text.proofs.ShowLemmas.{text_from-cons, text_from-nil}
-use Rattle.rtps_text.specs.ShowText.{HasNoFragments, datagram_line, datagram_text, ending_text, fragments_at, items_text, line_with, shown_line, text_from}
+use Rattle.rtps_text.specs.ShowText.{FragmentsValue, HasNoFragments, datagram_line, datagram_text, ending_text, fragments_at, items_text, line_with, said_at, shown_line, text_from}
 use Rattle.rtps_fragments.specs.declared.fragments.Fragments.TheVariants as fragments
 use Rattle.rtps_text.proofs.laws.show_is_the_same_without_fragments.Goals as goal
 
 -- items with no fragments at their places have the lines that they have where there are none anywhere
-plain_lines : (found : ℕ → Option DataFragValue) (state : State) (before items : List ItemValue) → All (λ item. found item.at ≡ None) items
+plain_lines : (found : ℕ → Option FragmentsValue) (state : State) (before items : List ItemValue) → All (λ item. found item.at ≡ None) items
     → gathered (shown_line found) state before items ≡ gathered (shown_line (λ at. None)) state before items
 plain_lines found state before [] none = refl
 plain_lines found state before (item ∷ items) none =
     ap₂ ◌++◌ (ap (line_with (state_behind state before) item) (All-head (λ item. found item.at ≡ None) item items none))
     (plain_lines found state (before ++ item ∷ []) items (All-tail (λ item. found item.at ≡ None) item items none))
 
-plain_items : (found : ℕ → Option DataFragValue) (header : Option Header) (items : List ItemValue) → All (λ item. found item.at ≡ None) items
+plain_items : (found : ℕ → Option FragmentsValue) (header : Option Header) (items : List ItemValue) → All (λ item. found item.at ≡ None) items
     → items_text found header items ≡ items_text (λ at. None) header items
 plain_items found None items none = refl
 plain_items found (Some header) items none = plain_lines found (state_at_start header) [] items none
 
 abbrev HasNone : List ℕ → Type 0
-HasNone datagram = All (λ item. data_frag_at (drop item.at datagram) ≡ None) (reading_of datagram).items
+HasNone datagram = All (λ item. said_at (drop item.at datagram) ≡ None) (reading_of datagram).items
 
-plain_datagram : (number : ℕ) (datagram : List ℕ) → All (λ item. data_frag_at (drop item.at datagram) ≡ None) (reading_of datagram).items
+plain_datagram : (number : ℕ) (datagram : List ℕ) → All (λ item. said_at (drop item.at datagram) ≡ None) (reading_of datagram).items
     → datagram_text fragments.Read number datagram ≡ datagram_text fragments.Skipped number datagram
 plain_datagram number datagram none =
     let reading = reading_of datagram in

@@ -1,4 +1,4 @@
-use Rattle.std.proofs.Common.{IsSome, Some, ◌||◌, ◌&&◌, ◌∙◌, ap, refl, subst, sym}
+use Rattle.std.proofs.Common.{IsSome, Some, ◌≡◌, Bool, true, false, ◌||◌, ◌&&◌, ◌∙◌, ap, refl, subst, sym}
 use Rattle.std.specs.Prelude.{is_some}
 use Rattle.std.specs.BTreeMap.{BTreeMap, Updates}
 use Rattle.std.specs.List.{list_any}
@@ -9,8 +9,18 @@ use Rattle.rtps_receiver.specs.Values.{act_value}
 use Rattle.rtps_receiver.specs.declared.speech.Audience.{Audience}
 use Rattle.rtps_audit.specs.Speech.{word_of}
 use Rattle.rtps_audit.specs.Sweep.{audiences_of, in_set, told_at}
-use Rattle.rtps_audit.proofs.ToldLemmas.{heard_by_audience, told_more}
+use Rattle.rtps_audit.proofs.ToldLemmas.{heard_by_audience, told_more, unheard}
 use Rattle.rtps_audit.proofs.told.Told.note.Goals as goal
+
+pub returns-in_default : goal.returns-in_default
+returns-in_default c = λ reader n positive small.
+    let act = act_value c.args.act.now in
+    let told = list_any (λ a. told_at c.args.self.now.sets a n) (audiences_of reader) in
+    none_more told ∙ ap (λ b. told || (b && is_some (word_of act.body n))) (sym (unheard act reader (sym c.audience.ensures ∙ c.in_default.is)))
+  where
+    none_more : (t : Bool) → t ≡ (t || false)
+    none_more true = refl
+    none_more false = refl
 
 pub returns-in-Some-get_mut : goal.returns-in-Some-get_mut
 returns-in-Some-get_mut c = λ reader n positive small.

@@ -7,13 +7,13 @@ use Rattle.rtps_evidence.proofs.amount.HeardNumbers.amounts.Goals as goal
 pub overflow_sub-result-2 : goal.overflow_sub-result-2
 overflow_sub-result-2 c =
     let all = count_others (stretches_have c.args.self.now.told.items) c.cast_unsigned-first.result (c.args.asked.now.last + 1) in
-    let told = c.in_ok-told.ensures in
+    let told = c.in_ok-told.ensures.count in
     omega arith
 
 pub returns : goal.returns
 returns c = λ writer reader acts is_gone heard.
     let first : c.cast_unsigned-first.result ≡ c.args.asked.now.from = omega (arith, ints) in
     let amounts = amounts_counted c.args.asked.now.from c.args.asked.now.last writer reader acts c.args.self.now.sent.items c.args.self.now.told.items c.in_ok-payloads.payloads c.in_ok-told.told heard.sent heard.told
-    (subst (λ n. c.in_ok-payloads.payloads ≡ count_in (stretches_have c.args.self.now.sent.items) n (c.args.asked.now.last + 1)) first c.in_ok-payloads.ensures)
-    (subst (λ n. c.in_ok-told.told ≡ count_in (stretches_have c.args.self.now.told.items) n (c.args.asked.now.last + 1)) first c.in_ok-told.ensures) in
+    (subst (λ n. c.in_ok-payloads.payloads ≡ count_in (stretches_have c.args.self.now.sent.items) n (c.args.asked.now.last + 1)) first c.in_ok-payloads.ensures.count)
+    (subst (λ n. c.in_ok-told.told ≡ count_in (stretches_have c.args.self.now.told.items) n (c.args.asked.now.last + 1)) first c.in_ok-told.ensures.count) in
     rw (first, c.saturating_sub.ensures) amounts

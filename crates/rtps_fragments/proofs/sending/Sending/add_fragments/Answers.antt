@@ -4,18 +4,18 @@ use Rattle.std.proofs.lemmas.List.{map-append}
 use Rattle.std.proofs.lemmas.List.Elements.{All-push}
 use Rattle.rtps_receiver.specs.Values.{act_value}
 use Rattle.rtps_fragments.specs.Merging.{sents_from}
-use Rattle.rtps_fragments.specs.Sending.{fragment_acts}
+use Rattle.rtps_fragments.specs.Sending.{skipped_acts}
 use Rattle.rtps_fragments.specs.Telling.{IsSent, sent_value}
 use Rattle.rtps_wire.specs.DataFrag.{data_frag_value}
 use Rattle.rtps_wire.specs.Values.{item_value}
-use Rattle.std.specs.Prelude.{Some}
+use Rattle.std.specs.Prelude.{None, Some}
 use Rattle.rtps_fragments.proofs.sending.Sending.add_fragments.Goals as goal
 
 pub returns : goal.returns
 returns c =
     let acts = c.args.self.now.acts.items in
     let sents = c.args.self.now.sents.items in
-    let ones = fragment_acts c.args.state.now (item_value c.args.item.now) (Some (data_frag_value c.args.fragments.now)) in
+    let ones = skipped_acts c.args.state.now (item_value c.args.item.now) (Some (data_frag_value c.args.fragments.now)) None in
     let place : c.len-place.result ≡ length acts = omega (arith, c.len-place.ensures) in
     record {
       acts = ap (map act_value) c.in_ok-extend_from_slice.ensures.items ∙ map-append act_value acts _ ∙ ap (λ xs. map act_value acts ++ map act_value xs) c.from_ref.ensures.value ∙ ap (λ a. map act_value acts ++ a ∷ []) c.act_of-act.ensures;

@@ -8,8 +8,8 @@ use Rattle.rtps_wire.proofs.Offered.{next_stands_at, refusal_is_last, skipped_fi
 use Rattle.rtps_wire.specs.Values.{item_value}
 use Rattle.rtps_text.proofs.text.show_text.push_items.Goals as goal
 
-pub items-preserved-in_ok-push_data_frag-in-Some-fragments_at : goal.items-preserved-in_ok-push_data_frag-in-Some-fragments_at
-items-preserved-in_ok-push_data_frag-in-Some-fragments_at c =
+pub items-preserved-in_ok-push_said-in-Some-fragments_at : goal.items-preserved-in_ok-push_said-in-Some-fragments_at
+items-preserved-in_ok-push_said-in-Some-fragments_at c =
     let fragments = fragments_at c.args.datagram.fragments c.args.datagram.octets.now in
     let state = c.items.state in
     let old = string_bytes c.items.text in
@@ -18,9 +18,9 @@ items-preserved-in_ok-push_data_frag-in-Some-fragments_at c =
     let first = skipped_first left c.in-Some.id c.in-Some.ensures.id in
     let item = first.0 in
     let next : left ≡ Ok item ∷ later = first.2 ∙ ap (λ l. Ok item ∷ l) (sym c.in-Some.ensures.left) in
-    let line = c.in_ok-push_data_frag-in-Some-fragments_at.ensures.line ∙ ap (λ found. old ++ unread_line state c.at-at.result c.in-Some.id found) c.in-Some-fragments_at.ensures in (
+    let line = c.in_ok-push_said-in-Some-fragments_at.ensures.line ∙ ap (λ found. old ++ unread_line state c.at-at.result c.in-Some.id found) (sym c.in-Some-fragments_at.ensures) in (
       unread_more fragments state old _ _ left later item c.in-Some.id c.at-at.result line next first.1 (c.at-at.ensures ∙ sym (next_stands_at c.items.items item later next)) c.items.invariant.0,
-      c.in_ok-push_data_frag-in-Some-fragments_at.ensures.tail,
+      c.in_ok-push_said-in-Some-fragments_at.ensures.tail,
     )
 
 pub items-preserved-in_ok-push_skipped-in-None : goal.items-preserved-in_ok-push_skipped-in-None
@@ -33,7 +33,7 @@ items-preserved-in_ok-push_skipped-in-None c =
     let first = skipped_first left c.in-Some.id c.in-Some.ensures.id in
     let item = first.0 in
     let next : left ≡ Ok item ∷ later = first.2 ∙ ap (λ l. Ok item ∷ l) (sym c.in-Some.ensures.left) in
-    let line = c.in_ok-push_skipped-in-None.ensures ∙ ap (λ found. old ++ unread_line state c.at-at.result c.in-Some.id found) c.in-None.ensures in (
+    let line = c.in_ok-push_skipped-in-None.ensures ∙ ap (λ found. old ++ unread_line state c.at-at.result c.in-Some.id found) (sym c.in-None.ensures) in (
       unread_more fragments state old _ _ left later item c.in-Some.id c.at-at.result line next first.1 (c.at-at.ensures ∙ sym (next_stands_at c.items.items item later next)) c.items.invariant.0,
       c.items.invariant.1,
     )

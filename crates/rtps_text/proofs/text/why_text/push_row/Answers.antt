@@ -2,8 +2,8 @@ use Rattle.std.proofs.Common.{string_bytes}
 use Rattle.std.proofs.lemmas.Result.{on_ok_weaker}
 use Rattle.rtps_evidence.specs.Explanation.{explanation_value}
 use Rattle.rtps_lines.specs.Lines.{acknowledged_line, announced_line}
-use Rattle.rtps_text.specs.ReportText.{amounts_line, names_line, pair_line, rest_lines}
-use Rattle.rtps_lines.proofs.Offered.{six_parts}
+use Rattle.rtps_text.specs.ReportText.{amounts_line, names_line, pair_line, rest_lines, span_line}
+use Rattle.rtps_lines.proofs.Offered.{seven_parts}
 use Rattle.rtps_text.proofs.text.why_text.push_row.Goals as goal
 
 pub returns : goal.returns
@@ -11,7 +11,7 @@ returns c =
     let row = explanation_value c.args.row.now in
     let evidence = row.evidence in
     on_ok_weaker c.push_rest.result
-    (six_parts (string_bytes c.args.text.now) (pair_line row) (names_line row.topic row.type_name) (announced_line evidence.announcement)
+    (seven_parts (string_bytes c.args.text.now) (pair_line row) (names_line row.topic row.type_name) (span_line evidence.in_span) (announced_line evidence.announcement)
     (acknowledged_line evidence.acknowledgement) (amounts_line evidence.payloads evidence.gone evidence.untold) (rest_lines evidence)
-    c.in_ok-writeln.ensures.bytes c.in_ok-writeln-2.ensures.bytes c.in_ok-write.ensures.bytes c.in_ok-write-2.ensures.bytes c.in_ok-writeln-3.ensures.bytes)
+    c.in_ok-writeln.ensures.bytes c.in_ok-writeln-2.ensures.bytes c.in_ok-push_span.ensures c.in_ok-write.ensures.bytes c.in_ok-write-2.ensures.bytes c.in_ok-writeln-3.ensures.bytes)
     c.push_rest.ensures

@@ -1,0 +1,381 @@
+#!/usr/bin/env python3
+"""Rows in spans, and outcomes of numbers, apart from the proved program: a part of the second implementation.
+
+    spans.py check [--json] [--from N] [--topic PATTERN].. [--expect N] [--tail N] [--certain] FILE
+    spans.py why|json [--spans] [what `reference.py why` takes].. FILE
+                            print what `rtps-audit` should print
+    spans.py laws [COUNT [SEED]]
+                            compares outcomes with all runs, on COUNT random recordings, and says where they differ
+    spans.py compare PROGRAM [COUNT [SEED]]
+                            runs PROGRAM on COUNT random recordings, and says where it differs
+
+A reader joins where it is announced first. A row in a span is the verdict of the datagrams before the reader left, from the first
+number on that is for the reader. Each number that is asked about is in one of six kinds, the first of KINDS that fits.
+"""
+import json
+import random
+import subprocess
+import sys
+
+import reference
+from asked import GREATEST, Asked, asked_by
+from check import KINDS, SENTENCES, advice_of, because, check_lines, note_sentences
+from fragments import placed_samples
+from random_recordings import some_asked, some_checked, some_input, some_life, text_of_datagrams
+from reference import BUILTIN, START_OF_ALL, Delivery, acts_of, announcement, asks, brings, joined_here, last_number, read_list, spoken
+
+
+# ---- who joins, and who leaves
+
+def announced_endpoints(recording):
+    """what is announced of writers and readers, in order: the place, and what is said"""
+    whole = [((i, act['at']), act['writer'], act['payload']) for i, acts in enumerate(recording, 1) for act in acts if act['kind'] == 'data']
+    said = []
+    for place, writer, (form, octets) in whole + list(placed_samples(recording)):
+        what = BUILTIN.get(writer)
+        if form == 'whole' and what in ('writer', 'reader'):
+            said.append((place, announcement(octets, what)))
+    return sorted(((place, found) for place, found in said if not isinstance(found, str)), key=lambda one: one[0])
+
+
+def value_of(parameters, pid):
+    """the value of the first parameter of this id"""
+    return next((value for found, value in parameters if found == pid), None)
+
+
+def key_of(act, pid):
+    """the GUID in the payload of a DATA, or else the one in its inline QoS"""
+    form, octets = act['payload']
+    found = 'none'
+    if form in ('whole', 'key') and octets[:2] in (b'\0\2', b'\0\3') and len(octets) >= 4:
+        found = read_list(octets[4:], 'be' if octets[1] == 2 else 'le')
+    guid = None if isinstance(found, str) else value_of(found[0], pid)
+    if guid is None or len(guid) < 16:
+        guid = value_of(act['inline'], 0x70)
+    return guid[:16] if guid is not None and len(guid) >= 16 else None
+
+
+# which built-in writers say that an endpoint or a participant leaves: the id of the key in the payload, and its octets that count
+LEAVING = {b'\0\0\4\xc2': (0x5a, 16), b'\0\1\0\xc2': (0x50, 12)}
+
+
+def leavings(recording):
+    """who leaves, in order: the place, who says it, and the octets of a GUID that begin those of all who leave"""
+    for i, acts in enumerate(recording, 1):
+        for act in acts:
+            if act['kind'] != 'data' or act['writer'] not in LEAVING:
+                continue
+            status = value_of(act['inline'], 0x71)
+            pid, octets = LEAVING[act['writer']]
+            key = key_of(act, pid)
+            if status is not None and len(status) == 4 and status[3] & 3 and key is not None:
+                yield (i, act['at']), act['source'], key[:octets]
+
+
+class Life:
+    """what a recording says of who is there, and when"""
+    def __init__(self, recording):
+        self.announced, self.leavings = announced_endpoints(recording), list(leavings(recording))
+
+    def joins(self, r):
+        """the place where an endpoint joins, and what is announced there"""
+        return next(((place, said) for place, said in self.announced if said[0] == r), (None, None))
+
+    def leaves(self, r, joined):
+        """the place where it leaves"""
+        return next((place for place, source, key in self.leavings
+                     if joined is not None and place > joined and source == r[:12] and r.startswith(key)), None)
+
+
+# ---- the span of a pair
+
+class Span:
+    """of a pair: where it joins, from which number on and up to which datagram its row is"""
+    def __init__(self, recording, life, w, r, first):
+        placed = [((i, act['at']), act) for i, acts in enumerate(recording, 1) for act in acts]
+        answers = [(place, act['set']) for place, act in placed if reference.answered(act, w, r)]
+        self.joined, said = life.joins(r)
+        self.joined_here = joined_here(self.joined, answers)
+        # what is behind this place is since the reader joined
+        self.since = self.joined if self.joined_here else START_OF_ALL
+        self.until = life.leaves(r, self.joined)
+        self.first = first
+        if self.joined_here:
+            before = [last_number(act) for place, act in placed if spoken(act, w) and place < self.joined]
+            least = max(first, min(max([0] + before) + 1, GREATEST)) if said[5] == 0 else first
+            wanted = {act['number'] for place, act in placed if brings(act, w, r) and place > self.joined}
+            wanted |= {n for _, act in placed for n in asks(act, w, r)}
+            self.first = min((n for n in wanted if n >= least), default=least)
+
+    def datagrams(self, recording):
+        """those that the pair is judged by"""
+        return recording if self.until is None else recording[:self.until[0] - 1]
+
+
+# ---- outcomes
+
+class Outcome(Delivery):
+    """what a writer and a reader said to each other from a number on, with the kind of each number"""
+    def __init__(self, recording, w, r, first, since):
+        super().__init__(recording, w, r, first, since)
+        self.questions = [(place, act) for place, act, _ in self.told if act['kind'] == 'heartbeat' and not act['final'] and place > since]
+        self.counts = self.count()
+
+    def is_unanswered(self, n):
+        gone = self.gone(n, lambda place: True)
+        if gone is None:
+            return False
+        asked = [place for place, act in self.questions if place < gone[1] and act['first'] <= n <= act['last']]
+        return len(asked) >= 2 and not any(asked[0] < place < gone[1] for place, _ in self.answers)
+
+    def kind(self, n):
+        if n in self.received:
+            return 'received'
+        if self.is_missed(n):
+            return 'missed'
+        if not self.brought_since(n):
+            return 'unsent'
+        if self.is_unanswered(n):
+            return 'unanswered'
+        return 'likely' if self.claim(n) is not None else 'unconfirmed'
+
+    def bounds(self):
+        """the numbers from which on the kind may be another: between those that some act names, all are of one kind"""
+        bounds = {self.first, self.last + 1} | {n + k for n in [*self.asked, *self.brought, *self.received] for k in (0, 1)}
+        bounds |= {end for _, _, words in self.told for span in words.spans for end in span}
+        bounds |= {end for _, act in self.questions for end in (act['first'], act['last'] + 1)} | {base for _, (base, *_) in self.answers}
+        return sorted(n for n in bounds if self.first <= n <= self.last + 1)
+
+    def count(self):
+        """how many numbers are of each kind"""
+        bounds, counts = self.bounds(), dict.fromkeys(KINDS, 0)
+        for lo, hi in zip(bounds, bounds[1:]):
+            counts[self.kind(lo)] += hi - lo
+        return counts
+
+    def base(self):
+        """the greatest base of all answers"""
+        return max([0] + [base for _, (base, *_) in self.answers])
+
+
+# ---- rows
+
+class Row:
+    """a row of the report: in a span, or of the whole recording. Of one that is in no span it is only told what is received and missed"""
+    def __init__(self, recording, life, w, r, names, asked):
+        self.w, self.r, self.names, self.in_span = w, r, names, asked.spans
+        span = Span(recording, life, w, r, asked.first)
+        self.first, self.until, self.joined_here = (span.first, span.until, span.joined_here) if asked.spans else (asked.first, None, False)
+        self.datagrams = span.datagrams(recording) if asked.spans else recording
+        self.delivery = Outcome(self.datagrams, w, r, self.first, span.since)
+        self.verdict = reference.judge(self.datagrams, w, r, self.first)
+        self.kind, self.last = self.verdict.split()[0], self.delivery.last
+        self.lines = reference.evidence_lines(self.delivery, self.verdict)
+        self.counts = {kind: count if asked.spans or kind in ('received', 'missed') else 0 for kind, count in self.delivery.counts.items()}
+        # how many of the numbers that are asked for stand before the first of the row, and whether all that were announced do
+        self.before = self.first - asked.first
+        self.wrote_before_alone = self.kind == 'complete' and self.before > 0 and self.last < self.first
+
+    def asked_about(self):
+        return self.last + 1 - self.first
+
+    def is_tail(self):
+        """the numbers that lack are those behind what the reader acknowledged, and nothing shows that they did not come"""
+        if not self.in_span or self.kind != 'open' or self.delivery.base() <= 1:
+            return False
+        kinds = {n: self.delivery.kind(n) for n in self.delivery.bounds() if n <= self.last}
+        return all(kind in (('received', 'likely') if n < self.delivery.base() else ('unconfirmed',)) for n, kind in kinds.items())
+
+    def tail(self):
+        return self.counts['unconfirmed']
+
+    def is_clean(self, tail=0):
+        if any(self.counts[kind] for kind in ('missed', 'unsent', 'unanswered')):
+            return False
+        return self.kind == 'complete' or self.is_tail() and (self.until is not None or self.tail() <= tail)
+
+    def is_tail_alone(self, tail=0):
+        """it is not clean for its tail alone"""
+        return not self.is_clean(tail) and self.is_tail()
+
+    def values(self):
+        """the members of the row that it has without spans"""
+        return self.names | reference.evidence_values(self.verdict.split(), self.lines)
+
+    def advice(self, counts, tail=0):
+        """what to do, or None"""
+        return None if self.is_clean(tail) else SENTENCES[advice_of(self, counts)]
+
+    def span_values(self, tail=0):
+        """those that a row in a span has, behind what it has"""
+        return {'from': self.first, 'until': self.until and self.until[0], 'outcomes': self.counts, 'clean': self.is_clean(tail)} if self.in_span else {}
+
+
+def rows_of(datagrams, asked):
+    """the rows that are asked for, those that are left out, and the counts of the whole recording"""
+    recording = [acts_of(d, asked.fragments) for d in datagrams]
+    _, _, matched, unsettled, _ = reference.discovery(datagrams, asked.fragments)
+    life, rows, left_out = Life(recording), [], []
+    for w, r in matched:
+        if w[4] != 1 or r[4] != 1 or not Asked(topics=asked.topics).keeps(w[2], w[0], r[0], recording):
+            continue
+        names = {'writer': reference.guid_text(w[0]), 'reader': reference.guid_text(r[0]),
+                 'topic': reference.name_text(w[2]), 'type': reference.name_text(w[3])}
+        row = Row(recording, life, w[0], r[0], names, asked)
+        row.key = w[2:4]
+        (rows if asked.keeps(w[2], w[0], r[0], recording) else left_out).append(row)
+    line = reference.counts_line(datagrams, recording, unsettled, asked).split()
+    return rows, left_out, dict(zip(line[::2], map(int, line[1::2])))
+
+
+def check(octets, asked, as_json=False, limits=reference.USUAL):
+    """text and status of `check`"""
+    read = reference.input_of(octets, limits, True)
+    if isinstance(read, str):
+        return '', 2
+    datagrams, ignored = read
+    checked = asked.checked()
+    rows, left_out, report = rows_of(datagrams, checked)
+    report |= ignored or {}
+    counts = counts_of(octets, datagrams, report, ignored, limits)
+    reasons = because(rows, counts, asked.expect or 0, asked.tail, asked.certain)
+    if as_json:
+        pairs = [row.values() | row.span_values(asked.tail) | {'advice': row.advice(counts, asked.tail)} for row in rows]
+        head = {'status': 'unclean' if reasons else 'clean', 'because': reasons, 'pairs': pairs}
+        lines = [json.dumps(head | report | {'notes': note_sentences(rows, left_out, counts, asked.tail)}, separators=(',', ':'))]
+    else:
+        lines = check_lines(rows, left_out, counts, asked.tail, reasons)
+    return ''.join(line + '\n' for line in lines), int(bool(reasons))
+
+
+def counts_of(octets, datagrams, report, ignored, limits=reference.USUAL):
+    """what notes and reasons speak of: a datagram of one octet is refused, and is no reason to look at it"""
+    return report | reference.reasons_of(octets, ignored, limits) | {'refused': report['refused'] - sum(len(d) < 2 for d in datagrams)}
+
+
+# ---- `why` and JSON
+
+def why_lines(rows, counts, spans):
+    out = [f'pairs {len(rows)}']
+    for row in rows:
+        out += [f"pair {row.names['writer']} {row.names['reader']} {row.verdict}", f"  topic \"{row.names['topic']}\" type \"{row.names['type']}\""]
+        until = f' until datagram {row.until[0]}' if row.until else ''
+        out += [f'  from {row.first}{until}'] if spans else []
+        out += ['  ' + line for line in row.lines]
+    return out + [' '.join(f'{name} {count}' for name, count in counts.items())]
+
+
+def report(view, octets, asked, any_form=False):
+    """text, lines on standard error and status of `why`, and of `audit --json`"""
+    any_form = any_form or asked.strict
+    read = reference.input_of(octets, reference.USUAL, any_form)
+    if isinstance(read, str):
+        return '', [f'rtps-audit: {read}'], 2
+    datagrams, ignored = read
+    rows, _, counted = rows_of(datagrams, asked)
+    kinds = ignored if isinstance(ignored, dict) else {} if ignored is None else {'ignored': ignored}
+    if view == 'json':
+        pairs = [row.values() | row.span_values() | ({'advice': row.advice(counted | kinds)} if asked.spans else {}) for row in rows]
+        lines = [json.dumps({'pairs': pairs} | counted | kinds, separators=(',', ':'))]
+    else:
+        lines = why_lines(rows, counted, asked.spans)
+        lines[-1] += f" ignored {kinds['ignored']}" if kinds else ''
+    reasons = reference.reasons_of(octets, ignored)
+    found = asked.findings(len(rows), sum(bool(row.delivery.missed) for row in rows), counted, reasons)
+    unclean = any(row.kind != 'complete' for row in rows)
+    return ''.join(line + '\n' for line in lines), [f'rtps-audit: not clean: {line}' for line in found], int(unclean or bool(found))
+
+
+# ---- random recordings
+
+def differing_from_runs(row):
+    """where the outcomes of a row are not what all its runs say, of numbers below 12"""
+    delivery, found = row.delivery, []
+    kinds = {n: delivery.kind(n) for n in range(row.first, min(row.last, 11) + 1)}
+    counted = {kind: sum(one == kind for one in kinds.values()) for kind in KINDS}
+    if row.last < 12 and counted != row.counts:
+        found.append('counts of kinds')
+    if sum(row.counts.values()) != row.asked_about():
+        found.append('sum of the kinds')
+    told = {act['number'] for _, act, words in delivery.told if words.payload is not None}
+    states = reference.ends_of_runs(row.datagrams, row.w, row.r, 12, row.first) if row.last < 12 else 'no runs'
+    if not isinstance(states, str):
+        ends = {n for state in states for n, word in state if word != 'gone'}
+        if any(n not in told and n in ends for n in kinds):
+            found.append('numbers without a payload')
+        certain = {n for n in kinds if all(any(m == n and word != 'gone' for m, word in state) for state in states)}
+        if certain != {n for n, kind in kinds.items() if kind == 'received'}:
+            found.append('received numbers')
+    return found
+
+
+def laws(count, seed):
+    rng, differing, tried, kinds = random.Random(seed), 0, 0, dict.fromkeys(['rows', 'clean', 'left', 'joined here', 'late', *KINDS], 0)
+    for k in range(count):
+        datagrams = some_life(rng)
+        asked = Asked(rng.choice([1, 1, 2, 3]), fragments=rng.random() < 0.7, spans=True)
+        for row in rows_of(datagrams, asked)[0]:
+            told = {word for _, _, words in row.delivery.told for span in words.spans for word in span}
+            if len(told) < 9:
+                for what in differing_from_runs(row):
+                    differing += 1
+                    print(f'the {what} of recording {k} differ, kept in {reference.kept(text_of_datagrams(datagrams))}')
+                tried += 1
+            kinds['rows'] += 1
+            kinds['clean'] += row.is_clean()
+            kinds['left'] += row.until is not None
+            kinds['joined here'] += row.joined_here
+            kinds['late'] += row.before > 0
+            for kind in KINDS:
+                kinds[kind] += row.counts[kind]
+    print(f'{count} recordings, {differing} differences in {tried} rows; {kinds}')
+    return int(differing > 0)
+
+
+def answers(rng, octets):
+    """command lines without their FILE, each with what the program should print of a recording, and its status"""
+    for flag in [], ['--json']:
+        asked = some_checked(rng)
+        yield ['check', *flag, *asked.words()], *check(octets, asked, bool(flag))
+    for view, spans in [('why', True), ('json', True), ('why', False), ('json', False)]:
+        asked = some_asked(rng)
+        asked.spans = spans
+        printed, _, status = report(view, octets, asked)
+        yield reference.words_of(view) + asked.words(), printed, status
+    printed, _, status = reference.answer_as('show', octets, Asked(fragments=True))
+    yield ['show', '--fragments'], printed, status
+
+
+def compare(program, count, seed):
+    rng, differing = random.Random(seed), 0
+    for k in range(count):
+        octets = text_of_datagrams(some_life(rng)) if rng.random() < 0.7 else some_input(rng)
+        for words, want, status in answers(rng, octets):
+            got = subprocess.run(program.split() + words + ['-'], input=octets, capture_output=True)
+            if (got.stdout.decode(), got.returncode) != (want, status):
+                differing += 1
+                print(f"{' '.join(words)} differs on recording {k}, kept in {reference.kept(octets)}")
+    print(f'{count} recordings, {differing} differences')
+    return int(differing > 0)
+
+
+def main():
+    if sys.argv[1] in ('laws', 'compare'):
+        at = 3 if sys.argv[1] == 'compare' else 2
+        count, seed = (int(word) for word in sys.argv[at:at + 2] + ['1000', '1'][len(sys.argv[at:at + 2]):])
+        return laws(count, seed) if at == 2 else compare(sys.argv[2], count, seed)
+    view, words, path = sys.argv[1], sys.argv[2:-1], sys.argv[-1]
+    with open(path, 'rb') as f:
+        octets = f.read()
+    asked, told = asked_by(words), []
+    if view == 'check':
+        text, status = check(octets, asked, '--json' in words)
+    else:
+        text, told, status = report(view, octets, asked, '--any' in words)
+    sys.stdout.write(text)
+    sys.stderr.write(''.join(line + '\n' for line in told))
+    return status
+
+
+if __name__ == '__main__':
+    sys.exit(main())

@@ -1,0 +1,95 @@
+ghost use Rattle.std.specs.Prelude.{◌≡◌, ◌++◌, IfOk, OnOk, filter, map, string_bytes};
+ghost use Rattle.rtps_evidence.specs.Explanation.{explanation_value};
+ghost use Rattle.rtps_report.specs.RowFacts.{is_late as is_late_lem, is_tail_alone as is_tail_alone_lem};
+ghost use Rattle.rtps_check.specs.CheckText.{longest_tail as longest_tail_lem, tail_block, tails_text};
+
+use rtps_evidence::Explanation;
+use rtps_lines::{names_of, number_words, push_field};
+use rtps_parts::{Part, Words, render};
+use rtps_report::{Advice, is_late, is_tail_alone, outcomes_of};
+use std::alloc::{AllocError, Global};
+
+fn tails_among<'a>(
+    alloc: Global,
+    rows: &[Explanation<'a>],
+    tail: u64,
+) -> Result<Vec<Explanation<'a>>, AllocError>
+    ensures { IfOk result (λ alone. map explanation_value alone.items ≡ filter (λ row. is_tail_alone_lem tail row.evidence) (map explanation_value rows.now)) }
+{
+    let mut alone = Vec::new(alloc);
+    for row in rows {
+        if is_tail_alone(tail, &row.evidence) {
+            alone.push(*row)?;
+        }
+    }
+    Ok(alone)
+}
+
+/// Those of these rows before which all numbers stand that their writer announced.
+pub(crate) fn late_among<'a>(
+    alloc: Global,
+    rows: &[Explanation<'a>],
+    from: u64,
+) -> Result<Vec<Explanation<'a>>, AllocError>
+    ensures { IfOk result (λ late. map explanation_value late.items ≡ filter (λ row. is_late_lem from row.evidence) (map explanation_value rows.now)) }
+{
+    let mut late = Vec::new(alloc);
+    for row in rows {
+        if is_late(from, &row.evidence) {
+            late.push(*row)?;
+        }
+    }
+    Ok(late)
+}
+
+fn longest_tail(rows: &[Explanation<'_>]) -> u64
+    ensures { result ≡ longest_tail_lem (map explanation_value rows.now) }
+{
+    let mut longest = 0u64;
+    for row in rows {
+        longest = longest.max(outcomes_of(&row.evidence).unconfirmed);
+    }
+    longest
+}
+
+fn push_tails(text: &mut String, pairs: usize, longest: u64, names: &str) -> Result<(), AllocError>
+    ensures { OnOk result (string_bytes text.new ≡ string_bytes text.old ++ tails_text pairs longest names.now) }
+{
+    let words = Words {
+        one: "pair lacks only a tail",
+        many: "pairs lack only a tail",
+    };
+    let head = [
+        Part::Text("\n"),
+        Part::Amount(pairs as u128, words),
+        Part::Text(" of at most "),
+        Part::Amount(u128::from(longest), number_words()),
+    ];
+    let end = [
+        Part::Text(" lets them pass)"),
+        Part::Text(names),
+        Part::Text("\n  -> "),
+        Part::Text(Advice::Tail.sentence()),
+        Part::Text("\n"),
+    ];
+    render(text, &head)?;
+    push_field(text, " (--tail ", longest)?;
+    render(text, &end)
+}
+
+/// Appends the lines of those of these rows, which stand by topic, that are not clean for their tail alone.
+pub(crate) fn push_tail_block(
+    alloc: Global,
+    text: &mut String,
+    rows: &[Explanation<'_>],
+    tail: u64,
+) -> Result<(), AllocError>
+    ensures { OnOk result (string_bytes text.new ≡ string_bytes text.old ++ tail_block tail (map explanation_value rows.now)) }
+{
+    let alone = tails_among(alloc, rows, tail)?;
+    if alone.is_empty() {
+        return Ok(());
+    }
+    let names = names_of(alloc, &alone)?;
+    push_tails(text, alone.len(), longest_tail(&alone), &names)
+}

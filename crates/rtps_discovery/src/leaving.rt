@@ -1,0 +1,119 @@
+ghost use Rattle.std.specs.Prelude.{◌≡◌, option_and_then, true};
+ghost use Rattle.std.specs.Option.{option_copied, option_map};
+ghost use Rattle.rtps_params.specs.Lists.{list_value};
+ghost use Rattle.rtps_params.specs.Values.{guid_of};
+ghost use Rattle.rtps_receiver.specs.Speech.{origin_of};
+ghost use Rattle.rtps_receiver.specs.Values.{ActValue, act_value};
+ghost use Rattle.rtps_wire.specs.Values.{data_value, payload_value};
+ghost use Rattle.rtps_discovery.specs.Leaving.{guid_in_payload as guid_in_payload_lem, has_key_of as has_key_of_lem, inline_value as inline_value_lem, is_one_of, is_ending as is_ending_lem, key_of as key_of_lem, leaves as leaves_lem};
+ghost use Rattle.rtps_discovery.specs.Notice.{subject_of as subject_of_lem};
+
+use crate::announcement::{fields_of, guid_in};
+use crate::endpoint::Side;
+use crate::layout::pid::{ENDPOINT_GUID, KEY_HASH, PARTICIPANT_GUID, STATUS_INFO};
+use crate::layout::{entity, status};
+use crate::notice::{Subject, subject_of};
+use rtps_ids::Guid;
+use rtps_params::ParamList;
+use rtps_receiver::{Act, ActBody};
+use rtps_wire::{DataBody, Payload};
+
+/// The value of a parameter of one sample alone.
+fn inline_value<'a>(qos: &Option<ParamList<'a>>, pid: u16) -> Option<&'a [u8]>
+    ensures { option_copied result ≡ inline_value_lem pid (option_map list_value qos.now) }
+{
+    match qos {
+        Some(list) => list.first(pid),
+        None => None,
+    }
+}
+
+/// Whether a status says that what has the key is disposed or unregistered.
+fn is_ending(value: Option<&[u8]>) -> bool
+    ensures { result ≡ is_ending_lem (option_copied value.entry) }
+{
+    match value {
+        Some(value) => value.len() == status::SIZE && value[status::FLAGS] % status::ENDS != 0,
+        None => false,
+    }
+}
+
+/// The GUID under an id in a payload, a whole one or a key.
+fn guid_in_payload(payload: &Payload<'_>, pid: u16) -> Option<Guid>
+    ensures { result ≡ guid_in_payload_lem pid (payload_value payload.now) }
+{
+    let octets = match payload {
+        Payload::Whole(octets) => *octets,
+        Payload::Key(octets) => *octets,
+        Payload::Absent => return None,
+    };
+    match fields_of(octets) {
+        Ok(list) => guid_in(list.first(pid)),
+        Err(_) => None,
+    }
+}
+
+/// The GUID under an id in the payload of a DATA, or else the one in its key hash.
+fn key_of(body: &DataBody<'_>, pid: u16) -> Option<Guid>
+    ensures { result ≡ key_of_lem pid (data_value body.now) }
+{
+    match guid_in_payload(&body.payload, pid) {
+        Some(guid) => Some(guid),
+        None => guid_in(inline_value(&body.qos, KEY_HASH)),
+    }
+}
+
+/// Whether a DATA of what announces readers, or participants, has the key of the reader, or of its participant.
+fn has_key_of(body: &DataBody<'_>, reader: Guid) -> bool
+    ensures { result ≡ has_key_of_lem reader (subject_of_lem body.now.writer) (data_value body.now) }
+{
+    match subject_of(body.writer) {
+        Some(Subject::Participant) => match key_of(body, PARTICIPANT_GUID) {
+            Some(key) => key.prefix == reader.prefix,
+            None => false,
+        },
+        Some(Subject::Endpoint(Side::Reader)) => match key_of(body, ENDPOINT_GUID) {
+            Some(key) => key.prefix == reader.prefix && key.entity == reader.entity,
+            None => false,
+        },
+        Some(Subject::Endpoint(Side::Writer)) => false,
+        None => false,
+    }
+}
+
+/// Whether an act says that this reader leaves: its participant disposes or unregisters the reader, or itself, to whomever
+/// (DDSI-RTPS 2.5, 9.6.4.9 "StatusInfo_t (PID_STATUS_INFO)").
+pub fn leaves(act: &Act<'_>, reader: Guid) -> bool
+    ensures { result ≡ leaves_lem reader (act_value act.now) }
+{
+    if act.source != reader.prefix {
+        return false;
+    }
+    match &act.body {
+        // Most DATA have no status.
+        ActBody::Data(data) => {
+            is_ending(inline_value(&data.qos, STATUS_INFO)) && has_key_of(data, reader)
+        }
+        ActBody::Heartbeat(_) => false,
+        ActBody::AckNack(_) => false,
+        ActBody::Gap(_) => false,
+        ActBody::DataFrag(_) => false,
+        ActBody::NackFrag(_) => false,
+    }
+}
+
+/// The built-in writers of a reader's participant: of its readers, and of itself. No other says that the reader leaves.
+#[tactic(auto, using(crate::proofs::Leavers::left_by_one))]
+pub fn leaving_writers(reader: Guid) -> (Guid, Guid)
+    ensures { (act : ActValue) → leaves_lem reader act ≡ true → is_one_of result.0 result.1 (origin_of act) ≡ true }
+{
+    let readers = Guid {
+        prefix: reader.prefix,
+        entity: entity::SUBSCRIPTIONS,
+    };
+    let participants = Guid {
+        prefix: reader.prefix,
+        entity: entity::PARTICIPANTS,
+    };
+    (readers, participants)
+}

@@ -1,0 +1,23 @@
+use Rattle.std.proofs.Common.{◌≡◌, false, subst}
+use Rattle.rtps_audit.specs.Said.{datagrams_until}
+use Rattle.rtps_discovery.specs.declared.matching.Pair.{Pair}
+use Rattle.rtps_evidence.specs.Evidence.{IsBeside, IsShown}
+use Rattle.rtps_evidence.specs.Spans.{since_of}
+use Rattle.rtps_evidence.proofs.RowLemmas.{judged_row}
+use Rattle.rtps_evidence.proofs.evidence.Evidence.of_from.Goals as goal
+
+pub returns : goal.returns
+returns c = λ intake is.
+    let judgement = c.in_ok-judgement.judgement in
+    let evidence = c.in_ok-evidence.evidence in
+    let recording = datagrams_until judgement.span.until intake.acts in
+    let same : judgement.pair ≡ c.args.pair = c.in_ok-judgement.ensures.pair in
+    let verdict = judged_row judgement c.args.pair intake.acts same (c.in_ok-judgement.ensures.judged intake is (c.in_ok-verdict.ensures intake is).verdict) in
+    let summed = c.in_ok-summary.ensures.summary intake is tt in
+    record {
+      span = judgement.span;
+      extent = c.in_ok-judgement.ensures.extent intake is;
+      shown = subst (λ (p : Pair). IsShown judgement.span.from (since_of judgement.span) p recording evidence) same (c.in_ok-evidence.ensures.shown intake is summed verdict);
+      beside = subst (λ (p : Pair). IsBeside false judgement.span p recording evidence.in_span) same
+          (subst (λ b. IsBeside b judgement.span judgement.pair recording evidence.in_span) c.in_ok-judgement.ensures.in_spans (c.in_ok-evidence.ensures.beside intake is summed verdict));
+    }

@@ -1,0 +1,13 @@
+use Rattle.std.proofs.Common.{◌-◌, ◌^◌, ℕ}
+use Rattle.std.specs.Prelude.{if◌then◌else◌}
+use Rattle.rtps_audit.proofs.Offered.{is_in_gap_below}
+use Rattle.rtps_evidence.specs.Outcomes.{Silence, told_gone}
+use Rattle.rtps_evidence.specs.Silences.{IsAt}
+use Rattle.rtps_evidence.proofs.silence.Walk.withdraw_gap.Given as goal
+
+-- the numbers of the gap below that place are told gone
+abbrev pub invariant-apart : goal.invariant-apart
+invariant-apart l = (n : ℕ) (silence : Silence) → IsAt n silence l.fn.self → IsAt n (if is_in_gap_below l.gap l.at n then told_gone silence else silence) l.self
+
+abbrev pub decreases-apart : goal.decreases-apart
+decreases-apart l = 2 ^ 64 - l.at

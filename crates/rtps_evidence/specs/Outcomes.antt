@@ -1,0 +1,187 @@
+-- What became of each number that is asked about. DDSI-RTPS 2.5, 8.3.8.1 "AckNack": the set of an ACKNACK names the numbers that the
+-- reader lacks; 8.3.8.6 "Heartbeat": one without the final flag asks for an answer. own: of a number that is not received for certain,
+-- what the two said tells mostly whether it came. Acts are those of the datagrams that a row is by; `since` is the place behind which
+-- the reader is there (None: everywhere).
+use Rattle.std.specs.Prelude.{ℕ, Bool, true, false, ◌+◌, ◌-◌, ◌≡◌, ◌==◌, ◌&&◌, ◌||◌, nat_le, nat_lt, not, if◌then◌else◌, filter, is_some, List, [], ◌∷◌, Option}
+use Rattle.std.specs.List.{list_any}
+use Rattle.rtps_discovery.specs.declared.matching.Pair.{Pair}
+use Rattle.rtps_receiver.specs.Values.{ActBodyValue, ActValue}
+use Rattle.rtps_receiver.specs.Values.ActBodyValue.{Data, Heartbeat, AckNack, Gap, DataFrag, NackFrag}
+use Rattle.rtps_audit.specs.Delivery.{DeliveryState, Ends}
+use Rattle.rtps_audit.specs.Placed.{PlacedValue, answers_among, is_from, placed_in}
+use Rattle.rtps_audit.specs.Speech.{natural, speech_by}
+use Rattle.rtps_audit.specs.declared.answer.Answer.{Answer}
+use Rattle.rtps_evidence.specs.Amount.{count_in, is_sent}
+use Rattle.rtps_evidence.specs.Locations.{location_of}
+use Rattle.rtps_evidence.specs.Missed.{brings_behind, is_wanting}
+use Rattle.rtps_evidence.specs.Questions.{questions_behind}
+use Rattle.rtps_evidence.specs.Received.{HoldsPayload, first_claiming, is_received, withdraws}
+use Rattle.rtps_evidence.specs.declared.location.Location.{Location}
+use Rattle.rtps_evidence.specs.declared.outcome.Outcome.{Outcome}
+use Rattle.rtps_evidence.specs.declared.outcome.Outcome.TheVariants.{Received, Missed, Unsent, Unanswered, Likely, Unconfirmed}
+use Rattle.rtps_evidence.specs.declared.outcome.Outcomes.{Outcomes}
+
+-- ---- unsent
+
+-- the reader hears n, or a fragment of it, since it is there
+abbrev pub is_brought : Option Location → Pair → List PlacedValue → ℕ → Bool
+is_brought since pair acts n = list_any (brings_behind since pair.writer pair.reader n) acts
+
+-- ---- unanswered: asked about again and again while the writer had it, and no answer until it was told gone
+
+-- a HEARTBEAT says that the writer has n
+abbrev pub is_offered : ActBodyValue → ℕ → Bool
+is_offered (Heartbeat value) n = nat_le value.first n && nat_le n (natural value.last)
+is_offered (Data value) n = false
+is_offered (AckNack value) n = false
+is_offered (Gap value) n = false
+is_offered (DataFrag value) n = false
+is_offered (NackFrag value) n = false
+
+-- how far it came with a number, as the acts go by
+pub data Silence : Type 0 where
+  -- nobody asked about it
+  Unasked : Silence
+  -- one HEARTBEAT asked about it
+  Once : Silence
+  -- two or more did
+  Again : Silence
+  -- the reader answered behind the first of them
+  Answered : Silence
+  -- it was told gone, and was asked about again and again without an answer
+  Silent : Silence
+  -- it was told gone otherwise
+  Ended : Silence
+
+-- behind an answer
+abbrev pub answered : Silence → Silence
+answered Unasked = Unasked
+answered Once = Answered
+answered Again = Answered
+answered Answered = Answered
+answered Silent = Silent
+answered Ended = Ended
+
+-- behind a HEARTBEAT that asks about it
+abbrev pub asked_about : Silence → Silence
+asked_about Unasked = Once
+asked_about Once = Again
+asked_about Again = Again
+asked_about Answered = Answered
+asked_about Silent = Silent
+asked_about Ended = Ended
+
+-- behind an act that tells it gone: the first one counts
+abbrev pub told_gone : Silence → Silence
+told_gone Unasked = Ended
+told_gone Once = Ended
+told_gone Again = Silent
+told_gone Answered = Ended
+told_gone Silent = Silent
+told_gone Ended = Ended
+
+-- behind an act of the writer
+abbrev pub heard : Option Location → Pair → ℕ → PlacedValue → Silence → Silence
+heard since pair n placed silence =
+    if withdraws pair.writer pair.reader n placed then told_gone silence
+    else if questions_behind since pair.writer pair.reader placed && is_offered placed.act.body n then asked_about silence
+    else silence
+
+-- an answer stands before a place
+abbrev pub answers_before : Location → Answer → Bool
+answers_before place answer = nat_lt answer.datagram place.datagram || ((answer.datagram == place.datagram) && nat_lt answer.at place.at)
+
+-- the answers behind those that stand before an act
+abbrev pub answers_left : Location → List Answer → List Answer
+answers_left place [] = []
+answers_left place (answer ∷ answers) = if answers_before place answer then answers_left place answers else answer ∷ answers
+
+-- some of them stand before it
+abbrev pub is_answered : Location → List Answer → Bool
+is_answered place [] = false
+is_answered place (answer ∷ answers) = answers_before place answer
+
+-- the answers that are left, and how far it came
+pub record Walk : Type 0 where
+  pub answers : List Answer
+  pub silence : Silence
+
+-- behind one act of the writer more, and the answers before it
+abbrev pub walked : Option Location → Pair → ℕ → Walk → PlacedValue → Walk
+walked since pair n walk placed =
+    record {
+      answers = answers_left (location_of placed) walk.answers;
+      silence = heard since pair n placed (if is_answered (location_of placed) walk.answers then answered walk.silence else walk.silence);
+    }
+
+-- behind these acts of the writer, one after another
+abbrev pub walked_all : Option Location → Pair → ℕ → Walk → List PlacedValue → Walk
+walked_all since pair n walk [] = walk
+walked_all since pair n walk (placed ∷ acts) = walked_all since pair n (walked since pair n walk placed) acts
+
+-- it ends in silence
+abbrev pub is_silent : Silence → Bool
+is_silent Silent = true
+is_silent Unasked = false
+is_silent Once = false
+is_silent Again = false
+is_silent Answered = false
+is_silent Ended = false
+
+-- the writer's acts and the reader's answers, one after another, end in silence
+abbrev pub is_unanswered : Option Location → Pair → List PlacedValue → ℕ → Bool
+is_unanswered since pair acts n =
+    is_silent (walked_all since pair n (record { answers = answers_among pair acts; silence = Unasked }) (filter (is_from pair.writer) acts)).silence
+
+-- ---- each number has one outcome
+
+-- what became of a number: the first that fits
+unfoldable pub outcome_of : Option Location → Pair → List PlacedValue → ℕ → Outcome
+outcome_of since pair acts n =
+    if is_received pair.writer pair.reader acts n then Received
+    else if is_wanting since pair.writer pair.reader acts n then Missed
+    else if not (is_brought since pair acts n) then Unsent
+    else if is_unanswered since pair acts n then Unanswered
+    else if is_some (first_claiming pair.writer pair.reader n acts) then Likely
+    else Unconfirmed
+
+-- two outcomes are the same
+abbrev pub is_outcome : Outcome → Outcome → Bool
+is_outcome Received Received = true
+is_outcome Missed Missed = true
+is_outcome Unsent Unsent = true
+is_outcome Unanswered Unanswered = true
+is_outcome Likely Likely = true
+is_outcome Unconfirmed Unconfirmed = true
+is_outcome _ _ = false
+
+-- how many of the numbers from lo on and below hi have this outcome
+abbrev pub count_of : Outcome → (ℕ → Outcome) → ℕ → ℕ → ℕ
+count_of outcome outcomes lo hi = count_in (λ n. is_outcome outcome (outcomes n)) lo hi
+
+-- of the numbers from `from` on, up to the last one: how many have each outcome
+pub record AreOutcomes (from last : ℕ) (since : Option Location) (pair : Pair) (acts : List PlacedValue) (outcomes : Outcomes) : Type 0 where
+  pub received : outcomes.received ≡ count_of Received (outcome_of since pair acts) from (last + 1)
+  pub missed : outcomes.missed ≡ count_of Missed (outcome_of since pair acts) from (last + 1)
+  pub unsent : outcomes.unsent ≡ count_of Unsent (outcome_of since pair acts) from (last + 1)
+  pub unanswered : outcomes.unanswered ≡ count_of Unanswered (outcome_of since pair acts) from (last + 1)
+  pub likely : outcomes.likely ≡ count_of Likely (outcome_of since pair acts) from (last + 1)
+  pub unconfirmed : outcomes.unconfirmed ≡ count_of Unconfirmed (outcome_of since pair acts) from (last + 1)
+
+-- how many they are together
+abbrev pub all_of : Outcomes → ℕ
+all_of outcomes = outcomes.received + outcomes.missed + outcomes.unsent + outcomes.unanswered + outcomes.likely + outcomes.unconfirmed
+
+-- ---- laws
+
+-- they add up to the numbers that are asked about
+abbrev pub OutcomesAddUp : Type 0
+OutcomesAddUp =
+    (from last : ℕ) (since : Option Location) (pair : Pair) (acts : List PlacedValue) (outcomes : Outcomes)
+    → AreOutcomes from last since pair acts outcomes → all_of outcomes ≡ last + 1 - from
+
+-- where no payload of a number is told to the reader, no run ends with one
+abbrev pub UnsentIsNotHeld : Type 0
+UnsentIsNotHeld =
+    (from : ℕ) (pair : Pair) (recording : List (List ActValue)) (n : ℕ) → is_sent pair.writer pair.reader (placed_in recording) n ≡ false
+    → (end : DeliveryState) → Ends from (speech_by pair.writer pair.reader recording) end → ¬ HoldsPayload end n

@@ -1,0 +1,145 @@
+-- How much of a recording the row of a pair is by: from which number on, and up to which datagram. DDSI-RTPS 2.5, 8.5.4 "The Simple
+-- Endpoint Discovery Protocol". own: what a writer sent before a reader was there, and what it sends behind its leaving, is not owed.
+use Rattle.std.specs.Prelude.{ℕ, Bool, true, false, ◌-◌, ◌+◌, ◌≡◌, ◌≤◌, ◌<◌, ◌==◌, ◌&&◌, ◌||◌, nat_lt, not, if◌then◌else◌, max, min, List, map, Option, Some, None, unwrap_or, ◌^◌}
+use Rattle.std.specs.List.{find, list_any}
+use Rattle.std.specs.Option.{option_map}
+use Rattle.rtps_ids.specs.declared.identity.Guid.{Guid}
+use Rattle.rtps_discovery.specs.Directory.{DirectoryValue, IsMapOf, settled_at}
+use Rattle.rtps_discovery.specs.Endpoint.{EndpointValue}
+use Rattle.rtps_discovery.specs.Leaving.{leaves}
+use Rattle.rtps_discovery.specs.declared.endpoint.Durability.{Durability}
+use Rattle.rtps_discovery.specs.declared.endpoint.Durability.TheVariants.{Volatile, TransientLocal, Transient, Persistent}
+use Rattle.rtps_discovery.specs.declared.matching.Pair.{Pair}
+use Rattle.rtps_audit.specs.Delivery.{greatest}
+use Rattle.rtps_audit.specs.Intake.{Intake, acts_together}
+use Rattle.rtps_audit.specs.Placed.{PlacedValue, placed_in}
+use Rattle.rtps_audit.specs.Speech.{natural}
+use Rattle.rtps_audit.specs.declared.answer.Answer.{Answer}
+use Rattle.rtps_evidence.specs.Locations.{base_said, is_before, is_behind, number_said}
+use Rattle.rtps_evidence.specs.Missed.{asks_for, brings_behind, place_announced}
+use Rattle.rtps_evidence.specs.declared.location.Location.{Location}
+use Rattle.rtps_evidence.specs.declared.span.Span.{Span}
+
+-- ---- joining. A reader joins where it is announced first, whoever hears that
+
+-- an answer of the reader claims some number of the writer, before a place
+abbrev pub claims_before : Location → Pair → PlacedValue → Bool
+claims_before place pair placed = is_before place placed && nat_lt 1 (base_said pair.writer pair.reader placed)
+
+-- the same of an answer that is kept
+abbrev pub claims_at_before : Location → Answer → Bool
+claims_at_before place answer =
+    (nat_lt answer.datagram place.datagram || ((answer.datagram == place.datagram) && nat_lt answer.at place.at)) && nat_lt 1 (natural answer.base)
+
+-- The reader joins in this recording: it is announced, and claims nothing of the writer before. A reader that does was there before the
+-- recording began
+abbrev pub is_joined_here : Option Location → Pair → List PlacedValue → Bool
+is_joined_here (Some place) pair acts = not (list_any (claims_before place pair) acts)
+is_joined_here None pair acts = false
+
+-- the place behind which acts are since the reader joined; None is in front of all
+abbrev pub since_of : Span → Option Location
+since_of span = if span.is_joined_here then span.joined else None
+
+-- ---- from which number on
+
+-- the durability of a reader that asks for what comes, and for nothing that was written before
+abbrev pub is_lowest : Durability → Bool
+is_lowest Volatile = true
+is_lowest TransientLocal = false
+is_lowest Transient = false
+is_lowest Persistent = false
+
+-- the endpoint, if there is one, has it
+abbrev pub is_volatile : Option EndpointValue → Bool
+is_volatile (Some endpoint) = is_lowest endpoint.durability
+is_volatile None = false
+
+-- the number that the writer announces by an act before a place, whoever hears it, or 0
+abbrev pub number_before : Location → Guid → PlacedValue → ℕ
+number_before place writer placed = if is_before place placed then number_said writer placed else 0
+
+-- the greatest of them, or 0
+abbrev pub announced_before : Location → Guid → List PlacedValue → ℕ
+announced_before place writer acts = greatest (map (number_before place writer) acts)
+
+-- The least number that may be owed to a reader which joins at a place: to a volatile one, only what is announced behind it. Numbers
+-- end at 2^63 - 1
+abbrev pub least_owed : ℕ → Bool → Location → Guid → List PlacedValue → ℕ
+least_owed from volatile place writer acts = if volatile then max from (min (announced_before place writer acts + 1) (2 ^ 63 - 1)) else from
+
+-- n is for the reader: it hears a payload of it, or a fragment of one, behind the place where it joins; or it asks for it, wherever
+abbrev pub is_for_reader : Location → Pair → List PlacedValue → ℕ → Bool
+is_for_reader place pair acts n = list_any (brings_behind (Some place) pair.writer pair.reader n) acts || list_any (asks_for pair.writer pair.reader n) acts
+
+-- the least number from lo on that has it, if there is one
+abbrev pub IsLeastFrom : (ℕ → Bool) → ℕ → Option ℕ → Type 0
+IsLeastFrom has lo None = (n : ℕ) → lo ≤ n → has n ≡ false
+IsLeastFrom has lo (Some number) = (lo ≤ number) × (has number ≡ true) × ((n : ℕ) → lo ≤ n → n < number → has n ≡ false)
+
+-- the lesser of two numbers, where there are two
+abbrev pub lesser_of : Option ℕ → Option ℕ → Option ℕ
+lesser_of None other = other
+lesser_of (Some one) None = Some one
+lesser_of (Some one) (Some other) = Some (min one other)
+
+-- a row begins with the least number that is for the reader, from the least one that may be owed on; with that one where none is
+pub record IsFirstOwed (owed : ℕ) (place : Location) (pair : Pair) (acts : List PlacedValue) (number : ℕ) : Type 0 where
+  pub least : Option ℕ
+  pub is_least : IsLeastFrom (is_for_reader place pair acts) owed least
+  pub is : number ≡ unwrap_or least owed
+
+-- a reader, all of whose announcements agree, is volatile
+pub record IsVolatileIn (intake : Intake) (reader : Guid) (volatile : Bool) : Type 0 where
+  pub directory : DirectoryValue
+  pub is_map : IsMapOf (acts_together intake.announcing) directory
+  pub is : volatile ≡ is_volatile (settled_at directory.endpoints reader)
+
+-- the least number that may be owed to the reader of a pair, which joins at a place
+pub record IsOwedFrom (from : ℕ) (place : Location) (pair : Pair) (intake : Intake) (owed : ℕ) : Type 0 where
+  pub volatile : Bool
+  pub is_volatile : IsVolatileIn intake pair.reader volatile
+  pub is : owed ≡ least_owed from volatile place pair.writer (placed_in intake.acts)
+
+-- the number from which on a row is, where the reader joins at a place of this recording
+pub record IsFirstIn (from : ℕ) (place : Location) (pair : Pair) (intake : Intake) (number : ℕ) : Type 0 where
+  pub owed : ℕ
+  pub is_owed : IsOwedFrom from place pair intake owed
+  pub is_first : IsFirstOwed owed place pair (placed_in intake.acts) number
+
+-- the number from which on a row is: the one that is chosen, where the reader does not join here
+pub record IsFrom (from : ℕ) (joined : Option Location) (pair : Pair) (intake : Intake) (number : ℕ) : Type 0 where
+  pub elsewhere : is_joined_here joined pair (placed_in intake.acts) ≡ false → number ≡ from
+  pub here : (place : Location) → joined ≡ Some place → is_joined_here joined pair (placed_in intake.acts) ≡ true → IsFirstIn from place pair intake number
+
+-- ---- up to which datagram
+
+-- an act behind the place where the reader joins says that it leaves
+abbrev pub leaves_behind : Location → Guid → PlacedValue → Bool
+leaves_behind place reader placed = is_behind (Some place) placed && leaves reader placed.act
+
+-- the datagram in which a reader that joins at a place leaves; None where it does not
+abbrev pub left_in : Option Location → Guid → List PlacedValue → Option ℕ
+left_in None reader acts = None
+left_in (Some place) reader acts = option_map (λ placed. placed.datagram) (find (leaves_behind place reader) acts)
+
+-- ---- the span of a pair
+
+-- it is the whole recording, by the numbers from `from` on
+pub record IsWhole (from : ℕ) (pair : Pair) (intake : Intake) (span : Span) : Type 0 where
+  pub joined : span.joined ≡ place_announced pair.reader (placed_in intake.announcing)
+  pub here : span.is_joined_here ≡ is_joined_here span.joined pair (placed_in intake.acts)
+  pub first : span.from ≡ from
+  pub until : span.until ≡ None
+
+-- it is the span of a pair by the numbers from `from` on
+pub record IsSpan (from : ℕ) (pair : Pair) (intake : Intake) (span : Span) : Type 0 where
+  pub joined : span.joined ≡ place_announced pair.reader (placed_in intake.announcing)
+  pub here : span.is_joined_here ≡ is_joined_here span.joined pair (placed_in intake.acts)
+  pub first : IsFrom from span.joined pair intake span.from
+  pub until : span.until ≡ left_in span.joined pair.reader (placed_in intake.acts)
+
+-- what a row is by: its span, where rows are in spans, or else the whole recording
+abbrev pub IsExtent : Bool → ℕ → Pair → Intake → Span → Type 0
+IsExtent true from pair intake span = IsSpan from pair intake span
+IsExtent false from pair intake span = IsWhole from pair intake span

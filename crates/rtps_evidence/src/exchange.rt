@@ -1,0 +1,40 @@
+ghost use Rattle.std.specs.Prelude.{◌≡◌};
+ghost use Rattle.rtps_evidence.specs.Spans.{since_of as since_of_lem};
+
+use crate::listener::Listener;
+use crate::span::Span;
+use rtps_audit::Said;
+use rtps_discovery::Pair;
+use rtps_ids::SeqNum;
+
+/// Which numbers and which datagrams rows are by.
+#[derive(Clone, Copy, PartialEq, Eq, Debug)]
+pub struct Extent {
+    /// The numbers from this one on.
+    pub from: SeqNum,
+    /// Each row is in the span of its pair; else all are by the whole recording.
+    pub in_spans: bool,
+}
+
+/// What a pair said to each other in the datagrams that its row is by.
+#[derive(Clone, Copy, Debug)]
+pub(crate) struct Exchange<'s, 'a> {
+    pub(crate) pair: Pair,
+    /// The span of the pair, where rows are in spans, or else the whole recording.
+    pub(crate) span: Span,
+    pub(crate) in_spans: bool,
+    pub(crate) said: Said<'s, 'a>,
+}
+
+impl<'s, 'a> Exchange<'s, 'a> {
+    /// The two, and where the reader is there.
+    pub(crate) fn listener(&self) -> Listener
+        ensures pair { result.pair ≡ self.now.pair }
+        ensures since { result.since ≡ since_of_lem self.now.span }
+    {
+        Listener {
+            pair: self.pair,
+            since: self.span.since(),
+        }
+    }
+}

@@ -1,0 +1,123 @@
+ghost use Rattle.std.specs.Prelude.{ℕ, ◌≡◌, ◌≤◌, is_some, IfOk, List};
+ghost use Rattle.rtps_receiver.specs.Values.{ActValue};
+ghost use Rattle.rtps_audit.specs.Delivery.{last_announced_from};
+ghost use Rattle.rtps_audit.specs.Placed.{placed_in};
+ghost use Rattle.rtps_audit.specs.Said.{IsSaid};
+ghost use Rattle.rtps_audit.specs.Speech.{speech_by};
+ghost use Rattle.rtps_evidence.specs.Amount.{stretches_have};
+ghost use Rattle.rtps_evidence.specs.Claimed.{AreLacking};
+ghost use Rattle.rtps_evidence.specs.Clean.{has_all as has_all_lem, is_clean as is_clean_lem, is_complete as is_complete_lem, is_open as is_open_lem, is_tail as is_tail_lem};
+ghost use Rattle.rtps_evidence.specs.Missed.{is_missed};
+ghost use Rattle.rtps_evidence.specs.Rising.{AreRising};
+ghost use Rattle.rtps_evidence.specs.Spans.{since_of};
+
+use crate::acknowledgement::greatest_base;
+use crate::amount::AskedNumbers;
+use crate::exchange::Exchange;
+use crate::location::Location;
+use crate::outcome::{Outcomes, Unreceived};
+use rtps_audit::Verdict;
+use rtps_ids::Memory;
+use std::alloc::Global;
+
+/// What a row in the span of its pair has beside what all rows have.
+#[derive(Clone, Copy, PartialEq, Eq, Debug)]
+pub struct InSpan {
+    /// Where the reader joins: the first act that announces it; None where none does.
+    pub joined: Option<Location>,
+    /// Whether the reader claims no number of the writer before that.
+    pub is_joined_here: bool,
+    /// The row is by the numbers from this one on.
+    pub from: u64,
+    /// The row is by the datagrams before this one, in which the reader leaves; None where it does not.
+    pub until: Option<u64>,
+    pub outcomes: Outcomes,
+    /// The greatest base of the reader's answers to the writer, or 0.
+    pub base: u64,
+}
+
+/// Whether each number that is asked about is acknowledged.
+fn is_complete(verdict: &Verdict) -> bool
+    ensures { result ≡ is_complete_lem verdict.now }
+{
+    match *verdict {
+        Verdict::Complete { .. } => true,
+        Verdict::Open { .. } => false,
+        Verdict::Conflict { .. } => false,
+        Verdict::Unfounded { .. } => false,
+    }
+}
+
+/// Whether some number is not.
+fn is_open(verdict: &Verdict) -> bool
+    ensures { result ≡ is_open_lem verdict.now }
+{
+    match *verdict {
+        Verdict::Open { .. } => true,
+        Verdict::Complete { .. } => false,
+        Verdict::Conflict { .. } => false,
+        Verdict::Unfounded { .. } => false,
+    }
+}
+
+impl Outcomes {
+    /// Whether no number is lost, or looks so.
+    fn has_all(&self) -> bool
+        ensures { result ≡ has_all_lem self.now }
+    {
+        self.missed == 0 && self.unsent == 0 && self.unanswered == 0
+    }
+}
+
+impl InSpan {
+    ghost use Rattle.rtps_evidence.specs.Evidence.{IsBeside};
+
+    /// What a row has beside, where rows are in spans, by what its pair said.
+    pub(crate) fn of(
+        alloc: Global,
+        exchange: &Exchange<'_, '_>,
+        unreceived: &Unreceived<'_>,
+        asked: &AskedNumbers,
+    ) -> Result<Option<InSpan>, Memory>
+        requires rising { AreRising unreceived.now.numbers.now }
+        requires from { asked.now.from ≡ exchange.now.span.from }
+        ensures { (recording : List (List ActValue)) → IsSaid exchange.now.pair recording exchange.now.said
+            → asked.now.last ≡ last_announced_from asked.now.from (speech_by exchange.now.pair.writer exchange.now.pair.reader recording)
+            → AreLacking asked.now.from asked.now.last exchange.now.pair (placed_in recording) unreceived.now.numbers.now
+            → ((n : ℕ) → asked.now.from ≤ n → n ≤ asked.now.last → stretches_have unreceived.now.missed.now n
+            ≡ is_missed (since_of exchange.now.span) exchange.now.pair.writer exchange.now.pair.reader (placed_in recording) n)
+            → IfOk result (IsBeside exchange.now.in_spans exchange.now.span exchange.now.pair recording) }
+    {
+        if !exchange.in_spans {
+            return Ok(None);
+        }
+        let outcomes = Outcomes::of(alloc, exchange, unreceived, asked)?;
+        Ok(Some(InSpan {
+            joined: exchange.span.joined,
+            is_joined_here: exchange.span.is_joined_here,
+            from: exchange.span.from.get().cast_unsigned(),
+            until: exchange.span.until,
+            outcomes,
+            base: greatest_base(exchange.said.answers),
+        }))
+    }
+
+    /// Whether what a row of this verdict lacks is a tail alone: numbers behind all that the reader acknowledged, of which nothing
+    /// says that they are lost.
+    pub fn is_tail(&self, verdict: &Verdict) -> bool
+        ensures { result ≡ is_tail_lem verdict.now self.now.outcomes self.now.base }
+    {
+        is_open(verdict) && 1 < self.base && self.outcomes.has_all()
+    }
+
+    /// Whether a row of this verdict is clean, where a reader that did not leave may lack a tail of so many numbers.
+    pub fn is_clean(&self, verdict: &Verdict, tail: u64) -> bool
+        ensures { result ≡ is_clean_lem tail (is_some self.now.until) verdict.now self.now.outcomes self.now.base }
+    {
+        if is_complete(verdict) {
+            return self.outcomes.has_all();
+        }
+        let left = self.until.is_some();
+        self.is_tail(verdict) && (left || self.outcomes.unconfirmed <= tail)
+    }
+}

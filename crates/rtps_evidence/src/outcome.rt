@@ -1,0 +1,159 @@
+ghost use Rattle.std.specs.Prelude.{ℕ, true, ◌≡◌, ◌≤◌, ◌+◌, ◌||◌, ◌&&◌, map, IfOk, OnOk, List};
+ghost use Rattle.std.specs.List.{list_any};
+ghost use Rattle.rtps_receiver.specs.Values.{ActValue};
+ghost use Rattle.rtps_audit.specs.Placed.{placed_in, placed_value};
+ghost use Rattle.rtps_audit.specs.Said.{IsSaid};
+ghost use Rattle.rtps_evidence.specs.Amount.{count_in, stretches_have};
+ghost use Rattle.rtps_evidence.specs.Claimed.{AreLacking};
+ghost use Rattle.rtps_evidence.specs.Missed.{brings_behind, is_missed};
+ghost use Rattle.rtps_evidence.specs.Rising.{AreRising};
+ghost use Rattle.rtps_evidence.specs.Spans.{since_of};
+
+use crate::acknowledgement::greatest_base;
+use crate::amount::{AskedNumbers, Stretch, count_of, push};
+use crate::exchange::Exchange;
+use crate::lacking::{others_of, outside};
+use crate::listener::{Listener, number_behind};
+use crate::rising::end_at;
+use crate::silence::find_silent;
+use rtps_audit::Placed;
+use rtps_ids::Memory;
+use std::alloc::Global;
+
+/// What became of a number that is asked about: the first of these that fits.
+#[derive(Clone, Copy, PartialEq, Eq, Debug)]
+pub enum Outcome {
+    /// For certain: where there is a run, every run ends with a payload for it.
+    Received,
+    /// The reader asked for it, and of its last request nothing came behind it, or the number was sent before it.
+    Missed,
+    /// Nothing of it was sent to the reader since it joined.
+    Unsent,
+    /// The reader was asked about it again and again, and gave no answer until it was told gone.
+    Unanswered,
+    /// It was sent, and the reader acknowledges it without having asked for it again.
+    Likely,
+    /// It was sent, nothing acknowledges it, and the reader does not ask for it.
+    Unconfirmed,
+}
+
+/// How many numbers have each outcome.
+#[derive(Clone, Copy, PartialEq, Eq, Debug)]
+pub struct Outcomes {
+    pub received: u64,
+    pub missed: u64,
+    pub unsent: u64,
+    pub unanswered: u64,
+    pub likely: u64,
+    pub unconfirmed: u64,
+}
+
+/// The numbers that a reader may not have received, and those of them that it missed. Other numbers may be among them.
+#[derive(Clone, Copy, Debug)]
+pub(crate) struct Unreceived<'n> {
+    pub(crate) numbers: &'n [Stretch],
+    pub(crate) missed: &'n [Stretch],
+}
+
+/// Appends the number that an act brings the reader since it is there, where it lacks it. After `Memory` the numbers are of no
+/// use.
+fn push_brought(
+    brought: &mut Vec<Stretch>,
+    placed: &Placed<'_>,
+    listener: &Listener,
+    lacking: &[Stretch],
+) -> Result<(), Memory>
+    requires { AreRising lacking.now }
+    ensures { OnOk result ((n : ℕ) → stretches_have lacking.now n ≡ true → stretches_have brought.new.items n ≡ (stretches_have brought.old.items n
+        || brings_behind listener.now.since listener.now.pair.writer listener.now.pair.reader n (placed_value placed.now))) }
+{
+    let Some(number) = number_behind(placed, listener) else {
+        return Ok(());
+    };
+    if number < end_at(lacking, number) {
+        let hi = number + 1;
+        push(brought, Stretch { lo: number, hi })?;
+    }
+    Ok(())
+}
+
+/// The numbers that these acts bring the reader since it is there, of those that it lacks. Other numbers may be among them.
+fn brought_among(
+    alloc: Global,
+    acts: &[Placed<'_>],
+    listener: &Listener,
+    lacking: &[Stretch],
+) -> Result<Vec<Stretch>, Memory>
+    requires { AreRising lacking.now }
+    ensures { IfOk result (λ brought. (n : ℕ) → stretches_have lacking.now n ≡ true → stretches_have brought.items n
+        ≡ list_any (brings_behind listener.now.since listener.now.pair.writer listener.now.pair.reader n) (map placed_value acts.now)) }
+{
+    let mut brought = Vec::new(alloc);
+    if lacking.is_empty() {
+        return Ok(brought);
+    }
+    for placed in acts {
+        push_brought(&mut brought, placed, listener, lacking)?;
+    }
+    Ok(brought)
+}
+
+/// Adds numbers to others, and says how many of those that are asked for are among all of them. After `Memory` the numbers are of
+/// no use.
+fn count_with(
+    numbers: &mut Vec<Stretch>,
+    more: &[Stretch],
+    asked: &AskedNumbers,
+) -> Result<u64, Memory>
+    ensures numbers { OnOk result ((n : ℕ) → stretches_have numbers.new.items n ≡ (stretches_have numbers.old.items n || stretches_have more.now n)) }
+    ensures count { IfOk result (λ count. count ≡ count_in (λ n. stretches_have numbers.old.items n || stretches_have more.now n) asked.now.from (asked.now.last + 1)) }
+{
+    numbers.extend_from_slice(more)?;
+    count_of(numbers, asked.from.get().cast_unsigned(), asked.last + 1)
+}
+
+impl Outcomes {
+    ghost use Rattle.rtps_evidence.specs.Outcomes.{AreOutcomes};
+
+    /// How many of the numbers that are asked for have each outcome, by what a pair said. Numbers of one outcome after another
+    /// are put together, so that each outcome has what is then more.
+    pub(crate) fn of(
+        alloc: Global,
+        exchange: &Exchange<'_, '_>,
+        unreceived: &Unreceived<'_>,
+        asked: &AskedNumbers,
+    ) -> Result<Outcomes, Memory>
+        requires { AreRising unreceived.now.numbers.now }
+        ensures { (recording : List (List ActValue)) → IsSaid exchange.now.pair recording exchange.now.said
+            → AreLacking asked.now.from asked.now.last exchange.now.pair (placed_in recording) unreceived.now.numbers.now
+            → ((n : ℕ) → asked.now.from ≤ n → n ≤ asked.now.last → stretches_have unreceived.now.missed.now n
+            ≡ is_missed (since_of exchange.now.span) exchange.now.pair.writer exchange.now.pair.reader (placed_in recording) n)
+            → IfOk result (AreOutcomes asked.now.from asked.now.last (since_of exchange.now.span) exchange.now.pair (placed_in recording)) }
+    {
+        let acts = exchange.said.acts;
+        let lacking = unreceived.numbers;
+        let mut brought = brought_among(alloc, acts, &exchange.listener(), lacking)?;
+        let unsent = others_of(alloc, &mut brought, asked)?;
+        let silent = find_silent(alloc, exchange, asked, lacking)?;
+        let claimed = [Stretch {
+            lo: 0,
+            hi: greatest_base(exchange.said.answers),
+        }];
+        let from = asked.from.get().cast_unsigned();
+        let end = asked.last + 1;
+        let mut numbers = outside(alloc, lacking, from, end)?;
+        let received = count_with(&mut numbers, &[], asked)?;
+        let missed = count_with(&mut numbers, unreceived.missed, asked)?;
+        let unsent = count_with(&mut numbers, &unsent, asked)?;
+        let unanswered = count_with(&mut numbers, &silent, asked)?;
+        let likely = count_with(&mut numbers, &claimed, asked)?;
+        Ok(Outcomes {
+            received,
+            missed: missed.saturating_sub(received),
+            unsent: unsent.saturating_sub(missed),
+            unanswered: unanswered.saturating_sub(unsent),
+            likely: likely.saturating_sub(unanswered),
+            unconfirmed: (end - from).saturating_sub(likely),
+        })
+    }
+}

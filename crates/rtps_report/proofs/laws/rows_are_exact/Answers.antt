@@ -1,0 +1,89 @@
+use Rattle.std.proofs.Common.{◌≡◌, ◌∙◌, ℕ, Bool, true, false, List, All, Option, None, ap, subst, sym}
+use Rattle.std.proofs.lemmas.List.Elements.{All-filter, All-same, All-weaker}
+use Rattle.rtps_audit.specs.Laws.{FirstDatagramsDecide}
+use Rattle.rtps_audit.specs.RunVerdict.{IsVerdictFrom}
+use Rattle.rtps_audit.specs.Said.{FirstDatagramsSayTheSame, datagrams_until}
+use Rattle.rtps_audit.specs.Speech.{speech_by}
+use Rattle.rtps_audit.proofs.ExactVerdicts.{exact_verdict}
+use Rattle.rtps_receiver.specs.Values.{ActValue}
+use Rattle.rtps_evidence.specs.Evidence.{IsBeside, IsEvidenceBy, IsShown}
+use Rattle.rtps_evidence.specs.Spans.{IsExtent, since_of}
+use Rattle.rtps_evidence.specs.declared.span.Span.{Span}
+use Rattle.rtps_fragments.specs.Laws.{FirstDatagramsDecideSamples, FirstDatagramsTellTheSame}
+use Rattle.rtps_report.specs.Vocabulary.{Explanation, Fragments, InSpan, Intake, IsJudgedFrom, Pair, Read, Row, Skipped, Verdict, intake_as, intake_of}
+use Rattle.rtps_report.specs.FullReport.{AskedValue}
+use Rattle.rtps_report.specs.Laws.{ExplainedRowsAreExact, IsExactRow, IsVerdictAs, LeftOutRowsAreExact, ReportedRowsAreExact, first_acts}
+use Rattle.rtps_report.specs.RowFacts.{left_in, row_from}
+use Rattle.rtps_report.proofs.laws.rows_are_exact.Goals as goal
+
+-- the verdict by the acts of the first datagrams is that of the recording that ends there
+verdict_as : FirstDatagramsDecide → FirstDatagramsDecideSamples → (fragments : Fragments) (from : ℕ) (pair : Pair) (until : Option ℕ) (recording : List (List ℕ)) (verdict : Verdict)
+    → IsVerdictFrom from (speech_by pair.writer pair.reader (datagrams_until until (intake_as fragments recording).acts)) verdict → IsVerdictAs fragments from pair (datagrams_until until recording) verdict
+verdict_as plain samples Skipped from pair until recording verdict is =
+    (plain from pair.writer pair.reader until recording verdict).0 (exact_verdict from pair.writer pair.reader (datagrams_until until (intake_of recording).acts) verdict is)
+verdict_as plain samples Read from pair until recording verdict is = (samples from pair.writer pair.reader until recording verdict).1 is
+
+-- and these acts are the acts that are taken in of them
+acts_are : FirstDatagramsSayTheSame → FirstDatagramsTellTheSame → (fragments : Fragments) (until : Option ℕ) (recording : List (List ℕ))
+    → datagrams_until until (intake_as fragments recording).acts ≡ first_acts fragments until recording
+acts_are say tell Skipped until recording = sym (say until recording)
+acts_are say tell Read until recording = tell until recording
+
+-- the first number and the datagram of a row are those of its span
+row_first : (spans : Bool) (from : ℕ) (pair : Pair) (intake : Intake) (span : Span) (acts : List (List ActValue)) (beside : Option InSpan) → IsExtent spans from pair intake span → IsBeside spans span pair acts beside
+    → row_from from beside ≡ span.from
+row_first true from pair intake span acts beside extent (in_span, is, shown) = ap (row_from from) is ∙ shown.first
+row_first false from pair intake span acts beside extent is = ap (row_from from) is ∙ sym extent.first
+
+row_until : (spans : Bool) (from : ℕ) (pair : Pair) (intake : Intake) (span : Span) (acts : List (List ActValue)) (beside : Option InSpan) → IsExtent spans from pair intake span → IsBeside spans span pair acts beside
+    → left_in beside ≡ span.until
+row_until true from pair intake span acts beside extent (in_span, is, shown) = ap left_in is ∙ shown.until
+row_until false from pair intake span acts beside extent is = ap left_in is ∙ sym extent.until
+
+module _ (say : FirstDatagramsSayTheSame) (tell : FirstDatagramsTellTheSame) (plain : FirstDatagramsDecide) (samples : FirstDatagramsDecideSamples) where
+  exact_row : (asked : AskedValue) (recording : List (List ℕ)) (row : Explanation) → IsEvidenceBy asked.spans asked.from row.pair (intake_as asked.fragments recording) row.evidence → IsExactRow asked recording row
+  exact_row asked recording row is =
+      let intake = intake_as asked.fragments recording in
+      let acts = datagrams_until is.span.until intake.acts in
+      let first = row_first asked.spans asked.from row.pair intake is.span acts row.evidence.in_span is.extent is.beside in
+      let until = row_until asked.spans asked.from row.pair intake is.span acts row.evidence.in_span is.extent is.beside in
+      let same = acts_are say tell asked.fragments is.span.until recording in
+      record {
+        verdict = rw (first, until) (verdict_as plain samples asked.fragments is.span.from row.pair is.span.until recording row.evidence.verdict is.shown.verdict);
+        span = is.span;
+        extent = is.extent;
+        first = first;
+        until = until;
+        shown = subst (λ (those : List (List ActValue)). IsShown is.span.from (since_of is.span) row.pair those row.evidence) same is.shown;
+        beside = subst (λ (those : List (List ActValue)). IsBeside asked.spans is.span row.pair those row.evidence.in_span) same is.beside;
+      }
+
+  exact_rows : (asked : AskedValue) (recording : List (List ℕ)) (rows : List Explanation) → All (λ (row : Explanation). IsEvidenceBy asked.spans asked.from row.pair (intake_as asked.fragments recording) row.evidence) rows
+      → All (IsExactRow asked recording) rows
+  exact_rows asked recording rows shown =
+      All-weaker (λ (row : Explanation). IsEvidenceBy asked.spans asked.from row.pair (intake_as asked.fragments recording) row.evidence) (IsExactRow asked recording) (exact_row asked recording) rows shown
+
+  explained_are_exact : ExplainedRowsAreExact
+  explained_are_exact asked recording explained is =
+      All-same (IsExactRow asked recording) _ _ is.rows (All-filter _ (IsExactRow asked recording) is.whole.rows.items (exact_rows asked recording is.whole.rows.items is.explains.shown))
+
+  left_out_are_exact : LeftOutRowsAreExact
+  left_out_are_exact asked recording explained left_out is =
+      let whole = is.explains.whole in
+      All-same (IsExactRow asked recording) _ _ is.left_out_too (All-filter _ (IsExactRow asked recording) whole.rows.items (exact_rows asked recording whole.rows.items is.explains.explains.shown))
+
+  reported_are_exact : ReportedRowsAreExact
+  reported_are_exact asked recording report is =
+      let IsExact : Row → Type 0 = λ row. IsVerdictAs asked.fragments asked.from row.pair recording row.verdict in
+      let whole = All-weaker (IsJudgedFrom asked.from (intake_as asked.fragments recording).acts) IsExact
+      (λ row verdict. verdict_as plain samples asked.fragments asked.from row.pair None recording row.verdict verdict) is.whole.rows.items is.reports.judged in
+      All-same IsExact _ _ is.rows (All-filter _ IsExact is.whole.rows.items whole)
+
+pub returns-clause-reported : goal.returns-clause-reported
+returns-clause-reported c = reported_are_exact c.first_datagrams_say_the_same.ensures.acts c.first_datagrams_tell_the_same.ensures c.first_datagrams_say_the_same.ensures.verdict c.first_datagrams_decide.ensures
+
+pub returns-clause-explained : goal.returns-clause-explained
+returns-clause-explained c = explained_are_exact c.first_datagrams_say_the_same.ensures.acts c.first_datagrams_tell_the_same.ensures c.first_datagrams_say_the_same.ensures.verdict c.first_datagrams_decide.ensures
+
+pub returns-clause-left_out : goal.returns-clause-left_out
+returns-clause-left_out c = left_out_are_exact c.first_datagrams_say_the_same.ensures.acts c.first_datagrams_tell_the_same.ensures c.first_datagrams_say_the_same.ensures.verdict c.first_datagrams_decide.ensures

@@ -1,0 +1,75 @@
+-- What a row says of its numbers, in a span or by the whole recording.
+-- own: what is not asked for is not told: of a row that is in no span, what is received and what is missed, and no more.
+use Rattle.std.specs.Prelude.{ℕ, ◌+◌, ◌-◌, Bool, false, ◌&&◌, ◌||◌, ◌==◌, is_none, is_some, nat_le, nat_lt, not, Option, None, Some}
+use Rattle.rtps_evidence.specs.Clean.{is_clean as is_clean_in, is_tail as is_tail_in}
+use Rattle.rtps_audit.specs.Speech.{natural}
+use Rattle.rtps_report.specs.Reported.{is_complete}
+use Rattle.rtps_report.specs.Vocabulary.{Announcement, EvidenceValue, InSpan, Outcomes, Verdict}
+
+-- how many numbers are asked about: those from `from` on, up to the last announced one
+abbrev pub asked_about : ℕ → Option Announcement → ℕ
+asked_about from None = 0
+asked_about from (Some announcement) = natural announcement.number + 1 - from
+
+-- the number from which on a row is, where numbers are asked for from `from` on
+abbrev pub row_from : ℕ → Option InSpan → ℕ
+row_from from None = from
+row_from from (Some in_span) = in_span.from
+
+-- the datagram in which its reader leaves; None where it does not, or where that is not asked
+abbrev pub left_in : Option InSpan → Option ℕ
+left_in None = None
+left_in (Some in_span) = in_span.until
+
+-- its reader joined in this recording, where that is asked
+abbrev pub is_joined_in : Option InSpan → Bool
+is_joined_in None = false
+is_joined_in (Some in_span) = in_span.is_joined_here
+
+-- what became of its numbers, of which so many are received and missed
+abbrev pub outcomes_by : ℕ → ℕ → Option InSpan → Outcomes
+outcomes_by received missed None =
+    record { received = received; missed = missed; unsent = 0; unanswered = 0; likely = 0; unconfirmed = 0 }
+outcomes_by received missed (Some in_span) = in_span.outcomes
+
+-- those of a row
+abbrev pub outcomes_of : EvidenceValue → Outcomes
+outcomes_of evidence = outcomes_by evidence.received evidence.missed evidence.in_span
+
+-- it is clean, where a tail may have so many numbers; in no span, where it is complete and nothing is missed
+abbrev pub is_clean_by : ℕ → Verdict → ℕ → Option InSpan → Bool
+is_clean_by tail verdict missed None = is_complete verdict && (missed == 0)
+is_clean_by tail verdict missed (Some in_span) = is_clean_in tail (is_some in_span.until) verdict in_span.outcomes in_span.base
+
+-- the same of a row
+abbrev pub is_clean : ℕ → EvidenceValue → Bool
+is_clean tail evidence = is_clean_by tail evidence.verdict evidence.missed evidence.in_span
+
+-- what it lacks is a tail alone
+abbrev pub is_tail_by : Verdict → Option InSpan → Bool
+is_tail_by verdict None = false
+is_tail_by verdict (Some in_span) = is_tail_in verdict in_span.outcomes in_span.base
+
+-- the same of a row
+abbrev pub is_tail : EvidenceValue → Bool
+is_tail evidence = is_tail_by evidence.verdict evidence.in_span
+
+-- it is not clean for that alone
+abbrev pub is_tail_alone : ℕ → EvidenceValue → Bool
+is_tail_alone tail evidence = not (is_clean tail evidence) && is_tail evidence
+
+-- it is clean with a tail
+abbrev pub is_clean_tail : ℕ → EvidenceValue → Bool
+is_clean_tail tail evidence = is_clean tail evidence && is_tail evidence
+
+-- someone has to look at it
+abbrev pub is_noted : ℕ → EvidenceValue → Bool
+is_noted tail evidence = not (is_clean tail evidence) && not (is_tail evidence)
+
+-- all numbers that the writer of a complete row announced stand before it
+abbrev pub is_late : ℕ → EvidenceValue → Bool
+is_late from evidence = is_complete evidence.verdict && (is_none evidence.announcement && nat_lt from (row_from from evidence.in_span))
+
+-- each of its numbers is received for certain
+abbrev pub is_certain : ℕ → EvidenceValue → Bool
+is_certain from evidence = nat_le (asked_about (row_from from evidence.in_span) evidence.announcement) (outcomes_of evidence).received

@@ -1,0 +1,197 @@
+ghost use Rattle.std.specs.Prelude.{◌≡◌, ◌<◌, ◌^◌, map};
+ghost use Rattle.std.specs.List.{list_all};
+ghost use Rattle.rtps_audit.specs.Speech.{natural as natural_lem};
+ghost use Rattle.rtps_evidence.specs.Explanation.{evidence_value, explanation_value};
+ghost use Rattle.rtps_report.specs.Asked.{asked_value};
+ghost use Rattle.rtps_report.specs.FullReport.{facts_of_rows, is_met as is_met_lem, missed_in};
+ghost use Rattle.rtps_report.specs.Reported.{is_complete as completes, number_of as number_of_lem};
+ghost use Rattle.rtps_report.specs.RowFacts.{asked_about as asked_about_lem, is_certain as is_certain_lem, is_clean as is_clean_lem, is_clean_tail as is_clean_tail_lem, is_joined_in, is_late as is_late_lem, is_noted as is_noted_lem, is_tail as is_tail_lem, is_tail_alone as is_tail_alone_lem, left_in, outcomes_of as outcomes_of_lem, row_from as row_from_lem};
+
+use crate::asked::{Asked, Standard};
+use crate::findings::Facts;
+use crate::recording::Recording;
+use rtps_audit::Verdict;
+use rtps_evidence::{Announcement, Evidence, Explained, Explanation, Outcomes};
+
+/// Whether each number that is asked about is acknowledged.
+pub fn is_complete(verdict: &Verdict) -> bool
+    ensures { result ≡ completes verdict.now }
+{
+    matches!(verdict, Verdict::Complete { .. })
+}
+
+/// The number of a verdict.
+pub fn number_of(verdict: &Verdict) -> i64
+    ensures { result ≡ number_of_lem verdict.now }
+{
+    match *verdict {
+        Verdict::Complete { last } => last,
+        Verdict::Open { number }
+        | Verdict::Conflict { number }
+        | Verdict::Unfounded { number, .. } => number,
+    }
+}
+
+/// A number, or 0 for one below it.
+pub(crate) fn natural(number: i64) -> u64
+    ensures value { result ≡ natural_lem number }
+    ensures in_range { result < 2 ^ 63 }
+{
+    number.max(0).cast_unsigned()
+}
+
+/// How many numbers are asked about, from `from` on.
+pub fn asked_about(from: u64, announcement: Option<Announcement>) -> u64
+    ensures { result ≡ asked_about_lem from announcement }
+{
+    match announcement {
+        None => 0,
+        Some(announcement) => (natural(announcement.number) + 1).saturating_sub(from),
+    }
+}
+
+/// The number from which on a row is, where numbers are asked for from `from` on.
+pub fn row_from(from: u64, evidence: &Evidence<'_>) -> u64
+    ensures { result ≡ row_from_lem from evidence.now.in_span }
+{
+    match &evidence.in_span {
+        Some(in_span) => in_span.from,
+        None => from,
+    }
+}
+
+/// The datagram in which the reader of a row leaves; None where it does not, or where that is not asked.
+pub fn left_at(evidence: &Evidence<'_>) -> Option<u64>
+    ensures { result ≡ left_in evidence.now.in_span }
+{
+    match &evidence.in_span {
+        Some(in_span) => in_span.until,
+        None => None,
+    }
+}
+
+pub(crate) fn is_joined(evidence: &Evidence<'_>) -> bool
+    ensures { result ≡ is_joined_in evidence.now.in_span }
+{
+    match &evidence.in_span {
+        Some(in_span) => in_span.is_joined_here,
+        None => false,
+    }
+}
+
+/// What became of the numbers of a row. Of a row that is in no span it is told what is received and what is missed, and no more.
+pub fn outcomes_of(evidence: &Evidence<'_>) -> Outcomes
+    ensures { result ≡ outcomes_of_lem (evidence_value evidence.now) }
+{
+    match &evidence.in_span {
+        Some(in_span) => in_span.outcomes,
+        None => Outcomes {
+            received: evidence.received,
+            missed: evidence.missed,
+            unsent: 0,
+            unanswered: 0,
+            likely: 0,
+            unconfirmed: 0,
+        },
+    }
+}
+
+/// Whether a row is clean, where a tail may have so many numbers.
+pub fn is_clean(tail: u64, evidence: &Evidence<'_>) -> bool
+    ensures { result ≡ is_clean_lem tail (evidence_value evidence.now) }
+{
+    match &evidence.in_span {
+        Some(in_span) => in_span.is_clean(&evidence.verdict, tail),
+        None => is_complete(&evidence.verdict) && evidence.missed == 0,
+    }
+}
+
+pub(crate) fn is_tail(evidence: &Evidence<'_>) -> bool
+    ensures { result ≡ is_tail_lem (evidence_value evidence.now) }
+{
+    match &evidence.in_span {
+        Some(in_span) => in_span.is_tail(&evidence.verdict),
+        None => false,
+    }
+}
+
+/// Whether a row is not clean for its tail alone.
+pub fn is_tail_alone(tail: u64, evidence: &Evidence<'_>) -> bool
+    ensures { result ≡ is_tail_alone_lem tail (evidence_value evidence.now) }
+{
+    !is_clean(tail, evidence) && is_tail(evidence)
+}
+
+/// Whether someone has to look at a row: it is not clean, and not for its tail alone.
+pub fn is_noted(tail: u64, evidence: &Evidence<'_>) -> bool
+    ensures { result ≡ is_noted_lem tail (evidence_value evidence.now) }
+{
+    !is_clean(tail, evidence) && !is_tail(evidence)
+}
+
+pub(crate) fn is_clean_tail(tail: u64, evidence: &Evidence<'_>) -> bool
+    ensures { result ≡ is_clean_tail_lem tail (evidence_value evidence.now) }
+{
+    is_clean(tail, evidence) && is_tail(evidence)
+}
+
+/// Whether all numbers that the writer of a complete row announced stand before it.
+pub fn is_late(from: u64, evidence: &Evidence<'_>) -> bool
+    ensures { result ≡ is_late_lem from (evidence_value evidence.now) }
+{
+    is_complete(&evidence.verdict)
+        && evidence.announcement.is_none()
+        && from < row_from(from, evidence)
+}
+
+pub(crate) fn is_certain(from: u64, evidence: &Evidence<'_>) -> bool
+    ensures { result ≡ is_certain_lem from (evidence_value evidence.now) }
+{
+    asked_about(row_from(from, evidence), evidence.announcement) <= outcomes_of(evidence).received
+}
+
+pub(crate) fn missed_among(rows: &[Explanation<'_>]) -> u64
+    ensures { result ≡ missed_in (map explanation_value rows.now) }
+{
+    let mut missed = 0;
+    for row in rows {
+        if row.evidence.missed > 0 {
+            missed += 1;
+        }
+    }
+    missed
+}
+
+fn is_met(asked: &Asked<'_>, evidence: &Evidence<'_>) -> bool
+    ensures { result ≡ is_met_lem (asked_value asked.now) (evidence_value evidence.now) }
+{
+    match asked.standard {
+        Standard::AllComplete => is_complete(&evidence.verdict),
+        Standard::AllClean { tail, certain } => {
+            is_clean(tail, evidence) && (!certain || is_certain(asked.first_asked(), evidence))
+        }
+    }
+}
+
+fn are_met(asked: &Asked<'_>, rows: &[Explanation<'_>]) -> bool
+    ensures { result ≡ list_all (λ row. is_met_lem (asked_value asked.now) row.evidence) (map explanation_value rows.now) }
+{
+    for row in rows {
+        if !is_met(asked, &row.evidence) {
+            return false;
+        }
+    }
+    true
+}
+
+pub(crate) fn facts_of(asked: &Asked<'_>, explained: &Explained<'_>, recording: &Recording) -> Facts
+    ensures { result ≡ facts_of_rows (asked_value asked.now) (map explanation_value explained.now.rows.items) explained.now.counts recording.now }
+{
+    Facts {
+        rows: explained.rows.len() as u64,
+        missed: missed_among(&explained.rows),
+        met: are_met(asked, &explained.rows),
+        counts: explained.counts,
+        reasons: recording.reasons(),
+    }
+}
