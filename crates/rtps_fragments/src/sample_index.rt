@@ -104,7 +104,10 @@ pub fn index_with<'s>(
 
 /// The index of a recording where no submessage belongs to fragments; none where one does. `Memory` is answered where there is none
 /// for it.
-fn plain_index<'s>(alloc: Global, recording: &[&'s [u8]]) -> Result<Option<Index<'s>>, Memory>
+pub(crate) fn plain_index<'s>(
+    alloc: Global,
+    recording: &[&'s [u8]],
+) -> Result<Option<Index<'s>>, Memory>
     ensures { IfOk result (λ found. IfSome found (λ index. IsIndexOf (map (λ datagram. datagram.now) recording.now) index
         × IsWithoutFragments (map (λ datagram. datagram.now) recording.now))) }
 {

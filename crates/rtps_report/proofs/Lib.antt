@@ -1,7 +1,19 @@
 mod AskedLemmas
+mod BestEffortLemmas
+mod BestEffortSums
 mod ContactLemmas
+mod FittingLemmas
+mod FollowedLemmas
+mod NobodyLemmas
+mod MatchLemmas
 pub mod Offered
+mod OneReportLemmas
+mod OneTalkLemmas
+mod ParticipantLemmas
 mod PatternLemmas
 mod PiecesLemmas
+mod SameLists
 mod StayLemmas
+mod TalkLemmas
 mod TopicLemmas
+mod TrafficLemmas

@@ -10,6 +10,7 @@ use Rattle.std.specs.declared.cmp.Ordering.{Ordering}
 use Rattle.rtps_receiver.specs.Speech.{is_for, is_prefix}
 use Rattle.rtps_fragments.specs.Sending.{all_acts_in}
 use Rattle.rtps_report.specs.Vocabulary.{ActValue, Fragments, Pair, Read, Skipped, acts_in}
+use Rattle.rtps_parts.specs.RosNames.{ros_topic}
 use Rattle.rtps_report.specs.Patterns.{fits}
 use Rattle.rtps_report.specs.declared.contacts.Contact.{Contact}
 use Rattle.rtps_report.specs.declared.contacts.Contacts.{Contacts}
@@ -46,9 +47,13 @@ pub record RowsValue : Type 0 where
 abbrev pub rows_value : Rows → RowsValue
 rows_value rows = record { topics = map string_bytes rows.topics.now; observed = rows.observed }
 
+-- the name of a topic fits a pattern, or the name that ROS 2 gives it
+abbrev pub fits_topic : List ℕ → List ℕ → Bool
+fits_topic pattern topic = fits pattern topic || fits pattern (ros_topic topic)
+
 -- a topic fits one of the patterns, or there is none
 abbrev pub fits_one : List (List ℕ) → List ℕ → Bool
-fits_one patterns topic = (length patterns == 0) || list_any (λ pattern. fits pattern topic) patterns
+fits_one patterns topic = (length patterns == 0) || list_any (λ pattern. fits_topic pattern topic) patterns
 
 -- the row of a pair with this topic is kept, of a recording with these acts
 abbrev pub is_kept : RowsValue → List ActValue → List ℕ → Pair → Bool

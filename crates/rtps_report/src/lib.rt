@@ -2,9 +2,11 @@
 //! how a run ends that tells of it. What `why`, `page`, `check` and JSON print is a form of this one value; `audit` prints its rows alone.
 #![tactic(auto)]
 
+mod act_walk;
 mod advice;
 mod asked;
 mod asked_report;
+mod best_effort;
 mod contacts;
 mod datagram_list;
 mod datagram_span;
@@ -13,22 +15,27 @@ mod full_report;
 pub mod laws;
 mod note_facts;
 mod parted;
+mod participant;
 mod pattern;
 mod recording;
 mod row_facts;
 mod rows;
+mod talk;
 mod topics;
 mod totals;
+mod traffic;
 
 pub use advice::{Advice, Scope, advice_of};
 pub use asked::{Asked, Standard};
 pub use asked_report::{AskedReport, audit_asked};
+pub use best_effort::BestEffort;
 pub use contacts::Contacts;
 pub use datagram_list::{DatagramList, Datagrams};
 pub use datagram_span::{DatagramSpan, make_room, push_octets};
 pub use findings::{Ending, Facts, FewRows, Findings, ending_of};
 pub use full_report::{FullReport, Subject, report_on};
 pub use note_facts::{NoteFacts, is_unread, notes_on, scope_of};
+pub use participant::{Participant, are_on_one_host};
 pub use pattern::fits;
 pub use recording::{Links, Reasons, Recording};
 pub use row_facts::{
@@ -38,5 +45,7 @@ pub use row_facts::{
 pub use rows::{RowFilter, Rows};
 pub use rtps_audit::{Unwatched, Watch};
 pub use rtps_fragments::{Fragments, Samples};
+pub use talk::Talk;
 pub use topics::{by_topic, topics_of};
 pub use totals::{Totals, totals_of};
+pub use traffic::Stay;

@@ -1,14 +1,17 @@
-ghost use Rattle.std.specs.Prelude.{◌≡◌, List, IfOk};
+ghost use Rattle.std.specs.Prelude.{◌≡◌, List, IfOk, map};
 ghost use Rattle.rtps_receiver.specs.Values.{ActValue};
 ghost use Rattle.rtps_evidence.specs.Explanation.{IsExplainedBy};
 ghost use Rattle.rtps_fragments.specs.RecordedSamples.{intake_as};
 ghost use Rattle.rtps_report.specs.Asked.{asked_value};
 ghost use Rattle.rtps_report.specs.Rows.{IsFilterOf, RowsValue};
-ghost use Rattle.rtps_report.specs.FullReport.{IsPartedAs, is_left_out as is_left_out_lem, of_all_pairs};
+ghost use Rattle.rtps_policies.specs.Unmatched.{unmatched_value};
+ghost use Rattle.rtps_report.specs.FullReport.{IsPartedAs, fitting, is_left_out as is_left_out_lem, of_all_pairs};
+ghost use Rattle.rtps_report.specs.Talk.{AreUnfit};
 
-use crate::asked::Asked;
+use crate::asked::{Asked, Standard};
 use crate::recording::Recording;
 use crate::rows::{RowFilter, Rows};
+use crate::talk::Talk;
 use rtps_evidence::{Explained, Explanation};
 use rtps_ids::Memory;
 use std::alloc::Global;
@@ -19,6 +22,25 @@ use std::alloc::Global;
 pub(crate) struct Parted<'a> {
     pub(crate) explained: Explained<'a>,
     pub(crate) left_out: Vec<Explanation<'a>>,
+}
+
+impl Parted<'_> {
+    /// Drops those of pairs that do not match, where rows have to be clean.
+    pub(crate) fn keep_fitting(&mut self, standard: Standard, talk: &Talk<'_>)
+        ensures rows { AreUnfit (map unmatched_value talk.now.unmatched.items) talk.now.unfit
+            → self.new.explained.rows.items ≡ fitting standard (map unmatched_value talk.now.unmatched.items) self.old.explained.rows.items }
+        ensures counts { self.new.explained.counts ≡ self.old.explained.counts }
+        ensures left_out { AreUnfit (map unmatched_value talk.now.unmatched.items) talk.now.unfit
+            → self.new.left_out.items ≡ fitting standard (map unmatched_value talk.now.unmatched.items) self.old.left_out.items }
+    {
+        match standard {
+            Standard::AllComplete => {}
+            Standard::AllClean { .. } => {
+                self.explained.rows.retain(|row| !talk.is_unfit(row.pair));
+                self.left_out.retain(|row| !talk.is_unfit(row.pair));
+            }
+        }
+    }
 }
 
 /// Whether the topic of a row is asked for, and it is not asked for itself.

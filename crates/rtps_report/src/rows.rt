@@ -1,19 +1,21 @@
 ghost use Rattle.std.specs.Prelude.{◌≡◌, map, IfOk};
 ghost use Rattle.std.specs.String.{string_bytes};
-ghost use Rattle.rtps_report.specs.Rows.{acts_read, fits_one as fits_one_lem};
+ghost use Rattle.rtps_report.specs.Rows.{acts_read, fits_one as fits_one_lem, fits_topic as fits_topic_lem};
 
 use crate::contacts::Contacts;
-use crate::pattern::fits;
+use crate::pattern::{fits, fits_followed};
 use crate::recording::{Recording, datagrams_of};
 use rtps_discovery::Pair;
 use rtps_fragments::Fragments;
 use rtps_ids::Memory;
+use rtps_parts::ros_topic;
 use std::alloc::Global;
 
 /// Which rows of a report are asked for.
 #[derive(Clone, Copy, Debug)]
 pub struct Rows<'a> {
-    /// Patterns, in which `*` stands for any octets: the topic fits one of them. All topics where there is none.
+    /// Patterns, in which `*` stands for any octets: the name of the topic fits one of them, or the name that ROS 2 gives it. All
+    /// topics where there is none.
     pub topics: &'a [String],
     /// Only rows of pairs that the recording can speak of: the reader's participant names the writer's as a destination.
     pub observed: bool,
@@ -73,11 +75,19 @@ impl<'a> RowFilter<'a> {
     }
 }
 
-fn fits_one(patterns: &[String], topic: &[u8]) -> bool
+/// Whether the name of a topic fits a pattern, or the name that ROS 2 gives it.
+fn fits_topic(pattern: &[u8], topic: &[u8]) -> bool
+    ensures { result ≡ fits_topic_lem pattern.now topic.now }
+{
+    let name = ros_topic(topic);
+    fits(pattern, topic) || fits_followed(pattern, name.name, name.word.as_bytes())
+}
+
+pub(crate) fn fits_one(patterns: &[String], topic: &[u8]) -> bool
     ensures { result ≡ fits_one_lem (map string_bytes patterns.now) topic.now }
 {
     patterns.is_empty()
         || patterns
             .iter()
-            .any(|pattern| fits(pattern.as_bytes(), topic))
+            .any(|pattern| fits_topic(pattern.as_bytes(), topic))
 }

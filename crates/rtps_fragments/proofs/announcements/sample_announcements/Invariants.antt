@@ -1,0 +1,11 @@
+use Rattle.std.proofs.Common.{◌≡◌, map, take}
+use Rattle.rtps_audit.specs.Placed.{placed_value}
+use Rattle.rtps_fragments.specs.Announcements.{announcements_in}
+use Rattle.rtps_fragments.specs.Announcing.{announcing_with}
+use Rattle.rtps_fragments.specs.Sending.{sending_of}
+use Rattle.rtps_fragments.proofs.SampleSteps.{octets_of}
+use Rattle.rtps_fragments.proofs.announcements.sample_announcements.Given as goal
+
+-- those of the datagrams so far
+abbrev pub invariant-loop-place : goal.invariant-loop-place
+invariant-loop-place l = map placed_value l.found.items ≡ announcements_in (announcing_with (sending_of (octets_of (take l.place l.recording))))
