@@ -2,6 +2,8 @@
 DATA_FRAG count. Of spans too: whether rows are in them, how long a tail may be, and whether each number has to be received."""
 import re
 
+from ros import ros_topic
+
 # the greatest number of a sample, and of what may be asked
 GREATEST = 2 ** 63 - 1
 
@@ -34,22 +36,26 @@ class Asked:
         words += ['--tail', str(self.tail)] if self.tail else []
         return words + (['--certain'] if self.certain else [])
 
+    def chooses(self, topic):
+        """whether a topic is asked for, by its name of DDS or of ROS 2"""
+        return not self.topics or any(fits(pattern.encode(), name) for pattern in self.topics for name in (topic, ros_topic(topic)))
+
     def keeps(self, topic, w, r, recording):
         """whether the row of a writer and a reader of a topic is asked for; `recording` has the acts of each datagram"""
-        if self.topics and not any(fits(pattern.encode(), topic) for pattern in self.topics):
-            return False
-        return not self.observed or any(act['source'] == r[:12] and act['dest'] == w[:12] for acts in recording for act in acts)
+        return self.chooses(topic) and (not self.observed or any(act['source'] == r[:12] and act['dest'] == w[:12] for acts in recording for act in acts))
 
     def findings(self, rows, missed, counts, reasons):
         """what a report has or lacks against what is asked, beside complete rows, a line for each: of so many rows, of which
         so many have missed numbers, of its counts by name, and of the reasons for which frames were ignored, with the link type
         of the first one whose link is not read"""
         lines = [f'pairs {rows}, expected {self.expect}'] if self.expect is not None and rows < self.expect else []
+        if self.strict:
+            lines += ['pairs 0'] if rows == 0 else []
+            lines += [f'pairs with missed numbers {missed}'] if missed else []
+        lines += [f"unmatched {counts['unmatched']}"] if counts.get('unmatched', 0) else []
         if not self.strict:
             return lines
-        lines += ['pairs 0'] if rows == 0 else []
-        found = [('pairs with missed numbers', missed), *((name, counts[name]) for name in ('fragments', 'unsettled')),
-                 *((name, reasons.get(name, 0)) for name in ('pieces', 'cut', 'links'))]
+        found = [*((name, counts[name]) for name in ('fragments', 'unsettled')), *((name, reasons.get(name, 0)) for name in ('pieces', 'cut', 'links'))]
         lines += [f'{name} {count}' for name, count in found if count]
         if reasons.get('links', 0) and reasons['link'] is not None:
             lines[-1] += f", the first of type {reasons['link']}"

@@ -7,7 +7,7 @@ frames the whole packets of IPv4 that stand right behind the link's header.
 
 It is written for clearness, by whole lists: frames first, then what each of them has, then the packets of each key.
 """
-from typing import NamedTuple
+from typing import NamedTuple, Optional
 
 PLAIN, ANY = 'plain', 'any'
 
@@ -37,9 +37,9 @@ class Fault(Exception):
 class Frame(NamedTuple):
     """The link type is None where its interface is not declared. The time is None where its block has none, and where it is before
     1970 or needs more than 64 bits."""
-    link: int | None
+    link: Optional[int]
     octets: bytes
-    time: int | None
+    time: Optional[int]
 
 
 class Rest(NamedTuple):

@@ -1,8 +1,11 @@
 """The text of `rtps-audit check`, from rows of a report: what a person and a test job ask of a recording.
 
 `check_lines` gives the lines, `because` the reasons for which the recording is not clean. Both are written from what is
-meant, and not from the program. The guide prints the table ADVICE. A row is that of `spans.Row`.
+meant, and not from the program. The guide prints the table ADVICE. A row is that of `spans.Row`, and `talk` that of `talk.Talk`.
 """
+from told import hosted, one_way_lines, talk_notes, topic_text, type_text, unmatched_amount, unmatched_lines
+from wording import amount, grouped, in_pairs, of
+
 KINDS = 'received', 'missed', 'unsent', 'unanswered', 'likely', 'unconfirmed'
 
 # ---- what to do for a row that is not clean: the first case that fits
@@ -108,22 +111,6 @@ def advice_of(row, counts):
 
 # ---- parts of lines
 
-def grouped(number):
-    return f'{number:,}'
-
-
-def amount(number, one, many):
-    return f'{grouped(number)} {one if number == 1 else many}'
-
-
-def in_pairs(number, one, many, pairs):
-    return f"{amount(number, one, many)} in {amount(pairs, 'pair', 'pairs')}"
-
-
-def of(part, whole):
-    return f'{grouped(part)} of {grouped(whole)}'
-
-
 def total(rows, kind):
     return sum(row.counts[kind] for row in rows)
 
@@ -133,18 +120,27 @@ def cleans(rows, tail):
 
 
 def topics_of(rows):
-    return ', '.join(some[0].names['topic'] for some in by_topic(rows))
+    return ', '.join(topic_text(some[0].key[0]) for some in by_topic(rows))
 
 
 # ---- the first lines
 
+NO_PAIR_MATCHES = 'see below which writers and readers do not match'
+NO_PAIR_ANSWERED = 'see below which participants never answer'
 NO_PAIR_SEEN = 'record where the datagrams of the readers and the writers pass, and switch off shared memory'
-NO_PAIR = 'record from before the start, and see in rtps-audit list --any FILE whether topic, type and QoS of the writers and readers match'
+NO_PAIR_RELIABLE = 'all pairs that match are of best effort: they are counted below, and not judged'
+NO_PAIR = 'record from before the start, and see in rtps-audit list --any FILE what is announced'
 
 
-def first_lines(rows, left_out, tail):
+def no_pair_advice(talk):
+    """the first case that fits"""
+    cases = (talk.unmatched, NO_PAIR_MATCHES), (talk.one_way, NO_PAIR_ANSWERED), (talk.unobserved, NO_PAIR_SEEN), (talk.best_effort, NO_PAIR_RELIABLE)
+    return next((advice for found, advice in cases if found), NO_PAIR)
+
+
+def first_lines(rows, talk, tail):
     if not rows:
-        return ['there is no pair to judge', '  -> ' + (NO_PAIR_SEEN if left_out else NO_PAIR)]
+        return ['there is no pair to judge', '  -> ' + no_pair_advice(talk)]
     numbers = sum(row.asked_about() for row in rows)
     pairs, what = ('pair is' if len(rows) == 1 else 'pairs are'), ('number' if numbers == 1 else 'numbers')
     return [f"{of(cleans(rows, tail), len(rows))} {pairs} clean, {of(total(rows, 'received'), numbers)} {what} received"]
@@ -166,7 +162,7 @@ def table(rows, tail):
     lines = [['topic', 'pairs', 'clean', 'before', *COLUMNS]]
     for some in by_topic(rows):
         counts = [len(some), cleans(some, tail), sum(row.before for row in some), *(total(some, kind) for kind in COLUMNS)]
-        lines.append([some[0].names['topic'], *map(grouped, counts)])
+        lines.append([topic_text(some[0].key[0]), *map(grouped, counts)])
     columns = [column for i, column in enumerate(zip(*lines)) if i < 4 or any(cell != '0' for cell in column[1:])]
     padded = [[cell.rjust(max(map(len, column))) if i else cell.ljust(max(map(len, column))) for cell in column] for i, column in enumerate(columns)]
     return ['  '.join(cells) for cells in zip(*padded)]
@@ -197,17 +193,17 @@ def shown(row):
     return ['    ' + line.strip() for line in sorted(lines, key=lambda line: not line.startswith('  '))]
 
 
-def row_lines(row, counts):
+def row_lines(row, talk, counts):
     left = f', left in datagram {row.until[0]}' if row.until else ''
     kinds = [f'{kind} {row.counts[kind]}' for kind in COLUMNS if kind == 'received' or row.counts[kind]]
-    return [f"  writer {row.names['writer']}", f"  reader {row.names['reader']}, from {row.first}{left}",
+    return [f'  writer {hosted(talk.announced, row.w)}', f'  reader {hosted(talk.announced, row.r)}, from {row.first}{left}',
             f"  {', '.join([row.verdict, *kinds])}", *shown(row), '    -> ' + SENTENCES[advice_of(row, counts)]]
 
 
-def section(rows, counts, tail):
+def section(rows, talk, counts, tail):
     told = [row for row in rows if not row.is_clean(tail) and not row.is_tail_alone(tail)]
-    head = ['', f"{rows[0].names['topic']} {rows[0].names['type']}"] if told else []
-    return head + [line for row in told for line in row_lines(row, counts)]
+    head = ['', ' '.join((topic_text(rows[0].key[0]), type_text(rows[0].key[1])))] if told else []
+    return head + [line for row in told for line in row_lines(row, talk, counts)]
 
 
 def tail_lines(rows, tail):
@@ -252,8 +248,7 @@ def noted(counts, name, one, many):
     return told + (', of type ' if counts[name] == 1 else ', the first of type ') + grouped(counts['link'])
 
 
-def left_out_note(left_out):
-    return f"{amount(len(left_out), 'pair is', 'pairs are')} left out, not seen here (one process, shared memory, another host or interface)"
+LATE = 'if earlier numbers were for it, it was discovered too late: wait for it, or use transient local'
 
 
 def late_note(rows):
@@ -265,26 +260,26 @@ def tail_note(rows):
     return f"{amount(len(rows), 'pair is', 'pairs are')} clean with a tail, of at most {amount(longest, 'number', 'numbers')}"
 
 
-def notes(rows, left_out, counts, tail, named=True):
-    """what weakens the report, each with what to do, or None; with the names of topics or without them"""
-    def of_topics(told, some):
-        return f'{told}: {topics_of(some)}' if named else told
-
+def notes(rows, talk, counts, tail):
+    """what weakens the report: each with the topics that it is about, or None, and what to do, or None"""
     late = [row for row in rows if row.wrote_before_alone]
     tails = [row for row in rows if row.is_clean(tail) and row.kind == 'open']
-    found = [(of_topics(left_out_note(left_out), left_out), None)] if left_out else []
-    found += [(of_topics(late_note(late), late), None)] if late else []
-    found += [(tail_note(tails), None)] if tails else []
+    found = talk_notes(talk)
+    found += [(late_note(late), topics_of(late), LATE)] if late else []
+    found += [(tail_note(tails), None, None)] if tails else []
     counts = counts | {'likely': total(rows, 'likely')}
-    return found + [(noted(counts, name, one, many), advice) for name, one, many, advice in NOTES if counts.get(name, 0)]
+    return found + [(noted(counts, name, one, many), None, advice) for name, one, many, advice in NOTES if counts.get(name, 0)]
 
 
-def note_lines(rows, left_out, counts, tail):
-    return [line for told, advice in notes(rows, left_out, counts, tail) for line in [told] + (['  -> ' + advice] if advice else [])]
+def note_lines(rows, talk, counts, tail):
+    lines = []
+    for told, topics, advice in notes(rows, talk, counts, tail):
+        lines += [told if topics is None else f'{told}: {topics}'] + (['  -> ' + advice] if advice else [])
+    return lines
 
 
-def note_sentences(rows, left_out, counts, tail):
-    return [f'{told} -> {advice}' if advice else told for told, advice in notes(rows, left_out, counts, tail, False)]
+def note_sentences(rows, talk, counts, tail):
+    return [f'{told} -> {advice}' if advice else told for told, _, advice in notes(rows, talk, counts, tail)]
 
 
 # ---- why the recording is not clean
@@ -313,10 +308,14 @@ def row_reasons(rows, tail):
     return reasons + lost(rows, 'unanswered', 'number was unanswered', 'numbers were unanswered')
 
 
-def because(rows, counts, expected, tail, certain):
+def match_reasons(talk):
+    return [unmatched_amount(talk)] if talk.unmatched else []
+
+
+def because(rows, talk, counts, asked):
     """why the recording is not clean"""
     reasons = [] if rows else ['there is no pair']
-    reasons += row_reasons(rows, tail) + (uncertain(rows) if certain else []) + few(rows, expected)
+    reasons += row_reasons(rows, asked.tail) + (uncertain(rows) if asked.certain else []) + match_reasons(talk) + few(rows, asked.expect or 0)
     return reasons + unread(counts, 'unsettled', 'pieces', 'cut', 'links')
 
 
@@ -328,9 +327,10 @@ def block(lines):
     return [''] + lines if lines else []
 
 
-def check_lines(rows, left_out, counts, tail, reasons):
-    """the lines of these rows, of those that are left out, of these counts, of which `refused` are longer than an octet, and of why it is
-    not clean"""
-    return [*first_lines(rows, left_out, tail), *block(table(rows, tail) if rows else []),
-            *(line for some in by_topic(rows) for line in section(some, counts, tail)), *tail_lines(rows, tail),
-            *block(note_lines(rows, left_out, counts, tail)), *block([f"not clean: {'; '.join(reasons)}" if reasons else 'clean'])]
+def check_lines(rows, talk, counts, tail, reasons):
+    """the lines of these rows, of who does not talk, of these counts, of which `refused` are longer than an octet, and of why it is not
+    clean"""
+    return [*first_lines(rows, talk, tail), *block(table(rows, tail) if rows else []),
+            *(line for some in by_topic(rows) for line in section(some, talk, counts, tail)), *tail_lines(rows, tail),
+            *block(unmatched_lines(talk)), *block(one_way_lines(talk)), *block(note_lines(rows, talk, counts, tail)),
+            *block([f"not clean: {'; '.join(reasons)}" if reasons else 'clean'])]

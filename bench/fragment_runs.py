@@ -354,6 +354,9 @@ PIECE_ROWS = [
     (piece(1, 1, 2, 4, 0, EIGHT), None),
     ('1600001f' + piece(1, 1, 1, 1, 1, '')[8:-2], None),
     ('16000004 00000000', None),
+    # under the id of NACK_FRAG the same words are a reader, a writer, a number, a set of one fragment whose bit is 0, and a count
+    ('12' + piece(1, 1, 2, 4, 8, EIGHT)[2:],
+     f'nack_frag 20 be reader 0000001c writer 00000000 number {0x103 << 32} base 1 bits 1 00000000 count 8'),
     ('13' + piece(1, 1, 2, 4, 8, EIGHT)[2:], None),
 ]
 
@@ -364,6 +367,8 @@ def piece_line(octets, wanted):
     """the line of show for a submessage behind HA"""
     if wanted is None:
         return f'skipped 20 id {octets[:2]}'
+    if wanted.startswith('nack_frag'):
+        return f'{wanted} from {A.hex()} to all time none'
     order, fields = wanted.split(' ', 1)
     return f'data_frag 20 {order} reader 00000000 writer 00000103 {fields} from {A.hex()} to all time none'
 

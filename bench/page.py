@@ -22,8 +22,10 @@ import check
 import parts
 import reference
 import spans
-from asked import PLAIN, Asked, asked_by
-from random_recordings import some_asked, some_input
+import told
+from asked import PLAIN, asked_by
+from random_recordings import some_asked
+from random_systems import some_recorded
 
 # So many entries of acts and answers a page has room for.
 ENTRIES = 200000
@@ -105,17 +107,17 @@ def option_values(asked, any_capture):
 class Checked:
     """the rows that are asked for, those that the recording cannot speak of, the counts, and why the run does not end clean"""
     def __init__(self, octets, asked, datagrams, ignored):
-        self.rows, self.left_out, counted = spans.rows_of(datagrams, asked)
+        self.rows, self.talk, counted = spans.rows_of(datagrams, asked, asked.spans)
         self.report = counted | (ignored if isinstance(ignored, dict) else {} if ignored is None else {'ignored': ignored})
         self.counts = spans.counts_of(octets, datagrams, self.report, ignored)
         self.because = self.reasons(asked)
 
     def reasons(self, asked):
-        """why the run does not end clean. Rows in spans have to be clean, others complete; the rest is asked by --strict, but for
-        how many rows there are"""
+        """why the run does not end clean. Rows in spans have to be clean, and all endpoints have to match; other rows have to be complete.
+        The rest is asked by --strict, but for how many rows there are"""
         strict = asked.strict
         reasons = ['there is no pair'] if strict and not self.rows else []
-        reasons += check.row_reasons(self.rows, 0) if asked.spans else self.incomplete(strict)
+        reasons += check.row_reasons(self.rows, 0) + check.match_reasons(self.talk) if asked.spans else self.incomplete(strict)
         reasons += check.few(self.rows, asked.expect or 0) + (check.unread(self.counts, 'unsettled', 'pieces', 'cut', 'links') if strict else [])
         return reasons + (check.unread(self.counts, 'fragments') if strict and not asked.spans else [])
 
@@ -127,17 +129,18 @@ class Checked:
     def findings(self, asked):
         """the lines of standard error"""
         missed = 0 if asked.spans else sum(row.counts['missed'] > 0 for row in self.rows)
-        counts = self.counts | ({'fragments': 0} if asked.spans else {})
+        counts = self.counts | ({'fragments': 0, 'unmatched': len(self.talk.unmatched)} if asked.spans else {})
         return [f'rtps-audit: not clean: {line}' for line in asked.findings(len(self.rows), missed, counts, self.counts)]
 
     def text(self):
-        return ''.join(line + '\n' for line in check.check_lines(self.rows, self.left_out, self.counts, 0, self.because))
+        return ''.join(line + '\n' for line in check.check_lines(self.rows, self.talk, self.counts, 0, self.because))
 
     def members(self):
         """the members of `check --json`"""
         head = {'status': 'unclean' if self.because else 'clean', 'because': self.because}
         pairs = [row.values() | row.span_values() | {'advice': row.advice(self.counts)} for row in self.rows]
-        return head | {'pairs': pairs} | self.report | {'notes': check.note_sentences(self.rows, self.left_out, self.counts, 0)}
+        notes = {'notes': check.note_sentences(self.rows, self.talk, self.counts, 0)}
+        return head | {'pairs': pairs} | self.report | told.talk_members(self.talk) | notes
 
 
 # ---- the page
@@ -145,15 +148,14 @@ class Checked:
 def page_of(datagrams, asked=PLAIN, ignored=None, octets=b''):
     """the text and the data of a page, as Python has it; where any capture was read, the ignored frames are told by their reasons"""
     checked = Checked(octets, asked, datagrams, ignored)
-    participants, endpoints, _, _, _ = reference.discovery(datagrams, asked.fragments)
-    rows = [row.names | {'verdict': row.kind} for row in checked.rows]
+    _, endpoints, _, _, _ = reference.discovery(datagrams, asked.fragments)
+    rows = [row.names() | {'verdict': row.kind} for row in checked.rows]
     traffic = Traffic([reference.acts_of(d, asked.fragments) for d in datagrams], rows)
     pairs = {(row['writer'], row['reader']) for row in traffic.charted(rows)}
     shown = [row for row in rows if (row['writer'], row['reader']) in pairs]
     writers = list(dict.fromkeys(row['writer'] for row in shown))
     return checked.text(), checked.members() | {
         'options': option_values(asked, isinstance(ignored, dict)),
-        'participants': [reference.guid_text(guid) for guid in participants],
         'endpoints': [endpoint_values(endpoint) for endpoint in endpoints],
         'writers': [{'guid': guid, 'acts': traffic.acts[octets_of(guid)]} for guid in writers],
         'answers': [{'writer': row['writer'], 'reader': row['reader'], 'bases': traffic.bases_of(row)} for row in shown],
@@ -195,7 +197,7 @@ def answer_as(octets, asked, any_form=False):
 def compare(program, count, seed):
     rng, differing = random.Random(seed), 0
     for k in range(count):
-        text, asked = some_input(rng), some_asked(rng)
+        text, asked = some_recorded(rng), some_asked(rng)
         asked.spans = rng.random() < 0.5
         want, told, status = answer_as(text, asked)
         got = subprocess.run(program.split() + ['page', *asked.words(), '-'], input=text, capture_output=True)
@@ -211,7 +213,7 @@ def main():
     if words[0] == 'compare':
         count, seed = (int(word) for word in words[2:] + ['1000', '1'][len(words) - 2:])
         return compare(words[1], count, seed)
-    view = words.pop(0) if words[0] in ('data', 'stored') else 'page'
+    view = words.pop(0) if words[0] in ('data', 'stored', 'page') else 'page'
     with open(words[-1], 'rb') as f:
         found = parts_of(f.read(), asked_by(words[:-1]), '--any' in words)
     if isinstance(found, str):

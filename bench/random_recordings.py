@@ -257,8 +257,8 @@ def some_delivery(rng, in_fragments=False):
     return datagrams
 
 
-TOPICS = b'pose', b'rt/odom', b'rt/scan', b'odom', b'a*b', b'aXbYbZc', b'', b'rt/\xff\x0a'
-PATTERNS = '*', '**', 'rt/*', '*/odom', '*odom', 'a*b', 'a*b*c', 'pose', 'p*e', '', 'rt', '*o*o*', 'rt/*\n', 'a*bc'
+TOPICS = b'pose', b'rt/odom', b'rt/odom', b'rt/scan', b'odom', b'/odom', b'a*b', b'aXbYbZc', b'', b'rt/\xff\x0a', b'rq/xRequest', b'rr/xReply', b'rq/xReply'
+PATTERNS = '*', '**', 'rt/*', '/*', '*/odom', '/odom', '*odom', 'a*b', 'a*b*c', 'pose', 'p*e', '', 'rt', '*o*o*', 'rt/*\n', 'a*bc', '* request', '/x reply', 'rq/*t'
 
 
 def names_of(topic):
@@ -470,7 +470,7 @@ def leaving(rng, guid, order='be'):
     whole = rng.random() < 0.4
     writer, pid = (b'\0\1\0\xc2', 0x50) if whole else (b'\0\0\4\xc2', 0x5a)
     key = guid[:12] + b'\0\0\1\xc1' if whole else guid
-    key = rng.choice([key] * 12 + [C + key[12:], key[:15] + b'\9'])
+    key = rng.choice([key] * 12 + [C + key[12:], key[:15] + b'\x09'])
     pid = rng.choice([pid] * 12 + [0x50, 0x5a, 0x70])
     status = bytes(3) + bytes([rng.choice([3, 3, 3, 1, 2, 0, 4])])
     status = rng.choice([status] * 12 + [status[1:], status + b'\0', status + bytes(4), b'\3\0\0\0'])

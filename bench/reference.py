@@ -12,6 +12,8 @@
                                            the same, of a capture of either form, with fragments of IP put together
     reference.py show|audit|why|json --fragments FILE
                                            the same, where samples that came in DATA_FRAG submessages count
+    reference.py check|page [OPTION ..] FILE
+                                           prints what `rtps-audit` should print, by spans.py and page.py
     reference.py compare PROGRAM [COUNT [SEED]]
                                            runs PROGRAM on COUNT random recordings, and says where it differs
     reference.py runs [COUNT [SEED]]       compares verdicts and received numbers with those of all runs, on COUNT random
@@ -31,6 +33,7 @@ import random
 import subprocess
 import sys
 import tempfile
+from importlib import import_module
 
 import capture_reader
 from asked import GREATEST, PLAIN, Asked, asked_by
@@ -1261,6 +1264,8 @@ def captures(program, count, seed):
 
 
 def main():
+    if sys.argv[1] in ('check', 'page'):
+        return import_module({'check': 'spans', 'page': 'page'}[sys.argv[1]]).main()
     if sys.argv[1] == 'runs':
         count, seed = (int(word) for word in sys.argv[2:4] + ['1000', '1'][len(sys.argv[2:4]):])
         return runs(count, seed)

@@ -9,8 +9,8 @@
     spans.py compare PROGRAM [COUNT [SEED]]
                             runs PROGRAM on COUNT random recordings, and says where it differs
 
-A reader joins where it is announced first. A row in a span is the verdict of the datagrams before the reader left, from the first
-number on that is for the reader. Each number that is asked about is in one of six kinds, the first of KINDS that fits.
+A row in a span is the verdict of the datagrams before the reader left, from the first number on that is for the reader. Each number
+that is asked about is in one of six kinds, the first of KINDS that fits.
 """
 import json
 import random
@@ -18,98 +18,14 @@ import subprocess
 import sys
 
 import reference
-from asked import GREATEST, Asked, asked_by
+from asked import Asked, asked_by
 from check import KINDS, SENTENCES, advice_of, because, check_lines, note_sentences
-from fragments import placed_samples
-from random_recordings import some_asked, some_checked, some_input, some_life, text_of_datagrams
-from reference import BUILTIN, START_OF_ALL, Delivery, acts_of, announcement, asks, brings, joined_here, last_number, read_list, spoken
-
-
-# ---- who joins, and who leaves
-
-def announced_endpoints(recording):
-    """what is announced of writers and readers, in order: the place, and what is said"""
-    whole = [((i, act['at']), act['writer'], act['payload']) for i, acts in enumerate(recording, 1) for act in acts if act['kind'] == 'data']
-    said = []
-    for place, writer, (form, octets) in whole + list(placed_samples(recording)):
-        what = BUILTIN.get(writer)
-        if form == 'whole' and what in ('writer', 'reader'):
-            said.append((place, announcement(octets, what)))
-    return sorted(((place, found) for place, found in said if not isinstance(found, str)), key=lambda one: one[0])
-
-
-def value_of(parameters, pid):
-    """the value of the first parameter of this id"""
-    return next((value for found, value in parameters if found == pid), None)
-
-
-def key_of(act, pid):
-    """the GUID in the payload of a DATA, or else the one in its inline QoS"""
-    form, octets = act['payload']
-    found = 'none'
-    if form in ('whole', 'key') and octets[:2] in (b'\0\2', b'\0\3') and len(octets) >= 4:
-        found = read_list(octets[4:], 'be' if octets[1] == 2 else 'le')
-    guid = None if isinstance(found, str) else value_of(found[0], pid)
-    if guid is None or len(guid) < 16:
-        guid = value_of(act['inline'], 0x70)
-    return guid[:16] if guid is not None and len(guid) >= 16 else None
-
-
-# which built-in writers say that an endpoint or a participant leaves: the id of the key in the payload, and its octets that count
-LEAVING = {b'\0\0\4\xc2': (0x5a, 16), b'\0\1\0\xc2': (0x50, 12)}
-
-
-def leavings(recording):
-    """who leaves, in order: the place, who says it, and the octets of a GUID that begin those of all who leave"""
-    for i, acts in enumerate(recording, 1):
-        for act in acts:
-            if act['kind'] != 'data' or act['writer'] not in LEAVING:
-                continue
-            status = value_of(act['inline'], 0x71)
-            pid, octets = LEAVING[act['writer']]
-            key = key_of(act, pid)
-            if status is not None and len(status) == 4 and status[3] & 3 and key is not None:
-                yield (i, act['at']), act['source'], key[:octets]
-
-
-class Life:
-    """what a recording says of who is there, and when"""
-    def __init__(self, recording):
-        self.announced, self.leavings = announced_endpoints(recording), list(leavings(recording))
-
-    def joins(self, r):
-        """the place where an endpoint joins, and what is announced there"""
-        return next(((place, said) for place, said in self.announced if said[0] == r), (None, None))
-
-    def leaves(self, r, joined):
-        """the place where it leaves"""
-        return next((place for place, source, key in self.leavings
-                     if joined is not None and place > joined and source == r[:12] and r.startswith(key)), None)
-
-
-# ---- the span of a pair
-
-class Span:
-    """of a pair: where it joins, from which number on and up to which datagram its row is"""
-    def __init__(self, recording, life, w, r, first):
-        placed = [((i, act['at']), act) for i, acts in enumerate(recording, 1) for act in acts]
-        answers = [(place, act['set']) for place, act in placed if reference.answered(act, w, r)]
-        self.joined, said = life.joins(r)
-        self.joined_here = joined_here(self.joined, answers)
-        # what is behind this place is since the reader joined
-        self.since = self.joined if self.joined_here else START_OF_ALL
-        self.until = life.leaves(r, self.joined)
-        self.first = first
-        if self.joined_here:
-            before = [last_number(act) for place, act in placed if spoken(act, w) and place < self.joined]
-            least = max(first, min(max([0] + before) + 1, GREATEST)) if said[5] == 0 else first
-            wanted = {act['number'] for place, act in placed if brings(act, w, r) and place > self.joined}
-            wanted |= {n for _, act in placed for n in asks(act, w, r)}
-            self.first = min((n for n in wanted if n >= least), default=least)
-
-    def datagrams(self, recording):
-        """those that the pair is judged by"""
-        return recording if self.until is None else recording[:self.until[0] - 1]
+from life import Life, Span
+from random_recordings import some_asked, some_checked, some_life, text_of_datagrams
+from random_systems import some_recorded
+from reference import Delivery, acts_of, guid_text, name_text
+from talk import Talk
+from told import talk_members
 
 
 # ---- outcomes
@@ -162,13 +78,13 @@ class Outcome(Delivery):
 
 class Row:
     """a row of the report: in a span, or of the whole recording. Of one that is in no span it is only told what is received and missed"""
-    def __init__(self, recording, life, w, r, names, asked):
-        self.w, self.r, self.names, self.in_span = w, r, names, asked.spans
-        span = Span(recording, life, w, r, asked.first)
-        self.first, self.until, self.joined_here = (span.first, span.until, span.joined_here) if asked.spans else (asked.first, None, False)
-        self.datagrams = span.datagrams(recording) if asked.spans else recording
-        self.delivery = Outcome(self.datagrams, w, r, self.first, span.since)
-        self.verdict = reference.judge(self.datagrams, w, r, self.first)
+    def __init__(self, recording, talk, w, r, asked):
+        self.w, self.r, self.key, self.in_span = w[0], r[0], w[2:4], asked.spans
+        span = Span(recording, talk.life, self.w, self.r, asked)
+        self.first, self.until, self.joined_here = span.first, span.until, span.joined_here
+        self.datagrams = span.datagrams(recording)
+        self.delivery = Outcome(self.datagrams, self.w, self.r, self.first, span.since)
+        self.verdict = reference.judge(self.datagrams, self.w, self.r, self.first)
         self.kind, self.last = self.verdict.split()[0], self.delivery.last
         self.lines = reference.evidence_lines(self.delivery, self.verdict)
         self.counts = {kind: count if asked.spans or kind in ('received', 'missed') else 0 for kind, count in self.delivery.counts.items()}
@@ -198,9 +114,13 @@ class Row:
         """it is not clean for its tail alone"""
         return not self.is_clean(tail) and self.is_tail()
 
+    def names(self):
+        """the members that name it"""
+        return {'writer': guid_text(self.w), 'reader': guid_text(self.r), 'topic': name_text(self.key[0]), 'type': name_text(self.key[1])}
+
     def values(self):
         """the members of the row that it has without spans"""
-        return self.names | reference.evidence_values(self.verdict.split(), self.lines)
+        return self.names() | reference.evidence_values(self.verdict.split(), self.lines)
 
     def advice(self, counts, tail=0):
         """what to do, or None"""
@@ -211,21 +131,15 @@ class Row:
         return {'from': self.first, 'until': self.until and self.until[0], 'outcomes': self.counts, 'clean': self.is_clean(tail)} if self.in_span else {}
 
 
-def rows_of(datagrams, asked):
-    """the rows that are asked for, those that are left out, and the counts of the whole recording"""
+def rows_of(datagrams, asked, fitting=False):
+    """the rows that are asked for, who talks, and the counts of the whole recording. `fitting` says whether pairs for which any
+    policy does not fit are no rows"""
     recording = [acts_of(d, asked.fragments) for d in datagrams]
-    _, _, matched, unsettled, _ = reference.discovery(datagrams, asked.fragments)
-    life, rows, left_out = Life(recording), [], []
-    for w, r in matched:
-        if w[4] != 1 or r[4] != 1 or not Asked(topics=asked.topics).keeps(w[2], w[0], r[0], recording):
-            continue
-        names = {'writer': reference.guid_text(w[0]), 'reader': reference.guid_text(r[0]),
-                 'topic': reference.name_text(w[2]), 'type': reference.name_text(w[3])}
-        row = Row(recording, life, w[0], r[0], names, asked)
-        row.key = w[2:4]
-        (rows if asked.keeps(w[2], w[0], r[0], recording) else left_out).append(row)
+    _, settled, matched, unsettled, _ = reference.discovery(datagrams, asked.fragments)
+    talk = Talk(recording, settled, matched, Life(recording), asked, fitting)
+    rows = [Row(recording, talk, w, r, asked) for w, r in talk.judged]
     line = reference.counts_line(datagrams, recording, unsettled, asked).split()
-    return rows, left_out, dict(zip(line[::2], map(int, line[1::2])))
+    return rows, talk, dict(zip(line[::2], map(int, line[1::2])))
 
 
 def check(octets, asked, as_json=False, limits=reference.USUAL):
@@ -234,17 +148,17 @@ def check(octets, asked, as_json=False, limits=reference.USUAL):
     if isinstance(read, str):
         return '', 2
     datagrams, ignored = read
-    checked = asked.checked()
-    rows, left_out, report = rows_of(datagrams, checked)
+    rows, talk, report = rows_of(datagrams, asked.checked(), True)
     report |= ignored or {}
     counts = counts_of(octets, datagrams, report, ignored, limits)
-    reasons = because(rows, counts, asked.expect or 0, asked.tail, asked.certain)
+    reasons = because(rows, talk, counts, asked)
     if as_json:
         pairs = [row.values() | row.span_values(asked.tail) | {'advice': row.advice(counts, asked.tail)} for row in rows]
         head = {'status': 'unclean' if reasons else 'clean', 'because': reasons, 'pairs': pairs}
-        lines = [json.dumps(head | report | {'notes': note_sentences(rows, left_out, counts, asked.tail)}, separators=(',', ':'))]
+        notes = {'notes': note_sentences(rows, talk, counts, asked.tail)}
+        lines = [json.dumps(head | report | talk_members(talk) | notes, separators=(',', ':'))]
     else:
-        lines = check_lines(rows, left_out, counts, asked.tail, reasons)
+        lines = check_lines(rows, talk, counts, asked.tail, reasons)
     return ''.join(line + '\n' for line in lines), int(bool(reasons))
 
 
@@ -258,7 +172,8 @@ def counts_of(octets, datagrams, report, ignored, limits=reference.USUAL):
 def why_lines(rows, counts, spans):
     out = [f'pairs {len(rows)}']
     for row in rows:
-        out += [f"pair {row.names['writer']} {row.names['reader']} {row.verdict}", f"  topic \"{row.names['topic']}\" type \"{row.names['type']}\""]
+        names = row.names()
+        out += [f"pair {names['writer']} {names['reader']} {row.verdict}", f"  topic \"{names['topic']}\" type \"{names['type']}\""]
         until = f' until datagram {row.until[0]}' if row.until else ''
         out += [f'  from {row.first}{until}'] if spans else []
         out += ['  ' + line for line in row.lines]
@@ -349,7 +264,7 @@ def answers(rng, octets):
 def compare(program, count, seed):
     rng, differing = random.Random(seed), 0
     for k in range(count):
-        octets = text_of_datagrams(some_life(rng)) if rng.random() < 0.7 else some_input(rng)
+        octets = some_recorded(rng)
         for words, want, status in answers(rng, octets):
             got = subprocess.run(program.split() + words + ['-'], input=octets, capture_output=True)
             if (got.stdout.decode(), got.returncode) != (want, status):

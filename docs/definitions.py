@@ -18,8 +18,8 @@ A definition in `specs/` says what a word means, a contract in `src/` uses it, a
 contract holds. A law is a function in `src/laws.rt` that does nothing. Its contract states a fact about definitions alone.
 Each crate uses only crates that come before it. The files are in `crates/NAME/specs/`.
 
-Each file begins with its own comment and its source. The source is a clause of OMG DDSI-RTPS 2.5 by number and title, or of
-another standard that is named; or it is `own:` and the reason, if this project made a choice. Then come its public
+Each file begins with its own comment and its source. The source is a clause of OMG DDSI-RTPS 2.5 by number, or of another
+standard that is named; or it is `own:` and the reason, if this project made a choice. Then come its public
 definitions, each with the first sentence of its comment. After the arrow are the files of `src/` whose contracts use the
 definition. A definition without an arrow is used by other definitions.
 """

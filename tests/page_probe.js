@@ -53,6 +53,11 @@ function endpointsShown() {
   });
 }
 
+// What does not talk, by the class of its table: the last cell of each line.
+function talkShown(name) {
+  return textsOf(document, `table.talk.${name} tbody tr > :last-child`);
+}
+
 // Those of these elements that take no room, and so are not in sight.
 function hidden(selector) {
   return [...document.querySelectorAll(selector)].filter((element) => element.getClientRects().length === 0).map((element) => element.className);

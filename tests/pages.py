@@ -27,10 +27,13 @@ import reference
 import spans
 from asked import asked_by
 from browser import SHIFT, Browser, Tab, browser_path
+from ros import ros_type
 
 RECORDINGS = '.rec', '.pcap', '.pcapng'
 EXAMPLES = sorted(name for name in os.listdir(os.path.join(ROOT, 'examples')) if name.endswith(RECORDINGS))
 MADE = 'robot', 'hostile', 'greatest', 'chatty', 'unmatched', 'none'
+# Rows of the tests that have something to tell of who does not talk, read as `check` reads them.
+TALKING = 'each_reason_of_silence.rec', 'best_effort_pairs_by_topic.rec', 'reasons_in_order_and_topics_in_order.rec'
 # The most octets of a page of an example and of one of 90,000 pairs.
 EXAMPLE_SIZE, MANY_SIZE = 100_000, 85_000_000
 # What `check` asks by itself.
@@ -68,6 +71,15 @@ def row_wanted(at, row):
         'datagram': [f"in datagram {row['datagram']}"] if 'datagram' in row else [], 'guids': [row['writer'], row['reader']],
         'counts': counts + [counted(amount) for amount in amounts],
     }
+
+
+def unfit_wanted(one):
+    """what the page shows of a writer and a reader that do not match"""
+    def shown(policy, text):
+        return ros_type(text.encode()).decode() if policy == 'type' else text
+
+    return ''.join(f"{policy.replace('_', ' ')}: offers {shown(policy, offered)}; asks for {shown(policy, requested)}"
+                   for policy, offered, requested in zip(one['because'], one['offered'], one['requested']))
 
 
 def in_order(rows):
@@ -142,6 +154,8 @@ class PageTests(Counts):
                 self.made[name] = page.page_of([])
             elif name in MADE:
                 self.made[name] = page.page_of(getattr(recorded, name)())
+            elif name in TALKING:
+                self.made[name] = page.parts_of(file_of('tests', 'rows', name), asked_by(AS_CHECK), True)
             elif name in self.recordings:
                 self.made[name] = page.parts_of(octets_of(self.recordings[name]), asked_by(AS_CHECK), True)
             else:
@@ -373,6 +387,20 @@ class PageTests(Counts):
                        {guid: ([link.split(':')[0] for link in one['links']], more_of(one['pairs'])) for guid, one in shown.items()})
             self.holds(f'{name}: an endpoint in no pair', [], [guid for guid, found in pairs.items() if not found and shown[guid]['pairs'] != 'in no pair'])
             tab.close()
+
+    def talk(self):
+        """who does not talk, as the data has it"""
+        for name in (*self.names, *TALKING):
+            values, tab = self.values(name), self.open(name)
+            tab.evaluate("(() => { for (let more; (more = document.querySelector('#talk .more:not([hidden])')); ) more.click(); })()")
+            wanted = {
+                'unmatched': [unfit_wanted(one) for one in values['unmatched']], 'one-way': [counted(one['named']) for one in values['one_way']],
+                'unobserved': [one['because'] for one in values['unobserved']],
+                'best-effort': [f"{counted(one['recorded'])} of {counted(one['numbers'])}" for one in values['best_effort']],
+            }
+            self.holds(f'{name}: who does not talk', wanted, {kind: tab.evaluate(f"talkShown('{kind}')") for kind in wanted})
+            self.holds(f'{name}: there is a part for it', any(wanted.values()), not tab.evaluate("document.getElementById('talk').hidden"))
+            self.leave(name, tab)
 
     def hostile_names(self):
         tab = self.open('hostile')
@@ -650,7 +678,7 @@ def is_heard(act, reader):
 
 WITHOUT_BROWSER = 'constants', 'pages_of_the_program', 'text_of_a_page', 'data_of_check', 'rows_with_charts'
 IN_BROWSER = (
-    'each_row', 'working_copy', 'outcome', 'asked', 'first_screen', 'topics_to_look_at', 'chosen_pairs', 'participants', 'hostile_names',
+    'each_row', 'working_copy', 'outcome', 'asked', 'first_screen', 'topics_to_look_at', 'chosen_pairs', 'participants', 'talk', 'hostile_names',
     'without_scripts', 'filters', 'orders', 'clicks', 'keyboard', 'charts', 'pointer', 'charts_left_out', 'contrast', 'widths', 'paper',
     'more_rows', 'many_pairs',
 )

@@ -213,9 +213,10 @@ def many(side, names, verdict_of):
     incomplete = sum(row['verdict'] != 'complete' for row in pairs)
     return {
         'status': 'unclean', 'because': [f'{incomplete:,} pairs are not complete'], 'pairs': pairs,
-        'datagrams': 20, 'refused': 0, 'skipped': 0, 'fragments': 0, 'undirected': 0, 'unsettled': 0, 'notes': [],
+        'datagrams': 20, 'refused': 0, 'skipped': 0, 'fragments': 0, 'undirected': 0, 'unsettled': 0,
+        'unmatched': [], 'unobserved': [], 'one_way': [], 'best_effort': [], 'participants': [], 'notes': [],
         'options': {'from': 1, 'any': False, 'fragments': False, 'observed': False, 'strict': False, 'spans': False, 'topics': [], 'expect': None},
-        'participants': [], 'endpoints': endpoints, 'writers': writers, 'answers': answers,
+        'endpoints': endpoints, 'writers': writers, 'answers': answers,
     }
 
 

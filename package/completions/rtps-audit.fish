@@ -12,7 +12,7 @@ complete -c rtps-audit -n __fish_use_subcommand -s V -l version -d 'Print versio
 complete -c rtps-audit -s h -l help -d 'Print help'
 complete -c rtps-audit -n '__fish_seen_subcommand_from check show list audit why page' -F
 complete -c rtps-audit -n '__fish_seen_subcommand_from check audit why page' -x -l from -d 'The first number to ask for; smaller numbers are left out'
-complete -c rtps-audit -n '__fish_seen_subcommand_from check audit why page' -x -l topic -d 'Only rows whose topic is PATTERN, in which * stands for any octets'
+complete -c rtps-audit -n '__fish_seen_subcommand_from check audit why page' -x -l topic -d 'Only topics whose name, of DDS or of ROS 2, is PATTERN, in which * stands for any octets'
 complete -c rtps-audit -n '__fish_seen_subcommand_from audit why page' -l observed -d 'Only rows of pairs that the recording can speak of'
 complete -c rtps-audit -n '__fish_seen_subcommand_from check audit why page' -x -l expect -d 'Status 1 also if the report has fewer rows than this'
 complete -c rtps-audit -n '__fish_seen_subcommand_from audit why page' -l strict -d 'Status 1 also if there is no row, numbers were missed, or something is left out'

@@ -4,7 +4,7 @@
 -- recording is clean, or why not. A pair that is not clean has the lines of `why` that explain it, and in a last
 -- line what to do; those that lack only a tail share a line, since a system that is stopped while it publishes leaves one with each.
 -- Other programs read the outcome and its reasons without taking lines apart.
-use Rattle.std.specs.Prelude.{ℕ, ◌≡◌, ◌++◌, ◌==◌, if◌then◌else◌, List, [], ◌∷◌, Bool, codes, filter, fold, map, max, ℤ, decimal, length, Option, None, Some, flat_map, ◌↔◌}
+use Rattle.std.specs.Prelude.{ℕ, ◌≡◌, ◌++◌, ◌==◌, if◌then◌else◌, nat_lt, List, [], ◌∷◌, Bool, codes, filter, fold, map, max, ℤ, decimal, length, Option, None, Some, flat_map, ◌↔◌}
 use Rattle.std.specs.List.{concat}
 use Rattle.rtps_report.specs.Vocabulary.{CompleteGrounds, ConflictGrounds, Counts, EvidenceValue, Explanation, explanation_value, ExplanationValue, FirstMissed, GroundsValue, OpenGrounds, Outcomes, SentValue, UnfoundedGrounds}
 use Rattle.rtps_report.specs.declared.findings.Ending.TheVariants.{Clean}
@@ -15,7 +15,7 @@ use Rattle.rtps_report.specs.declared.totals.Totals.{Totals}
 use Rattle.rtps_parts.specs.Parts.{amount, share, words_for, grouped}
 use Rattle.rtps_report.specs.Asked.{AskedValue, tail_of}
 use Rattle.rtps_report.specs.ByTopic.{AreByTopic, topics_of}
-use Rattle.rtps_report.specs.FullReport.{IsTold, ReportValue, facts_of_rows}
+use Rattle.rtps_report.specs.FullReport.{IsTold, ReportValue, facts_with}
 use Rattle.rtps_report.specs.NoteFacts.{note_facts, scope_of}
 use Rattle.rtps_report.specs.Recording.{RecordingValue}
 use Rattle.rtps_report.specs.Totals.{totals_of}
@@ -24,7 +24,11 @@ use Rattle.rtps_report.specs.declared.advice.Advice.TheVariants.{Tail}
 use Rattle.rtps_report.specs.declared.note_facts.NoteFacts.{NoteFacts}
 use Rattle.rtps_lines.specs.Causes.{causes_of, findings_in, last_line}
 use Rattle.rtps_lines.specs.Notes.{joined_names, notes, number_words, topic_name}
-use Rattle.rtps_parts.specs.Names.{guid_text, octet_text}
+use Rattle.rtps_ids.specs.declared.identity.GuidPrefix.{GuidPrefix}
+use Rattle.rtps_parts.specs.RosNames.{topic_text, type_text}
+use Rattle.rtps_policies.specs.Unmatched.{UnmatchedValue}
+use Rattle.rtps_policies.specs.declared.host.Host.{Host}
+use Rattle.rtps_report.specs.Talk.{TalkValue, talk_value}
 use Rattle.rtps_report.specs.Advice.{advice_of, sentence_of}
 use Rattle.rtps_report.specs.Reported.{number_of}
 use Rattle.rtps_lines.specs.Lines.{acknowledged_line, announced_line, asked_line, claimed_line, questions_line, sent_line, told_line, verdict_text}
@@ -32,7 +36,9 @@ use Rattle.rtps_parts.specs.Table.{table}
 use Rattle.rtps_lines.specs.CheckMembers.{check_members}
 use Rattle.rtps_lines.specs.JsonText.{IsJsonLine, object_of}
 use Rattle.rtps_report.specs.Findings.{ending_as}
+use Rattle.rtps_check.specs.TalkText.{AreByTopic as UnmatchedByTopic, hosted, one_way_block, unmatched_lines}
 use Rattle.rtps_check.specs.declared.checked_text.Told.{Told}
+use Rattle.rtps_check.specs.declared.sections.RowTelling.{RowTelling}
 
 -- how many of the pairs are clean, and how many of the numbers are received
 abbrev pub clean_line : Totals → List ℕ
@@ -41,14 +47,36 @@ clean_line totals = concat (share totals.clean_pairs totals.pairs
     ∷ share totals.received totals.numbers
     ∷ words_for totals.numbers (record { one = codes " number received\n"; many = codes " numbers received\n" }) ∷ [])
 
--- that there is no pair, and what to do by the pairs that are left out
-unfoldable pub no_pair_lines : List ExplanationValue → List ℕ
-no_pair_lines [] = codes "there is no pair to judge\n  -> record from before the start, and see in rtps-audit list --any FILE whether topic, type and QoS of the writers and readers match\n"
-no_pair_lines (row ∷ rows) = codes "there is no pair to judge\n  -> record where the datagrams of the readers and the writers pass, and switch off shared memory\n"
+-- something, where there are some
+abbrev pub where_some : {X : Type 0} → List X → List ℕ → List ℕ → List ℕ
+where_some [] text other = other
+where_some (x ∷ xs) text other = text
+
+-- what to do where there is no pair to judge: the first case that fits
+unfoldable pub no_pair_remedy : TalkValue → List ExplanationValue → List ℕ
+no_pair_remedy talk left_out =
+    where_some talk.unmatched (codes "see below which writers and readers do not match")
+    (where_some talk.one_way (codes "see below which participants never answer")
+    (where_some left_out (codes "record where the datagrams of the readers and the writers pass, and switch off shared memory")
+    (if nat_lt 0 talk.best_effort_total.pairs then codes "all pairs that match are of best effort: they are counted below, and not judged"
+    else codes "record from before the start, and see in rtps-audit list --any FILE what is announced")))
+
+-- that there is no pair, and what to do
+abbrev pub no_pair_lines : TalkValue → List ExplanationValue → List ℕ
+no_pair_lines talk left_out = concat (codes "there is no pair to judge\n  -> " ∷ no_pair_remedy talk left_out ∷ codes "\n" ∷ [])
+
+-- what is told beside the rows: of what weakens the report, which rows it cannot speak of, by topic, who does not talk, what rows have to be,
+-- and how the run ends
+pub record Beside : Type 0 where
+  pub facts : NoteFacts
+  pub left_out : List ExplanationValue
+  pub talk : TalkValue
+  pub standard : Standard
+  pub ending : Ending
 
 -- the first lines
-abbrev pub first_lines : Totals → List ExplanationValue → List ℕ
-first_lines totals left_out = if totals.pairs == 0 then no_pair_lines left_out else clean_line totals
+abbrev pub first_lines : Totals → Beside → List ℕ
+first_lines totals beside = if totals.pairs == 0 then no_pair_lines beside.talk beside.left_out else clean_line totals
 
 -- notes behind an empty line; nothing where there are none
 abbrev pub notes_block : List (List ℕ) → List ℕ
@@ -129,33 +157,33 @@ left_text None = []
 left_text (Some datagram) = codes ", left in datagram " ++ decimal datagram
 
 -- the lines of a writer and a reader: from which number on the row is, and where the reader leaves
-abbrev pub pair_lines : ℕ → ExplanationValue → List ℕ
-pair_lines from row =
-    concat (codes "  writer " ∷ guid_text row.pair.writer ∷ codes "\n  reader " ∷ guid_text row.pair.reader
+abbrev pub pair_lines : (GuidPrefix → Host) → ℕ → ExplanationValue → List ℕ
+pair_lines hosts from row =
+    concat (codes "  writer " ∷ hosted hosts row.pair.writer ∷ codes "\n  reader " ∷ hosted hosts row.pair.reader
     ∷ codes ", from " ∷ decimal (row_from from row.evidence.in_span) ∷ []) ++ (left_text (left_in row.evidence.in_span) ++ codes "\n")
 
 -- the lines of a pair, up to what became of its numbers
-abbrev pub row_head : ℕ → ExplanationValue → List ℕ
-row_head from row = pair_lines from row ++ ((codes "  " ++ verdict_text row.evidence.verdict) ++ kinds_text (outcomes_of row.evidence))
+abbrev pub row_head : (GuidPrefix → Host) → ℕ → ExplanationValue → List ℕ
+row_head hosts from row = pair_lines hosts from row ++ ((codes "  " ++ verdict_text row.evidence.verdict) ++ kinds_text (outcomes_of row.evidence))
 
 -- what to do, behind an arrow
 abbrev pub advice_line : Scope → EvidenceValue → List ℕ
 advice_line scope evidence = concat (codes "    -> " ∷ sentence_of (advice_of scope evidence) ∷ codes "\n" ∷ [])
 
 -- the lines of a pair
-abbrev pub row_lines : Scope → ExplanationValue → List ℕ
-row_lines scope row =
-    row_head scope.from row
+abbrev pub row_lines : (GuidPrefix → Host) → Scope → ExplanationValue → List ℕ
+row_lines hosts scope row =
+    row_head hosts scope.from row
     ++ (missed_text row.evidence.first_missed ++ (verdict_lines row.evidence ++ advice_line scope row.evidence))
 
 -- the lines of a pair that someone has to look at; nothing for another
-abbrev pub noted_lines : Scope → ExplanationValue → List ℕ
-noted_lines scope row = if is_noted scope.tail row.evidence then row_lines scope row else []
+abbrev pub noted_lines : (GuidPrefix → Host) → Scope → ExplanationValue → List ℕ
+noted_lines hosts scope row = if is_noted scope.tail row.evidence then row_lines hosts scope row else []
 
--- the line of a topic: its name and its type, as `list` writes them between quotes
+-- the line of a topic: its name and its type, by ROS 2, as `list` writes names between quotes
 abbrev pub topic_head : List ExplanationValue → List ℕ
 topic_head [] = []
-topic_head (row ∷ rows) = concat (flat_map octet_text row.topic ∷ codes " " ∷ flat_map octet_text row.type_name ∷ codes "\n" ∷ [])
+topic_head (row ∷ rows) = concat (topic_text row.topic ∷ codes " " ∷ type_text row.type_name ∷ codes "\n" ∷ [])
 
 -- lines behind an empty one and a head; nothing where there are none
 abbrev pub headed : List ℕ → List ℕ → List ℕ
@@ -163,8 +191,8 @@ headed head [] = []
 headed head (octet ∷ lines) = 10 ∷ (head ++ octet ∷ lines)
 
 -- the lines of a topic
-abbrev pub section : Scope → List ExplanationValue → List ℕ
-section scope rows = headed (topic_head rows) (flat_map (noted_lines scope) rows)
+abbrev pub section : (GuidPrefix → Host) → Scope → List ExplanationValue → List ℕ
+section hosts scope rows = headed (topic_head rows) (flat_map (noted_lines hosts scope) rows)
 
 -- ---- the pairs that lack only a tail
 
@@ -192,40 +220,51 @@ tail_block tail rows = tails_of (filter (λ row. is_tail_alone tail row.evidence
 -- ---- the whole text
 
 -- the lines by topic: the table, the pairs that someone has to look at, and those that lack only a tail
-abbrev pub topics_text : Scope → Totals → List ExplanationValue → List ℕ
-topics_text scope totals rows = topic_table scope totals (topics_of rows) ++ (flat_map (section scope) (topics_of rows) ++ tail_block scope.tail rows)
-
--- what is told beside the rows: of what weakens the report, which rows it cannot speak of, by topic, what rows have to be, and how the run
--- ends
-pub record Beside : Type 0 where
-  pub facts : NoteFacts
-  pub left_out : List ExplanationValue
-  pub standard : Standard
-  pub ending : Ending
+abbrev pub topics_text : (GuidPrefix → Host) → Scope → Totals → List ExplanationValue → List ℕ
+topics_text hosts scope totals rows = topic_table scope totals (topics_of rows) ++ (flat_map (section hosts scope) (topics_of rows) ++ tail_block scope.tail rows)
 
 -- what weakens the report
 abbrev pub told_notes : Scope → Beside → List ExplanationValue → List (List ℕ)
-told_notes scope beside rows = notes (codes "\n  -> ") beside.facts beside.left_out (filter (λ row. is_late scope.from row.evidence) rows)
+told_notes scope beside rows = notes (codes "\n  -> ") beside.facts beside.talk beside.left_out (filter (λ row. is_late scope.from row.evidence) rows)
 
 -- the lines behind them: what weakens the report, and whether the recording is clean
 abbrev pub ending_text : Scope → Beside → Totals → List ExplanationValue → List ℕ
 ending_text scope beside totals rows =
     notes_block (told_notes scope beside rows) ++ 10 ∷ last_line beside.ending (causes_of beside.standard totals (findings_in beside.ending))
 
--- the text of what is told, of rows by topic
-abbrev pub text_by : Scope → Beside → List ExplanationValue → List ℕ
-text_by scope beside rows =
-    let totals = totals_of scope rows in
-    first_lines totals beside.left_out ++ (topics_text scope totals rows ++ ending_text scope beside totals rows)
+-- where participants are
+abbrev pub hosts_of : RowTelling → GuidPrefix → Host
+hosts_of told = (talk_value told.talk.now).hosts
+
+-- the text of what is told, of rows by topic: those that do not match stand by topic, too
+pub record IsTextBy (scope : Scope) (beside : Beside) (rows : List ExplanationValue) (text : List ℕ) : Type 0 where
+  pub unmatched : List UnmatchedValue
+  pub unmatched_by_topic : UnmatchedByTopic beside.talk.unmatched unmatched
+  pub is_text : let totals = totals_of scope rows in text ≡ first_lines totals beside
+      ++ (topics_text beside.talk.hosts scope totals rows
+      ++ (unmatched_lines beside.talk.hosts unmatched ++ (one_way_block beside.talk ++ ending_text scope beside totals rows)))
 
 -- what the code knows of it, as a value
 abbrev pub beside_value : Told → Beside
-beside_value told = record { facts = told.facts; left_out = map explanation_value told.left_out.now; standard = told.standard; ending = told.ending }
+beside_value told =
+    record {
+      facts = told.facts;
+      left_out = map explanation_value told.left_out.now;
+      talk = talk_value told.talk.now;
+      standard = told.standard;
+      ending = told.ending;
+    }
 
 -- what is told beside the rows of this report
 abbrev pub beside_of : AskedValue → RecordingValue → ReportValue → List Explanation → Beside
 beside_of asked recording report left_out =
-    record { facts = note_facts asked recording report; left_out = map explanation_value left_out; standard = asked.standard; ending = report.ending }
+    record {
+      facts = note_facts asked recording report;
+      left_out = map explanation_value left_out;
+      talk = report.talk;
+      standard = asked.standard;
+      ending = report.ending;
+    }
 
 -- the text of this report
 pub record IsCheckText (asked : AskedValue) (recording : RecordingValue) (report : ReportValue) (text : List ℕ) : Type 0 where
@@ -233,7 +272,7 @@ pub record IsCheckText (asked : AskedValue) (recording : RecordingValue) (report
   pub rows_by_topic : AreByTopic report.explained.rows.items rows
   pub left_out : List Explanation
   pub left_out_by_topic : AreByTopic report.left_out left_out
-  pub is_text : text ≡ text_by (scope_of asked recording report) (beside_of asked recording report left_out) (map explanation_value rows)
+  pub is_text : IsTextBy (scope_of asked recording report) (beside_of asked recording report left_out) (map explanation_value rows) text
 
 -- ---- JSON
 
@@ -254,5 +293,5 @@ IsCleanWithoutReasons asked scope rows ending = (ending ≡ Clean) ↔ (causes_o
 
 -- Whatever is asked of whatever rows, a run ends clean exactly where it gives no reason. own: a job that ends unclean has to say why.
 abbrev pub TellsWhyUnclean : Type 0
-TellsWhyUnclean = (asked : AskedValue) (unread : Bool) (rows : List ExplanationValue) (counts : Counts) (recording : RecordingValue)
-    → IsCleanWithoutReasons asked (record { from = asked.from; tail = tail_of asked.standard; unread = unread }) rows (ending_as asked (facts_of_rows asked rows counts recording))
+TellsWhyUnclean = (unmatched : ℕ) (asked : AskedValue) (unread : Bool) (rows : List ExplanationValue) (counts : Counts) (recording : RecordingValue)
+    → IsCleanWithoutReasons asked (record { from = asked.from; tail = tail_of asked.standard; unread = unread }) rows (ending_as asked (facts_with unmatched asked rows counts recording))

@@ -1,1 +1,2 @@
 pub mod CheckText
+pub mod TalkText

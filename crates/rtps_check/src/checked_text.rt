@@ -3,11 +3,14 @@ ghost use Rattle.rtps_evidence.specs.Explanation.{explanation_value};
 ghost use Rattle.rtps_parts.specs.Parts.{part_text};
 ghost use Rattle.rtps_report.specs.Asked.{asked_value};
 ghost use Rattle.rtps_report.specs.FullReport.{report_value};
-ghost use Rattle.rtps_check.specs.CheckText.{IsCheckJson, IsCheckText, beside_value, clean_line as clean_line_lem, ending_text, first_lines, no_pair_lines as no_pair_lines_lem, notes_block, text_by, told_notes as told_notes_lem, topics_text};
+ghost use Rattle.rtps_report.specs.Talk.{talk_value};
+ghost use Rattle.rtps_check.specs.CheckText.{IsCheckJson, IsCheckText, beside_value, clean_line as clean_line_lem, ending_text, first_lines, IsTextBy, no_pair_remedy as no_pair_remedy_lem, notes_block, told_notes as told_notes_lem, topics_text};
 
-use crate::sections::push_sections;
+use crate::one_way_block::push_one_way_block;
+use crate::sections::{RowTelling, push_sections};
 use crate::tails::{late_among, push_tail_block};
 use crate::topic_table::push_topic_table;
+use crate::unmatched_block::push_unmatched_block;
 use json::Writer;
 use rtps_evidence::Explanation;
 use rtps_lines::{
@@ -15,7 +18,7 @@ use rtps_lines::{
 };
 use rtps_parts::{Part, Words, render, words_for};
 use rtps_report::{
-    Ending, FullReport, NoteFacts, Scope, Standard, Totals, by_topic, notes_on, scope_of,
+    Ending, FullReport, NoteFacts, Scope, Standard, Talk, Totals, by_topic, notes_on, scope_of,
     topics_of, totals_of,
 };
 use std::alloc::{AllocError, Global};
@@ -27,6 +30,7 @@ struct Told<'r, 'a> {
     facts: NoteFacts,
     rows: &'r [Explanation<'a>],
     left_out: &'r [Explanation<'a>],
+    talk: &'r Talk<'a>,
     standard: Standard,
     ending: Ending,
 }
@@ -52,27 +56,35 @@ fn clean_line(totals: &Totals) -> [Part<'static>; 4]
     ]
 }
 
-/// That there is no pair, and what to do by the pairs that are left out.
-#[tactic(auto, unfolding(crate::specs::CheckText::no_pair_lines))]
-fn no_pair_lines(left_out: &[Explanation<'_>]) -> &'static str
-    ensures { result.now ≡ no_pair_lines_lem (map explanation_value left_out.now) }
+/// What to do where there is no pair to judge: the first case that fits.
+#[tactic(auto, unfolding(crate::specs::CheckText::no_pair_remedy))]
+fn no_pair_remedy(talk: &Talk<'_>, left_out: &[Explanation<'_>]) -> &'static str
+    ensures { result.now ≡ no_pair_remedy_lem (talk_value talk.now) (map explanation_value left_out.now) }
 {
-    if left_out.is_empty() {
-        "there is no pair to judge\n  -> record from before the start, and see in rtps-audit list --any FILE whether topic, type and QoS of the writers and readers match\n"
+    if !talk.unmatched.is_empty() {
+        "see below which writers and readers do not match"
+    } else if !talk.one_way.is_empty() {
+        "see below which participants never answer"
+    } else if !left_out.is_empty() {
+        "record where the datagrams of the readers and the writers pass, and switch off shared memory"
+    } else if talk.best_effort_total.pairs > 0 {
+        "all pairs that match are of best effort: they are counted below, and not judged"
     } else {
-        "there is no pair to judge\n  -> record where the datagrams of the readers and the writers pass, and switch off shared memory\n"
+        "record from before the start, and see in rtps-audit list --any FILE what is announced"
     }
 }
 
-fn push_first(
-    text: &mut String,
-    totals: &Totals,
-    left_out: &[Explanation<'_>],
-) -> Result<(), AllocError>
-    ensures { OnOk result (string_bytes text.new ≡ string_bytes text.old ++ first_lines totals.now (map explanation_value left_out.now)) }
+fn push_first(text: &mut String, totals: &Totals, told: &Told<'_, '_>) -> Result<(), AllocError>
+    ensures { OnOk result (string_bytes text.new ≡ string_bytes text.old ++ first_lines totals.now (beside_value told.now)) }
 {
     if totals.pairs == 0 {
-        text.push_str(no_pair_lines(left_out))
+        let remedy = no_pair_remedy(told.talk, told.left_out);
+        let parts = [
+            Part::Text("there is no pair to judge\n  -> "),
+            Part::Text(remedy),
+            Part::Text("\n"),
+        ];
+        render(text, &parts)
     } else {
         render(text, &clean_line(totals))
     }
@@ -97,11 +109,15 @@ fn push_topics(
     told: &Told<'_, '_>,
     totals: &Totals,
 ) -> Result<(), AllocError>
-    ensures { OnOk result (string_bytes text.new ≡ string_bytes text.old ++ topics_text told.now.scope totals.now (map explanation_value told.now.rows.now)) }
+    ensures { OnOk result (string_bytes text.new ≡ string_bytes text.old ++ topics_text (talk_value told.now.talk.now).hosts told.now.scope totals.now (map explanation_value told.now.rows.now)) }
 {
+    let telling = RowTelling {
+        scope: told.scope,
+        talk: told.talk,
+    };
     let topics = topics_of(alloc, told.rows)?;
     push_topic_table(alloc, text, &topics, (totals, told.scope))?;
-    push_sections(alloc, text, &topics, told.scope)?;
+    push_sections(alloc, text, &topics, telling)?;
     push_tail_block(alloc, text, told.rows, told.scope.tail)
 }
 
@@ -111,6 +127,7 @@ fn told_notes(alloc: Global, told: &Told<'_, '_>) -> Result<Vec<String>, AllocEr
 {
     let late = late_among(alloc, told.rows, told.scope.from)?;
     let rows = NotedRows {
+        talk: told.talk,
         left_out: told.left_out,
         late: &late,
     };
@@ -138,13 +155,14 @@ fn push_ending(
 }
 
 fn text_of(alloc: Global, told: &Told<'_, '_>) -> Result<String, AllocError>
-    ensures { IfOk result (λ text. string_bytes text
-        ≡ text_by told.now.scope (beside_value told.now) (map explanation_value told.now.rows.now)) }
+    ensures { IfOk result (λ text. IsTextBy told.now.scope (beside_value told.now) (map explanation_value told.now.rows.now) (string_bytes text)) }
 {
     let totals = totals_of(told.rows, told.scope);
     let mut text = String::new(alloc);
-    push_first(&mut text, &totals, told.left_out)?;
+    push_first(&mut text, &totals, told)?;
     push_topics(alloc, &mut text, told, &totals)?;
+    push_unmatched_block(alloc, &mut text, told.talk)?;
+    push_one_way_block(&mut text, told.talk)?;
     push_ending(alloc, &mut text, told, &totals)?;
     Ok(text)
 }
@@ -160,6 +178,7 @@ pub fn check_text(alloc: Global, report: &FullReport<'_>) -> Result<String, Allo
         facts: notes_on(report),
         rows: &rows,
         left_out: &left_out,
+        talk: &report.talk,
         standard: report.asked.standard,
         ending: report.ending,
     };

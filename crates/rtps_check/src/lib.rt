@@ -3,8 +3,10 @@
 
 mod checked_text;
 pub mod laws;
+mod one_way_block;
 mod sections;
 mod tails;
 mod topic_table;
+mod unmatched_block;
 
 pub use checked_text::{check_json, check_text};

@@ -2,16 +2,25 @@ ghost use Rattle.std.specs.Prelude.{◌≡◌, ◌++◌, OnOk, IfOk, map, flat_m
 ghost use Rattle.rtps_evidence.specs.Explanation.{evidence_value, explanation_value};
 ghost use Rattle.rtps_evidence.specs.Locations.{sent_value};
 ghost use Rattle.rtps_parts.specs.Parts.{part_text};
-ghost use Rattle.rtps_check.specs.CheckText.{advice_line, headed, kind_text, kinds_text, left_text, missed_text, noted_lines, pair_lines, payload_line, row_head, row_lines, section, topic_head as topic_head_lem, verdict_lines};
+ghost use Rattle.rtps_check.specs.CheckText.{advice_line, headed, hosts_of, kind_text, kinds_text, left_text, missed_text, noted_lines, pair_lines, payload_line, row_head, row_lines, section, topic_head as topic_head_lem, verdict_lines};
 
+use crate::unmatched_block::hosted_by;
 use rtps_evidence::{Evidence, Explanation, FirstMissed, Grounds, Outcomes, Sent};
 use rtps_lines::{
     AcknowledgedLine, AnnouncedLine, AskedLine, ClaimedLine, QuestionsLine, ToldLine, VerdictText,
     push_field, push_sent,
 };
 use rtps_parts::{Part, render};
-use rtps_report::{Scope, advice_of, is_noted, left_at, number_of, outcomes_of, row_from};
+use rtps_report::{Scope, Talk, advice_of, is_noted, left_at, number_of, outcomes_of, row_from};
 use std::alloc::{AllocError, Global};
+
+/// By what rows are told beside themselves.
+#[derive(Clone, Copy)]
+pub(crate) struct RowTelling<'t, 'a> {
+    pub(crate) scope: Scope,
+    /// Where participants are.
+    pub(crate) talk: &'t Talk<'a>,
+}
 
 fn push_kind(text: &mut String, name: &str, count: u64) -> Result<(), AllocError>
     ensures { OnOk result (string_bytes text.new ≡ string_bytes text.old ++ kind_text name.now count) }
@@ -97,23 +106,29 @@ fn push_left(text: &mut String, left: Option<u64>) -> Result<(), AllocError>
     }
 }
 
-fn push_pair(text: &mut String, row: &Explanation<'_>, from: u64) -> Result<(), AllocError>
-    ensures { OnOk result (string_bytes text.new ≡ string_bytes text.old ++ pair_lines from (explanation_value row.now)) }
+fn push_pair(
+    text: &mut String,
+    row: &Explanation<'_>,
+    told: RowTelling<'_, '_>,
+) -> Result<(), AllocError>
+    ensures { OnOk result (string_bytes text.new ≡ string_bytes text.old ++ pair_lines (hosts_of told.entry) told.entry.scope.from (explanation_value row.now)) }
 {
-    let first = row_from(from, &row.evidence);
-    write!(
-        text,
-        "  writer {}\n  reader {}, from {first}",
-        row.pair.writer, row.pair.reader
-    )?;
+    let first = row_from(told.scope.from, &row.evidence);
+    let writer = hosted_by(told.talk, row.pair.writer);
+    let reader = hosted_by(told.talk, row.pair.reader);
+    write!(text, "  writer {writer}\n  reader {reader}, from {first}")?;
     push_left(text, left_at(&row.evidence))?;
     text.push_str("\n")
 }
 
-fn push_head(text: &mut String, row: &Explanation<'_>, from: u64) -> Result<(), AllocError>
-    ensures { OnOk result (string_bytes text.new ≡ string_bytes text.old ++ row_head from (explanation_value row.now)) }
+fn push_head(
+    text: &mut String,
+    row: &Explanation<'_>,
+    told: RowTelling<'_, '_>,
+) -> Result<(), AllocError>
+    ensures { OnOk result (string_bytes text.new ≡ string_bytes text.old ++ row_head (hosts_of told.entry) told.entry.scope.from (explanation_value row.now)) }
 {
-    push_pair(text, row, from)?;
+    push_pair(text, row, told)?;
     write!(text, "  {}", VerdictText(row.evidence.verdict))?;
     push_kinds(text, outcomes_of(&row.evidence))
 }
@@ -124,23 +139,31 @@ fn push_advice(text: &mut String, evidence: &Evidence<'_>, scope: Scope) -> Resu
     writeln!(text, "    -> {}", advice_of(scope, evidence).sentence())
 }
 
-fn push_row(text: &mut String, row: &Explanation<'_>, scope: Scope) -> Result<(), AllocError>
-    ensures { OnOk result (string_bytes text.new ≡ string_bytes text.old ++ row_lines scope (explanation_value row.now)) }
+fn push_row(
+    text: &mut String,
+    row: &Explanation<'_>,
+    told: RowTelling<'_, '_>,
+) -> Result<(), AllocError>
+    ensures { OnOk result (string_bytes text.new ≡ string_bytes text.old ++ row_lines (hosts_of told.entry) told.entry.scope (explanation_value row.now)) }
 {
-    push_head(text, row, scope.from)?;
+    push_head(text, row, told)?;
     push_missed(text, row.evidence.first_missed)?;
     push_verdict(text, &row.evidence)?;
-    push_advice(text, &row.evidence, scope)
+    push_advice(text, &row.evidence, told.scope)
 }
 
 /// The lines of those of these pairs that someone has to look at.
-fn lines_of(alloc: Global, rows: &[Explanation<'_>], scope: Scope) -> Result<String, AllocError>
-    ensures { IfOk result (λ lines. string_bytes lines ≡ flat_map (noted_lines scope) (map explanation_value rows.now)) }
+fn lines_of(
+    alloc: Global,
+    rows: &[Explanation<'_>],
+    told: RowTelling<'_, '_>,
+) -> Result<String, AllocError>
+    ensures { IfOk result (λ lines. string_bytes lines ≡ flat_map (noted_lines (hosts_of told.entry) told.entry.scope) (map explanation_value rows.now)) }
 {
     let mut lines = String::new(alloc);
     for row in rows {
-        if is_noted(scope.tail, &row.evidence) {
-            push_row(&mut lines, row, scope)?;
+        if is_noted(told.scope.tail, &row.evidence) {
+            push_row(&mut lines, row, told)?;
         }
     }
     Ok(lines)
@@ -152,9 +175,9 @@ fn topic_head<'a>(rows: &[Explanation<'a>]) -> [Part<'a>; 4]
 {
     match rows.first() {
         Some(row) => [
-            Part::Name(row.topic),
+            Part::TopicName(row.topic),
             Part::Text(" "),
-            Part::Name(row.type_name),
+            Part::TypeName(row.type_name),
             Part::Text("\n"),
         ],
         None => [Part::Text(""); 4],
@@ -176,11 +199,11 @@ fn push_section(
     alloc: Global,
     text: &mut String,
     rows: &[Explanation<'_>],
-    scope: Scope,
+    told: RowTelling<'_, '_>,
 ) -> Result<(), AllocError>
-    ensures { OnOk result (string_bytes text.new ≡ string_bytes text.old ++ section scope (map explanation_value rows.now)) }
+    ensures { OnOk result (string_bytes text.new ≡ string_bytes text.old ++ section (hosts_of told.entry) told.entry.scope (map explanation_value rows.now)) }
 {
-    let lines = lines_of(alloc, rows, scope)?;
+    let lines = lines_of(alloc, rows, told)?;
     push_headed(text, &topic_head(rows), &lines)
 }
 
@@ -188,13 +211,13 @@ pub(crate) fn push_sections(
     alloc: Global,
     text: &mut String,
     topics: &[&[Explanation<'_>]],
-    scope: Scope,
+    told: RowTelling<'_, '_>,
 ) -> Result<(), AllocError>
     ensures { OnOk result (string_bytes text.new
-        ≡ string_bytes text.old ++ flat_map (section scope) (map (λ topic. map explanation_value topic.now) topics.now)) }
+        ≡ string_bytes text.old ++ flat_map (section (hosts_of told.entry) told.entry.scope) (map (λ topic. map explanation_value topic.now) topics.now)) }
 {
     for rows in topics {
-        push_section(alloc, text, rows, scope)?;
+        push_section(alloc, text, rows, told)?;
     }
     Ok(())
 }

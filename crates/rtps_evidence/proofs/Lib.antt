@@ -26,3 +26,4 @@ pub mod CleanLemmas
 pub mod OutcomeCounts
 pub mod ActOrder
 pub mod UnansweredLemmas
+pub mod RecordedLemmas

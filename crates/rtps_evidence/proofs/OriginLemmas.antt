@@ -83,10 +83,13 @@ other_same writer reader n acts =
     by_payload None = refl
     by_payload (Some payload) = find_filter (λ placed. differs payload (payload_for writer reader n placed)) (is_from writer) (differs_from writer reader n payload) acts
 
+pub sent_same : (writer reader : Guid) (n : ℕ) (acts : List PlacedValue) → is_sent writer reader (filter (is_from writer) acts) n ≡ is_sent writer reader acts n
+sent_same writer reader n acts = any_filter (sends writer reader n) (is_from writer) (sends_from writer reader n) acts
+
 pub amounts_same : (from last : ℕ) (writer reader : Guid) (acts : List PlacedValue) (amounts : Amounts) → AreAmounts from last writer reader (filter (is_from writer) acts) amounts → AreAmounts from last writer reader acts amounts
 amounts_same from last writer reader acts amounts are =
     let told = λ (n : ℕ). any_filter (tells writer reader n) (is_from writer) (tells_from writer reader n) acts in
-    let sent = λ (n : ℕ). any_filter (sends writer reader n) (is_from writer) (sends_from writer reader n) acts in
+    let sent = λ (n : ℕ). sent_same writer reader n acts in
     record {
       payloads = are.payloads ∙ count_same (is_sent writer reader (filter (is_from writer) acts)) (is_sent writer reader acts) from (last + 1) (λ n a b. sent n);
       gone = are.gone ∙ count_same (λ n. is_told writer reader (filter (is_from writer) acts) n && not (is_sent writer reader (filter (is_from writer) acts) n)) (λ n. is_told writer reader acts n && not (is_sent writer reader acts n)) from (last + 1) (λ n a b. rw (told n, sent n) refl);

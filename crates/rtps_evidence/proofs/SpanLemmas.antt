@@ -114,7 +114,7 @@ asked_same pair n placed = any_filter (asks_for pair.writer pair.reader n) (is_f
     requester_is_origin pair.reader pair.writer at (and_parts (is_request at.act pair.reader pair.writer) (is_in_set at.act.body n) h).0) placed
 
 -- the greatest of what is 0 for all that are left out
-greatest_filter : (number : PlacedValue → ℕ) (keeps : PlacedValue → Bool) → ((x : PlacedValue) → keeps x ≡ false → number x ≡ 0) → (placed : List PlacedValue) → greatest (map number (filter keeps placed)) ≡ greatest (map number placed)
+pub greatest_filter : (number : PlacedValue → ℕ) (keeps : PlacedValue → Bool) → ((x : PlacedValue) → keeps x ≡ false → number x ≡ 0) → (placed : List PlacedValue) → greatest (map number (filter keeps placed)) ≡ greatest (map number placed)
 greatest_filter number keeps none [] = refl
 greatest_filter number keeps none (x ∷ placed) = by (keeps x) refl (greatest_filter number keeps none placed)
   where

@@ -2,6 +2,7 @@ pub mod Locations
 pub mod Amount
 pub mod Rising
 pub mod Received
+pub mod Recorded
 pub mod Claimed
 pub mod Missed
 pub mod Requests

@@ -190,7 +190,11 @@ fn push_told(stretches: &mut Vec<Stretch>, placed: &Placed<'_>, pair: Pair) -> R
 
 /// Appends the number that has a payload by an act which the pair's reader hears from its writer. After `Memory` the stretches
 /// are of no use.
-fn push_sent(stretches: &mut Vec<Stretch>, placed: &Placed<'_>, pair: Pair) -> Result<(), Memory>
+pub(crate) fn push_sent(
+    stretches: &mut Vec<Stretch>,
+    placed: &Placed<'_>,
+    pair: Pair,
+) -> Result<(), Memory>
     ensures { OnOk result ((n : ℕ) → stretches_have stretches.new.items n
         ≡ (stretches_have stretches.old.items n || sends pair.writer pair.reader n (placed_value placed.now))) }
 {

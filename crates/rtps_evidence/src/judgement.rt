@@ -22,7 +22,7 @@ pub(crate) struct Judgement {
 }
 
 /// What the row of a pair is by: its span, where rows are in spans, or else the whole recording.
-fn span_of(index: &Index<'_>, pair: Pair, from: SeqNum, in_spans: bool) -> Span
+pub(crate) fn span_of(index: &Index<'_>, pair: Pair, from: SeqNum, in_spans: bool) -> Span
     ensures { (intake : Intake) → IsIndexBy intake index.now → IsExtent in_spans from pair intake result }
 {
     if in_spans {

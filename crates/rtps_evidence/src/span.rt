@@ -232,8 +232,8 @@ fn leaves_behind(placed: &Placed<'_>, reader: Guid, place: Location) -> bool
     is_behind(Some(place), placed) && leaves(&placed.act, reader)
 }
 
-/// The datagram in which a reader that joins at a place leaves.
-fn left_in(index: &Index<'_>, reader: Guid, place: Location) -> Option<u64>
+/// The datagram in which a reader, or a participant, that joins at a place leaves; None where it does not.
+pub fn left_in(index: &Index<'_>, reader: Guid, place: Location) -> Option<u64>
     ensures { (intake : Intake) → IsIndexBy intake index.now → result ≡ left_in_lem (Some place) reader (placed_in intake.acts) }
 {
     let (readers, participants) = leaving_writers(reader);

@@ -1,7 +1,8 @@
 -- What an index takes in of a recording with its samples, with one datagram more.
-use Rattle.std.proofs.Common.{◌≡◌, ℕ, zero, suc, ◌+◌, ◌<◌, List, [], ◌∷◌, ◌++◌, drop, length, map, take, get_or, Bor, Option, Some, None, slice_get, refl, sym, ◌∙◌, ap, subst, arith, inl, inr, append_assoc, append-nil}
+use Rattle.std.proofs.Common.{◌≡◌, ℕ, zero, suc, ◌+◌, ◌<◌, ◌≤◌, List, [], ◌∷◌, ◌++◌, drop, length, map, take, get_or, Bor, Option, Some, None, slice_get, refl, sym, ◌∙◌, ap, subst, arith, inl, inr, append_assoc, append-nil}
 use Rattle.std.specs.Prelude.{Contains}
-use Rattle.std.proofs.lemmas.List.{map-append, take-map, take_more}
+use Rattle.std.specs.Global.{Vec}
+use Rattle.std.proofs.lemmas.List.{length-map, length-take-le, map-append, take-map, take_more}
 use Rattle.std.proofs.lemmas.List.Elements.{Contains-append_cases}
 use Rattle.std.proofs.lemmas.Option.{slice_get-get_or}
 use Rattle.rtps_wire.proofs.Offered.{fragments_of_sample}
@@ -18,22 +19,24 @@ use Rattle.rtps_receiver.specs.declared.state.State.{State}
 use Rattle.rtps_audit.specs.Speech.{announced_of_body}
 use Rattle.rtps_audit.specs.Intake.{Intake, intake_more}
 use Rattle.rtps_audit.proofs.Offered.{contains_cases, contains_mapped, contains_none, get_mapped, if_some}
-use Rattle.rtps_fragments.specs.Announcing.{acts_and_notes, announcing_with}
+use Rattle.rtps_fragments.specs.Announcing.{acts_and_notes, announcing_with, datagrams_and_notes}
 use Rattle.rtps_fragments.specs.FragmentDelivery.{Piece}
 use Rattle.rtps_fragments.specs.Laws.{ArePieceActs, IsPieceAct}
 use Rattle.rtps_fragments.proofs.CameLemmas.{length-parts_in}
 use Rattle.rtps_fragments.specs.Merging.{IsFragmentAct, merged_from, sents_from, sents_in}
 use Rattle.rtps_fragments.specs.Overheard.{overheard_by_datagram, overheard_in_turn}
-use Rattle.rtps_fragments.specs.RecordedSamples.{tally_with, told_by_datagram}
+use Rattle.rtps_fragments.specs.RecordedSamples.{AreSamplesOf, tally_with, told_by_datagram}
 use Rattle.rtps_fragments.specs.SampleActs.{PieceAct, acts_and_samples, datagrams_and_samples, piece_acts_in}
 use Rattle.rtps_fragments.specs.Sending.{asks_at, fragments_at, piece_acts_of, piece_acts_of_item, piece_acts_with, piece_of, sending_of, skipped_acts, unusable_in}
-use Rattle.rtps_fragments.specs.Telling.{SentValue, ToldValue, told_in_turn}
+use Rattle.rtps_fragments.specs.Telling.{SentValue, ToldValue, told_in_turn, told_value}
+use Rattle.rtps_fragments.specs.declared.samples.Samples.{Samples}
+use Rattle.rtps_fragments.specs.declared.told_sample.ToldSample.{ToldSample}
 use Rattle.rtps_fragments.specs.declared.merging.SampleForm.TheVariants.{ForAudience, ForEveryone}
 use Rattle.rtps_fragments.specs.Whole.{tally_left, tally_with_fragments}
 use Rattle.rtps_fragments.proofs.Audiences.{flat_from}
 use Rattle.rtps_fragments.proofs.MergingLemmas.{AreFragmentActs, matches_all, merged_is}
 use Rattle.rtps_fragments.proofs.NoteLemmas.{merged_notes_are, notes_next, overhears_all}
-use Rattle.rtps_fragments.proofs.OverheardLemmas.{overheard_there}
+use Rattle.rtps_fragments.proofs.OverheardLemmas.{length-overheard, overheard_there}
 use Rattle.rtps_fragments.proofs.SampleSteps.{octets_of, sending_next}
 use Rattle.rtps_fragments.proofs.WholeLemmas.{all_alike, left_alike}
 
@@ -156,6 +159,28 @@ pub length-samples : (all before : List PieceAct) (recording : List (List PieceA
 length-samples all before [] = refl
 length-samples all before (acts ∷ recording) = ap suc (length-samples all (before ++ acts) recording)
 
+length-notes : (before : List PieceAct) (recording : List (List PieceAct)) → length (datagrams_and_notes before recording) ≡ length recording
+length-notes before [] = refl
+length-notes before (acts ∷ recording) = ap suc (length-notes (before ++ acts) recording)
+
+-- there are samples for each datagram
+pub told_count : (recording : List (Bor (List ℕ))) (samples : Samples) → AreSamplesOf (octets_of recording) samples → length samples.told.items ≡ length recording
+told_count recording samples are =
+    sym (length-map samples.told.items (λ (t : Vec ToldSample). map told_value t.items)) ∙ ap length are.told ∙ length-told (sents_in (sending_of (octets_of recording))) [] (sending_of (octets_of recording))
+    ∙ length-map (octets_of recording) piece_acts_of ∙ length-map recording (λ datagram. datagram.now)
+
+pub overheard_count : (recording : List (Bor (List ℕ))) (samples : Samples) → AreSamplesOf (octets_of recording) samples → length samples.overheard.told.items ≡ length recording
+overheard_count recording samples are =
+    sym (length-map samples.overheard.told.items (λ (t : Vec ToldSample). map told_value t.items)) ∙ ap length are.overheard ∙ length-overheard [] (sending_of (octets_of recording))
+    ∙ length-map (octets_of recording) piece_acts_of ∙ length-map recording (λ datagram. datagram.now)
+
+-- what is kept at a place is what is told there
+pub kept_at : (kept : List (Vec ToldSample)) (all : List (List ToldValue)) (i : ℕ) (item : Vec ToldSample) (items : List ToldSample) → map (λ told. map told_value told.items) kept ≡ all → i < length kept → item ≡ get_or kept i item → items ≡ item.items
+    → slice_get all i ≡ Some (map told_value items)
+kept_at kept all i item items are lt is same =
+    ap (λ (ts : List (List ToldValue)). slice_get ts i) (sym are) ∙ get_mapped (λ (t : Vec ToldSample). map told_value t.items) kept i item (slice_get-get_or kept i item lt ∙ ap Some (sym is))
+    ∙ ap (λ (ts : List ToldSample). Some (map told_value ts)) (sym same)
+
 -- what is taken in of so many datagrams of a recording with its samples
 abbrev pub taken : List (Bor (List ℕ)) → ℕ → Intake
 taken xs i =
@@ -164,6 +189,11 @@ taken xs i =
       acts = datagrams_and_samples (piece_acts_in (sending_of (octets_of xs))) [] (sending_of (octets_of (take i xs)));
       announcing = announcing_with (sending_of (octets_of (take i xs)));
     }
+
+-- how many datagrams have announced something of them
+pub announced_count : (xs : List (Bor (List ℕ))) (i : ℕ) → i ≤ length xs → length (taken xs i).announcing ≡ i
+announced_count xs i le =
+    length-notes [] (sending_of (octets_of (take i xs))) ∙ length-map (octets_of (take i xs)) piece_acts_of ∙ length-map (take i xs) (λ (datagram : Bor (List ℕ)). datagram.now) ∙ length-take-le i xs le
 
 module _ (xs : List (Bor (List ℕ))) (i : ℕ) (d : Bor (List ℕ)) (lt : i < length xs) where
   abbrev octets : List ℕ

@@ -32,3 +32,4 @@ pub mod WholeLemmas
 pub mod IndexSteps
 pub mod FragmentCounts
 pub mod WithoutFragments
+pub mod AnnouncementLemmas

@@ -1,3 +1,4 @@
+pub mod Announcements
 pub mod FragmentDelivery
 pub mod FragmentVerdict
 pub mod Samples

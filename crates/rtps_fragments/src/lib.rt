@@ -2,6 +2,7 @@
 #![tactic(auto)]
 
 mod addressed;
+mod announcements;
 mod came;
 mod fragments;
 mod hearing;
@@ -18,6 +19,7 @@ mod telling;
 mod told_sample;
 mod whole;
 
+pub use announcements::Indexed;
 pub use fragments::Fragments;
 pub use piece::{FragmentRun, SampleKey, SentFragments};
 pub use sample_index::{index_as, index_with, judge_with_samples};

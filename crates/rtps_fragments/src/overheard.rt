@@ -17,7 +17,7 @@ use std::collections::BTreeMap;
 const BUILT_IN: u8 = 0xc0;
 
 /// Whether an entity is a built-in one.
-fn is_built_in(entity: EntityId) -> bool
+pub(crate) fn is_built_in(entity: EntityId) -> bool
     ensures { result ≡ is_built_in_lem entity }
 {
     entity.0[3] >= BUILT_IN

@@ -1,6 +1,7 @@
-ghost use Rattle.std.specs.Prelude.{ℕ, ◌≡◌, ◌+◌, ◌<◌, ◌^◌, map, IfOk, IfSome, List, OnOk};
-ghost use Rattle.rtps_audit.specs.Index.{IsIndexBy, IsIndexOf};
-ghost use Rattle.rtps_audit.specs.Intake.{Intake, intake_more};
+ghost use Rattle.std.specs.Prelude.{ℕ, ◌≡◌, ◌+◌, ◌<◌, ◌^◌, length, map, IfOk, IfSome, List, OnOk};
+ghost use Rattle.rtps_audit.specs.Index.{IsIndexBy};
+ghost use Rattle.rtps_audit.specs.Intake.{Intake, intake_more, intake_of};
+ghost use Rattle.rtps_fragments.specs.Announcements.{IsIndexedBy};
 ghost use Rattle.rtps_fragments.specs.Merging.{merged_from};
 ghost use Rattle.rtps_fragments.specs.RecordedSamples.{AreSamplesOf, IsWithoutFragments, intake_as, intake_with};
 ghost use Rattle.rtps_fragments.specs.FragmentVerdict.{IsFragmentVerdictFrom};
@@ -10,6 +11,7 @@ ghost use Rattle.rtps_fragments.specs.Telling.{SentValue, told_value};
 ghost use Rattle.rtps_fragments.specs.Whole.{AreWholeIn, tally_left};
 ghost use Rattle.rtps_fragments.specs.declared.merging.SampleForm.TheVariants.{ForAudience, ForEveryone};
 
+use crate::announcements::{DatagramActs, Indexed};
 use crate::fragments::Fragments;
 use crate::laws::recorded_verdict_is_of_runs;
 use crate::merging::{SampleForm, merge};
@@ -27,6 +29,8 @@ use std::alloc::Global;
 /// The samples that the acts of one datagram tell.
 #[derive(Clone, Copy)]
 struct DatagramSamples<'s> {
+    /// The number of the datagram, counted from 1.
+    datagram: usize,
     /// Each audience.
     told: &'s [ToldSample],
     /// A reader that hears everything, of built-in writers.
@@ -47,17 +51,18 @@ struct Reading<'s> {
 
 /// Takes in one datagram more, and behind each of its acts the samples that it tells. After `Memory` the index is of no use.
 fn note_datagram<'s>(
-    index: &mut Index<'s>,
+    indexed: &mut Indexed<'s>,
     reading: &mut Reading<'s>,
-    datagram: &'s [u8],
+    octets: &'s [u8],
     samples: &DatagramSamples<'s>,
 ) -> Result<(), Memory>
-    requires { index.old.tallies.datagrams + 1 < 2 ^ 64 }
-    ensures { OnOk result ((intake : Intake) (all : List SentValue) → AreWholeIn all samples.now.whole.now → IsIndexBy intake index.old
-        → IsIndexBy (intake_more intake (tally_left all datagram.now) (merged_from ForAudience 0 (map (λ one. one.act) (piece_acts_of datagram.now)) (map told_value samples.now.told.now))
-        (merged_from ForEveryone 0 (map (λ one. one.act) (piece_acts_of datagram.now)) (map told_value samples.now.overheard.now))) index.new) }
+    requires { indexed.old.index.tallies.datagrams + 1 < 2 ^ 64 }
+    ensures { OnOk result ((intake : Intake) (all : List SentValue) → AreWholeIn all samples.now.whole.now
+        → samples.now.datagram ≡ length intake.announcing + 1 → IsIndexedBy intake indexed.old
+        → IsIndexedBy (intake_more intake (tally_left all octets.now) (merged_from ForAudience 0 (map (λ one. one.act) (piece_acts_of octets.now)) (map told_value samples.now.told.now))
+        (merged_from ForEveryone 0 (map (λ one. one.act) (piece_acts_of octets.now)) (map told_value samples.now.overheard.now))) indexed.new) }
 {
-    reading.sending.read(datagram)?;
+    reading.sending.read(octets)?;
     let own = &reading.sending.acts;
     merge(
         &mut reading.acts,
@@ -71,21 +76,27 @@ fn note_datagram<'s>(
         own,
         samples.overheard,
     )?;
-    let tally = samples.whole.tally(tally(datagram), &reading.sending);
-    index.note(tally, &reading.acts, &reading.announcing)?;
+    let tally = samples.whole.tally(tally(octets), &reading.sending);
+    let noted = DatagramActs {
+        datagram: samples.datagram,
+        acts: &reading.acts,
+        announcing: &reading.announcing,
+    };
+    indexed.note(tally, &noted)?;
     Ok(())
 }
 
-/// The index of a recording with its samples. It borrows the octets of both. `Memory` is answered where there is none for it.
+/// The index of a recording with its samples, and its announcements. It borrows the octets of both. `Memory` is answered where there is
+/// none for it.
 pub fn index_with<'s>(
     alloc: Global,
     recording: &[&'s [u8]],
     samples: &'s Samples,
-) -> Result<Index<'s>, Memory>
+) -> Result<Indexed<'s>, Memory>
     requires { AreSamplesOf (map (λ datagram. datagram.now) recording.now) samples.now }
-    ensures { IfOk result (IsIndexBy (intake_with (map (λ datagram. datagram.now) recording.now))) }
+    ensures { IfOk result (IsIndexedBy (intake_with (map (λ datagram. datagram.now) recording.now))) }
 {
-    let mut index = Index::new(alloc);
+    let mut indexed = Indexed::new(alloc);
     let mut reading = Reading {
         sending: Sending::new(alloc),
         acts: Vec::new(alloc),
@@ -93,48 +104,71 @@ pub fn index_with<'s>(
     };
     for place in 0..recording.len() {
         let told = DatagramSamples {
+            datagram: place + 1,
             told: &samples.told[place],
             overheard: &samples.overheard.told[place],
             whole: &samples.whole,
         };
-        note_datagram(&mut index, &mut reading, recording[place], &told)?;
+        note_datagram(&mut indexed, &mut reading, recording[place], &told)?;
     }
-    Ok(index)
+    Ok(indexed)
 }
 
-/// The index of a recording where no submessage belongs to fragments; none where one does. `Memory` is answered where there is none
-/// for it.
-fn plain_index<'s>(alloc: Global, recording: &[&'s [u8]]) -> Result<Option<Index<'s>>, Memory>
-    ensures { IfOk result (λ found. IfSome found (λ index. IsIndexOf (map (λ datagram. datagram.now) recording.now) index
+/// The index of a recording whose fragments are skipped, and its announcements. `Memory` is answered where there is none for it.
+fn index_without<'s>(alloc: Global, recording: &[&'s [u8]]) -> Result<Indexed<'s>, Memory>
+    ensures { IfOk result (IsIndexedBy (intake_of (map (λ datagram. datagram.now) recording.now))) }
+{
+    let mut indexed = Indexed::new(alloc);
+    let mut walk = Walk::new(alloc);
+    for place in 0..recording.len() {
+        let tally = walk.read(recording[place])?;
+        let noted = DatagramActs {
+            datagram: place + 1,
+            acts: walk.acts(),
+            announcing: walk.acts(),
+        };
+        indexed.note(tally, &noted)?;
+    }
+    Ok(indexed)
+}
+
+/// The same where no submessage belongs to fragments; none where one does.
+fn plain_index<'s>(alloc: Global, recording: &[&'s [u8]]) -> Result<Option<Indexed<'s>>, Memory>
+    ensures { IfOk result (λ found. IfSome found (λ indexed. IsIndexedBy (intake_of (map (λ datagram. datagram.now) recording.now)) indexed
         × IsWithoutFragments (map (λ datagram. datagram.now) recording.now))) }
 {
-    let mut index = Index::new(alloc);
+    let mut indexed = Indexed::new(alloc);
     let mut walk = Walk::new(alloc);
-    for datagram in recording {
-        let tally = walk.read(datagram)?;
+    for place in 0..recording.len() {
+        let tally = walk.read(recording[place])?;
         if tally.fragments > 0 {
             return Ok(None);
         }
-        index.note(tally, walk.acts(), walk.acts())?;
+        let noted = DatagramActs {
+            datagram: place + 1,
+            acts: walk.acts(),
+            announcing: walk.acts(),
+        };
+        indexed.note(tally, &noted)?;
     }
-    Ok(Some(index))
+    Ok(Some(indexed))
 }
 
-/// The index of a recording, with its samples where fragments are read. The samples are put where the index may borrow them; where no
-/// submessage belongs to fragments they stay as they are, and the octets of each datagram are read once. `Memory` is answered where
-/// there is none for it, and then `samples` is of no use.
+/// The index of a recording, with its samples where fragments are read, and its announcements. The samples are put where the index may
+/// borrow them; where no submessage belongs to fragments they stay as they are, and the octets of each datagram are read once. `Memory`
+/// is answered where there is none for it, and then `samples` is of no use.
 pub fn index_as<'s>(
     alloc: Global,
     recording: &[&'s [u8]],
     fragments: Fragments,
     samples: &'s mut Samples,
-) -> Result<Index<'s>, Memory>
-    ensures { IfOk result (IsIndexBy (intake_as fragments (map (λ datagram. datagram.now) recording.now))) }
+) -> Result<Indexed<'s>, Memory>
+    ensures { IfOk result (IsIndexedBy (intake_as fragments (map (λ datagram. datagram.now) recording.now))) }
 {
     match fragments {
-        Fragments::Skipped => Index::build(alloc, recording),
+        Fragments::Skipped => index_without(alloc, recording),
         Fragments::Read => match plain_index(alloc, recording)? {
-            Some(index) => Ok(index),
+            Some(indexed) => Ok(indexed),
             None => {
                 *samples = Samples::of(alloc, recording)?;
                 index_with(alloc, recording, samples)

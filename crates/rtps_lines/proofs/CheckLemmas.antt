@@ -1,18 +1,16 @@
 -- How deep the object of a report that is checked nests.
-use Rattle.std.proofs.Common.{◌≤◌, ◌++◌, [], ◌∷◌, ℕ, List, arith, map}
-use Rattle.json.specs.Json.{max_depth, string}
-use Rattle.json.specs.Tree.{depth, items_depth, members_depth}
+use Rattle.std.proofs.Common.{◌≤◌, ◌++◌, arith}
+use Rattle.json.specs.Json.{max_depth}
+use Rattle.json.specs.Tree.{depth, members_depth}
 use Rattle.rtps_report.specs.FullReport.{AskedValue, RecordingValue, ReportValue, rows_of}
 use Rattle.rtps_report.specs.NoteFacts.{scope_of}
 use Rattle.rtps_lines.specs.CheckMembers.{check_members, notes_members, report_causes, report_notes, status_members}
-use Rattle.rtps_lines.specs.JsonText.{items_of, members_of, object_of, rows_members}
+use Rattle.rtps_lines.specs.JsonText.{members_of, object_of, rows_members}
+use Rattle.rtps_lines.specs.TalkMembers.{talk_members}
 use Rattle.rtps_lines.specs.declared.json_object.Advised.TheVariants.{All}
 use Rattle.rtps_lines.specs.declared.json_object.Telling.{Telling}
 use Rattle.rtps_lines.proofs.JsonLemmas.{joined, rows_depth}
-
-strings_within : (texts : List (List ℕ)) → items_depth (items_of (map string texts)) ≤ 0
-strings_within [] = omega arith
-strings_within (text ∷ texts) = omega (arith, strings_within texts)
+use Rattle.rtps_lines.proofs.TalkLemmas.{strings_within, talk_depth}
 
 pub check_depth : (asked : AskedValue) (recording : RecordingValue) (report : ReportValue) → members_depth (members_of (check_members asked recording report)) ≤ 4
 check_depth asked recording report =
@@ -22,8 +20,10 @@ check_depth asked recording report =
     let rows = rows_members telling (rows_of report) report.explained.counts recording in
     let few = strings_within causes in
     let last = strings_within notes in
-    let behind = joined 4 rows (notes_members notes) (rows_depth telling (rows_of report) report.explained.counts recording) (omega (arith, last)) in
-    joined 4 (status_members report.ending causes) (rows ++ notes_members notes) (omega (arith, few)) behind
+    let talk = talk_members report in
+    let end = joined 4 talk (notes_members notes) (omega (arith, talk_depth report)) (omega (arith, last)) in
+    let behind = joined 4 rows (talk ++ notes_members notes) (rows_depth telling (rows_of report) report.explained.counts recording) end in
+    joined 4 (status_members report.ending causes) (rows ++ (talk ++ notes_members notes)) (omega (arith, few)) behind
 
 pub check_within : (asked : AskedValue) (recording : RecordingValue) (report : ReportValue) → depth (object_of (check_members asked recording report)) ≤ max_depth
 check_within asked recording report = omega (arith, check_depth asked recording report)

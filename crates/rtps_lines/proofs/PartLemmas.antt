@@ -1,5 +1,14 @@
 -- Lists to which parts are appended, one by one.
-use Rattle.std.proofs.Common.{◌≡◌, ◌++◌, ◌∙◌, List, ap, append_assoc}
+use Rattle.std.proofs.Common.{◌≡◌, ◌<◌, ◌+◌, ◌++◌, ◌∷◌, [], ◌∙◌, ℕ, List, ap, append_assoc, get_or, length, sym, take}
+use Rattle.std.proofs.lemmas.List.{flat_map_more, take_more}
+use Rattle.std.specs.List.{flat_map}
+
+-- what is made of an item more
+pub item_more : {X A : Type 0} (f : X → List A) (xs : List X) (i : ℕ) (x d : X) (start one two : List A) → i < length xs → x ≡ get_or xs i d → one ≡ start ++ flat_map f (take i xs) → two ≡ one ++ f x
+    → two ≡ start ++ flat_map f (take (i + 1) xs)
+item_more f xs i x d start one two less is first next =
+    next ∙ ap (λ all. all ++ f x) first ∙ flat_map_more f start (take i xs) x
+    ∙ ap (λ all. start ++ flat_map f all) (ap (λ y. take i xs ++ y ∷ []) is ∙ sym (take_more xs i d less))
 
 pub two_parts : {A : Type 0} {one two : List A} (start a b : List A) → one ≡ start ++ a → two ≡ one ++ b → two ≡ start ++ (a ++ b)
 two_parts start a b first second = second ∙ ap (λ all. all ++ b) first ∙ append_assoc start a b

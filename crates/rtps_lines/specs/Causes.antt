@@ -24,6 +24,10 @@ findings_in ending = no_findings
 abbrev pub incomplete_words : WordsValue
 incomplete_words = record { one = codes "pair is not complete"; many = codes "pairs are not complete" }
 
+-- for pairs that do not match
+abbrev pub unmatched_words : WordsValue
+unmatched_words = record { one = codes "pair does not match"; many = codes "pairs do not match" }
+
 -- for numbers that were missed
 abbrev pub missed_words : WordsValue
 missed_words = record { one = codes "number was missed in"; many = codes "numbers were missed in" }
@@ -98,7 +102,7 @@ unread_causes findings =
 -- all of them, for rows of which this is counted
 abbrev pub causes_of : Standard → Totals → Findings → List (List ℕ)
 causes_of standard totals findings =
-    empty_cause findings.empty ++ (row_causes standard totals findings ++ (few_cause findings.few ++ unread_causes findings))
+    empty_cause findings.empty ++ (row_causes standard totals findings ++ (cause findings.unmatched unmatched_words ++ (few_cause findings.few ++ unread_causes findings)))
 
 -- the last line
 abbrev pub last_line : Ending → List (List ℕ) → List ℕ

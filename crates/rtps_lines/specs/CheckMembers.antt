@@ -1,7 +1,8 @@
 -- The members of the object of a report that is checked.
 -- own: other programs read the outcome, its reasons and what to do without taking lines apart. They stand around those of `audit --json`.
-use Rattle.std.specs.Prelude.{◌++◌, ℕ, List, [], ◌∷◌, codes, length, map}
+use Rattle.std.specs.Prelude.{◌++◌, ℕ, List, [], ◌∷◌, codes, map}
 use Rattle.json.specs.Json.{string}
+use Rattle.rtps_evidence.specs.Explanation.{explanation_value}
 use Rattle.rtps_report.specs.FullReport.{AskedValue, RecordingValue, ReportValue, rows_of}
 use Rattle.rtps_report.specs.NoteFacts.{note_facts, scope_of}
 use Rattle.rtps_report.specs.Totals.{totals_of}
@@ -11,6 +12,7 @@ use Rattle.rtps_lines.specs.Causes.{causes_of, findings_in}
 use Rattle.rtps_lines.specs.JsonText.{Member, array_of, rows_members}
 use Rattle.rtps_lines.specs.declared.json_object.Advised.TheVariants.{All}
 use Rattle.rtps_lines.specs.Notes.{short_notes}
+use Rattle.rtps_lines.specs.TalkMembers.{talk_members}
 
 -- how a run ends, in a word
 abbrev pub status_text : Ending → List ℕ
@@ -31,11 +33,11 @@ report_causes asked recording report = causes_of asked.standard (totals_of (scop
 
 -- what weakens it
 abbrev pub report_notes : AskedValue → RecordingValue → ReportValue → List (List ℕ)
-report_notes asked recording report = short_notes (note_facts asked recording report) (length report.left_out)
+report_notes asked recording report = short_notes (note_facts asked recording report) report.talk (map explanation_value report.left_out)
 
--- all members: those of `audit --json`, with what to do for each row, between them
+-- all members: those of `audit --json`, with what to do for each row, and who does not talk, between them
 abbrev pub check_members : AskedValue → RecordingValue → ReportValue → List Member
 check_members asked recording report =
     status_members report.ending (report_causes asked recording report)
     ++ (rows_members (record { scope = scope_of asked recording report; advised = All }) (rows_of report) report.explained.counts recording
-    ++ notes_members (report_notes asked recording report))
+    ++ (talk_members report ++ notes_members (report_notes asked recording report)))

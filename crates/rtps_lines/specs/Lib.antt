@@ -4,3 +4,5 @@ pub mod JsonText
 pub mod Lines
 pub mod Notes
 pub mod QosNames
+pub mod PolicyValues
+pub mod TalkMembers

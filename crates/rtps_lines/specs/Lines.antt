@@ -3,6 +3,10 @@
 use Rattle.std.specs.Prelude.{ℕ, ℤ, ◌++◌, List, [], ◌∷◌, codes, length, Option, None, Some}
 use Rattle.std.specs.Fmt.{decimal, signed_decimal}
 use Rattle.rtps_report.specs.Vocabulary.{Absent, Announcement, Claim, Complete, Conflict, FirstMissed, Key, Location, Open, PayloadValue, SentValue, Teller, Unfounded, Verdict, Whole}
+use Rattle.rtps_ids.specs.declared.identity.Guid.{Guid}
+use Rattle.rtps_parts.specs.Names.{guid_text}
+use Rattle.rtps_policies.specs.AddressText.{address_text}
+use Rattle.rtps_policies.specs.declared.host.Address.{Address}
 use Rattle.rtps_evidence.specs.declared.location.Kind.{Kind}
 use Rattle.rtps_evidence.specs.declared.location.Kind.TheVariants.{Data, Heartbeat, AckNack, Gap, DataFrag, NackFrag}
 
@@ -97,3 +101,8 @@ asked_line first = 32 ∷ 32 ∷ inner_line (codes "number" ∷ decimal first.nu
 abbrev pub questions_line : ℕ → Option Location → List ℕ
 questions_line count None = inner_line (codes "not asked since its last answer" ∷ [])
 questions_line count (Some place) = inner_line (codes "asked" ∷ decimal count ∷ codes "times since its last answer, last" ∷ place_text place ∷ [])
+
+-- a GUID, and where its participant is, if that is known
+abbrev pub hosted_text : Guid → Option Address → List ℕ
+hosted_text guid None = guid_text guid
+hosted_text guid (Some address) = guid_text guid ++ (codes " at " ++ address_text address)

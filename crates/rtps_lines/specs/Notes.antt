@@ -1,9 +1,16 @@
 -- What weakens a report, each with what to do. own: what was not read, and which pairs were not seen, is told beside the rows.
-use Rattle.std.specs.Prelude.{ℕ, ◌++◌, ◌==◌, if◌then◌else◌, List, [], ◌∷◌, codes, length, Some}
+use Rattle.std.specs.Prelude.{ℕ, ◌++◌, ◌==◌, Bool, true, false, if◌then◌else◌, nat_lt, List, [], ◌∷◌, codes, filter, length, Some}
 use Rattle.std.specs.List.{concat, flat_map, join_by}
 use Rattle.rtps_evidence.specs.Explanation.{ExplanationValue}
-use Rattle.rtps_parts.specs.Names.{octet_text}
-use Rattle.rtps_parts.specs.Parts.{WordsValue, amount, grouped}
+use Rattle.rtps_parts.specs.Parts.{WordsValue, amount, grouped, share, words_for}
+use Rattle.rtps_parts.specs.RosNames.{topic_text}
+use Rattle.rtps_discovery.specs.declared.matching.Pair.{Pair}
+use Rattle.rtps_policies.specs.declared.silence.Silence.{Silence}
+use Rattle.rtps_policies.specs.declared.silence.Silence.TheVariants.{OneParticipant, TwoDomains, OneWay, Silent}
+use Rattle.rtps_report.specs.BestEfforts.{BestEffortValue}
+use Rattle.rtps_report.specs.Participants.{are_on_one_host}
+use Rattle.rtps_report.specs.Talk.{TalkValue}
+use Rattle.rtps_report.specs.declared.participant.Participant.{Participant}
 use Rattle.rtps_report.specs.ByTopic.{topics_of}
 use Rattle.rtps_report.specs.declared.note_facts.NoteFacts.{NoteFacts}
 use Rattle.rtps_lines.specs.declared.notes.Weakness.{Weakness}
@@ -54,34 +61,116 @@ weaknesses facts = (facts.likely, Likely) ∷ (facts.pieces, Pieces) ∷ (facts.
 abbrev pub note : List ℕ → ℕ × Weakness → List (List ℕ)
 note arrow found = if found.0 == 0 then [] else concat (amount found.0 (words_of found.1) ∷ (detail_of found.0 found.1 ++ (arrow ∷ remedy_of found.1 ∷ []))) ∷ []
 
--- the name of the topic of rows, as `list` writes it between quotes
+-- the name of the topic of rows, by ROS 2, as `list` writes one between quotes
 abbrev pub topic_name : List ExplanationValue → List ℕ
 topic_name [] = []
-topic_name (row ∷ rows) = flat_map octet_text row.topic
+topic_name (row ∷ rows) = topic_text row.topic
 
 -- the names of topics behind a colon, with a comma between each two; nothing where there is none
 abbrev pub joined_names : List (List ExplanationValue) → List ℕ
 joined_names [] = []
 joined_names (topic ∷ topics) = codes ": " ++ join_by topic_name (codes ", ") (topic ∷ topics)
 
--- so many pairs that are left out, and the names of their topics
-abbrev pub left_out_by : ℕ → List ℕ → List ℕ
-left_out_by pairs names = concat (amount pairs (record { one = codes "pair is left out"; many = codes "pairs are left out" })
-    ∷ codes ", not seen here (one process, shared memory, another host or interface)" ∷ names ∷ [])
+-- why pairs are silent, and what that says of them
+unfoldable pub silence_words : Silence → List ℕ
+silence_words OneParticipant = codes "of one participant (it needs no network)"
+silence_words TwoDomains = codes "of two domains (they never meet)"
+silence_words OneWay = codes "talking one way (the reader never answers)"
+silence_words Silent = codes "silent here (shared memory, another host or interface)"
 
--- the note on these rows; none where no pair is left out
-abbrev pub left_out_note : List ExplanationValue → List (List ℕ)
-left_out_note [] = []
-left_out_note (row ∷ rows) = left_out_by (length (row ∷ rows)) (joined_names (topics_of (row ∷ rows))) ∷ []
+-- so many pairs that are left out for this reason, and the names of their topics
+abbrev pub left_out_by : Silence → ℕ → List ℕ → List ℕ
+left_out_by silence pairs names =
+    concat (amount pairs (record { one = codes "pair is left out, "; many = codes "pairs are left out, " }) ∷ silence_words silence ∷ names ∷ [])
 
--- for so many pairs the writer wrote nothing since the reader joined, and the names of their topics
-abbrev pub late_by : ℕ → List ℕ → List ℕ
-late_by pairs names = concat (codes "the writer wrote nothing since the reader joined: " ∷ amount pairs pair_words ∷ names ∷ [])
+-- two reasons are the same
+abbrev pub is_silence : Silence → Silence → Bool
+is_silence OneParticipant OneParticipant = true
+is_silence TwoDomains TwoDomains = true
+is_silence OneWay OneWay = true
+is_silence Silent Silent = true
+is_silence _ _ = false
+
+-- the rows whose pairs are silent for this reason
+abbrev pub silent_in : (Pair → Silence) → Silence → List ExplanationValue → List ExplanationValue
+silent_in silence_of silence rows = filter (λ row. is_silence (silence_of row.pair) silence) rows
+
+-- the note on rows that are silent for a reason, by topic; none where there is no such row
+abbrev pub silent_by : Silence → List ExplanationValue → List (List ℕ)
+silent_by reason [] = []
+silent_by reason (row ∷ rows) = left_out_by reason (length (row ∷ rows)) (joined_names (topics_of (row ∷ rows))) ∷ []
+
+-- the note on those of these rows that are silent for a reason
+abbrev pub silent_note : (Pair → Silence) → List ExplanationValue → Silence → List (List ℕ)
+silent_note silence_of rows silence = silent_by silence (silent_in silence_of silence rows)
+
+-- the same without the topics
+abbrev pub short_silent_by : Silence → List ExplanationValue → List (List ℕ)
+short_silent_by reason [] = []
+short_silent_by reason (row ∷ rows) = left_out_by reason (length (row ∷ rows)) [] ∷ []
+
+-- that note without the topics
+abbrev pub short_silent_note : (Pair → Silence) → List ExplanationValue → Silence → List (List ℕ)
+short_silent_note silence_of rows silence = short_silent_by silence (silent_in silence_of silence rows)
+
+-- the reasons, in the order in which they are told
+abbrev pub silences : List Silence
+silences = OneParticipant ∷ TwoDomains ∷ OneWay ∷ Silent ∷ []
+
+-- the notes on rows that are left out
+abbrev pub left_out_notes : (Pair → Silence) → List ExplanationValue → List (List ℕ)
+left_out_notes silence_of rows = flat_map (silent_note silence_of rows) silences
+
+-- the notes on rows that are left out, without the topics
+abbrev pub short_left_out_notes : (Pair → Silence) → List ExplanationValue → List (List ℕ)
+short_left_out_notes silence_of rows = flat_map (short_silent_note silence_of rows) silences
+
+-- that all participants are on one host, if it is so
+abbrev pub host_note : List ℕ → List Participant → List (List ℕ)
+host_note arrow participants =
+    if are_on_one_host participants
+    then concat (codes "nothing of another host is in this recording" ∷ arrow ∷ codes "if there are other hosts, multicast may be blocked between them" ∷ []) ∷ []
+    else []
+
+-- the name of a topic of best effort, and how many of its numbers are recorded
+abbrev pub share_text : List ℕ → BestEffortValue → List ℕ
+share_text separator sum = concat (separator ∷ topic_text sum.topic ∷ codes " " ∷ share sum.recorded sum.numbers ∷ [])
+
+-- those of topics behind a colon; nothing where there is none
+abbrev pub shares_text : List BestEffortValue → List ℕ
+shares_text [] = []
+shares_text (sum ∷ sums) = share_text (codes ": ") sum ++ flat_map (share_text (codes ", ")) sums
+
+-- what is to be done where not all numbers are recorded, behind an arrow
+abbrev pub best_effort_remedy : List ℕ → BestEffortValue → List ℕ
+best_effort_remedy arrow total =
+    if nat_lt total.recorded total.numbers
+    then arrow ++ codes "at the reader's side the others were lost; at the writer's side the recording lacks them"
+    else []
+
+-- how many numbers of all pairs of best effort are recorded, and then this of their topics; none where there is no such pair
+abbrev pub best_effort_note : List ℕ → BestEffortValue → List ℕ → List (List ℕ)
+best_effort_note arrow total shares =
+    if total.pairs == 0 then []
+    else concat (amount total.pairs (record { one = codes "best-effort pair has "; many = codes "best-effort pairs have " })
+    ∷ share total.recorded total.numbers
+    ∷ words_for total.numbers (record { one = codes " number in this recording"; many = codes " numbers in this recording" })
+    ∷ shares ∷ best_effort_remedy arrow total ∷ []) ∷ []
+
+-- for so many pairs the writer wrote nothing since the reader joined, the names of their topics, and behind an arrow what to do
+abbrev pub late_by : ℕ → List ℕ → List ℕ → List ℕ
+late_by pairs names arrow =
+    concat (codes "the writer wrote nothing since the reader joined: " ∷ amount pairs pair_words ∷ names ∷ arrow
+    ∷ codes "if earlier numbers were for it, it was discovered too late: wait for it, or use transient local" ∷ [])
 
 -- the note on these rows; none where there is no such row
-abbrev pub late_note : List ExplanationValue → List (List ℕ)
-late_note [] = []
-late_note (row ∷ rows) = late_by (length (row ∷ rows)) (joined_names (topics_of (row ∷ rows))) ∷ []
+abbrev pub late_note : List ℕ → List ExplanationValue → List (List ℕ)
+late_note arrow [] = []
+late_note arrow (row ∷ rows) = late_by (length (row ∷ rows)) (joined_names (topics_of (row ∷ rows))) arrow ∷ []
+
+-- the note on so many such pairs, without the names of their topics; none where there is no such pair
+abbrev pub short_late_note : ℕ → List (List ℕ)
+short_late_note pairs = if pairs == 0 then [] else late_by pairs [] (codes " -> ") ∷ []
 
 -- the note on rows that are clean with a tail, and on the longest; none where there is no such row
 abbrev pub tail_note : NoteFacts → List (List ℕ)
@@ -90,11 +179,19 @@ tail_note facts =
     else concat (amount facts.tails (record { one = codes "pair is"; many = codes "pairs are" }) ∷ codes " clean with a tail, of at most "
     ∷ amount facts.longest number_words ∷ []) ∷ []
 
--- all notes, in one line each, of so many pairs that are left out
-unfoldable pub short_notes : NoteFacts → ℕ → List (List ℕ)
-short_notes facts left_out =
-    (if left_out == 0 then [] else left_out_by left_out [] ∷ []) ++ ((if facts.late == 0 then [] else late_by facts.late [] ∷ []) ++ (tail_note facts ++ flat_map (note (codes " -> ")) (weaknesses facts)))
+-- all notes, in one line each, without the names of topics
+unfoldable pub short_notes : NoteFacts → TalkValue → List ExplanationValue → List (List ℕ)
+short_notes facts talk left_out =
+    host_note (codes " -> ") talk.participants
+    ++ (short_left_out_notes talk.silence left_out
+    ++ (best_effort_note (codes " -> ") talk.best_effort_total []
+    ++ (short_late_note facts.late ++ (tail_note facts ++ flat_map (note (codes " -> ")) (weaknesses facts)))))
 
--- all notes, of pairs that are left out and of those whose writer wrote nothing since their reader joined, each by topic
-abbrev pub notes : List ℕ → NoteFacts → List ExplanationValue → List ExplanationValue → List (List ℕ)
-notes arrow facts left_out late = left_out_note left_out ++ (late_note late ++ (tail_note facts ++ flat_map (note arrow) (weaknesses facts)))
+-- all notes, with the names of topics: of pairs that are left out and of those whose writer wrote nothing since their reader joined, each by
+-- topic
+abbrev pub notes : List ℕ → NoteFacts → TalkValue → List ExplanationValue → List ExplanationValue → List (List ℕ)
+notes arrow facts talk left_out late =
+    host_note arrow talk.participants
+    ++ (left_out_notes talk.silence left_out
+    ++ (best_effort_note arrow talk.best_effort_total (shares_text talk.best_effort)
+    ++ (late_note arrow late ++ (tail_note facts ++ flat_map (note arrow) (weaknesses facts)))))

@@ -1,7 +1,7 @@
 ghost use Rattle.std.specs.Prelude.{◌≡◌, ◌++◌, OnOk, IfOk, map};
 ghost use Rattle.std.specs.String.{string_bytes};
 ghost use Rattle.rtps_parts.specs.Parts.{words_value};
-ghost use Rattle.rtps_lines.specs.Causes.{cause, causes_of as causes_of_lem, empty_cause, few_cause, findings_in as findings_in_lem, incomplete_causes, incomplete_words as incomplete_words_lem, last_line, links_cause, lost_cause, missed_words as missed_words_lem, row_causes, unanswered_words as unanswered_words_lem, uncertain_of as uncertain_of_lem, uncertain_words as uncertain_words_lem, unclean_causes, unread_causes, unsent_words as unsent_words_lem};
+ghost use Rattle.rtps_lines.specs.Causes.{cause, causes_of as causes_of_lem, empty_cause, few_cause, findings_in as findings_in_lem, incomplete_causes, incomplete_words as incomplete_words_lem, last_line, links_cause, lost_cause, missed_words as missed_words_lem, row_causes, unanswered_words as unanswered_words_lem, uncertain_of as uncertain_of_lem, uncertain_words as uncertain_words_lem, unclean_causes, unmatched_words as unmatched_words_lem, unread_causes, unsent_words as unsent_words_lem};
 
 use crate::notes::{Weakness, pair_words};
 use rtps_parts::{Part, Words, push_joined, push_rendered};
@@ -144,6 +144,16 @@ fn incomplete_words() -> Words
     }
 }
 
+/// The words for pairs that do not match.
+pub fn unmatched_words() -> Words
+    ensures { words_value result ≡ unmatched_words_lem }
+{
+    Words {
+        one: "pair does not match",
+        many: "pairs do not match",
+    }
+}
+
 fn push_incomplete(
     alloc: Global,
     causes: &mut Vec<String>,
@@ -248,8 +258,10 @@ fn push_causes(
 ) -> Result<(), AllocError>
     ensures { OnOk result (map string_bytes causes.new.items ≡ map string_bytes causes.old.items ++ causes_of_lem judged.entry.standard judged.entry.totals.now found.now) }
 {
+    let unmatched = u128::from(found.unmatched);
     push_empty(alloc, causes, found.empty)?;
     push_row_causes(alloc, causes, judged, found)?;
+    push_cause(alloc, causes, unmatched, unmatched_words())?;
     push_few(alloc, causes, found.few)?;
     push_unread(alloc, causes, found)
 }

@@ -8,7 +8,8 @@ ghost use Rattle.rtps_lines.specs.JsonText.{tokens_of};
 use crate::causes::{Judged, causes_of};
 use crate::json_members::{push_text, push_texts};
 use crate::json_object::{Advised, Telling, push_report_members};
-use crate::notes::short_notes;
+use crate::notes::{NotedRows, short_notes};
+use crate::talk_members::push_talk_members;
 use json::Writer;
 use rtps_report::{Ending, FullReport, notes_on, scope_of, totals_of};
 use std::alloc::{AllocError, Global};
@@ -53,12 +54,18 @@ pub fn push_check_members(
     ensures before { writer.new.before ≡ writer.old.before }
 {
     let causes = report_causes_of(alloc, report)?;
-    let notes = short_notes(alloc, &notes_on(report), report.left_out.len())?;
+    let rows = NotedRows {
+        talk: &report.talk,
+        left_out: &report.left_out,
+        late: &[],
+    };
+    let notes = short_notes(alloc, &notes_on(report), rows)?;
     push_status(writer, &report.ending, &causes)?;
     let telling = Telling {
         scope: scope_of(report),
         advised: Advised::All,
     };
     push_report_members(alloc, writer, report, telling)?;
+    push_talk_members(alloc, writer, report)?;
     push_texts(writer, "notes", &notes)
 }

@@ -3,12 +3,14 @@
 ghost use Rattle.std.specs.Prelude.{◌≡◌, ◌++◌, codes, OnOk, Some};
 ghost use Rattle.std.specs.String.{string_bytes};
 ghost use Rattle.rtps_wire.specs.Values.{payload_value};
-ghost use Rattle.rtps_lines.specs.Lines.{kind_text, payload_text, place_comma, place_text};
+ghost use Rattle.rtps_lines.specs.Lines.{hosted_text, kind_text, payload_text, place_comma, place_text};
 ghost use Rattle.rtps_lines.specs.QosNames.{durability_text, reliability_text, side_text};
 
 use itoa::{Buffer, Integer};
 use rtps_discovery::{Durability, Reliability, Side};
 use rtps_evidence::{Kind, Location};
+use rtps_ids::Guid;
+use rtps_policies::Address;
 use rtps_wire::Payload;
 use std::alloc::AllocError;
 use std::fmt;
@@ -51,6 +53,22 @@ impl fmt::Display for PlaceComma {
 
     fn fmt<W: fmt::Write>(&self, f: &mut fmt::Formatter<W>) -> fmt::Result {
         write!(f, "{},", PlaceText(self.0))
+    }
+}
+
+/// A GUID, and where its participant is, if that is known.
+#[derive(Drop)]
+pub struct HostedGuid(pub Guid, pub Option<Address>);
+
+impl fmt::Display for HostedGuid {
+    ghost output = { λ text. Some (hosted_text text.0 text.1) };
+
+    fn fmt<W: fmt::Write>(&self, f: &mut fmt::Formatter<W>) -> fmt::Result {
+        let guid = self.0;
+        match self.1 {
+            Some(address) => write!(f, "{guid} at {address}"),
+            None => write!(f, "{guid}"),
+        }
     }
 }
 

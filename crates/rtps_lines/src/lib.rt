@@ -9,17 +9,20 @@ mod fields;
 mod json_members;
 mod json_object;
 mod notes;
+mod policy_values;
+mod talk_members;
 
-pub use causes::{Judged, causes_of, push_last};
+pub use causes::{Judged, causes_of, push_last, unmatched_words};
 pub use check_members::push_check_members;
 pub use evidence_lines::{
     AcknowledgedLine, AnnouncedLine, AskedLine, ClaimedLine, QuestionsLine, ToldLine, VerdictText,
     push_sent,
 };
 pub use fields::{
-    PlaceComma, PlaceText, durability_name, kind_name, push_decimal, push_field, push_payload,
-    reliability_name, side_name,
+    HostedGuid, PlaceComma, PlaceText, durability_name, kind_name, push_decimal, push_field,
+    push_payload, reliability_name, side_name,
 };
 pub use json_members::{push_count, push_guid, push_name, push_number, push_text, push_texts};
 pub use json_object::{Advised, Telling, json_line, push_report, push_report_members};
 pub use notes::{NotedRows, names_of, notes_of, number_words, topic_name};
+pub use policy_values::{Naming, PolicyValue, words_of_policy};

@@ -1,14 +1,17 @@
-ghost use Rattle.std.specs.Prelude.{◌≡◌, ◌++◌, OnOk, IfOk, map};
+ghost use Rattle.std.specs.Prelude.{◌≡◌, ◌++◌, OnOk, IfOk, length, map};
 ghost use Rattle.std.specs.List.{flat_map};
 ghost use Rattle.std.specs.String.{string_bytes};
 ghost use Rattle.rtps_evidence.specs.Explanation.{explanation_value};
 ghost use Rattle.rtps_parts.specs.Parts.{part_text, words_value};
 ghost use Rattle.rtps_report.specs.ByTopic.{topics_of as topics_of_lem};
-ghost use Rattle.rtps_lines.specs.Notes.{detail_of, joined_names as joined_names_lem, late_by as late_by_lem, late_note, left_out_by as left_out_by_lem, left_out_note, note, notes as notes_lem, number_words as number_words_lem, pair_words as pair_words_lem, remedy_of, short_notes as short_notes_lem, tail_note, topic_name as topic_name_lem, weaknesses as weaknesses_lem, words_of};
+ghost use Rattle.rtps_report.specs.BestEfforts.{best_effort_value};
+ghost use Rattle.rtps_report.specs.Talk.{talk_value};
+ghost use Rattle.rtps_lines.specs.Notes.{best_effort_note, best_effort_remedy as best_effort_remedy_lem, detail_of, host_note, is_silence, joined_names as joined_names_lem, late_by as late_by_lem, late_note, left_out_by as left_out_by_lem, left_out_notes, note, notes as notes_lem, number_words as number_words_lem, pair_words as pair_words_lem, remedy_of, share_text, shares_text, short_late_note, short_left_out_notes, short_notes as short_notes_lem, short_silent_note, silence_words as silence_words_lem, silent_in, silent_note, tail_note, topic_name as topic_name_lem, weaknesses as weaknesses_lem, words_of};
 
 use rtps_evidence::Explanation;
-use rtps_parts::{Part, Words, push_rendered, render};
-use rtps_report::{NoteFacts, topics_of};
+use rtps_parts::{Part, Words, push_rendered, render, words_for};
+use rtps_policies::Silence;
+use rtps_report::{BestEffort, NoteFacts, Talk, are_on_one_host, topics_of};
 use std::alloc::{AllocError, Global};
 
 /// What weakens a report.
@@ -166,12 +169,12 @@ fn push_note(
     push_rendered(alloc, notes, &parts)
 }
 
-/// The name of the topic of rows; empty where there is no row.
+/// The name of the topic of rows, by ROS 2; empty where there is no row.
 pub fn topic_name<'a>(rows: &[Explanation<'a>]) -> Part<'a>
     ensures { part_text result ≡ topic_name_lem (map explanation_value rows.now) }
 {
     match rows.first() {
-        Some(row) => Part::Name(row.topic),
+        Some(row) => Part::TopicName(row.topic),
         None => Part::Text(""),
     }
 }
@@ -198,32 +201,224 @@ pub fn names_of(alloc: Global, rows: &[Explanation<'_>]) -> Result<String, Alloc
     joined_names(alloc, &topics)
 }
 
-fn left_out_by(pairs: usize, names: &str) -> [Part<'_>; 3]
-    ensures { flat_map part_text result ≡ left_out_by_lem pairs names.now }
+/// Why pairs are silent, and what that says of them.
+#[tactic(auto, unfolding(crate::specs::Notes::silence_words))]
+fn silence_words(silence: Silence) -> &'static str
+    ensures { result.now ≡ silence_words_lem silence }
+{
+    match silence {
+        Silence::OneParticipant => "of one participant (it needs no network)",
+        Silence::TwoDomains => "of two domains (they never meet)",
+        Silence::OneWay => "talking one way (the reader never answers)",
+        Silence::Silent => "silent here (shared memory, another host or interface)",
+    }
+}
+
+fn left_out_by(silence: Silence, pairs: usize, names: &str) -> [Part<'_>; 3]
+    ensures { flat_map part_text result ≡ left_out_by_lem silence pairs names.now }
 {
     let words = Words {
-        one: "pair is left out",
-        many: "pairs are left out",
+        one: "pair is left out, ",
+        many: "pairs are left out, ",
     };
     [
         Part::Amount(pairs as u128, words),
-        Part::Text(", not seen here (one process, shared memory, another host or interface)"),
+        Part::Text(silence_words(silence)),
         Part::Text(names),
     ]
 }
 
-fn push_left_out(
+/// Whether two reasons are the same.
+fn is_same(one: Silence, other: Silence) -> bool
+    ensures { result ≡ is_silence one other }
+{
+    one == other
+}
+
+/// Those of rows that are left out whose pairs are silent for this reason.
+fn silent_among<'a>(
+    alloc: Global,
+    rows: &[Explanation<'a>],
+    talk: &Talk<'_>,
+    silence: Silence,
+) -> Result<Vec<Explanation<'a>>, AllocError>
+    ensures { IfOk result (λ found. map explanation_value found.items
+        ≡ silent_in (talk_value talk.now).silence silence (map explanation_value rows.now)) }
+{
+    let mut found = Vec::new(alloc);
+    for row in rows {
+        if is_same(talk.silence(row.pair), silence) {
+            found.push(*row)?;
+        }
+    }
+    Ok(found)
+}
+
+/// Appends the note on pairs that are silent for this reason.
+fn push_silent(
     alloc: Global,
     notes: &mut Vec<String>,
-    rows: &[Explanation<'_>],
+    told: NotedRows<'_, '_>,
+    silence: Silence,
 ) -> Result<(), AllocError>
-    ensures { OnOk result (map string_bytes notes.new.items ≡ map string_bytes notes.old.items ++ left_out_note (map explanation_value rows.now)) }
+    ensures { OnOk result (map string_bytes notes.new.items ≡ map string_bytes notes.old.items
+        ++ silent_note (talk_value told.entry.talk.now).silence (map explanation_value told.entry.left_out.now) silence) }
 {
+    let rows = silent_among(alloc, told.left_out, told.talk, silence)?;
     if rows.is_empty() {
         return Ok(());
     }
-    let names = names_of(alloc, rows)?;
-    push_rendered(alloc, notes, &left_out_by(rows.len(), &names))
+    let names = names_of(alloc, &rows)?;
+    push_rendered(alloc, notes, &left_out_by(silence, rows.len(), &names))
+}
+
+/// The reasons for which pairs are silent, in the order in which they are told.
+const SILENCES: [Silence; 4] = [
+    Silence::OneParticipant,
+    Silence::TwoDomains,
+    Silence::OneWay,
+    Silence::Silent,
+];
+
+fn push_left_out(
+    alloc: Global,
+    notes: &mut Vec<String>,
+    told: NotedRows<'_, '_>,
+) -> Result<(), AllocError>
+    ensures { OnOk result (map string_bytes notes.new.items ≡ map string_bytes notes.old.items
+        ++ left_out_notes (talk_value told.entry.talk.now).silence (map explanation_value told.entry.left_out.now)) }
+{
+    for silence in &SILENCES {
+        push_silent(alloc, notes, told, *silence)?;
+    }
+    Ok(())
+}
+
+/// Appends how many pairs are silent for this reason.
+fn push_short_silent(
+    alloc: Global,
+    notes: &mut Vec<String>,
+    told: NotedRows<'_, '_>,
+    silence: Silence,
+) -> Result<(), AllocError>
+    ensures { OnOk result (map string_bytes notes.new.items ≡ map string_bytes notes.old.items
+        ++ short_silent_note (talk_value told.entry.talk.now).silence (map explanation_value told.entry.left_out.now) silence) }
+{
+    let rows = silent_among(alloc, told.left_out, told.talk, silence)?;
+    if rows.is_empty() {
+        return Ok(());
+    }
+    push_rendered(alloc, notes, &left_out_by(silence, rows.len(), ""))
+}
+
+fn push_short_left_out(
+    alloc: Global,
+    notes: &mut Vec<String>,
+    told: NotedRows<'_, '_>,
+) -> Result<(), AllocError>
+    ensures { OnOk result (map string_bytes notes.new.items ≡ map string_bytes notes.old.items
+        ++ short_left_out_notes (talk_value told.entry.talk.now).silence (map explanation_value told.entry.left_out.now)) }
+{
+    for silence in &SILENCES {
+        push_short_silent(alloc, notes, told, *silence)?;
+    }
+    Ok(())
+}
+
+fn push_hosts(
+    alloc: Global,
+    notes: &mut Vec<String>,
+    talk: &Talk<'_>,
+    arrow: &str,
+) -> Result<(), AllocError>
+    ensures { OnOk result (map string_bytes notes.new.items ≡ map string_bytes notes.old.items ++ host_note arrow.now (talk_value talk.now).participants) }
+{
+    if !are_on_one_host(&talk.participants) {
+        return Ok(());
+    }
+    let parts = [
+        Part::Text("nothing of another host is in this recording"),
+        Part::Text(arrow),
+        Part::Text("if there are other hosts, multicast may be blocked between them"),
+    ];
+    push_rendered(alloc, notes, &parts)
+}
+
+/// The topics of pairs of best effort behind a colon, each with how many of its numbers are recorded; empty where there is none.
+fn shares_of(alloc: Global, sums: &[BestEffort<'_>]) -> Result<String, AllocError>
+    ensures { IfOk result (λ shares. string_bytes shares ≡ shares_text (map best_effort_value sums.now)) }
+{
+    let mut shares = String::new(alloc);
+    let Some((first, others)) = sums.split_first() else {
+        return Ok(shares);
+    };
+    render(&mut shares, &share_parts(": ", first))?;
+    for other in others {
+        render(&mut shares, &share_parts(", ", other))?;
+    }
+    Ok(shares)
+}
+
+fn share_parts<'a>(separator: &'static str, sum: &BestEffort<'a>) -> [Part<'a>; 4]
+    ensures { flat_map part_text result ≡ share_text separator.now (best_effort_value sum.now) }
+{
+    [
+        Part::Text(separator),
+        Part::TopicName(sum.topic),
+        Part::Text(" "),
+        Part::Share(sum.recorded, sum.numbers),
+    ]
+}
+
+/// What is to be done where not all numbers are recorded, behind an arrow.
+fn best_effort_remedy<'t>(total: &BestEffort<'_>, arrow: &'t str) -> [Part<'t>; 2]
+    ensures text { flat_map part_text result ≡ best_effort_remedy_lem arrow.now (best_effort_value total.now) }
+    ensures both { length result ≡ 2 }
+{
+    if total.recorded < total.numbers {
+        [
+            Part::Text(arrow),
+            Part::Text(
+                "at the reader's side the others were lost; at the writer's side the recording lacks them",
+            ),
+        ]
+    } else {
+        [Part::Text(""), Part::Text("")]
+    }
+}
+
+/// Appends how many numbers of all pairs of best effort are recorded, and behind that the text on their topics.
+fn push_best_effort<'t>(
+    alloc: Global,
+    notes: &mut Vec<String>,
+    told: (&BestEffort<'_>, &'t str),
+    arrow: &'t str,
+) -> Result<(), AllocError>
+    ensures { OnOk result (map string_bytes notes.new.items ≡ map string_bytes notes.old.items
+        ++ best_effort_note arrow.now (best_effort_value told.entry.0.now) told.entry.1.now) }
+{
+    let (total, shares) = told;
+    if total.pairs == 0 {
+        return Ok(());
+    }
+    let pairs = Words {
+        one: "best-effort pair has ",
+        many: "best-effort pairs have ",
+    };
+    let numbers = Words {
+        one: " number in this recording",
+        many: " numbers in this recording",
+    };
+    let remedy = best_effort_remedy(total, arrow);
+    let parts = [
+        Part::Amount(u128::from(total.pairs), pairs),
+        Part::Share(total.recorded, total.numbers),
+        Part::Text(words_for(total.numbers, numbers)),
+        Part::Text(shares),
+        remedy[0],
+        remedy[1],
+    ];
+    push_rendered(alloc, notes, &parts)
 }
 
 fn push_weaknesses(
@@ -240,13 +435,17 @@ fn push_weaknesses(
     Ok(())
 }
 
-fn late_by(pairs: u64, names: &str) -> [Part<'_>; 3]
-    ensures { flat_map part_text result ≡ late_by_lem pairs names.now }
+fn late_by<'t>(pairs: u64, names: &'t str, arrow: &'t str) -> [Part<'t>; 5]
+    ensures { flat_map part_text result ≡ late_by_lem pairs names.now arrow.now }
 {
     [
         Part::Text("the writer wrote nothing since the reader joined: "),
         Part::Amount(u128::from(pairs), pair_words()),
         Part::Text(names),
+        Part::Text(arrow),
+        Part::Text(
+            "if earlier numbers were for it, it was discovered too late: wait for it, or use transient local",
+        ),
     ]
 }
 
@@ -254,14 +453,25 @@ fn push_late(
     alloc: Global,
     notes: &mut Vec<String>,
     rows: &[Explanation<'_>],
+    arrow: &str,
 ) -> Result<(), AllocError>
-    ensures { OnOk result (map string_bytes notes.new.items ≡ map string_bytes notes.old.items ++ late_note (map explanation_value rows.now)) }
+    ensures { OnOk result (map string_bytes notes.new.items ≡ map string_bytes notes.old.items ++ late_note arrow.now (map explanation_value rows.now)) }
 {
     if rows.is_empty() {
         return Ok(());
     }
     let names = names_of(alloc, rows)?;
-    push_rendered(alloc, notes, &late_by(rows.len() as u64, &names))
+    push_rendered(alloc, notes, &late_by(rows.len() as u64, &names, arrow))
+}
+
+/// Appends for how many pairs the writer wrote nothing since the reader joined.
+fn push_short_late(alloc: Global, notes: &mut Vec<String>, pairs: u64) -> Result<(), AllocError>
+    ensures { OnOk result (map string_bytes notes.new.items ≡ map string_bytes notes.old.items ++ short_late_note pairs) }
+{
+    if pairs == 0 {
+        return Ok(());
+    }
+    push_rendered(alloc, notes, &late_by(pairs, "", " -> "))
 }
 
 fn push_tails(alloc: Global, notes: &mut Vec<String>, facts: &NoteFacts) -> Result<(), AllocError>
@@ -285,6 +495,8 @@ fn push_tails(alloc: Global, notes: &mut Vec<String>, facts: &NoteFacts) -> Resu
 /// Rows of which notes tell, each by topic.
 #[derive(Clone, Copy)]
 pub struct NotedRows<'r, 'a> {
+    /// Who does not talk.
+    pub talk: &'r Talk<'a>,
     /// Those that are left out.
     pub left_out: &'r [Explanation<'a>],
     /// Those whose writer wrote nothing since their reader joined.
@@ -299,32 +511,36 @@ pub fn notes_of(
     arrow: &str,
 ) -> Result<Vec<String>, AllocError>
     ensures { IfOk result (λ notes. map string_bytes notes.items
-        ≡ notes_lem arrow.now facts.now (map explanation_value rows.entry.left_out.now) (map explanation_value rows.entry.late.now)) }
+        ≡ notes_lem arrow.now facts.now (talk_value rows.entry.talk.now) (map explanation_value rows.entry.left_out.now) (map explanation_value rows.entry.late.now)) }
 {
+    let talk = rows.talk;
+    let shares = shares_of(alloc, &talk.best_effort)?;
     let mut notes = Vec::new(alloc);
-    push_left_out(alloc, &mut notes, rows.left_out)?;
-    push_late(alloc, &mut notes, rows.late)?;
+    push_hosts(alloc, &mut notes, talk, arrow)?;
+    push_left_out(alloc, &mut notes, rows)?;
+    push_best_effort(alloc, &mut notes, (&talk.best_effort_total, &shares), arrow)?;
+    push_late(alloc, &mut notes, rows.late, arrow)?;
     push_tails(alloc, &mut notes, facts)?;
     push_weaknesses(alloc, &mut notes, facts, arrow)?;
     Ok(notes)
 }
 
-/// What weakens a report, in one line each. So many pairs are left out.
+/// What weakens a report, in one line each, without the names of topics.
 #[tactic(auto, unfolding(crate::specs::Notes::short_notes))]
 pub(crate) fn short_notes(
     alloc: Global,
     facts: &NoteFacts,
-    left_out: usize,
+    rows: NotedRows<'_, '_>,
 ) -> Result<Vec<String>, AllocError>
-    ensures { IfOk result (λ notes. map string_bytes notes.items ≡ short_notes_lem facts.now left_out) }
+    ensures { IfOk result (λ notes. map string_bytes notes.items
+        ≡ short_notes_lem facts.now (talk_value rows.entry.talk.now) (map explanation_value rows.entry.left_out.now)) }
 {
+    let talk = rows.talk;
     let mut notes = Vec::new(alloc);
-    if left_out > 0 {
-        push_rendered(alloc, &mut notes, &left_out_by(left_out, ""))?;
-    }
-    if facts.late > 0 {
-        push_rendered(alloc, &mut notes, &late_by(facts.late, ""))?;
-    }
+    push_hosts(alloc, &mut notes, talk, " -> ")?;
+    push_short_left_out(alloc, &mut notes, rows)?;
+    push_best_effort(alloc, &mut notes, (&talk.best_effort_total, ""), " -> ")?;
+    push_short_late(alloc, &mut notes, facts.late)?;
     push_tails(alloc, &mut notes, facts)?;
     push_weaknesses(alloc, &mut notes, facts, " -> ")?;
     Ok(notes)

@@ -5,15 +5,15 @@
 function rosTopic(topic) {
   const [, kind, name] = /^(rt|rq|rr)\/(.*)$/.exec(topic) || [];
   if (kind === 'rt') return `/${name}`;
-  if (kind === 'rq') return `/${name.replace(/Request$/, '')} (service request)`;
-  if (kind === 'rr') return `/${name.replace(/Reply$/, '')} (service reply)`;
+  if (kind === 'rq' && name.endsWith('Request')) return `/${name.slice(0, -'Request'.length)} request`;
+  if (kind === 'rr' && name.endsWith('Reply')) return `/${name.slice(0, -'Reply'.length)} reply`;
   return null;
 }
 
 // `std_msgs::msg::dds_::String_` is `std_msgs/msg/String`.
 function rosType(type) {
-  const [, before, name] = /^(.*)::dds_::(.*)_$/.exec(type) || [];
-  return name === undefined ? null : `${before}::${name}`.replaceAll('::', '/');
+  const [, before, name] = /^(.*?)::dds_::(.*)_$/.exec(type) || [];
+  return name === undefined ? null : `${before.replaceAll('::', '/')}/${name}`;
 }
 
 // The node that an endpoint gives away: each node of ROS 2 answers requests for its own parameters.

@@ -15,6 +15,7 @@ function showOverview(report) {
   fill(at('received'), receivedSentence(report.rows));
   fill(at('line'), make('a', { href: '#counts' }, 'Counts'), `: ${report.counts().map(([name, n]) => `${name} ${counted(n)}`).join(', ')}`);
   showTopics(report, at('topics'));
+  showTalk(report, at('talk'));
   showNotes(report.data.notes, at('notes'));
   showCounts(report, at('counts'));
 }

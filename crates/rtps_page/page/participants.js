@@ -12,7 +12,7 @@ function showParticipants(report) {
   section.append(make('p', null, participants.length === 0
     ? 'None is announced.'
     : `${plural(participants.length, 'participant')}, mostly one process each, with ${plural(report.data.endpoints.length, 'endpoint')}. `
-      + 'Pairs of best-effort endpoints are not audited.'));
+      + 'Pairs of best effort are not judged.'));
   if (participants.length === 0) return;
   const table = make('table', { class: 'endpoints' }, make('caption', { class: 'hidden' }, 'Endpoints by participant'),
     tableHead('Endpoint', 'Topic', 'QoS', 'Pairs of this report'));
@@ -25,12 +25,13 @@ function showParticipants(report) {
 }
 
 function participantBody(report, participant, pairsOf) {
-  const { name, nodes, prefix, guid, endpoints } = participant;
+  const { name, nodes, prefix, announced, endpoints } = participant;
   const head = make('tr', { class: 'group', id: `participant-${participant.at}`, tabindex: '-1' },
     make('th', { scope: 'rowgroup', colspan: 4 }, make('b', { class: 'name' }, name),
       make('span', { class: 'node' }, nodes.length > 0 && ` ${nodes.length === 1 ? 'node' : 'nodes'} ${nodes.join(', ')}`), ' ',
       make('code', { class: 'guid' }, prefix),
-      guid === null && make('span', { class: 'hint' }, ' (its own announcement is not in the recording)')));
+      announced !== null && announced.address !== null && make('span', { class: 'host' }, ` at ${announced.address}`),
+      announced === null && make('span', { class: 'hint' }, ' (its own announcement is not in the recording)')));
   const ordered = [...endpoints].sort((a, b) => byText('side')(b, a) || byText('topic')(a, b));
   const lines = ordered.map((endpoint) => endpointRow(report, endpoint, pairsOf.get(endpoint.guid) || []));
   return make('tbody', null, head, ...lines, endpoints.length === 0 && make('tr', null, make('td', { colspan: 4 }, 'It announced no endpoint.')));

@@ -21,7 +21,8 @@ function isRounded({ number, announced, acknowledged, from = 0 }) {
 // stays as it is.
 function valueOf(text) {
   const value = JSON.parse(text);
-  if (!isLarge(value.options.from) && !isLarge(value.options.expect) && !value.pairs.some(isRounded)) return value;
+  const isShort = !isLarge(value.options.from) && !isLarge(value.options.expect) && !value.pairs.some(isRounded);
+  if (isShort && !value.best_effort.some(({ numbers }) => isLarge(numbers))) return value;
   return JSON.parse(text.replace(STRING_OR_LARGE, (found) => (found[0] === '"' ? found : `"${found}"`)));
 }
 
@@ -111,11 +112,12 @@ function groupsOf(rows) {
   return [...topics.values()].flatMap((types) => [...types.values()]);
 }
 
-// Participants by their prefixes, in order, each with a short name, its endpoints and the nodes that it seems to have.
+// Participants by their prefixes, in order, each with a short name, what it announced, its endpoints and the nodes that it seems to have.
 function participantsOf(data) {
-  const guids = new Map([...data.endpoints.map(({ guid }) => [prefixOf(guid), null]), ...data.participants.map((guid) => [prefixOf(guid), guid])]);
-  const participants = new Map([...guids.keys()].sort().map((prefix, at) => (
-    [prefix, { at: at + 1, name: `P${at + 1}`, prefix, guid: guids.get(prefix), endpoints: [], nodes: [] }])));
+  const announced = new Map([...data.endpoints, ...data.participants].map(({ guid }) => [prefixOf(guid), null]));
+  for (const participant of data.participants) announced.set(prefixOf(participant.guid), participant);
+  const participants = new Map([...announced.keys()].sort().map((prefix, at) => (
+    [prefix, { at: at + 1, name: `P${at + 1}`, prefix, announced: announced.get(prefix), endpoints: [], nodes: [] }])));
   for (const endpoint of data.endpoints) {
     const { endpoints, nodes } = participants.get(prefixOf(endpoint.guid));
     const node = nodeOf(endpoint);

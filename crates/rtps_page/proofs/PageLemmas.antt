@@ -16,7 +16,7 @@ use Rattle.rtps_report.specs.Recording.{RecordingValue}
 use Rattle.rtps_lines.proofs.Offered.{check_depth, joined}
 use Rattle.rtps_page.specs.ChartEntries.{entries_of, members_of as numbers_of, piece_json}
 use Rattle.rtps_page.specs.Page.{page_json, pairs_with_charts}
-use Rattle.rtps_page.proofs.Written.{acts_judged, answers_json, base_json, chart_members, check_members, directory_members, endpoint_json, entries_at, entry_json, expect_json, gone_json, guid_json, named_json, number_json, object_of, one_gone_json, option_members, own_members, writer_json, writers_behind}
+use Rattle.rtps_page.proofs.Written.{acts_judged, answers_json, base_json, chart_members, check_members, endpoint_json, entries_at, entry_json, expect_json, gone_json, named_json, number_json, object_of, one_gone_json, option_members, own_members, writer_json, writers_behind}
 
 -- ---- depth
 
@@ -86,11 +86,8 @@ options_within asked any =
     let topics = mapped_within 0 string (λ topic. omega arith) asked.rows.topics in
     omega (arith, topics, expect_within asked.expect)
 
-directory_part : (directory : DirectoryValue) → members_depth (members_of (directory_members directory)) ≤ 5
-directory_part directory =
-    let participants = mapped_within 0 guid_json (λ guid. omega arith) directory.participants in
-    let endpoints = mapped_within 1 endpoint_json (λ endpoint. omega arith) (settled_in directory.endpoints) in
-    omega (arith, participants, endpoints)
+endpoints_within : (directory : DirectoryValue) → items_depth (items_of (map endpoint_json (settled_in directory.endpoints))) ≤ 1
+endpoints_within directory = mapped_within 1 endpoint_json (λ endpoint. omega arith) (settled_in directory.endpoints)
 
 chart_part : (acts : List PlacedValue) (pairs : List Pair) → members_depth (members_of (chart_members acts pairs)) ≤ 5
 chart_part acts pairs =
@@ -102,7 +99,7 @@ pub page_within : (asked : AskedValue) (recording : RecordingValue) (report : Re
     → depth (page_json asked recording report directory) ≤ max_depth
 page_within asked recording report directory =
     let pairs = pairs_with_charts asked recording report in
-    let charts = chart_members (acts_judged asked recording) pairs in
-    let late = joined 5 (directory_members directory) charts (directory_part directory) (chart_part (acts_judged asked recording) pairs) in
-    let all = joined 5 (check_members asked recording report) (own_members asked recording directory pairs) (omega (arith, check_depth asked recording report)) (omega (arith, late, options_within asked (is_some recording.reasons))) in
+    let own : members_depth (members_of (own_members asked recording directory pairs)) ≤ 5 =
+    omega (arith, options_within asked (is_some recording.reasons), endpoints_within directory, chart_part (acts_judged asked recording) pairs) in
+    let all = joined 5 (check_members asked recording report) (own_members asked recording directory pairs) (omega (arith, check_depth asked recording report)) own in
     omega (arith, all)

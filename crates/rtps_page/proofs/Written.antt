@@ -11,4 +11,4 @@ pub use Rattle.rtps_lines.proofs.Offered.{eight_parts, five_parts, four_parts, m
 pub use Rattle.rtps_parts.specs.Names.{guid_text, octet_text}
 pub use Rattle.rtps_page.specs.ChartEntries.{base_json, entries_at, entries_by, entry_json, gone_json, members_of, named_json, one_gone_json}
 pub use Rattle.rtps_page.specs.ChartRoom.{writers_behind}
-pub use Rattle.rtps_page.specs.Page.{acts_judged, answers_json, chart_members, directory_members, endpoint_json, expect_json, guid_json, intake_in, json_in, members_in, option_members, options_member, own_members, writer_json}
+pub use Rattle.rtps_page.specs.Page.{acts_judged, answers_json, chart_members, directory_member, endpoint_json, expect_json, guid_json, intake_in, json_in, members_in, option_members, options_member, own_members, writer_json}

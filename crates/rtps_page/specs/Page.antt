@@ -65,10 +65,9 @@ answers_json acts pair = object_of ((codes "writer", guid_json pair.writer) ∷ 
 abbrev pub options_member : AskedValue → RecordingValue → Member
 options_member asked recording = (codes "options", object_of (option_members asked (is_some recording.reasons)))
 
--- what was announced
-abbrev pub directory_members : DirectoryValue → List Member
-directory_members directory = (codes "participants", array_of (map guid_json directory.participants))
-    ∷ (codes "endpoints", array_of (map endpoint_json (settled_in directory.endpoints))) ∷ []
+-- which endpoints were announced
+abbrev pub directory_member : DirectoryValue → Member
+directory_member directory = (codes "endpoints", array_of (map endpoint_json (settled_in directory.endpoints)))
 
 -- what the charts of these pairs show
 abbrev pub chart_members : List PlacedValue → List Pair → List Member
@@ -82,7 +81,7 @@ acts_judged asked recording = placed_in (intake_as asked.fragments recording.dat
 -- what a page has beside the object of `check --json`, for charts of these pairs
 abbrev pub own_members : AskedValue → RecordingValue → DirectoryValue → List Pair → List Member
 own_members asked recording directory pairs =
-    options_member asked recording ∷ (directory_members directory ++ chart_members (acts_judged asked recording) pairs)
+    options_member asked recording ∷ directory_member directory ∷ chart_members (acts_judged asked recording) pairs
 
 -- which rows have a chart
 abbrev pub pairs_with_charts : AskedValue → RecordingValue → ReportValue → List Pair

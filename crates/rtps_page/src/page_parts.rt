@@ -6,7 +6,7 @@ pub(crate) const HEAD: &str = "\
 <html lang=\"en\">\n\
 <head>\n\
 <meta charset=\"utf-8\">\n\
-<meta http-equiv=\"Content-Security-Policy\" content=\"default-src 'none'; style-src 'sha256-EsjPlaLQdsplW+pFUNk4/Yovx6OO+8wmB2ZdAJ8N/Qs='; script-src 'sha256-hpmW3mDyoQhB9f0WRZW6RarG+nvTxqFH2yl+nJ5/Zek=' 'sha256-6aXhXjVN3WJyNNclRZcqeTlXEpiGglpl1v5IFrGHKyg=' 'sha256-t/Fy7qbxOivCta0h5rWNDMDLtqWiE1QQyxkTIcElvIY=' 'sha256-n2EgmHhWWpnml3YTzI6c2fFT9d1c1NfLrdJeY+ysa88=' 'sha256-mW7V3oyQYlMFmJ+BVtBgg2afj3dIkU8ZriDR3gN8v0U=' 'sha256-d7We5lL4dteDLFrr8UpIwIw5zKj82CL+aKdX1LPBTDM=' 'sha256-7mX1/jJqBaTbsRrKZhqN0u+b0Wx2ckFhGtp5TJHu0EQ=' 'sha256-mUTKrhY1ZfucvOGBdh1oOA04GC7XSXVnZlo1ezN51s8=' 'sha256-tK+f51bkBVmKIAOZdAtJ8a8JsRXNe1zyARAk76U1MgU=' 'sha256-L5++YkTFEJl3kdO/H0jWJMkHnWI15lupByHpRLDl5VA='; base-uri 'none'; form-action 'none'\">\n\
+<meta http-equiv=\"Content-Security-Policy\" content=\"default-src 'none'; style-src 'sha256-D7NQYoL6K5psbpM/oSyybKzUtnAMB0mzCrpSeQGJ4vo='; script-src 'sha256-hpmW3mDyoQhB9f0WRZW6RarG+nvTxqFH2yl+nJ5/Zek=' 'sha256-7RpT3IrYJB551BYio0+5hBL+a58pinUQjnu7IP6CpHw=' 'sha256-gK9uXRMqayxEKG6mFjKwZcia0MvlKZKvzSq2+HcE4mY=' 'sha256-n2EgmHhWWpnml3YTzI6c2fFT9d1c1NfLrdJeY+ysa88=' 'sha256-x80gHsw23sK6utT9UcSQmetkwNsuwBSOQzPZtigpQ0M=' 'sha256-aR+c6MmybDAK573gD0a0adnHobcEg2hk7AMzhdtu9Gs=' 'sha256-d7We5lL4dteDLFrr8UpIwIw5zKj82CL+aKdX1LPBTDM=' 'sha256-7mX1/jJqBaTbsRrKZhqN0u+b0Wx2ckFhGtp5TJHu0EQ=' 'sha256-mUTKrhY1ZfucvOGBdh1oOA04GC7XSXVnZlo1ezN51s8=' 'sha256-ncKhZ8LJHPHpxsbShdWaihXHet0HRxgWttYRDNL5HT4=' 'sha256-L5++YkTFEJl3kdO/H0jWJMkHnWI15lupByHpRLDl5VA='; base-uri 'none'; form-action 'none'\">\n\
 <meta name=\"viewport\" content=\"width=device-width, initial-scale=1\">\n\
 <meta name=\"color-scheme\" content=\"light dark\">\n\
 <meta name=\"referrer\" content=\"no-referrer\">\n\
@@ -109,7 +109,7 @@ white-space: nowrap;\n\
 .guid { color: var(--faint); font-weight: 400; }\n\
 .pairs td .guid { display: block; }\n\
 .short { font-weight: 600; }\n\
-.node { font-size: 0.9rem; }\n\
+.node, .host { font-size: 0.9rem; font-weight: 400; }\n\
 .wide { overflow-x: auto; }\n\
 table { border-collapse: collapse; width: 100%; font-size: 0.92rem; }\n\
 th, td { text-align: left; vertical-align: top; padding: 6px 10px 6px 0; border-bottom: 1px solid var(--line); }\n\
@@ -141,6 +141,9 @@ tr.group > th { padding-top: 16px; padding-left: 0; border-bottom: 1px solid var
 tr.group .name { font-size: 1rem; }\n\
 tr.group .type { margin-left: 14px; }\n\
 tr.group .size { margin-left: 14px; color: var(--faint); font-weight: 400; font-size: 0.85rem; }\n\
+.talk th { font-weight: 400; }\n\
+.talk thead th { font-weight: 600; }\n\
+.talk-part { margin-bottom: 20px; }\n\
 .endpoints tr.group .guid { margin-left: 8px; }\n\
 .endpoints tbody tr:not(.group) th { padding-left: 8px; white-space: nowrap; font-weight: 400; }\n\
 .tools { display: flex; flex-wrap: wrap; gap: 8px; align-items: center; margin: 8px 0; }\n\
@@ -274,6 +277,9 @@ number that is asked about and that the writer announced.</p>\n\
 <section id=\"topics\" aria-labelledby=\"topics-head\">\n\
 <h2 id=\"topics-head\">What to look at</h2>\n\
 </section>\n\
+<section id=\"talk\" aria-labelledby=\"talk-head\">\n\
+<h2 id=\"talk-head\">Who does not talk</h2>\n\
+</section>\n\
 <section id=\"notes\" aria-labelledby=\"notes-head\">\n\
 <h2 id=\"notes-head\">What weakens this report</h2>\n\
 </section>\n\
@@ -323,7 +329,8 @@ return isLarge(number) || isLarge(from) || (announced !== null && isLarge(announ
 }\n\
 function valueOf(text) {\n\
 const value = JSON.parse(text);\n\
-if (!isLarge(value.options.from) && !isLarge(value.options.expect) && !value.pairs.some(isRounded)) return value;\n\
+const isShort = !isLarge(value.options.from) && !isLarge(value.options.expect) && !value.pairs.some(isRounded);\n\
+if (isShort && !value.best_effort.some(({ numbers }) => isLarge(numbers))) return value;\n\
 return JSON.parse(text.replace(STRING_OR_LARGE, (found) => (found[0] === '\"' ? found : `\"${found}\"`)));\n\
 }\n\
 function compareNumbers(a, b) {\n\
@@ -386,9 +393,10 @@ row.group.rows.push(row);\n\
 return [...topics.values()].flatMap((types) => [...types.values()]);\n\
 }\n\
 function participantsOf(data) {\n\
-const guids = new Map([...data.endpoints.map(({ guid }) => [prefixOf(guid), null]), ...data.participants.map((guid) => [prefixOf(guid), guid])]);\n\
-const participants = new Map([...guids.keys()].sort().map((prefix, at) => (\n\
-[prefix, { at: at + 1, name: `P${at + 1}`, prefix, guid: guids.get(prefix), endpoints: [], nodes: [] }])));\n\
+const announced = new Map([...data.endpoints, ...data.participants].map(({ guid }) => [prefixOf(guid), null]));\n\
+for (const participant of data.participants) announced.set(prefixOf(participant.guid), participant);\n\
+const participants = new Map([...announced.keys()].sort().map((prefix, at) => (\n\
+[prefix, { at: at + 1, name: `P${at + 1}`, prefix, announced: announced.get(prefix), endpoints: [], nodes: [] }])));\n\
 for (const endpoint of data.endpoints) {\n\
 const { endpoints, nodes } = participants.get(prefixOf(endpoint.guid));\n\
 const node = nodeOf(endpoint);\n\
@@ -402,13 +410,13 @@ return participants;\n\
 function rosTopic(topic) {\n\
 const [, kind, name] = /^(rt|rq|rr)\\/(.*)$/.exec(topic) || [];\n\
 if (kind === 'rt') return `/${name}`;\n\
-if (kind === 'rq') return `/${name.replace(/Request$/, '')} (service request)`;\n\
-if (kind === 'rr') return `/${name.replace(/Reply$/, '')} (service reply)`;\n\
+if (kind === 'rq' && name.endsWith('Request')) return `/${name.slice(0, -'Request'.length)} request`;\n\
+if (kind === 'rr' && name.endsWith('Reply')) return `/${name.slice(0, -'Reply'.length)} reply`;\n\
 return null;\n\
 }\n\
 function rosType(type) {\n\
-const [, before, name] = /^(.*)::dds_::(.*)_$/.exec(type) || [];\n\
-return name === undefined ? null : `${before}::${name}`.replaceAll('::', '/');\n\
+const [, before, name] = /^(.*?)::dds_::(.*)_$/.exec(type) || [];\n\
+return name === undefined ? null : `${before.replaceAll('::', '/')}/${name}`;\n\
 }\n\
 function nodeOf({ side, topic }) {\n\
 const [, name] = (side === 'reader' && /^rq\\/(.*)\\/get_parametersRequest$/.exec(topic)) || [];\n\
@@ -558,6 +566,41 @@ return `${counted(good)} of ${plural(rows.length, 'pair')} ${rows.length === 1 ?
 }\n\
 </script>\n\
 <script>'use strict';\n\
+const TALK_LINES = [20, 200];\n\
+function showTalk(report, section) {\n\
+const { unmatched, one_way: oneWay, unobserved, best_effort: bestEffort } = report.data;\n\
+section.hidden = [unmatched, oneWay, unobserved, bestEffort].every((items) => items.length === 0);\n\
+const ends = ({ topic, writer, reader }) => [topicName(topic), endpointName(report, writer), endpointName(report, reader)];\n\
+talkTable(section, 'unmatched', 'Endpoints that do not match', ['Topic', 'Writer', 'Reader', 'What does not fit'], unmatched,\n\
+(one) => [...ends(one), unfitLines(one)]);\n\
+talkTable(section, 'one-way', 'Participants that talk one way', ['Participant that never answers', 'Who names it', 'Datagrams'], oneWay,\n\
+({ from, to, named }) => [endpointName(report, to), endpointName(report, from), [counted(named)]]);\n\
+talkTable(section, 'unobserved', 'Pairs that are left out', ['Topic', 'Writer', 'Reader', 'Why'], unobserved,\n\
+(one) => [...ends(one), [one.because]]);\n\
+talkTable(section, 'best-effort', 'Pairs of best effort', ['Topic', 'Pairs', 'Numbers in this recording'], bestEffort,\n\
+({ topic, pairs, numbers, recorded }) => [topicName(topic), [counted(pairs)], [`${counted(recorded)} of ${counted(numbers)}`]]);\n\
+}\n\
+function unfitLines({ because, offered, requested }) {\n\
+return because.map((policy, at) => {\n\
+const [offer, request] = [offered[at], requested[at]].map((text) => (policy === 'type' && rosType(text)) || text);\n\
+return make('div', null, `${policy.replaceAll('_', ' ')}: offers ${offer}; asks for ${request}`);\n\
+});\n\
+}\n\
+function talkTable(section, name, head, heads, items, cellsOf) {\n\
+if (items.length === 0) return;\n\
+const body = make('tbody', null);\n\
+const table = make('table', { class: `talk ${name}` }, make('caption', { class: 'hidden' }, head), tableHead(...heads), body);\n\
+const part = make('div', { class: 'talk-part' }, make('h3', null, head), make('div', { class: 'wide' }, table));\n\
+section.append(part);\n\
+inParts(part, 'line', items, TALK_LINES, (some) => {\n\
+const rows = some.map((item) => make('tr', { tabindex: '-1' },\n\
+...cellsOf(item).map((cell, at) => make(at === 0 ? 'th' : 'td', at === 0 ? { scope: 'row' } : null, ...cell))));\n\
+body.append(...rows);\n\
+return rows;\n\
+});\n\
+}\n\
+</script>\n\
+<script>'use strict';\n\
 const TOPIC_LINES = [8, 200];\n\
 const NAMED_PAIRS = 3;\n\
 function showOverview(report) {\n\
@@ -569,6 +612,7 @@ fill(at('outcome'), outcome);\n\
 fill(at('received'), receivedSentence(report.rows));\n\
 fill(at('line'), make('a', { href: '#counts' }, 'Counts'), `: ${report.counts().map(([name, n]) => `${name} ${counted(n)}`).join(', ')}`);\n\
 showTopics(report, at('topics'));\n\
+showTalk(report, at('talk'));\n\
 showNotes(report.data.notes, at('notes'));\n\
 showCounts(report, at('counts'));\n\
 }\n\
@@ -1287,7 +1331,7 @@ for (const row of report.rows) for (const guid of [row.writer, row.reader]) entr
 section.append(make('p', null, participants.length === 0\n\
 ? 'None is announced.'\n\
 : `${plural(participants.length, 'participant')}, mostly one process each, with ${plural(report.data.endpoints.length, 'endpoint')}. `\n\
-+ 'Pairs of best-effort endpoints are not audited.'));\n\
++ 'Pairs of best effort are not judged.'));\n\
 if (participants.length === 0) return;\n\
 const table = make('table', { class: 'endpoints' }, make('caption', { class: 'hidden' }, 'Endpoints by participant'),\n\
 tableHead('Endpoint', 'Topic', 'QoS', 'Pairs of this report'));\n\
@@ -1299,12 +1343,13 @@ return bodies.map((body) => body.querySelector('tr'));\n\
 });\n\
 }\n\
 function participantBody(report, participant, pairsOf) {\n\
-const { name, nodes, prefix, guid, endpoints } = participant;\n\
+const { name, nodes, prefix, announced, endpoints } = participant;\n\
 const head = make('tr', { class: 'group', id: `participant-${participant.at}`, tabindex: '-1' },\n\
 make('th', { scope: 'rowgroup', colspan: 4 }, make('b', { class: 'name' }, name),\n\
 make('span', { class: 'node' }, nodes.length > 0 && ` ${nodes.length === 1 ? 'node' : 'nodes'} ${nodes.join(', ')}`), ' ',\n\
 make('code', { class: 'guid' }, prefix),\n\
-guid === null && make('span', { class: 'hint' }, ' (its own announcement is not in the recording)')));\n\
+announced !== null && announced.address !== null && make('span', { class: 'host' }, ` at ${announced.address}`),\n\
+announced === null && make('span', { class: 'hint' }, ' (its own announcement is not in the recording)')));\n\
 const ordered = [...endpoints].sort((a, b) => byText('side')(b, a) || byText('topic')(a, b));\n\
 const lines = ordered.map((endpoint) => endpointRow(report, endpoint, pairsOf.get(endpoint.guid) || []));\n\
 return make('tbody', null, head, ...lines, endpoints.length === 0 && make('tr', null, make('td', { colspan: 4 }, 'It announced no endpoint.')));\n\

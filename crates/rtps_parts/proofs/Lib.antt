@@ -1,1 +1,2 @@
 pub mod CommaLemmas
+mod RosLemmas

@@ -1,3 +1,4 @@
 pub mod Names
 pub mod Parts
+pub mod RosNames
 pub mod Table

@@ -2,8 +2,9 @@
 use Rattle.std.specs.Prelude.{ℕ, ◌++◌, ◌%◌, ◌==◌, ◌&&◌, nat_lt, if◌then◌else◌, List, [], ◌∷◌, codes, decimal, length, replicate}
 use Rattle.std.specs.List.{flat_map, join_by}
 use Rattle.rtps_parts.specs.Names.{octet_text}
+use Rattle.rtps_parts.specs.RosNames.{topic_text, type_text}
 use Rattle.rtps_parts.specs.declared.part.Part.{Part}
-use Rattle.rtps_parts.specs.declared.part.Part.TheVariants.{Text, Name, Grouped, Share, Amount, Spaces}
+use Rattle.rtps_parts.specs.declared.part.Part.TheVariants.{Text, Name, TopicName, TypeName, Grouped, Share, Amount, Spaces}
 use Rattle.rtps_parts.specs.declared.part.Words.{Words}
 
 -- a comma (44) before so many digits, where these are threes
@@ -48,6 +49,8 @@ joined separator texts = join_by (λ text. text) separator texts
 abbrev pub part_text : Part → List ℕ
 part_text (Text text) = text.now
 part_text (Name octets) = flat_map octet_text octets.now
+part_text (TopicName topic) = topic_text topic.now
+part_text (TypeName kind) = type_text kind.now
 part_text (Grouped number) = grouped number
 part_text (Share some whole) = share some whole
 part_text (Amount number words) = amount number (words_value words)

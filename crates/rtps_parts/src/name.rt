@@ -32,7 +32,7 @@ impl fmt::Display for NameOctets<'_> {
     }
 }
 
-fn write_name<W: fmt::Write>(name: &[u8], f: &mut fmt::Formatter<W>) -> fmt::Result
+pub(crate) fn write_name<W: fmt::Write>(name: &[u8], f: &mut fmt::Formatter<W>) -> fmt::Result
     ensures { WritesOnOk W.write_str_gives f.old result (flat_map octet_text name.now) f.new }
 {
     for octet in name {
@@ -42,7 +42,7 @@ fn write_name<W: fmt::Write>(name: &[u8], f: &mut fmt::Formatter<W>) -> fmt::Res
 }
 
 #[derive(Drop)]
-struct OctetText(u8);
+pub(crate) struct OctetText(pub(crate) u8);
 
 impl fmt::Display for OctetText {
     ghost output = { λ text. Some (octet_text text.0) };

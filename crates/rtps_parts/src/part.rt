@@ -4,6 +4,7 @@ ghost use Rattle.std.specs.String.{string_bytes};
 ghost use Rattle.rtps_parts.specs.Parts.{comma_before, grouped, joined, part_text, with_commas, words_for as words_for_lem, words_value};
 
 use crate::name::NameOctets;
+use crate::ros::{TopicText, TypeText};
 use itoa::Buffer;
 use std::alloc::{AllocError, Global};
 
@@ -21,6 +22,10 @@ pub enum Part<'a> {
     Text(&'a str),
     /// The octets of a name that was recorded.
     Name(&'a [u8]),
+    /// The name that ROS 2 gives a topic.
+    TopicName(&'a [u8]),
+    /// The name that ROS 2 gives a type.
+    TypeName(&'a [u8]),
     /// A number in decimal, with commas between threes.
     Grouped(u128),
     /// A number of a greater one, both with commas.
@@ -76,6 +81,8 @@ pub(crate) fn push_part(text: &mut String, part: Part<'_>) -> Result<(), AllocEr
     match part {
         Part::Text(words) => text.push_str(words),
         Part::Name(octets) => write!(text, "{}", NameOctets(octets)),
+        Part::TopicName(topic) => write!(text, "{}", TopicText(topic)),
+        Part::TypeName(kind) => write!(text, "{}", TypeText(kind)),
         Part::Grouped(number) => push_grouped(text, number),
         Part::Share(some, whole) => {
             push_grouped(text, some)?;

@@ -4,7 +4,7 @@ use Rattle.std.proofs.lemmas.List.{length-map}
 use Rattle.std.proofs.lemmas.List.Elements.{All-filter, All-head, All-same, All-tail, All-weaker}
 use Rattle.std.proofs.lemmas.List.Sums.{length-filter}
 use Rattle.std.specs.Prelude.{count_by}
-use Rattle.rtps_report.specs.Vocabulary.{ActValue, Counts, DirectoryValue, Explained, Explanation, ExplanationValue, Fragments, HasOneExplanation, Intake, IsNamed, Location, Pair, Read, Report, Row, Skipped, explanation_value, intake_as, intake_of, row_of}
+use Rattle.rtps_report.specs.Vocabulary.{ActValue, Counts, DirectoryValue, Explained, Explanation, ExplanationValue, Fragments, Intake, IsNamed, Location, Pair, Read, Report, Row, Skipped, explanation_value, intake_as, intake_of, row_of}
 use Rattle.rtps_audit.specs.Placed.{placed_in}
 use Rattle.rtps_audit.specs.Said.{datagrams_until}
 use Rattle.rtps_evidence.specs.Evidence.{IsEvidenceBy, IsEvidenceFrom}
@@ -14,8 +14,7 @@ use Rattle.rtps_report.specs.Rows.{RowsValue, acts_read, is_kept}
 use Rattle.rtps_report.specs.Asked.{AskedValue, are_read, asks_all_rows, is_of_complete, is_plain}
 use Rattle.rtps_report.specs.Reported.{IsReportAs, facts_of_report, is_row_kept, missed_of, missed_rows, missed_since, since_in}
 use Rattle.rtps_report.specs.Findings.{ending_as, ending_by, findings_of, when}
-use Rattle.rtps_report.specs.Laws.{HasOneFullReport}
-use Rattle.rtps_report.specs.FullReport.{IsExplainedAs, RecordingValue, facts_of_rows, is_left_out, missed_in, of_all_pairs}
+use Rattle.rtps_report.specs.FullReport.{IsExplainedAs, RecordingValue, is_left_out, missed_in, of_all_pairs}
 
 -- ---- lists
 
@@ -175,25 +174,3 @@ one_explained asked recording one other is also rows =
     let test = λ (row : ExplanationValue). is_kept asked.rows (acts_read asked.fragments recording) row.topic row.pair in
     ap (map explanation_value) is.rows ∙ map_filter explanation_value test is.whole.rows.items ∙ ap (filter test) rows
     ∙ sym (map_filter explanation_value test also.whole.rows.items) ∙ sym (ap (map explanation_value) also.rows)
-
-one_left_out : (asked : AskedValue) (acts : List ActValue) (one other : List Explanation) → map explanation_value one ≡ map explanation_value other
-    → map explanation_value (filter (is_left_out asked.rows acts) one) ≡ map explanation_value (filter (is_left_out asked.rows acts) other)
-one_left_out asked acts one other rows =
-    let test = λ (row : ExplanationValue). is_kept (of_all_pairs asked.rows) acts row.topic row.pair && not (is_kept asked.rows acts row.topic row.pair) in
-    map_filter explanation_value test one ∙ ap (filter test) rows ∙ sym (map_filter explanation_value test other)
-
-pub one_full_report : HasOneExplanation → HasOneFullReport
-one_full_report law asked recording one other is also =
-    let explains = is.parts.explains in
-    let explained = also.parts.explains in
-    let acts = acts_read asked.fragments recording.datagrams in
-    let whole = law asked.spans asked.from (intake_as asked.fragments recording.datagrams) explains.whole explained.whole explains.explains explained.explains in
-    let rows = one_explained asked recording.datagrams one.explained other.explained explains explained whole.0 in
-    let counts = explains.counts ∙ whole.1 ∙ sym explained.counts in
-    record {
-      rows = rows;
-      counts = counts;
-      left_out = ap (map explanation_value) is.parts.left_out_too ∙ one_left_out asked acts explains.whole.rows.items explained.whole.rows.items whole.0
-          ∙ sym (ap (map explanation_value) also.parts.left_out_too);
-      ending = is.ends ∙ ap₂ (λ (rows : List ExplanationValue) (counts : Counts). ending_as asked (facts_of_rows asked rows counts recording)) rows counts ∙ sym also.ends;
-    }

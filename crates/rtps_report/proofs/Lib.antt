@@ -1,7 +1,19 @@
 mod AskedLemmas
-mod ContactLemmas
+mod BestEffortLemmas
+mod BestEffortSums
+mod FittingLemmas
+mod FollowedLemmas
+mod MatchLemmas
+mod NamingLemmas
+mod NobodyLemmas
 pub mod Offered
+mod OneReportLemmas
+mod OneTalkLemmas
+mod ParticipantLemmas
 mod PatternLemmas
 mod PiecesLemmas
+mod SameLists
 mod StayLemmas
+mod TalkLemmas
 mod TopicLemmas
+mod TrafficLemmas

@@ -6,6 +6,8 @@ use Rattle.rtps_report.specs.Asked.{AskedValue, plainly}
 use Rattle.rtps_report.specs.FullReport.{AreRowsTold, AreRowsToldFrom, RecordingValue, RowsForm, ending_of_rows, is_left_out, rows_of}
 use Rattle.rtps_report.specs.Laws.{HasOneFullReport, HasOneText, HaveOneText}
 use Rattle.rtps_report.proofs.AskedLemmas.{all_explained}
+use Rattle.rtps_report.proofs.FittingLemmas.{all_fitting}
+use Rattle.rtps_report.proofs.NobodyLemmas.{nobody, nobody_talks}
 pub use Rattle.rtps_report.proofs.AskedLemmas.{all_rows, ending_same, one_rows}
 pub use Rattle.rtps_report.proofs.StayLemmas.{choosing, report_same, rows_stay}
 
@@ -39,29 +41,40 @@ rows_told_from_once law IsForm unique from = λ recording one other ending last 
 pub rows_plainly : (IsForm : RowsForm) (from : ℕ) → HaveOneText (AreRowsTold IsForm (plainly from)) (AreRowsToldFrom IsForm from)
 rows_plainly IsForm from = λ recording text ending. (
   λ is.
-      let explains = is.is_report.parts.explains in
-      let rows = ap (map explanation_value) (explains.rows ∙ all_explained (plainly from) (acts_in recording.datagrams) refl explains.whole.rows.items) in
+      let report = is.is_report in
+      let explains = report.parts.explains in
+      let all : is.report.explained.rows.items ≡ explains.whole.rows.items =
+      report.rows ∙ all_fitting is.report.talk.unmatched report.explained.rows.items ∙ explains.rows ∙ all_explained (plainly from) (acts_in recording.datagrams) refl explains.whole.rows.items in
+      let rows : rows_of is.report ≡ map explanation_value explains.whole.rows.items = ap (map explanation_value) all in
       record {
         explained = explains.whole;
         explains = explains.explains;
-        is_text = form_of IsForm (rows_of is.report) (map explanation_value explains.whole.rows.items) is.report.explained.counts explains.whole.counts recording text rows explains.counts is.is_text;
-        ends = is.ends ∙ is.is_report.ends ∙ ap ending_of_rows rows;
+        is_text = form_of IsForm (rows_of is.report) (map explanation_value explains.whole.rows.items) is.report.explained.counts explains.whole.counts recording text rows (report.counts ∙ explains.counts) is.is_text;
+        ends = is.ends ∙ report.ends ∙ ap ending_of_rows rows;
       },
-  λ is. record {
-    report = record { explained = is.explained; left_out = filter (is_left_out (plainly from).rows (acts_in recording.datagrams)) is.explained.rows.items; ending = ending };
-    is_report = record {
-      parts = record {
-        explains = record {
-          whole = is.explained;
-          explains = is.explains;
-          rows = sym (all_explained (plainly from) (acts_in recording.datagrams) refl is.explained.rows.items);
+  λ is.
+      let left_out = filter (is_left_out (plainly from).rows (acts_in recording.datagrams)) is.explained.rows.items in
+      record {
+        report = record { explained = is.explained; left_out = left_out; talk = nobody; ending = ending };
+        is_report = record {
+          explained = is.explained;
+          left_out = left_out;
+          parts = record {
+            explains = record {
+              whole = is.explained;
+              explains = is.explains;
+              rows = sym (all_explained (plainly from) (acts_in recording.datagrams) refl is.explained.rows.items);
+              counts = refl;
+            };
+            left_out_too = refl;
+          };
+          talks = nobody_talks from recording.datagrams;
+          rows = sym (all_fitting nobody.unmatched is.explained.rows.items);
           counts = refl;
+          rest = sym (all_fitting nobody.unmatched left_out);
+          ends = is.ends;
         };
-        left_out_too = refl;
-      };
-      ends = is.ends;
-    };
-    is_text = is.is_text;
-    ends = refl;
-  },
+        is_text = is.is_text;
+        ends = refl;
+      },
 )

@@ -9,13 +9,13 @@ use Rattle.std.specs.Cmp.Lexicographic.{pointwise}
 use Rattle.std.specs.Cmp.{both_ways}
 use Rattle.rtps_report.specs.Patterns.{FitsAsFilled, Fits, begins_with, ends_of, filled, fits, is_empty, is_plain, star}
 
-clash : {X : Type 0} → false ≡ true → X
+pub clash : {X : Type 0} → false ≡ true → X
 clash e = absurd (let no : false ≡ true = e in cc)
 
 -- ---- a part without `*`
 
 -- what a pattern is behind an octet that is no `*`
-at_octet : (octet : ℕ) (pattern topic : List ℕ) → (octet == star) ≡ false → fits (octet ∷ pattern) topic ≡ begins_with octet (fits pattern) topic
+pub at_octet : (octet : ℕ) (pattern topic : List ℕ) → (octet == star) ≡ false → fits (octet ∷ pattern) topic ≡ begins_with octet (fits pattern) topic
 at_octet octet pattern topic other = ap (λ (b : Bool). if b then list_any (fits pattern) (ends_of topic) else begins_with octet (fits pattern) topic) other
 
 no_star : (octet : ℕ) (part : List ℕ) → is_plain (octet ∷ part) ≡ true → ((octet == star) ≡ false) × (is_plain part ≡ true)
@@ -44,7 +44,7 @@ pub star_more : (pattern front topic : List ℕ) → fits (star ∷ pattern) top
 star_more pattern [] topic fit = fit
 star_more pattern (x ∷ front) topic fit = or_right (fits pattern (x ∷ (front ++ topic))) (list_any (fits pattern) (ends_of (front ++ topic))) (star_more pattern front topic fit)
 
-star_here : (pattern topic : List ℕ) → fits pattern topic ≡ true → fits (star ∷ pattern) topic ≡ true
+pub star_here : (pattern topic : List ℕ) → fits pattern topic ≡ true → fits (star ∷ pattern) topic ≡ true
 star_here pattern [] fit = or_left (fits pattern []) false fit
 star_here pattern (x ∷ topic) fit = or_left (fits pattern (x ∷ topic)) (list_any (fits pattern) (ends_of topic)) fit
 
@@ -89,7 +89,7 @@ pub star_passed : (part rest : List ℕ) (x : ℕ) (topic : List ℕ) → is_pla
 star_passed part rest x topic plain none =
     ap (λ b. b || list_any (fits (part ++ rest)) (ends_of topic)) (false_from_ne_true (fits (part ++ rest) (x ∷ topic)) (λ fit. let split = plain_split part rest (x ∷ topic) plain fit in none split.0 split.1))
 
-nothing_left : (topic : List ℕ) → is_empty topic ≡ true → topic ≡ []
+pub nothing_left : (topic : List ℕ) → is_empty topic ≡ true → topic ≡ []
 nothing_left [] is = refl
 nothing_left (x ∷ topic) is = clash is
 

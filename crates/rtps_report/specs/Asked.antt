@@ -15,6 +15,7 @@ pub record AskedValue : Type 0 where
   pub fragments : Fragments
   pub spans : Bool
   pub standard : Standard
+  pub talk : Bool
 
 -- what the code asks, as a value
 abbrev pub asked_value : Asked → AskedValue
@@ -27,6 +28,7 @@ asked_value asked =
       fragments = asked.fragments;
       spans = asked.spans;
       standard = asked.standard;
+      talk = asked.talk;
     }
 
 -- all rows by the numbers from this one on, and nothing else: they have to be complete, and fragments are skipped
@@ -40,6 +42,7 @@ plainly from =
       fragments = Skipped;
       spans = false;
       standard = AllComplete;
+      talk = false;
     }
 
 -- neither topics nor pairs are chosen

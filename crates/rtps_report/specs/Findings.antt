@@ -26,18 +26,19 @@ findings_of asked facts =
       pieces = when asked.strict (known facts.reasons).pieces;
       cut = when asked.strict (known facts.reasons).cut;
       links = if asked.strict then (known facts.reasons).links else (known None).links;
+      unmatched = when (not (is_of_complete asked.standard)) facts.unmatched;
     }
 
 -- nothing
 abbrev pub no_findings : Findings
-no_findings = record { few = None; empty = false; missed = 0; fragments = 0; unsettled = 0; pieces = 0; cut = 0; links = (known None).links }
+no_findings = record { few = None; empty = false; missed = 0; fragments = 0; unsettled = 0; pieces = 0; cut = 0; links = (known None).links; unmatched = 0 }
 
 -- nothing is found
 abbrev pub are_none : Findings → Bool
 are_none findings =
     is_none findings.few
     && (not findings.empty
-    && ((findings.missed == 0) && ((findings.fragments == 0) && ((findings.unsettled == 0) && ((findings.pieces == 0) && ((findings.cut == 0) && (findings.links.number == 0)))))))
+    && ((findings.missed == 0) && ((findings.fragments == 0) && ((findings.unsettled == 0) && ((findings.pieces == 0) && ((findings.cut == 0) && ((findings.links.number == 0) && (findings.unmatched == 0))))))))
 
 -- how a run ends by what is found, and by whether each row is what it has to be
 abbrev pub ending_by : Findings → Bool → Ending

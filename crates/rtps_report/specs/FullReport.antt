@@ -10,6 +10,9 @@ pub use Rattle.rtps_report.specs.Recording.{RecordingValue}
 use Rattle.rtps_report.specs.Reported.{is_complete}
 use Rattle.rtps_report.specs.RowFacts.{is_certain, is_clean}
 use Rattle.rtps_report.specs.Rows.{RowsValue, acts_read, is_kept}
+use Rattle.rtps_report.specs.Talk.{IsTalkAs, TalkValue, is_unfit, talk_value}
+use Rattle.rtps_policies.specs.Unmatched.{UnmatchedValue}
+use Rattle.rtps_discovery.specs.declared.matching.Pair.{Pair}
 use Rattle.rtps_report.specs.declared.full_report.FullReport.{FullReport}
 
 -- The rows are those of the report that are asked for, each explained, in its order, and the counts are the report's.
@@ -54,17 +57,32 @@ facts_of_rows asked rows counts recording =
       met = list_all (λ row. is_met asked row.evidence) rows;
       counts = counts;
       reasons = recording.reasons;
+      unmatched = 0;
     }
 
--- what is told of a recording: the rows that are asked for, those that are left out, and how the run ends
+-- the same where so many writers and readers do not match
+abbrev pub facts_with : ℕ → AskedValue → List ExplanationValue → Counts → RecordingValue → Facts
+facts_with unmatched asked rows counts recording = record (facts_of_rows asked rows counts recording) { unmatched = unmatched }
+
+-- rows have to be clean, and the two of a pair do not match: the pair is no row
+abbrev pub is_dropped : Standard → List UnmatchedValue → Pair → Bool
+is_dropped AllComplete unmatched pair = false
+is_dropped (AllClean tail certain) unmatched pair = is_unfit unmatched pair
+
+-- rows without those
+abbrev pub fitting : Standard → List UnmatchedValue → List Explanation → List Explanation
+fitting standard unmatched rows = filter (λ row. not (is_dropped standard unmatched row.pair)) rows
+
+-- what is told of a recording: the rows that are asked for, those that are left out, who does not talk, and how the run ends
 pub record ReportValue : Type 0 where
   pub explained : Explained
   pub left_out : List Explanation
+  pub talk : TalkValue
   pub ending : Ending
 
 -- what the code knows, as a value
 abbrev pub report_value : FullReport → ReportValue
-report_value report = record { explained = report.explained; left_out = report.left_out.items; ending = report.ending }
+report_value report = record { explained = report.explained; left_out = report.left_out.items; talk = talk_value report.talk; ending = report.ending }
 
 -- the rows of a report that are asked for, as values
 abbrev pub rows_of : ReportValue → List ExplanationValue
@@ -72,8 +90,14 @@ rows_of report = map explanation_value report.explained.rows.items
 
 -- what is told of this recording, of what is asked
 pub record IsFullReport (asked : AskedValue) (recording : RecordingValue) (report : ReportValue) : Type 0 where
-  pub parts : IsPartedAs asked recording.datagrams report.explained report.left_out
-  pub ends : report.ending ≡ ending_as asked (facts_of_rows asked (rows_of report) report.explained.counts recording)
+  pub explained : Explained
+  pub left_out : List Explanation
+  pub parts : IsPartedAs asked recording.datagrams explained left_out
+  pub talks : IsTalkAs asked recording.datagrams report.talk
+  pub rows : report.explained.rows.items ≡ fitting asked.standard report.talk.unmatched explained.rows.items
+  pub counts : report.explained.counts ≡ explained.counts
+  pub rest : report.left_out ≡ fitting asked.standard report.talk.unmatched left_out
+  pub ends : report.ending ≡ ending_as asked (facts_with (length report.talk.unmatched) asked (rows_of report) report.explained.counts recording)
 
 -- the code has it, beside what it is of and the index that it is by
 pub record IsReportOf (asked : AskedValue) (recording : RecordingValue) (report : FullReport) : Type 0 where

@@ -1,12 +1,12 @@
 -- What one would ask of what is told of a recording. own: a text can be trusted only if nothing but the recording decides it.
-use Rattle.std.specs.Prelude.{ℕ, ◌≡◌, ◌↔◌, All, List, Option, map}
+use Rattle.std.specs.Prelude.{ℕ, ◌≡◌, ◌↔◌, ◌⊎◌, true, false, All, Contains, List, Option, map}
 use Rattle.rtps_audit.specs.Delivered.{IsExactVerdictFrom}
 use Rattle.rtps_audit.specs.Said.{datagrams_until}
 use Rattle.rtps_audit.specs.Speech.{acts_by_datagram, speech_of}
 use Rattle.rtps_evidence.specs.Evidence.{IsBeside, IsShown}
 use Rattle.rtps_evidence.specs.Spans.{IsExtent, since_of}
 use Rattle.rtps_evidence.specs.declared.span.Span.{Span}
-use Rattle.rtps_report.specs.Vocabulary.{ActValue, Ending, Explained, Explanation, Fragments, Pair, Report, Verdict, explanation_value, intake_as}
+use Rattle.rtps_report.specs.Vocabulary.{ActValue, DirectoryValue, Ending, Explained, Explanation, Fragments, IsMapOf, Pair, Report, Verdict, explanation_value, intake_as, settled_at, topic_of}
 use Rattle.rtps_fragments.specs.FragmentVerdict.{IsFragmentVerdictFrom}
 use Rattle.rtps_fragments.specs.Laws.{first_acts_with_samples}
 use Rattle.rtps_fragments.specs.RecordedSamples.{IsWithoutFragments}
@@ -15,6 +15,16 @@ use Rattle.rtps_fragments.specs.Sending.{sending_of}
 use Rattle.rtps_fragments.specs.declared.fragments.Fragments.TheVariants as fragments
 use Rattle.rtps_report.specs.FullReport.{AskedValue, IsExplainedAs, IsFullReport, IsPartedAs, RecordingValue, ReportValue, rows_of}
 use Rattle.rtps_report.specs.Reported.{IsReportAs}
+use Rattle.rtps_report.specs.Asked.{is_of_complete}
+use Rattle.rtps_report.specs.Rows.{fits_one}
+use Rattle.rtps_report.specs.Talk.{TalkValue, is_counted, is_named, is_unfit, traffic_of}
+use Rattle.rtps_policies.specs.Silence.{Traffic}
+use Rattle.rtps_policies.specs.Unmatched.{UnmatchedValue}
+use Rattle.rtps_discovery.specs.Matching.{matches_among}
+use Rattle.rtps_discovery.specs.Directory.{settled_in}
+use Rattle.rtps_discovery.specs.declared.matching.Match.{Match}
+use Rattle.rtps_discovery.specs.declared.matching.Pair.{Pair}
+use Rattle.rtps_ids.specs.declared.identity.GuidPrefix.{GuidPrefix}
 use Rattle.rtps_report.specs.RowFacts.{left_in, row_from}
 
 -- of each recording there is one such text, and one ending
@@ -73,14 +83,58 @@ StaysWithoutFragments IsText =
     (asked : AskedValue) (recording : RecordingValue) (text : List ℕ) (ending : Ending) → IsWithoutFragments recording.datagrams
     → IsText (record asked { fragments = fragments.Read }) recording text ending ↔ IsText (record asked { fragments = fragments.Skipped }) recording text ending
 
+-- the same is told of who does not talk
+pub record TellSame (one other : TalkValue) : Type 0 where
+  pub hosts : (prefix : GuidPrefix) → one.hosts prefix ≡ other.hosts prefix
+  pub silence : (pair : Pair) → one.silence pair ≡ other.silence pair
+  pub unmatched : one.unmatched ≡ other.unmatched
+  pub one_way : one.one_way ≡ other.one_way
+  pub best_effort : one.best_effort ≡ other.best_effort
+  pub best_effort_total : one.best_effort_total ≡ other.best_effort_total
+  pub participants : one.participants ≡ other.participants
+
 -- two reports tell the same
 pub record AreSame (one other : ReportValue) : Type 0 where
   pub rows : rows_of one ≡ rows_of other
   pub counts : one.explained.counts ≡ other.explained.counts
   pub left_out : map explanation_value one.left_out ≡ map explanation_value other.left_out
   pub ending : one.ending ≡ other.ending
+  pub talk : TellSame one.talk other.talk
 
 -- of what is asked of a recording there is one report
 abbrev pub HasOneFullReport : Type 0
 HasOneFullReport =
     (asked : AskedValue) (recording : RecordingValue) (one other : ReportValue) → IsFullReport asked recording one → IsFullReport asked recording other → AreSame one other
+
+-- ---- what becomes of each match
+
+-- exactly one of four holds
+pub record IsOneOf (first second third fourth : Type 0) : Type 0 where
+  pub some : first ⊎ (second ⊎ (third ⊎ fourth))
+  pub first_alone : first → (¬ second) × (¬ third) × (¬ fourth)
+  pub second_alone : second → (¬ third) × (¬ fourth)
+  pub third_alone : third → ¬ fourth
+
+-- rows have to be clean, and are asked for of pairs alone that the recording can speak of; and it is told who does not talk
+pub record AsksWhoTalks (asked : AskedValue) : Type 0 where
+  pub talk : asked.talk ≡ true
+  pub observed : asked.rows.observed ≡ true
+  pub clean : is_of_complete asked.standard ≡ false
+
+-- there is a row of the pair
+abbrev pub IsRowOf : ReportValue → Pair → Type 0
+IsRowOf report pair = Contains (map (λ row. row.pair) (rows_of report)) pair
+
+-- the two match, and the recording cannot speak of them: the reader's participant never names the writer's
+abbrev pub IsUnobserved : Traffic → List UnmatchedValue → Pair → Type 0
+IsUnobserved traffic unmatched pair = (is_unfit unmatched pair ≡ false) × (is_named traffic pair ≡ false)
+
+-- Where so is asked, each match that discovery finds among topics that are asked for is exactly one of these: a row, two that do not match
+-- by all policies, two of which the recording cannot speak, or two of best effort that are counted.
+abbrev pub EachMatchIsTold : Type 0
+EachMatchIsTold =
+    (asked : AskedValue) (recording : RecordingValue) (report : ReportValue) (directory : DirectoryValue) (found : Match) → AsksWhoTalks asked → IsFullReport asked recording report
+    → IsMapOf (traffic_of asked recording.datagrams).announcing directory → Contains (matches_among (settled_in directory.endpoints)) found
+    → fits_one asked.rows.topics (topic_of (settled_at directory.endpoints found.pair.writer)) ≡ true
+    → IsOneOf (IsRowOf report found.pair) (is_unfit report.talk.unmatched found.pair ≡ true) (IsUnobserved (traffic_of asked recording.datagrams) report.talk.unmatched found.pair)
+    (is_counted asked (traffic_of asked recording.datagrams) report.talk.unmatched directory.endpoints found ≡ true)

@@ -1,5 +1,5 @@
 -- Which topics a pattern stands for. own: `*` stands for any octets, as in the names of files.
-use Rattle.std.specs.Prelude.{ℕ, Bool, true, false, ◌≡◌, ◌↔◌, ◌==◌, ◌&&◌, ◌++◌, if◌then◌else◌, List, [], ◌∷◌, not}
+use Rattle.std.specs.Prelude.{ℕ, Bool, true, false, ◌≡◌, ◌↔◌, ◌==◌, ◌&&◌, ◌+◌, ◌++◌, if◌then◌else◌, drop, List, [], ◌∷◌, not, take}
 use Rattle.std.specs.List.{list_all, list_any}
 
 -- the octet of a pattern that stands for any octets: `*`
@@ -43,3 +43,13 @@ FitsAsFilled = (pattern topic : List ℕ) → (fits pattern topic ≡ true) ↔ 
 -- a part of a pattern has no `*`
 abbrev pub is_plain : List ℕ → Bool
 is_plain pattern = list_all (λ octet. not (octet == star)) pattern
+
+-- the first octet of a text stands for any octets
+abbrev pub is_starred : List ℕ → Bool
+is_starred [] = false
+is_starred (octet ∷ text) = octet == star
+
+-- one text fits the part of a pattern up to a place, and another the part from there on; a `*` at the place belongs to both
+abbrev pub parts_fit : List ℕ → ℕ → List ℕ → List ℕ → Bool
+parts_fit pattern place one other =
+    fits (if is_starred (drop place pattern) then take (place + 1) pattern else take place pattern) one && fits (drop place pattern) other

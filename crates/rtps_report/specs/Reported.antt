@@ -72,4 +72,5 @@ facts_of_report missed rows counts recording =
       met = list_all (λ row. is_complete row.verdict) rows;
       counts = counts;
       reasons = recording.reasons;
+      unmatched = 0;
     }

@@ -1,41 +1,31 @@
 -- Which rows of a report are kept. DDSI-RTPS 2.5, 8.3.8.8 "InfoDestination", for whom an act names. own: where a reader's participant
 -- never names the writer's, their datagrams took another way, and a recording can say nothing of the two.
-use Rattle.std.specs.Prelude.{ℕ, ◌≡◌, Bool, false, true, ◌==◌, ◌&&◌, ◌||◌, not, List, length, map, Option, Some, None}
-use Rattle.std.specs.BTreeSet.{contains}
-use Rattle.std.specs.Cmp.Lexicographic.{slice_cmp}
+use Rattle.std.specs.Prelude.{ℕ, ◌≡◌, Bool, false, true, ◌==◌, ◌&&◌, ◌||◌, nat_lt, not, List, length, map, Option, Some, None}
+use Rattle.std.specs.Borrow.{Bor}
 use Rattle.std.specs.List.{list_any}
-use Rattle.std.specs.Ordering.{nat_cmp, ordering_then}
 use Rattle.std.specs.String.{string_bytes}
-use Rattle.std.specs.declared.cmp.Ordering.{Ordering}
-use Rattle.rtps_receiver.specs.Speech.{is_for, is_prefix}
 use Rattle.rtps_fragments.specs.Sending.{all_acts_in}
 use Rattle.rtps_report.specs.Vocabulary.{ActValue, Fragments, Pair, Read, Skipped, acts_in}
+use Rattle.rtps_parts.specs.RosNames.{ros_topic}
+use Rattle.rtps_policies.specs.Namings.{named_by, names}
+use Rattle.rtps_policies.specs.declared.naming.Naming.{Naming}
+use Rattle.rtps_policies.specs.declared.naming.Namings.{Namings}
 use Rattle.rtps_report.specs.Patterns.{fits}
-use Rattle.rtps_report.specs.declared.contacts.Contact.{Contact}
-use Rattle.rtps_report.specs.declared.contacts.Contacts.{Contacts}
 use Rattle.rtps_report.specs.declared.rows.RowFilter.{RowFilter}
 use Rattle.rtps_report.specs.declared.rows.Rows.{Rows}
-
--- an act is from the one participant, and names the other as its destination
-abbrev pub is_contact : Contact → ActValue → Bool
-is_contact contact act = is_prefix act.source contact.source && is_for act.dest contact.dest
-
--- by source, and then by destination
-abbrev pub contact_cmp : Contact → Contact → Ordering
-contact_cmp a b = ordering_then (slice_cmp nat_cmp a.source.0 b.source.0) (slice_cmp nat_cmp a.dest.0 b.dest.0)
 
 -- the acts that are read in a recording's datagrams
 abbrev pub acts_read : Fragments → List (List ℕ) → List ActValue
 acts_read Skipped datagrams = acts_in datagrams
 acts_read Read datagrams = all_acts_in datagrams
 
--- the contacts are those of these acts
-abbrev pub AreContactsOf : List ActValue → Contacts → Type 0
-AreContactsOf acts contacts = (contact : Contact) → contains contact_cmp contacts.known contact ≡ list_any (is_contact contact) acts
+-- those participants are counted that name one another in these acts
+abbrev pub AreNamedIn : List ActValue → Namings → Type 0
+AreNamedIn acts namings = (naming : Naming) → nat_lt 0 (named_by namings naming) ≡ list_any (names naming) acts
 
 -- an act of the reader's participant, of whatever writer or reader of it, names the writer's as its destination
 abbrev pub is_observed : List ActValue → Pair → Bool
-is_observed acts pair = list_any (is_contact (record { source = pair.reader.prefix; dest = pair.writer.prefix })) acts
+is_observed acts pair = list_any (names (record { source = pair.reader.prefix; dest = pair.writer.prefix })) acts
 
 -- which rows are asked for, with lists of octets where the type borrows texts
 pub record RowsValue : Type 0 where
@@ -46,20 +36,24 @@ pub record RowsValue : Type 0 where
 abbrev pub rows_value : Rows → RowsValue
 rows_value rows = record { topics = map string_bytes rows.topics.now; observed = rows.observed }
 
+-- the name of a topic fits a pattern, or the name that ROS 2 gives it
+abbrev pub fits_topic : List ℕ → List ℕ → Bool
+fits_topic pattern topic = fits pattern topic || fits pattern (ros_topic topic)
+
 -- a topic fits one of the patterns, or there is none
 abbrev pub fits_one : List (List ℕ) → List ℕ → Bool
-fits_one patterns topic = (length patterns == 0) || list_any (λ pattern. fits pattern topic) patterns
+fits_one patterns topic = (length patterns == 0) || list_any (λ pattern. fits_topic pattern topic) patterns
 
 -- the row of a pair with this topic is kept, of a recording with these acts
 abbrev pub is_kept : RowsValue → List ActValue → List ℕ → Pair → Bool
 is_kept rows acts topic pair = fits_one rows.topics topic && (not rows.observed || is_observed acts pair)
 
--- the contacts are kept where they are asked for
-abbrev pub AreKeptFor : Bool → List ActValue → Option Contacts → Type 0
+-- who names whom is kept where rows are asked for by that
+abbrev pub AreKeptFor : Bool → List ActValue → Option (Bor Namings) → Type 0
 AreKeptFor observed acts None = observed ≡ false
-AreKeptFor observed acts (Some contacts) = (observed ≡ true) × AreContactsOf acts contacts
+AreKeptFor observed acts (Some namings) = (observed ≡ true) × AreNamedIn acts namings.now
 
 -- the filter is of these rows, and of a recording with these acts
 pub record IsFilterOf (rows : RowsValue) (acts : List ActValue) (filter : RowFilter) : Type 0 where
   pub topics : map string_bytes filter.topics.now ≡ rows.topics
-  pub contacts : AreKeptFor rows.observed acts filter.contacts
+  pub namings : AreKeptFor rows.observed acts filter.namings

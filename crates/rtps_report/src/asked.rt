@@ -38,6 +38,9 @@ pub struct Asked<'a> {
     pub spans: bool,
     /// What each row has to be.
     pub standard: Standard,
+    /// Whether it is told who does not talk. Where rows have to be clean, pairs that do not match are then no rows, and no run with
+    /// one ends clean.
+    pub talk: bool,
 }
 
 impl Asked<'_> {
@@ -58,6 +61,7 @@ impl Asked<'_> {
             fragments: Fragments::Skipped,
             spans: false,
             standard: Standard::AllComplete,
+            talk: false,
         }
     }
 

@@ -1,4 +1,4 @@
-ghost use Rattle.std.specs.Prelude.{◌≡◌, IfOk, List, map};
+ghost use Rattle.std.specs.Prelude.{◌≡◌, IfOk, List, filter, map};
 ghost use Rattle.rtps_discovery.specs.Directory.{settled_at};
 ghost use Rattle.rtps_evidence.specs.Explanation.{row_of, topic_of as topic_of_lem};
 ghost use Rattle.rtps_receiver.specs.Values.{ActValue};
@@ -12,6 +12,7 @@ use crate::parted::parted_of;
 use crate::recording::{Recording, datagrams_of};
 use crate::row_facts::missed_among;
 use crate::rows::RowFilter;
+use crate::traffic::namings_for;
 use rtps_audit::{Report, Row, Watch};
 use rtps_discovery::Directory;
 use rtps_evidence::{Explanation, explain_index};
@@ -95,10 +96,18 @@ fn plain_report<P: Watch>(
     let mut samples = Samples::none(alloc);
     let index = index_asked(alloc, recording, asked, &mut samples)?;
     let Report { mut rows, counts } = index.report_from(asked.from, watch)?;
-    let wanted = RowFilter::of(alloc, asked.rows, recording, asked.fragments)?;
-    let directory = index.directory();
-    rows.retain(|row| is_kept(*row, directory, &wanted));
+    let namings = namings_for(alloc, asked.rows, recording, asked.fragments)?;
+    let wanted = RowFilter::new(asked.rows, &namings);
+    keep_rows(&mut rows, index.directory(), &wanted);
     Ok(Report { rows, counts })
+}
+
+/// Keeps the rows that are asked for.
+fn keep_rows(rows: &mut Vec<Row>, directory: &Directory<'_>, wanted: &RowFilter<'_>)
+    ensures { (asked : RowsValue) (acts : List ActValue) → IsFilterOf asked acts wanted.now
+        → rows.new.items ≡ filter (is_row_kept asked acts directory.now) rows.old.items }
+{
+    rows.retain(|row| is_kept(*row, directory, wanted));
 }
 
 fn is_kept(row: Row, directory: &Directory<'_>, wanted: &RowFilter<'_>) -> bool

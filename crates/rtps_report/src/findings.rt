@@ -42,6 +42,8 @@ pub struct Findings {
     pub pieces: u64,
     pub cut: u64,
     pub links: Links,
+    /// Writers and readers of one topic that do not match.
+    pub unmatched: u64,
 }
 
 /// What is known of a report, to hold it against what was asked.
@@ -54,6 +56,8 @@ pub struct Facts {
     pub met: bool,
     pub counts: Counts,
     pub reasons: Option<Reasons>,
+    /// How many writers and readers of one topic do not match, where that is told.
+    pub unmatched: u64,
 }
 
 impl Findings {
@@ -70,6 +74,7 @@ impl Findings {
             pieces: 0,
             cut: 0,
             links: no_links(),
+            unmatched: 0,
         }
     }
 
@@ -85,6 +90,7 @@ impl Findings {
             && self.pieces == 0
             && self.cut == 0
             && self.links.number == 0
+            && self.unmatched == 0
     }
 }
 
@@ -107,14 +113,16 @@ fn findings_of(asked: &Asked<'_>, facts: &Facts) -> Findings
     ensures { result ≡ findings_of_lem (asked_value asked.now) facts.now }
 {
     let few = few_of(asked.expect, facts.rows);
+    let of_complete = is_of_complete(asked.standard);
+    let unmatched = if of_complete { 0 } else { facts.unmatched };
     if !asked.strict {
         return Findings {
             few,
+            unmatched,
             ..Findings::none()
         };
     }
     let reasons = known(facts.reasons);
-    let of_complete = is_of_complete(asked.standard);
     Findings {
         few,
         empty: facts.rows == 0,
@@ -128,6 +136,7 @@ fn findings_of(asked: &Asked<'_>, facts: &Facts) -> Findings
         pieces: reasons.pieces,
         cut: reasons.cut,
         links: reasons.links,
+        unmatched,
     }
 }
 

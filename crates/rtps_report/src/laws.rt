@@ -1,9 +1,10 @@
 //! Laws of the definitions, each the contract of a function that does nothing.
 
-ghost use Rattle.rtps_report.specs.Laws.{ExplainedRowsAreExact, HasOneFullReport, LeftOutRowsAreExact, ReportedRowsAreExact};
+ghost use Rattle.rtps_report.specs.Laws.{EachMatchIsTold, ExplainedRowsAreExact, HasOneFullReport, LeftOutRowsAreExact, ReportedRowsAreExact};
 ghost use Rattle.rtps_report.specs.Patterns.{FitsAsFilled};
 
 use rtps_audit::laws::first_datagrams_say_the_same;
+use rtps_discovery::laws::{matches_and_pairs, one_map};
 use rtps_evidence::laws::one_explanation;
 use rtps_fragments::laws::{first_datagrams_decide, first_datagrams_tell_the_same};
 
@@ -30,4 +31,15 @@ pub fn one_full_report()
     ensures { HasOneFullReport }
 {
     one_explanation();
+    one_map();
+}
+
+/// Where rows have to be clean, are asked for only of pairs that the recording can speak of, and it is told who does not talk: each
+/// match that discovery finds among topics that are asked for is exactly one of these: a row, two that do not match by all policies,
+/// two of which the recording cannot speak, or two of best effort that are counted.
+pub fn each_match_is_told()
+    ensures { EachMatchIsTold }
+{
+    matches_and_pairs();
+    one_map();
 }

@@ -1,5 +1,5 @@
-ghost use Rattle.std.specs.Prelude.{◌≡◌, ◌++◌, ◌∷◌, MatchOption, true};
-ghost use Rattle.rtps_report.specs.Patterns.{fits as fits_lem, is_plain, star};
+ghost use Rattle.std.specs.Prelude.{◌≡◌, ◌≤◌, ◌++◌, ◌∷◌, MatchOption, length, true};
+ghost use Rattle.rtps_report.specs.Patterns.{fits as fits_lem, is_plain, parts_fit as parts_fit_lem, star};
 
 /// The octet that stands for any octets.
 const STAR: u8 = b'*';
@@ -47,4 +47,30 @@ pub fn fits(pattern: &[u8], topic: &[u8]) -> bool
         Some(left) => fits_behind(behind, left),
         None => false,
     }
+}
+
+/// Whether a name fits the part of a pattern up to this place, and a word behind it fits the part from there on; an octet of the
+/// pattern there that stands for any octets belongs to both.
+fn parts_fit(pattern: &[u8], place: usize, name: &[u8], word: &[u8]) -> bool
+    requires { place ≤ length pattern.now }
+    ensures { result ≡ parts_fit_lem pattern.now place name.now word.now }
+{
+    let (front, behind) = pattern.split_at(place);
+    let shared = match behind.first() {
+        Some(octet) if *octet == STAR => &pattern[..place + 1],
+        _ => front,
+    };
+    fits(shared, name) && fits(behind, word)
+}
+
+/// Whether a name with a word behind it fits a pattern, as [`fits`] says of one text.
+pub(crate) fn fits_followed(pattern: &[u8], name: &[u8], word: &[u8]) -> bool
+    ensures { result ≡ fits_lem pattern.now (name.now ++ word.now) }
+{
+    for place in 0..pattern.len() {
+        if parts_fit(pattern, place, name, word) {
+            return true;
+        }
+    }
+    parts_fit(pattern, pattern.len(), name, word)
 }

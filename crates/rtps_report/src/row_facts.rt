@@ -3,7 +3,7 @@ ghost use Rattle.std.specs.List.{list_all};
 ghost use Rattle.rtps_audit.specs.Speech.{natural as natural_lem};
 ghost use Rattle.rtps_evidence.specs.Explanation.{evidence_value, explanation_value};
 ghost use Rattle.rtps_report.specs.Asked.{asked_value};
-ghost use Rattle.rtps_report.specs.FullReport.{facts_of_rows, is_met as is_met_lem, missed_in};
+ghost use Rattle.rtps_report.specs.FullReport.{facts_with, is_met as is_met_lem, missed_in};
 ghost use Rattle.rtps_report.specs.Reported.{is_complete as completes, number_of as number_of_lem};
 ghost use Rattle.rtps_report.specs.RowFacts.{asked_about as asked_about_lem, is_certain as is_certain_lem, is_clean as is_clean_lem, is_clean_tail as is_clean_tail_lem, is_joined_in, is_late as is_late_lem, is_noted as is_noted_lem, is_tail as is_tail_lem, is_tail_alone as is_tail_alone_lem, left_in, outcomes_of as outcomes_of_lem, row_from as row_from_lem};
 
@@ -184,8 +184,14 @@ fn are_met(asked: &Asked<'_>, rows: &[Explanation<'_>]) -> bool
     true
 }
 
-pub(crate) fn facts_of(asked: &Asked<'_>, explained: &Explained<'_>, recording: &Recording) -> Facts
-    ensures { result ≡ facts_of_rows (asked_value asked.now) (map explanation_value explained.now.rows.items) explained.now.counts recording.now }
+/// What is known of a report, and that so many writers and readers do not match.
+pub(crate) fn facts_of(
+    asked: &Asked<'_>,
+    explained: &Explained<'_>,
+    recording: &Recording,
+    unmatched: usize,
+) -> Facts
+    ensures { result ≡ facts_with unmatched (asked_value asked.now) (map explanation_value explained.now.rows.items) explained.now.counts recording.now }
 {
     Facts {
         rows: explained.rows.len() as u64,
@@ -193,5 +199,6 @@ pub(crate) fn facts_of(asked: &Asked<'_>, explained: &Explained<'_>, recording: 
         met: are_met(asked, &explained.rows),
         counts: explained.counts,
         reasons: recording.reasons(),
+        unmatched: unmatched as u64,
     }
 }

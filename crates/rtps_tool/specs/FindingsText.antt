@@ -31,9 +31,13 @@ links_by n (Some first) =
 unfoldable pub links_line : Links → List ℕ
 links_line links = links_by links.number links.first
 
--- the lines of what was found of the rows of a report
+-- the lines of what was found of the rows of a report, and of pairs that are no rows since the two do not match
 abbrev pub lines_of_rows : Findings → List ℕ
-lines_of_rows findings = few_line findings.few ++ (empty_line findings.empty ++ count_line (codes "pairs with missed numbers") findings.missed)
+lines_of_rows findings =
+    few_line findings.few
+    ++ (empty_line findings.empty
+    ++ (count_line (codes "pairs with missed numbers") findings.missed
+    ++ count_line (codes "unmatched") findings.unmatched))
 
 -- the lines of what was found of what it counts
 abbrev pub lines_of_counts : Findings → List ℕ

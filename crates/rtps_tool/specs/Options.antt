@@ -36,4 +36,5 @@ asked_by demands from =
       fragments = demands.fragments;
       spans = demands.spans;
       standard = demands.standard;
+      talk = demands.talk;
     }

@@ -240,6 +240,7 @@ pub record AreDemandsGiven (rows : List Row) (demands : Demands) : Type 0 where
 pub record AreReportDemandsGiven (rows : List Row) (demands : Demands) : Type 0 where
   pub given : AreDemandsGiven rows demands
   pub standard : demands.standard ≡ AllComplete
+  pub talk : demands.talk ≡ false
 
 -- what rows of a page have to be: clean where they are in spans, since the page then says of each whether it is
 abbrev pub page_standard : Bool → Standard
@@ -250,6 +251,7 @@ page_standard false = AllComplete
 pub record ArePageDemandsGiven (rows : List Row) (demands : Demands) : Type 0 where
   pub given : AreDemandsGiven rows demands
   pub standard : demands.standard ≡ page_standard demands.spans
+  pub talk : demands.talk ≡ true
 
 -- what `check` asks: the patterns and the number that were given, and all that the flags ask for
 pub record AreChecksGiven (rows : List Row) (demands : Demands) : Type 0 where
@@ -260,6 +262,7 @@ pub record AreChecksGiven (rows : List Row) (demands : Demands) : Type 0 where
   pub fragments : demands.fragments ≡ Read
   pub spans : demands.spans ≡ true
   pub standard : IsCleanGiven rows demands.standard
+  pub talk : demands.talk ≡ true
 
 -- it asks of its report what was given; only `check`, `audit`, `why` and `page` have one. `show` asks alone whether fragments are
 -- read

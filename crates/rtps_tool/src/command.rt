@@ -166,7 +166,8 @@ const OCTETS_HELP: &str = "The most octets that FILE may have, 1 to 922337203685
 
 const JSON_HELP: &str = "Print one JSON object, with what each verdict rests on";
 
-const STATUSES: &str = "Status: 0 all is well, also if there is no pair; 1 a pair is not complete; \
+const STATUSES: &str = "Status: 0 all is well, also if there is no pair; 1 a pair is not complete \
+    (page --spans: a pair is not clean, or does not match), or what an option asks for is not so; \
     2 the arguments or the recording are refused; 3 input, output or memory failed";
 
 const PLAIN_STATUSES: &str = "Status: 0 all is printed; \
@@ -185,7 +186,7 @@ const NEWCOMERS: &str = "A FILE is what was sent in a test: a capture, as tcpdum
 check reads any capture, and samples in DATA_FRAG. What one usually wants of audit, why and page is
 the same: rtps-audit audit --any --fragments test.pcapng
 
-Status: 0 all is well, also if there is no pair, but for check; 1 a pair is not complete, or check is not clean; \
+Status: 0 all is well, also if there is no pair, but for check; 1 a pair is not complete, or check or page --spans is not clean; \
     2 the arguments or the recording are refused; 3 input, output or memory failed";
 
 const CHECKS: &str = "Says which topics lost data, and what to do: for a person and for a test job";

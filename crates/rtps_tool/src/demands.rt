@@ -14,7 +14,7 @@ use std::alloc::{AllocError, Global};
 /// What the words ask of a report, beside the number from which on it asks.
 #[derive(Debug, Drop)]
 pub struct Demands {
-    /// Patterns, one of which the topic of each row fits; all topics where there is none.
+    /// Patterns, one of which each topic fits by its name, of DDS or of ROS 2; all topics where there is none.
     pub topics: Vec<String>,
     /// Only rows of pairs that the recording can speak of.
     pub observed: bool,
@@ -28,6 +28,8 @@ pub struct Demands {
     pub spans: bool,
     /// What each row has to be.
     pub standard: Standard,
+    /// That it is told who does not talk.
+    pub talk: bool,
 }
 
 impl Demands {
@@ -49,11 +51,13 @@ impl Demands {
             fragments: self.fragments,
             spans: self.spans,
             standard: self.standard,
+            talk: self.talk,
         }
     }
 }
 
-const TOPIC_HELP: &str = "Only rows whose topic is PATTERN, in which * stands for any octets; \
+const TOPIC_HELP: &str =
+    "Only topics whose name, of DDS or of ROS 2, is PATTERN, in which * stands for any octets; \
     given again, any of them";
 
 const OBSERVED_HELP: &str =
@@ -216,6 +220,7 @@ pub(crate) fn demands_of(alloc: Global, found: &ArgMatches) -> Result<Demands, A
         fragments: fragments_of(found),
         spans: is_given(found, "spans"),
         standard: Standard::AllComplete,
+        talk: false,
     })
 }
 
@@ -240,6 +245,7 @@ pub(crate) fn page_demands_of(alloc: Global, found: &ArgMatches) -> Result<Deman
     let demands = demands_of(alloc, found)?;
     Ok(Demands {
         standard: page_standard(demands.spans),
+        talk: true,
         ..demands
     })
 }
@@ -259,5 +265,6 @@ pub(crate) fn checks_of(alloc: Global, found: &ArgMatches) -> Result<Demands, Al
             tail: tail_of(found),
             certain: is_given(found, "certain"),
         },
+        talk: true,
     })
 }

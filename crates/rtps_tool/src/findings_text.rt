@@ -79,7 +79,7 @@ impl fmt::Display for LinksLine {
     }
 }
 
-/// The lines of what was found of the rows of a report.
+/// The lines of what was found of the rows of a report, and of pairs that are no rows since the two do not match.
 #[derive(Drop)]
 struct RowFindings(Findings);
 
@@ -89,10 +89,11 @@ impl fmt::Display for RowFindings {
     fn fmt<W: fmt::Write>(&self, f: &mut fmt::Formatter<W>) -> fmt::Result {
         write!(
             f,
-            "{}{}{}",
+            "{}{}{}{}",
             FewLine(self.0.few),
             EmptyLine(self.0.empty),
-            CountLine("pairs with missed numbers", u128::from(self.0.missed))
+            CountLine("pairs with missed numbers", u128::from(self.0.missed)),
+            CountLine("unmatched", u128::from(self.0.unmatched))
         )
     }
 }

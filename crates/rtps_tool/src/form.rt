@@ -1,6 +1,6 @@
 //! Forms of a recording that are read.
 
 pub(crate) mod either;
-pub(crate) mod frames;
 pub(crate) mod hex_lines;
 pub(crate) mod line_reader;
+pub(crate) mod whole_capture;

@@ -9,8 +9,8 @@ ghost use Rattle.rtps_tool.specs.declared.faults.RunFault.TheVariants.{Input};
 
 use crate::faults::{RecFault, RunFault};
 use crate::form::either::{begins_capture, read_recording_within};
-use crate::form::frames::read_capture;
 use crate::form::line_reader::{KEPT_MAX, LineReader};
+use crate::form::whole_capture::read_capture;
 use crate::runs::Limits;
 use rtps_capture::Captures;
 use rtps_report::{Recording, make_room, push_octets};

@@ -43,6 +43,7 @@ fn facts_of(report: &Report, missed: u64, recording: &Recording) -> Facts
         met: are_complete(&report.rows),
         counts: report.counts,
         reasons: recording.reasons(),
+        unmatched: 0,
     }
 }
 

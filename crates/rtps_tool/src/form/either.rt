@@ -4,8 +4,8 @@ ghost use Rattle.rtps_tool.specs.Forms.{begins_capture as begins_capture_lem, re
 ghost use Rattle.rtps_capture.specs.declared.captures.Captures.TheVariants.{Classic};
 
 use crate::faults::RecFault;
-use crate::form::frames::read_capture;
 use crate::form::hex_lines::read_text;
+use crate::form::whole_capture::read_capture;
 use crate::runs::Limits;
 use rtps_capture::{Captures, capture_order, is_pcapng};
 use rtps_report::Recording;

@@ -7,7 +7,7 @@ use Rattle.std.specs.List.{list_all}
 use Rattle.rtps_evidence.specs.Clean.{has_all, is_clean as is_clean_in, is_complete as complete_in, is_open, is_tail as is_tail_in}
 use Rattle.rtps_report.specs.Findings.{are_none, findings_of, no_findings, when}
 use Rattle.rtps_report.specs.Asked.{is_of_complete, tail_of}
-use Rattle.rtps_report.specs.FullReport.{facts_of_rows, is_met_by, missed_in}
+use Rattle.rtps_report.specs.FullReport.{facts_with, is_met_by, missed_in}
 use Rattle.rtps_report.specs.Reported.{is_complete}
 use Rattle.rtps_report.specs.RowFacts.{is_certain, is_clean, is_clean_by, outcomes_by, outcomes_of}
 use Rattle.rtps_report.specs.Totals.{is_unclean, totals_of}
@@ -312,7 +312,8 @@ nothing_found : (strict : Bool) (standard : Standard) (missed : ℕ) (totals : T
 nothing_found strict standard missed totals findings is e =
     let empty = both_empty (empty_cause findings.empty) _ e in
     let rows = both_empty (row_causes standard totals findings) _ empty.1 in
-    let few = both_empty (few_cause findings.few) _ rows.1 in
+    let unmatched = both_empty _ _ rows.1 in
+    let few = both_empty (few_cause findings.few) _ unmatched.1 in
     let unsettled = both_empty _ _ few.1 in
     let pieces = both_empty _ _ unsettled.1 in
     let cut = both_empty _ _ pieces.1 in
@@ -323,7 +324,8 @@ nothing_found strict standard missed totals findings is e =
     (and_from _ _ (if_some (findings.fragments == 0) _ links.1)
     (and_from _ _ (if_some (findings.unsettled == 0) _ unsettled.0)
     (and_from _ _ (if_some (findings.pieces == 0) _ pieces.0)
-    (and_from _ _ (if_some (findings.cut == 0) _ cut.0) (if_some (findings.links.number == 0) _ links.0)))))))
+    (and_from _ _ (if_some (findings.cut == 0) _ cut.0)
+    (and_from _ _ (if_some (findings.links.number == 0) _ links.0) (if_some (findings.unmatched == 0) _ unmatched.0))))))))
 
 -- ---- the law
 
@@ -342,8 +344,8 @@ by_found standard totals findings met false is all some found = (
 )
 
 clean_without_reasons : TellsWhyUnclean
-clean_without_reasons asked unread rows counts recording =
-    let findings = findings_of asked (facts_of_rows asked rows counts recording) in
+clean_without_reasons unmatched asked unread rows counts recording =
+    let findings = findings_of asked (facts_with unmatched asked rows counts recording) in
     let totals = totals_of (record { from = asked.from; tail = tail_of asked.standard; unread = unread }) rows in
     by_found asked.standard totals findings (list_all (λ (row : ExplanationValue). is_met_by asked.from asked.standard row.evidence) rows) (are_none findings) refl
     (met_without_reasons asked.standard asked.from unread rows) (not_met_has_a_reason asked.standard asked.from unread rows)

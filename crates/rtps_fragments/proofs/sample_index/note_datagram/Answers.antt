@@ -3,8 +3,8 @@ use Rattle.rtps_wire.specs.Reading.{reading_of}
 use Rattle.rtps_wire.specs.Tally.{tally_of}
 use Rattle.rtps_wire.specs.declared.counts.Tally.{Tally}
 use Rattle.rtps_receiver.specs.Values.{ActValue, act_value}
-use Rattle.rtps_audit.specs.Index.{IsIndexBy}
 use Rattle.rtps_audit.specs.Intake.{intake_more}
+use Rattle.rtps_fragments.specs.Announcements.{IsIndexedBy}
 use Rattle.rtps_fragments.specs.Merging.{merged_from}
 use Rattle.rtps_fragments.specs.SampleActs.{PieceAct}
 use Rattle.rtps_fragments.specs.Sending.{piece_acts_of, unusable_in}
@@ -14,8 +14,8 @@ use Rattle.rtps_fragments.specs.declared.merging.SampleForm.TheVariants.{ForAudi
 use Rattle.rtps_fragments.proofs.sample_index.note_datagram.Goals as goal
 
 pub returns : goal.returns
-returns c = λ intake all whole is.
-    let octets = c.args.datagram.now in
+returns c = λ intake all whole number is.
+    let octets = c.args.octets.now in
     let sending = c.read.new.self in
     let sent = c.in_ok-read.ensures in
     let plain = tally_of (reading_of octets) in
@@ -29,6 +29,6 @@ returns c = λ intake all whole is.
     ap (map act_value) c.deref-3.ensures.value ∙ c.in_ok-merge.ensures ∙ ap (λ ones. merged_from ForAudience 0 ones told) (ap (map act_value) c.deref.ensures.value ∙ sent.acts) in
     let announcing : map act_value c.deref-4.result.now ≡ merged_from ForEveryone 0 own noted =
     ap (map act_value) c.deref-4.ensures.value ∙ c.in_ok-merge-2.ensures ∙ ap (λ ones. merged_from ForEveryone 0 ones noted) (ap (map act_value) c.deref-2.ensures.value ∙ sent.acts) in
-    subst (λ (t : Tally). IsIndexBy (intake_more intake t (merged_from ForAudience 0 own told) (merged_from ForEveryone 0 own noted)) c.note.new.self) tally
-    (subst (λ (ones : List ActValue). IsIndexBy (intake_more intake c.tally-tally.result ones (merged_from ForEveryone 0 own noted)) c.note.new.self) acts
-    (subst (λ (ones : List ActValue). IsIndexBy (intake_more intake c.tally-tally.result (map act_value c.deref-3.result.now) ones) c.note.new.self) announcing (c.in_ok-note.ensures intake is)))
+    subst (λ (t : Tally). IsIndexedBy (intake_more intake t (merged_from ForAudience 0 own told) (merged_from ForEveryone 0 own noted)) c.note.new.self) tally
+    (subst (λ (ones : List ActValue). IsIndexedBy (intake_more intake c.tally-tally.result ones (merged_from ForEveryone 0 own noted)) c.note.new.self) acts
+    (subst (λ (ones : List ActValue). IsIndexedBy (intake_more intake c.tally-tally.result (map act_value c.deref-3.result.now) ones) c.note.new.self) announcing (c.in_ok-note.ensures intake number is)))

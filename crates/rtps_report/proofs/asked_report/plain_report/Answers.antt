@@ -1,11 +1,10 @@
-use Rattle.std.proofs.Common.{◌≡◌, ◌∙◌, ℕ, Bor, List, ap, map, refl, rules, subst, sym}
-use Rattle.std.proofs.lemmas.Fn.{filter_same}
+use Rattle.std.proofs.Common.{◌∙◌, ℕ, Bor, List, ap, map, refl, subst, sym}
 use Rattle.std.proofs.lemmas.Result.{IfOk-weaker}
-use Rattle.rtps_report.specs.Vocabulary.{ActValue, IsReportBy, IsReportFrom}
+use Rattle.rtps_report.specs.Vocabulary.{IsReportBy, IsReportFrom}
 use Rattle.rtps_report.specs.Asked.{asked_value}
-use Rattle.rtps_report.specs.Reported.{is_row_kept}
-use Rattle.rtps_report.specs.Rows.{IsFilterOf, RowsValue, acts_read, rows_value}
+use Rattle.rtps_report.specs.Rows.{IsFilterOf, acts_read, rows_value}
 use Rattle.rtps_report.proofs.AskedLemmas.{all_rows, plain_intake, plain_rows}
+use Rattle.rtps_report.proofs.NamingLemmas.{named_in_acts}
 use Rattle.rtps_report.proofs.asked_report.plain_report.Goals as goal
 
 pub returns-then-is_plain : goal.returns-then-is_plain
@@ -32,17 +31,13 @@ pub returns : goal.returns
 returns g c =
     let acts = acts_read c.args.asked.now.fragments c.args.recording.now.datagrams in
     let rows = rows_value c.args.asked.now.rows in
-    let wanted : IsFilterOf rows acts c.in_ok-wanted.wanted = c.in_ok-wanted.ensures in
-    let by = c.directory-directory.result.now in
+    let wanted : IsFilterOf rows acts c.new-wanted.result =
+    c.new-wanted.ensures acts (λ observed. named_in_acts c.args.asked.now.fragments c.args.recording.now.datagrams c.in_ok-namings.namings (c.in_ok-namings.ensures observed)) in
     record {
       whole = c.in_ok-rows.field-0;
       reports = (c.in_ok-rows.ensures _ c.in_ok-index.ensures).report;
-      directory = by;
-      is_map = c.directory-directory.ensures _ c.in_ok-index.ensures;
-      rows = filter_same _ (is_row_kept rows acts by) _
-          (λ row b f k.
-          let told : (asked : RowsValue) (acts : List ActValue) → IsFilterOf asked acts c.in_ok-wanted.wanted → b ≡ is_row_kept asked acts by row = search rules in
-          (told rows acts wanted, search rules))
-          _ _ c.retain.ensures.filtered;
+      directory = c.directory.result.now;
+      is_map = c.directory.ensures _ c.in_ok-index.ensures;
+      rows = c.keep_rows.ensures rows acts wanted;
       counts = refl;
     }

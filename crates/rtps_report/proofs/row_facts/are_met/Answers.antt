@@ -1,4 +1,4 @@
-use Rattle.std.proofs.Common.{◌∙◌, map, sym}
+use Rattle.std.proofs.Common.{◌∙◌, sym}
 use Rattle.std.proofs.lemmas.List.Folds.{list_all-map, list_all_at}
 use Rattle.rtps_report.specs.Vocabulary.{Explanation, ExplanationValue, explanation_value}
 use Rattle.rtps_report.specs.Asked.{asked_value}

@@ -1,0 +1,156 @@
+"""Who talks in a recording and who does not, for the second implementation: endpoints that do not match, participants that talk one
+way, pairs that the recording cannot speak of, and pairs of best effort.
+
+A pair is a writer and a reader of one topic that match. The order of all lists is that of `list`. What is not announced does not
+differ from anything.
+"""
+from life import Span
+from policies import address_in, domain_in, policies_in, reasons, values_of
+from reference import told_to
+
+# The entity id of a participant.
+PARTICIPANT = b'\x00\x00\x01\xc1'
+
+# ---- what is announced
+
+
+class Announced:
+    """by GUID the policies of endpoints, and of participants the place, the domain and the address. The first announcement without
+    a fault counts"""
+
+    def __init__(self, announcements):
+        self.policies, self.participants = {}, {}
+        for place, side, said, payload in announcements:
+            if side == 'participant':
+                self.participants.setdefault(said[0], (place, domain_in(payload), address_in(payload)))
+            else:
+                self.policies.setdefault(said[0], policies_in(payload))
+
+    def domain(self, guid):
+        """that of the participant of a GUID"""
+        return self.participants.get(guid[:12] + PARTICIPANT, (None, None, None))[1]
+
+    def address(self, guid):
+        return self.participants.get(guid[:12] + PARTICIPANT, (None, None, None))[2]
+
+    def two_domains(self, one, other):
+        return differ(self.domain(one), self.domain(other))
+
+    def two_addresses(self, one, other):
+        return differ(self.address(one), self.address(other))
+
+    def one_address(self):
+        """whether participants are announced, all with one address"""
+        addresses = {address for _, _, address in self.participants.values()}
+        return len(addresses) == 1 and None not in addresses
+
+    def values(self, endpoint):
+        """the value of each policy of an endpoint"""
+        return values_of(endpoint, self.policies[endpoint[0]])
+
+
+def differ(one, other):
+    return one is not None and other is not None and one != other
+
+
+class Unmatched:
+    """a writer and a reader of one topic that do not match, and the policies for which they do not"""
+
+    def __init__(self, w, r, because, offered, requested):
+        self.w, self.r, self.because = w, r, because
+        # a writer sends the first of its representations
+        self.offered = offered | {'data_representation': offered['data_representation'][:1]}
+        self.requested = requested
+
+
+def named_by(recording):
+    """in how many datagrams a participant names another as its destination, in order"""
+    counts = {}
+    for acts in recording:
+        for contact in {(act['source'], act['dest']) for act in acts if act['dest'] is not None}:
+            counts[contact] = counts.get(contact, 0) + 1
+    return dict(sorted(counts.items()))
+
+
+# ---- who talks
+
+
+class Talk:
+    """what a recording says of who talks, of the topics that are asked for. Where `fitting` says so, endpoints for which any policy
+    does not fit are not judged"""
+
+    def __init__(self, recording, settled, matched, life, asked, fitting):
+        self.recording, self.life, self.asked = recording, life, asked
+        self.announced, self.namings = Announced(life.announced), named_by(recording)
+        self.unmatched = list(self.find_unmatched(settled))
+        unfit = {(one.w, one.r) for one in self.unmatched}
+        pairs = [pair for pair in matched if asked.chooses(pair[0][2])]
+        reliable = [pair for pair in pairs if is_reliable(*pair) and not (fitting and pair in unfit)]
+        self.judged = [pair for pair in reliable if not asked.observed or self.is_observed(*pair)]
+        self.unobserved = [pair for pair in reliable if asked.observed and not self.is_observed(*pair)]
+        self.best_effort = [pair for pair in pairs if not is_reliable(*pair) and pair not in unfit and self.is_observed(*pair)]
+        self.one_way = [(source, dest, count) for (source, dest), count in self.namings.items() if self.is_one_way(source, dest)]
+
+    def find_unmatched(self, settled):
+        """the writers and readers of one topic that do not fit, though they may meet"""
+        readers = [end for end in settled if end[1] == 'reader' and self.asked.chooses(end[2])]
+        for w in settled:
+            for r in readers:
+                if w[1] != 'writer' or w[2] != r[2] or self.announced.two_domains(w[0], r[0]):
+                    continue
+                offered, requested = self.announced.values(w), self.announced.values(r)
+                because = reasons(offered, requested)
+                if because:
+                    yield Unmatched(w, r, because, offered, requested)
+
+    def is_observed(self, w, r):
+        """the reader's participant names the writer's"""
+        return (r[0][:12], w[0][:12]) in self.namings
+
+    def is_one_way(self, source, dest):
+        """the one names the other, and the other never names the one, though they have two addresses, and not two domains"""
+        return ((source, dest) in self.namings and (dest, source) not in self.namings and self.announced.two_addresses(source, dest)
+                and not self.announced.two_domains(source, dest))
+
+    def silence(self, w, r):
+        """why a pair is not observed"""
+        one, other = w[0][:12], r[0][:12]
+        if one == other:
+            return 'one participant'
+        if self.announced.two_domains(one, other):
+            return 'two domains'
+        return 'one way' if self.is_one_way(one, other) else 'silent'
+
+    # ---- pairs of best effort
+
+    def counted(self, w, r):
+        """how many numbers the writer sent since the reader's first, and how many of these the recording has for it"""
+        span = Span(self.recording, self.life, w[0], r[0], self.asked)
+        datagrams = span.datagrams(self.recording)
+        greatest = max((act['number'] for acts in datagrams for act in acts if act['kind'] in ('data', 'data_frag')
+                        and act['source'] + act['writer'] == w[0]), default=0)
+        told = {act['number'] for _, act, words in told_to(datagrams, w[0], r[0]) if words.payload is not None}
+        return max(0, greatest + 1 - span.first), sum(n >= span.first for n in told)
+
+    def best_effort_counts(self):
+        """by topic: how many pairs, numbers, and numbers that the recording has"""
+        topics = {}
+        for w, r in self.best_effort:
+            counts = topics.setdefault(w[2], [0, 0, 0])
+            for i, more in enumerate((1, *self.counted(w, r))):
+                counts[i] += more
+        return sorted(topics.items())
+
+    # ---- participants
+
+    def lifetimes(self):
+        """of each participant the first and the last datagram that has something of it, and the one in which it leaves; None where there
+        is none"""
+        for guid, (joined, _, _) in sorted(self.announced.participants.items()):
+            own = [i for i, acts in enumerate(self.recording, 1) if any(act['source'] == guid[:12] for act in acts)]
+            left = self.life.leaves(guid, joined)
+            yield guid, min(own, default=None), max(own, default=None), left and left[0]
+
+
+def is_reliable(w, r):
+    return w[4] == r[4] == 1

@@ -1,0 +1,145 @@
+"""What `check` says of who does not talk: lines, notes, and members of its object. Facts are those of `talk.Talk`."""
+from policies import address_text, value_text
+from reference import guid_text, name_text
+from ros import ros_topic, ros_type
+from talk import PARTICIPANT
+from wording import amount, of
+
+# Why a pair is not observed, in the order in which it is told, and what is said of it.
+SILENCES = {
+    'one participant': 'of one participant (it needs no network)',
+    'two domains': 'of two domains (they never meet)',
+    'one way': 'talking one way (the reader never answers)',
+    'silent': 'silent here (shared memory, another host or interface)',
+}
+
+# What to do.
+UNMATCHED = 'by the standard nothing passes between them: change what one offers or what the other asks for'
+ONE_WAY = 'a firewall, or its datagrams are not in this recording'
+HOSTS = 'if there are other hosts, multicast may be blocked between them'
+BEST_EFFORT = "at the reader's side the others were lost; at the writer's side the recording lacks them"
+
+# ---- names
+
+
+def topic_text(topic):
+    return name_text(ros_topic(topic))
+
+
+def type_text(kind):
+    return name_text(ros_type(kind))
+
+
+def topics_text(pairs):
+    """the topics of pairs, each once for each of its types"""
+    return ', '.join(topic_text(topic) for topic, _ in sorted({w[2:4] for w, _ in pairs}))
+
+
+def hosted(announced, guid):
+    """a GUID, and behind it the address of its participant"""
+    address = announced.address(guid)
+    return guid_text(guid) + (f' at {address_text(address)}' if address else '')
+
+
+# ---- endpoints that do not match
+
+
+def unmatched_amount(talk):
+    return amount(len(talk.unmatched), 'pair does not match', 'pairs do not match')
+
+
+def values_text(one):
+    """of each policy for which a writer and a reader do not match its name, what is offered, and what is requested"""
+    return [(name, value_text(name, one.offered[name]), value_text(name, one.requested[name])) for name in one.because]
+
+
+def unmatched_block(announced, one):
+    """the lines of a writer and a reader that do not match; types by their names of ROS 2"""
+    lines = [f'  writer {hosted(announced, one.w[0])}', f'  reader {hosted(announced, one.r[0])}']
+    for name, offered, requested in values_text(one):
+        if name == 'type':
+            offered, requested = type_text(one.w[3]), type_text(one.r[3])
+        lines.append(f"    {name.replace('_', ' ')}: offers {offered}; asks for {requested}")
+    return lines
+
+
+def unmatched_lines(talk):
+    """those of all, by topic"""
+    if not talk.unmatched:
+        return []
+    lines, last = [unmatched_amount(talk)], None
+    for one in sorted(talk.unmatched, key=lambda one: one.w[2]):
+        lines += ([] if one.w[2] == last else [topic_text(one.w[2])]) + unmatched_block(talk.announced, one)
+        last = one.w[2]
+    return lines + ['  -> ' + UNMATCHED]
+
+
+# ---- participants that talk one way
+
+
+def one_way_lines(talk):
+    if not talk.one_way:
+        return []
+    lines = [amount(len(talk.one_way), 'pair of participants talks one way', 'pairs of participants talk one way')]
+    for one, other, count in talk.one_way:
+        silent, talking = (hosted(talk.announced, prefix + PARTICIPANT) for prefix in (other, one))
+        lines += [f'  participant {silent} never answers', f"  participant {talking}, which names it in {amount(count, 'datagram', 'datagrams')}"]
+    return lines + ['  -> ' + ONE_WAY]
+
+
+# ---- notes: what is told, the topics that it is about, or None, and what to do, or None
+
+
+def host_notes(talk):
+    return [('nothing of another host is in this recording', None, HOSTS)] if talk.announced.one_address() else []
+
+
+def unobserved_notes(talk):
+    """the pairs that the recording cannot speak of, by the reason"""
+    for silence, words in SILENCES.items():
+        pairs = [pair for pair in talk.unobserved if talk.silence(*pair) == silence]
+        if pairs:
+            yield f"{amount(len(pairs), 'pair is', 'pairs are')} left out, {words}", topics_text(pairs), None
+
+
+def best_effort_notes(talk):
+    topics = talk.best_effort_counts()
+    if not topics:
+        return []
+    pairs, numbers, recorded = (sum(counts[i] for _, counts in topics) for i in range(3))
+    shares = f"{of(recorded, numbers)} {'number' if numbers == 1 else 'numbers'}"
+    told = f"{amount(pairs, 'best-effort pair has', 'best-effort pairs have')} {shares} in this recording"
+    by_topic = ', '.join(f'{topic_text(topic)} {of(recorded, numbers)}' for topic, (_, numbers, recorded) in topics)
+    return [(told, by_topic, BEST_EFFORT if recorded < numbers else None)]
+
+
+def talk_notes(talk):
+    return [*host_notes(talk), *unobserved_notes(talk), *best_effort_notes(talk)]
+
+
+# ---- members of the object, with the names of DDS
+
+
+def named(w, r):
+    return {'topic': name_text(w[2]), 'writer': guid_text(w[0]), 'reader': guid_text(r[0])}
+
+
+def unmatched_members(one):
+    because, offered, requested = map(list, zip(*values_text(one)))
+    return named(one.w, one.r) | {'because': because, 'offered': offered, 'requested': requested}
+
+
+def participant_members(talk):
+    for guid, first, last, left in talk.lifetimes():
+        _, domain, address = talk.announced.participants[guid]
+        yield {'guid': guid_text(guid), 'address': address and address_text(address), 'domain': domain, 'first': first, 'last': last, 'left': left}
+
+
+def talk_members(talk):
+    return {
+        'unmatched': [unmatched_members(one) for one in talk.unmatched],
+        'unobserved': [named(w, r) | {'because': talk.silence(w, r)} for w, r in talk.unobserved],
+        'one_way': [{'from': guid_text(one + PARTICIPANT), 'to': guid_text(other + PARTICIPANT), 'named': count} for one, other, count in talk.one_way],
+        'best_effort': [dict(zip(('topic', 'pairs', 'numbers', 'recorded'), (name_text(topic), *counts))) for topic, counts in talk.best_effort_counts()],
+        'participants': list(participant_members(talk)),
+    }

@@ -1,0 +1,5 @@
+mod AppendLemmas
+mod HostLemmas
+mod OneWayLemmas
+mod SortLemmas
+mod UnmatchedLemmas

@@ -1,0 +1,35 @@
+-- The lines of participants that talk one way.
+use Rattle.std.proofs.Common.{◌≡◌, ◌<◌, ◌∙◌, ◌+◌, ◌++◌, ◌==◌, ℕ, List, [], ◌∷◌, ap, append-nil, append_assoc, codes, false, flat_map, get_or, length, sym, take, true, true≢false}
+use Rattle.std.proofs.lemmas.List.{take_more}
+use Rattle.std.proofs.lemmas.List.Concat.{flat_map-append}
+use Rattle.std.specs.List.{concat}
+use Rattle.rtps_ids.specs.declared.identity.GuidPrefix.{GuidPrefix}
+use Rattle.rtps_lines.proofs.Offered.{two_parts}
+use Rattle.rtps_parts.specs.Parts.{amount}
+use Rattle.rtps_policies.specs.declared.host.Host.{Host}
+use Rattle.rtps_policies.specs.declared.one_way.OneWay.{OneWay}
+use Rattle.rtps_check.specs.TalkText.{one_way_by, one_way_lines}
+
+-- parts behind others
+pub parts_behind : {A : Type 0} (a b c d e more : List A) → (a ++ (b ++ (c ++ (d ++ e)))) ++ more ≡ a ++ (b ++ (c ++ (d ++ (e ++ more))))
+parts_behind a b c d e more =
+    append_assoc a (b ++ (c ++ (d ++ e))) more
+    ∙ ap (λ all. a ++ all) (append_assoc b (c ++ (d ++ e)) more ∙ ap (λ all. b ++ all) (append_assoc c (d ++ e) more ∙ ap (λ all. c ++ all) (append_assoc d e more)))
+
+-- the lines of one more
+pub lines_more : {X : Type 0} (line : X → List ℕ) (items : List X) (i : ℕ) (one : X) (start told new : List ℕ) → i < length items
+    → told ≡ start ++ flat_map line (take i items) → new ≡ told ++ line (get_or items i one) → new ≡ start ++ flat_map line (take (i + 1) items)
+lines_more line items i one start told new within so_far more =
+    two_parts start (flat_map line (take i items)) (line (get_or items i one)) so_far more
+    ∙ ap (λ last. start ++ (flat_map line (take i items) ++ last)) (sym (append-nil (line (get_or items i one))))
+    ∙ ap (λ all. start ++ all) (sym (flat_map-append line (take i items) (get_or items i one ∷ [])))
+    ∙ ap (λ all. start ++ flat_map line all) (sym (take_more items i one within))
+
+-- the lines of some
+pub some_one_way : (hosts : GuidPrefix → Host) (ones : List OneWay) (number : ℕ) → length ones ≡ number → (number == 0) ≡ false
+    → concat (codes "\n" ∷ amount number (record { one = codes "pair of participants talks one way"; many = codes "pairs of participants talk one way" }) ∷ codes "\n" ∷ [])
+    ++ (flat_map (one_way_lines hosts) ones ++ codes "  -> a firewall, or its datagrams are not in this recording\n") ≡ one_way_by hosts ones
+some_one_way hosts [] number long some = absurd (true≢false (ap (λ n. n == 0) long ∙ some))
+some_one_way hosts (one ∷ more) number long some =
+    ap (λ n. concat (codes "\n" ∷ amount n (record { one = codes "pair of participants talks one way"; many = codes "pairs of participants talk one way" }) ∷ codes "\n" ∷ [])
+    ++ (flat_map (one_way_lines hosts) (one ∷ more) ++ codes "  -> a firewall, or its datagrams are not in this recording\n")) (sym long)

@@ -1,0 +1,52 @@
+ghost use Rattle.std.specs.Prelude.{◌≡◌, ◌++◌, OnOk, string_bytes};
+ghost use Rattle.rtps_report.specs.Talk.{talk_value};
+ghost use Rattle.rtps_check.specs.TalkText.{one_way_block, one_way_lines};
+
+use crate::unmatched_block::hosted_by;
+use rtps_parts::{Part, Words, render};
+use rtps_policies::{OneWay, participant_of};
+use rtps_report::Talk;
+use std::alloc::AllocError;
+
+/// Appends the lines of a participant that never answers, and of the one that names it.
+fn push_one_way(text: &mut String, one: OneWay, talk: &Talk<'_>) -> Result<(), AllocError>
+    ensures { OnOk result (string_bytes text.new ≡ string_bytes text.old ++ one_way_lines (talk_value talk.now).hosts one) }
+{
+    let silent = hosted_by(talk, participant_of(one.naming.dest));
+    let talking = hosted_by(talk, participant_of(one.naming.source));
+    let words = Words {
+        one: "datagram",
+        many: "datagrams",
+    };
+    write!(
+        text,
+        "  participant {silent} never answers\n  participant {talking}, which names it in "
+    )?;
+    render(
+        text,
+        &[Part::Amount(u128::from(one.count), words), Part::Text("\n")],
+    )
+}
+
+/// Appends who talks one way, if someone does.
+pub(crate) fn push_one_way_block(text: &mut String, talk: &Talk<'_>) -> Result<(), AllocError>
+    ensures { OnOk result (string_bytes text.new ≡ string_bytes text.old ++ one_way_block (talk_value talk.now)) }
+{
+    if talk.one_way.is_empty() {
+        return Ok(());
+    }
+    let words = Words {
+        one: "pair of participants talks one way",
+        many: "pairs of participants talk one way",
+    };
+    let head = [
+        Part::Text("\n"),
+        Part::Amount(talk.one_way.len() as u128, words),
+        Part::Text("\n"),
+    ];
+    render(text, &head)?;
+    for one in &talk.one_way {
+        push_one_way(text, *one, talk)?;
+    }
+    text.push_str("  -> a firewall, or its datagrams are not in this recording\n")
+}

@@ -1,0 +1,118 @@
+ghost use Rattle.std.specs.Prelude.{◌≡◌, ◌++◌, IfOk, OnOk, None, map, option_copied, string_bytes};
+ghost use Rattle.rtps_policies.specs.Unmatched.{unmatched_value};
+ghost use Rattle.rtps_report.specs.Talk.{talk_value};
+ghost use Rattle.rtps_check.specs.TalkText.{AreByTopic, IsUnmatchedBlock, policy_line, topic_line, unmatched_pair, unmatched_pairs};
+
+use rtps_ids::Guid;
+use rtps_lines::{HostedGuid, Naming, PolicyValue, unmatched_words, words_of_policy};
+use rtps_parts::{Part, render};
+use rtps_policies::{Policy, Unmatched};
+use rtps_report::Talk;
+use std::alloc::{AllocError, Global};
+
+/// A GUID, and where its participant is.
+pub(crate) fn hosted_by(talk: &Talk<'_>, guid: Guid) -> HostedGuid
+    ensures guid { result.0 ≡ guid }
+    ensures address { result.1 ≡ ((talk_value talk.now).hosts guid.prefix).address }
+{
+    HostedGuid(guid, talk.address_of(guid.prefix))
+}
+
+/// Those that do not match, by topic, octet by octet. Those of one topic stay in their order.
+fn by_topic<'u, 'a>(
+    alloc: Global,
+    unmatched: &'u [Unmatched<'a>],
+) -> Result<Vec<&'u Unmatched<'a>>, AllocError>
+    ensures { IfOk result (λ sorted. AreByTopic (map unmatched_value unmatched.now) (map (λ one. unmatched_value one.now) sorted.items)) }
+{
+    let mut sorted = Vec::with_capacity(alloc, unmatched.len())?;
+    for one in unmatched {
+        sorted.push(one)?;
+    }
+    sorted.sort_by_key(|one| one.writer.endpoint.topic)?;
+    Ok(sorted)
+}
+
+/// Appends what is offered of a policy, and what is asked for.
+fn push_policy(text: &mut String, one: &Unmatched<'_>, policy: Policy) -> Result<(), AllocError>
+    ensures { OnOk result (string_bytes text.new ≡ string_bytes text.old ++ policy_line (unmatched_value one.now) policy) }
+{
+    let naming = Naming::Ros;
+    let offered = PolicyValue {
+        policy,
+        profile: &one.writer,
+        naming,
+    };
+    let requested = PolicyValue {
+        policy,
+        profile: &one.reader,
+        naming,
+    };
+    let name = words_of_policy(policy);
+    writeln!(text, "    {name}: offers {offered}; asks for {requested}")
+}
+
+/// Appends the lines of a writer and a reader.
+fn push_pair(text: &mut String, one: &Unmatched<'_>, talk: &Talk<'_>) -> Result<(), AllocError>
+    ensures { OnOk result (string_bytes text.new ≡ string_bytes text.old ++ unmatched_pair (talk_value talk.now).hosts (unmatched_value one.now)) }
+{
+    let writer = hosted_by(talk, one.writer.endpoint.guid);
+    let reader = hosted_by(talk, one.reader.endpoint.guid);
+    write!(text, "  writer {writer}\n  reader {reader}\n")?;
+    for policy in &one.reasons {
+        push_policy(text, one, *policy)?;
+    }
+    Ok(())
+}
+
+/// Appends the line of a topic, if it is not that of the pair before.
+fn push_topic(text: &mut String, before: Option<&[u8]>, topic: &[u8]) -> Result<(), AllocError>
+    ensures { OnOk result (string_bytes text.new ≡ string_bytes text.old ++ topic_line (option_copied before.entry) topic.now) }
+{
+    match before {
+        Some(before) if before == topic => Ok(()),
+        _ => render(text, &[Part::TopicName(topic), Part::Text("\n")]),
+    }
+}
+
+fn push_pairs(
+    text: &mut String,
+    sorted: Vec<&Unmatched<'_>>,
+    talk: &Talk<'_>,
+) -> Result<(), AllocError>
+    ensures { OnOk result (string_bytes text.new ≡ string_bytes text.old
+        ++ unmatched_pairs (talk_value talk.now).hosts None (map (λ one. unmatched_value one.now) sorted.entry.items)) }
+{
+    let mut before = None;
+    for one in sorted {
+        let topic = one.writer.endpoint.topic;
+        push_topic(text, before, topic)?;
+        push_pair(text, one, talk)?;
+        before = Some(topic);
+    }
+    Ok(())
+}
+
+/// Appends the writers and readers that do not match, if there are any.
+pub(crate) fn push_unmatched_block(
+    alloc: Global,
+    text: &mut String,
+    talk: &Talk<'_>,
+) -> Result<(), AllocError>
+    ensures { OnOk result (IsUnmatchedBlock (talk_value talk.now) (string_bytes text.old) (string_bytes text.new)) }
+{
+    if talk.unmatched.is_empty() {
+        return Ok(());
+    }
+    let head = [
+        Part::Text("\n"),
+        Part::Amount(talk.unmatched.len() as u128, unmatched_words()),
+        Part::Text("\n"),
+    ];
+    let sorted = by_topic(alloc, &talk.unmatched)?;
+    render(text, &head)?;
+    push_pairs(text, sorted, talk)?;
+    text.push_str(
+        "  -> by the standard nothing passes between them: change what one offers or what the other asks for\n",
+    )
+}

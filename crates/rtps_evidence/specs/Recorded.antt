@@ -1,0 +1,46 @@
+-- What a recording has of a writer and a reader of best effort. DDSI-RTPS 2.5, 8.4.2.3 "Required RTPS Reader Behavior": such a reader sends
+-- nothing, so nobody asks for what it lacks.
+-- own: how much of what the writer sent is here for the reader is all that a recording tells of the two.
+use Rattle.std.specs.Prelude.{ℕ, Bool, ◌≡◌, ◌+◌, ◌-◌, if◌then◌else◌, List, map}
+use Rattle.rtps_ids.specs.declared.identity.Guid.{Guid}
+use Rattle.rtps_discovery.specs.declared.matching.Pair.{Pair}
+use Rattle.rtps_receiver.specs.Speech.{is_spoken_by}
+use Rattle.rtps_receiver.specs.Values.{ActBodyValue}
+use Rattle.rtps_receiver.specs.Values.ActBodyValue.{Data, Heartbeat, AckNack, Gap, DataFrag, NackFrag}
+use Rattle.rtps_audit.specs.Delivery.{greatest}
+use Rattle.rtps_audit.specs.Intake.{Intake}
+use Rattle.rtps_audit.specs.Placed.{PlacedValue, placed_in}
+use Rattle.rtps_audit.specs.Said.{datagrams_until}
+use Rattle.rtps_evidence.specs.Amount.{count_in, is_sent}
+use Rattle.rtps_evidence.specs.Spans.{IsExtent}
+use Rattle.rtps_evidence.specs.declared.recorded.Recorded.{Recorded}
+use Rattle.rtps_evidence.specs.declared.span.Span.{Span}
+
+-- the number of a payload, or of a part of one
+abbrev pub number_of_payload : ActBodyValue → ℕ
+number_of_payload (Data value) = value.number
+number_of_payload (DataFrag value) = value.number
+number_of_payload (Heartbeat value) = 0
+number_of_payload (AckNack value) = 0
+number_of_payload (Gap value) = 0
+number_of_payload (NackFrag value) = 0
+
+-- the number that the writer sends by an act, to whomever; or 0
+abbrev pub number_sent : Guid → PlacedValue → ℕ
+number_sent writer placed = if is_spoken_by placed.act writer then number_of_payload placed.act.body else 0
+
+-- the greatest of them, or 0
+abbrev pub greatest_sent : Guid → List PlacedValue → ℕ
+greatest_sent writer acts = greatest (map (number_sent writer) acts)
+
+-- of the numbers from the first one of a span on, up to the greatest that the writer sent: how many there are, and of how many the
+-- reader hears a payload
+pub record AreRecordedIn (span : Span) (pair : Pair) (acts : List PlacedValue) (found : Recorded) : Type 0 where
+  pub numbers : found.numbers ≡ greatest_sent pair.writer acts + 1 - span.from
+  pub recorded : found.recorded ≡ count_in (is_sent pair.writer pair.reader acts) span.from (greatest_sent pair.writer acts + 1)
+
+-- the same of what a row of the two would be by
+pub record IsRecordedBy (spans : Bool) (from : ℕ) (pair : Pair) (intake : Intake) (found : Recorded) : Type 0 where
+  pub span : Span
+  pub is_extent : IsExtent spans from pair intake span
+  pub are_recorded : AreRecordedIn span pair (placed_in (datagrams_until span.until intake.acts)) found

@@ -1,0 +1,29 @@
+-- The acts of a recording that may announce something, with one datagram more.
+use Rattle.std.proofs.Common.{◌≡◌, ◌∙◌, ℕ, ◌+◌, List, [], ◌∷◌, ◌++◌, filter, length, map, refl, subst, sym, ap}
+use Rattle.std.proofs.lemmas.List.Elements.{filter-append}
+use Rattle.rtps_wire.specs.declared.counts.Tally.{Tally}
+use Rattle.rtps_receiver.specs.Values.{ActValue}
+use Rattle.rtps_audit.specs.Index.{IsIndexBy}
+use Rattle.rtps_audit.specs.Intake.{Intake, intake_more}
+use Rattle.rtps_audit.specs.Placed.{PlacedValue, placed_at, placed_in, placed_value}
+use Rattle.rtps_audit.proofs.PlacedActs.{placed_push}
+use Rattle.rtps_fragments.specs.Announcements.{IsIndexedBy, announcements_in, is_announcement}
+use Rattle.rtps_fragments.specs.declared.announcements.Indexed.{Indexed}
+
+-- those of one datagram
+abbrev pub announcements_at : ℕ → List ActValue → List PlacedValue
+announcements_at datagram acts = filter is_announcement (placed_at datagram acts)
+
+datagram_next : (recording : List (List ActValue)) (acts : List ActValue) (place : ℕ) → place ≡ length recording
+    → announcements_in (recording ++ acts ∷ []) ≡ announcements_in recording ++ announcements_at (place + 1) acts
+datagram_next recording acts place at = ap (filter is_announcement) (sym (placed_push recording acts place at)) ∙ filter-append is_announcement (placed_in recording) (placed_at (place + 1) acts)
+
+-- what is indexed, with one datagram more
+pub indexed_more : (intake : Intake) (tally : Tally) (acts announcing : List ActValue) (old new : Indexed) (datagram : ℕ) → datagram ≡ length intake.announcing + 1 → IsIndexedBy intake old
+    → IsIndexBy (intake_more intake tally acts announcing) new.index → map placed_value new.announcements.items ≡ map placed_value old.announcements.items ++ announcements_at datagram announcing
+    → IsIndexedBy (intake_more intake tally acts announcing) new
+indexed_more intake tally acts announcing old new datagram number was is found = record {
+  index = is;
+  announcements = found ∙ ap (λ before. before ++ announcements_at datagram announcing) was.announcements ∙ ap (λ n. announcements_in intake.announcing ++ announcements_at n announcing) number
+      ∙ sym (datagram_next intake.announcing announcing (length intake.announcing) refl);
+}

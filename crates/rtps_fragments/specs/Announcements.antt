@@ -1,0 +1,33 @@
+-- The acts of a recording that may announce something, in their places. DDSI-RTPS 2.5, 8.5 "Discovery Module": built-in writers announce.
+-- own: all DATA of built-in writers are kept, though some announce nothing. They are few, so what a directory does not keep (policies and
+-- hosts) is read of them without another walk through all acts.
+use Rattle.std.specs.Prelude.{◌≡◌, Bool, false, List, filter, map}
+use Rattle.rtps_receiver.specs.Values.{ActBodyValue, ActValue}
+use Rattle.rtps_receiver.specs.Values.ActBodyValue.{Data, Heartbeat, AckNack, Gap, DataFrag, NackFrag}
+use Rattle.rtps_audit.specs.Index.{IsIndexBy}
+use Rattle.rtps_audit.specs.Intake.{Intake}
+use Rattle.rtps_audit.specs.Placed.{PlacedValue, placed_in, placed_value}
+use Rattle.rtps_fragments.specs.Announcing.{is_built_in}
+use Rattle.rtps_fragments.specs.declared.announcements.Indexed.{Indexed}
+
+-- a DATA of a built-in writer
+abbrev pub is_of_built_in : ActBodyValue → Bool
+is_of_built_in (Data value) = is_built_in value.writer
+is_of_built_in (Heartbeat value) = false
+is_of_built_in (AckNack value) = false
+is_of_built_in (Gap value) = false
+is_of_built_in (DataFrag value) = false
+is_of_built_in (NackFrag value) = false
+
+-- the act is one
+abbrev pub is_announcement : PlacedValue → Bool
+is_announcement placed = is_of_built_in placed.act.body
+
+-- those among the acts of datagrams
+abbrev pub announcements_in : List (List ActValue) → List PlacedValue
+announcements_in datagrams = filter is_announcement (placed_in datagrams)
+
+-- the index has taken in this, and these are its announcements
+pub record IsIndexedBy (intake : Intake) (indexed : Indexed) : Type 0 where
+  pub index : IsIndexBy intake indexed.index
+  pub announcements : map placed_value indexed.announcements.items ≡ announcements_in intake.announcing

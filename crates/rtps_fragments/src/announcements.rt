@@ -1,0 +1,85 @@
+ghost use Rattle.std.specs.Prelude.{◌≡◌, ◌+◌, ◌<◌, ◌^◌, ◌++◌, filter, length, map, OnOk};
+ghost use Rattle.rtps_receiver.specs.Values.{act_body_value, act_value};
+ghost use Rattle.rtps_audit.specs.Intake.{Intake, intake_more, no_intake};
+ghost use Rattle.rtps_audit.specs.Placed.{placed_at, placed_value};
+ghost use Rattle.rtps_fragments.specs.Announcements.{IsIndexedBy, is_announcement, is_of_built_in as is_of_built_in_lem};
+
+use crate::overheard::is_built_in;
+use rtps_audit::{Index, Placed, place};
+use rtps_ids::Memory;
+use rtps_receiver::{Act, ActBody};
+use rtps_wire::Tally;
+use std::alloc::Global;
+use std::slice;
+
+/// The index of a recording, and in their places the DATA of built-in writers: all acts of it that may announce something.
+#[derive(Drop)]
+pub struct Indexed<'s> {
+    pub index: Index<'s>,
+    pub announcements: Vec<Placed<'s>>,
+}
+
+/// The acts of a datagram.
+#[derive(Clone, Copy)]
+pub(crate) struct DatagramActs<'r, 's> {
+    /// The number of the datagram, counted from 1.
+    pub(crate) datagram: usize,
+    /// Those that verdicts are by.
+    pub(crate) acts: &'r [Act<'s>],
+    /// Those of which it is noted what they announce.
+    pub(crate) announcing: &'r [Act<'s>],
+}
+
+/// Whether an act is a DATA of a built-in writer: no other announces something.
+fn is_of_built_in(body: &ActBody<'_>) -> bool
+    ensures { result ≡ is_of_built_in_lem (act_body_value body.now) }
+{
+    match body {
+        ActBody::Data(data) => is_built_in(data.writer),
+        ActBody::Heartbeat(_)
+        | ActBody::AckNack(_)
+        | ActBody::Gap(_)
+        | ActBody::DataFrag(_)
+        | ActBody::NackFrag(_) => false,
+    }
+}
+
+/// Appends those of the acts of a datagram.
+fn push_announcements<'s>(
+    found: &mut Vec<Placed<'s>>,
+    datagram: usize,
+    acts: &[Act<'s>],
+) -> Result<(), Memory>
+    ensures { OnOk result (map placed_value found.new.items
+        ≡ map placed_value found.old.items ++ filter is_announcement (placed_at datagram (map act_value acts.now))) }
+{
+    for act in acts {
+        if is_of_built_in(&act.body) {
+            found.extend_from_slice(slice::from_ref(&place(datagram, act)))?;
+        }
+    }
+    Ok(())
+}
+
+impl<'s> Indexed<'s> {
+    /// That of no datagrams. It takes no memory.
+    pub(crate) fn new(alloc: Global) -> Indexed<'s>
+        ensures { IsIndexedBy no_intake result }
+    {
+        Indexed {
+            index: Index::new(alloc),
+            announcements: Vec::new(alloc),
+        }
+    }
+
+    /// Takes in one datagram more, the next in the order of sending. After `Memory` it is of no use.
+    pub(crate) fn note(&mut self, tally: Tally, noted: &DatagramActs<'_, 's>) -> Result<(), Memory>
+        requires { self.old.index.tallies.datagrams + 1 < 2 ^ 64 }
+        ensures { OnOk result ((intake : Intake) → noted.now.datagram ≡ length intake.announcing + 1 → IsIndexedBy intake self.old
+            → IsIndexedBy (intake_more intake tally (map act_value noted.now.acts.now) (map act_value noted.now.announcing.now)) self.new) }
+    {
+        self.index.note(tally, noted.acts, noted.announcing)?;
+        push_announcements(&mut self.announcements, noted.datagram, noted.announcing)?;
+        Ok(())
+    }
+}

@@ -1,0 +1,56 @@
+-- Notes on rows that are silent for one reason, and on pairs of best effort.
+use Rattle.std.proofs.Common.{◌≡◌, ◌++◌, ◌∷◌, [], ◌∙◌, ◌==◌, ℕ, Bool, List, ap, append-nil, arith, codes, false, get_or, if◌then◌else◌, length, map, refl, sym, true}
+use Rattle.std.proofs.lemmas.Bool.Decides.{nat_tests}
+use Rattle.std.proofs.lemmas.Bool.{ne_eqb}
+use Rattle.std.proofs.lemmas.List.{length-map}
+use Rattle.std.specs.List.{flat_map}
+use Rattle.rtps_parts.specs.Parts.{WordsValue, amount, part_text, share, words_for}
+use Rattle.rtps_parts.specs.declared.part.Part.{Part}
+use Rattle.rtps_policies.specs.declared.silence.Silence.{Silence}
+use Rattle.rtps_report.specs.BestEfforts.{BestEffortValue}
+use Rattle.rtps_report.specs.ByTopic.{topics_of}
+use Rattle.rtps_report.specs.Vocabulary.{Explanation, explanation_value}
+use Rattle.rtps_lines.specs.Notes.{best_effort_note, best_effort_remedy, joined_names, left_out_by, short_silent_by, silent_by}
+
+-- ---- rows that are silent
+
+pub some_silent : (reason : Silence) (rows : List Explanation) → (length rows == 0) ≡ false
+    → left_out_by reason (length rows) (joined_names (topics_of (map explanation_value rows))) ∷ [] ≡ silent_by reason (map explanation_value rows)
+some_silent reason [] some = absurd (let bad = some in cc)
+some_silent reason (row ∷ rows) some =
+    ap (λ n. left_out_by reason n (joined_names (topics_of (map explanation_value (row ∷ rows)))) ∷ []) (sym (length-map (row ∷ rows) explanation_value))
+
+pub none_silent : (reason : Silence) (rows : List Explanation) → (length rows == 0) ≡ true → [] ≡ silent_by reason (map explanation_value rows)
+none_silent reason [] none = refl
+none_silent reason (row ∷ rows) none = absurd (grind (arith, nat_tests))
+
+pub some_short : (reason : Silence) (rows : List Explanation) → (length rows == 0) ≡ false → left_out_by reason (length rows) [] ∷ [] ≡ short_silent_by reason (map explanation_value rows)
+some_short reason [] some = absurd (let bad = some in cc)
+some_short reason (row ∷ rows) some = ap (λ n. left_out_by reason n [] ∷ []) (sym (length-map (row ∷ rows) explanation_value))
+
+pub none_short : (reason : Silence) (rows : List Explanation) → (length rows == 0) ≡ true → [] ≡ short_silent_by reason (map explanation_value rows)
+none_short reason [] none = refl
+none_short reason (row ∷ rows) none = absurd (grind (arith, nat_tests))
+
+-- ---- pairs of best effort
+
+two_texts : (parts : List Part) (d e : Part) → length parts ≡ 2 → part_text (get_or parts 0 d) ++ (part_text (get_or parts 1 e) ++ []) ≡ flat_map part_text parts
+two_texts [] d e both = absurd (omega (arith, both))
+two_texts (one ∷ []) d e both = absurd (omega (arith, both))
+two_texts (one ∷ other ∷ []) d e both = refl
+two_texts (one ∷ other ∷ more ∷ parts) d e both = absurd (omega (arith, both))
+
+pub best_effort_told : (arrow shares word : List ℕ) (total : BestEffortValue) (pairs : ℕ) (remedy : List Part) (d e : Part) → (total.pairs ≡ 0 → ⊥) → pairs ≡ total.pairs
+    → word ≡ words_for total.numbers (record { one = codes " number in this recording"; many = codes " numbers in this recording" })
+    → flat_map part_text remedy ≡ best_effort_remedy arrow total → length remedy ≡ 2
+    → (amount pairs (record { one = codes "best-effort pair has "; many = codes "best-effort pairs have " })
+    ++ (share total.recorded total.numbers ++ (word ++ (shares ++ (part_text (get_or remedy 0 d) ++ (part_text (get_or remedy 1 e) ++ [])))))) ∷ []
+    ≡ best_effort_note arrow total shares
+best_effort_told arrow shares word total pairs remedy d e some count words text both =
+    let names : WordsValue = record { one = codes "best-effort pair has "; many = codes "best-effort pairs have " } in
+    let numbers : WordsValue = record { one = codes " number in this recording"; many = codes " numbers in this recording" } in
+    let told : ℕ → List ℕ → List ℕ → List (List ℕ) = λ n w last. (amount n names ++ (share total.recorded total.numbers ++ (w ++ (shares ++ last)))) ∷ [] in
+    let texts : List ℕ = part_text (get_or remedy 0 d) ++ (part_text (get_or remedy 1 e) ++ []) in
+    let last : texts ≡ best_effort_remedy arrow total ++ [] = two_texts remedy d e both ∙ text ∙ sym (append-nil (best_effort_remedy arrow total)) in
+    ap (λ n. told n word texts) count ∙ ap (λ w. told total.pairs w texts) words ∙ ap (told total.pairs (words_for total.numbers numbers)) last
+    ∙ sym (ap (λ (none : Bool). if none then [] else told total.pairs (words_for total.numbers numbers) (best_effort_remedy arrow total ++ [])) (ne_eqb total.pairs 0 some))

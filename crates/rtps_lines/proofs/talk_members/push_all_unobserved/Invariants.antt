@@ -1,0 +1,12 @@
+use Rattle.std.proofs.Common.{◌≡◌, ◌++◌, take}
+use Rattle.std.specs.List.{flat_map}
+use Rattle.json.specs.Tree.{json_tokens}
+use Rattle.rtps_evidence.specs.Explanation.{explanation_value}
+use Rattle.rtps_report.specs.Talk.{talk_value}
+use Rattle.rtps_lines.specs.TalkMembers.{unobserved_json}
+use Rattle.rtps_lines.proofs.talk_members.push_all_unobserved.Given as goal
+
+abbrev pub invariant-loop-row : goal.invariant-loop-row
+invariant-loop-row l =
+    (l.writer.tokens ≡ l.initial.writer.tokens ++ flat_map (λ row. json_tokens (unobserved_json ((talk_value l.talk).silence row.pair) (explanation_value row))) (take l.row-index l.rows))
+    × (l.writer.before ≡ l.initial.writer.before)

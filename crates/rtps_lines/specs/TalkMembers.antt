@@ -1,0 +1,102 @@
+-- The members of the object of a report that say who does not talk. own: other programs get the names of DDS, which `list` prints; words for
+-- values are those of the text.
+use Rattle.std.specs.Prelude.{ℕ, ◌++◌, List, [], ◌∷◌, codes, map, Option, None, Some}
+use Rattle.std.specs.Option.{option_map}
+use Rattle.json.specs.Json.{Json, null, string}
+use Rattle.rtps_discovery.specs.declared.matching.Pair.{Pair}
+use Rattle.rtps_evidence.specs.Explanation.{ExplanationValue, explanation_value}
+use Rattle.rtps_parts.specs.Names.{guid_text}
+use Rattle.rtps_policies.specs.AddressText.{address_text}
+use Rattle.rtps_policies.specs.Announcing.{participant_of}
+use Rattle.rtps_policies.specs.Fitting.{ProfileValue}
+use Rattle.rtps_policies.specs.PolicyText.{policy_name}
+use Rattle.rtps_policies.specs.Unmatched.{UnmatchedValue}
+use Rattle.rtps_policies.specs.declared.fitting.Policy.{Policy}
+use Rattle.rtps_policies.specs.declared.host.Address.{Address}
+use Rattle.rtps_policies.specs.declared.one_way.OneWay.{OneWay}
+use Rattle.rtps_policies.specs.declared.silence.Silence.{Silence}
+use Rattle.rtps_policies.specs.declared.silence.Silence.TheVariants as silence
+use Rattle.rtps_report.specs.BestEfforts.{BestEffortValue}
+use Rattle.rtps_report.specs.FullReport.{ReportValue}
+use Rattle.rtps_report.specs.declared.participant.Participant.{Participant}
+use Rattle.rtps_lines.specs.JsonText.{Member, array_of, count_json, name_json, object_of, until_json}
+use Rattle.rtps_lines.specs.PolicyValues.{value_text}
+use Rattle.rtps_lines.specs.declared.policy_values.Naming.TheVariants.{Dds}
+
+-- the names of policies
+abbrev pub reasons_json : List Policy → Json
+reasons_json policies = array_of (map (λ policy. string (policy_name policy)) policies)
+
+-- what an endpoint has of policies
+abbrev pub values_json : List Policy → ProfileValue → Json
+values_json policies profile = array_of (map (λ policy. string (value_text Dds policy profile)) policies)
+
+-- a writer and a reader that do not match, and for each policy that does not suit what is offered and what is requested
+abbrev pub unmatched_json : UnmatchedValue → Json
+unmatched_json one =
+    object_of ((codes "topic", name_json one.writer.endpoint.topic) ∷ (codes "writer", string (guid_text one.writer.endpoint.guid))
+    ∷ (codes "reader", string (guid_text one.reader.endpoint.guid)) ∷ (codes "because", reasons_json one.reasons)
+    ∷ (codes "offered", values_json one.reasons one.writer) ∷ (codes "requested", values_json one.reasons one.reader) ∷ [])
+
+-- the member of all that do not match
+abbrev pub unmatched_member : List UnmatchedValue → Member
+unmatched_member unmatched = (codes "unmatched", array_of (map unmatched_json unmatched))
+
+-- why a pair is silent, in a word
+unfoldable pub silence_name : Silence → List ℕ
+silence_name silence.OneParticipant = codes "one participant"
+silence_name silence.TwoDomains = codes "two domains"
+silence_name silence.OneWay = codes "one way"
+silence_name silence.Silent = codes "silent"
+
+-- a pair of which the recording cannot speak, and why
+abbrev pub unobserved_json : Silence → ExplanationValue → Json
+unobserved_json reason row =
+    object_of ((codes "topic", name_json row.topic) ∷ (codes "writer", string (guid_text row.pair.writer)) ∷ (codes "reader", string (guid_text row.pair.reader))
+    ∷ (codes "because", string (silence_name reason)) ∷ [])
+
+-- the member of all pairs that are left out
+abbrev pub unobserved_member : (Pair → Silence) → List ExplanationValue → Member
+unobserved_member silence_of rows = (codes "unobserved", array_of (map (λ row. unobserved_json (silence_of row.pair) row) rows))
+
+-- a participant that names another, the one that never answers, and in how many datagrams it is named
+abbrev pub one_way_json : OneWay → Json
+one_way_json one =
+    object_of ((codes "from", string (guid_text (participant_of one.naming.source))) ∷ (codes "to", string (guid_text (participant_of one.naming.dest)))
+    ∷ (codes "named", count_json one.count) ∷ [])
+
+-- the member of all that talk one way
+abbrev pub one_way_member : List OneWay → Member
+one_way_member one_way = (codes "one_way", array_of (map one_way_json one_way))
+
+-- the pairs of best effort of a topic
+abbrev pub best_effort_json : BestEffortValue → Json
+best_effort_json sum =
+    object_of ((codes "topic", name_json sum.topic) ∷ (codes "pairs", count_json sum.pairs) ∷ (codes "numbers", count_json sum.numbers)
+    ∷ (codes "recorded", count_json sum.recorded) ∷ [])
+
+-- the member of all topics
+abbrev pub best_effort_member : List BestEffortValue → Member
+best_effort_member sums = (codes "best_effort", array_of (map best_effort_json sums))
+
+-- an address, or null
+abbrev pub address_json : Option Address → Json
+address_json None = null
+address_json (Some address) = string (address_text address)
+
+-- a participant: where it is, from when to when there is something of it, and where it leaves
+abbrev pub participant_json : Participant → Json
+participant_json participant =
+    object_of ((codes "guid", string (guid_text participant.guid)) ∷ (codes "address", address_json participant.host.address)
+    ∷ (codes "domain", until_json participant.host.domain) ∷ (codes "first", until_json (option_map (λ stay. stay.first) participant.stay))
+    ∷ (codes "last", until_json (option_map (λ stay. stay.last) participant.stay)) ∷ (codes "left", until_json participant.left) ∷ [])
+
+-- the member of all participants
+abbrev pub participants_member : List Participant → Member
+participants_member participants = (codes "participants", array_of (map participant_json participants))
+
+-- all of them
+abbrev pub talk_members : ReportValue → List Member
+talk_members report =
+    unmatched_member report.talk.unmatched ∷ unobserved_member report.talk.silence (map explanation_value report.left_out) ∷ one_way_member report.talk.one_way
+    ∷ best_effort_member report.talk.best_effort ∷ participants_member report.talk.participants ∷ []

@@ -1,0 +1,334 @@
+ghost use Rattle.std.specs.Prelude.{◌≡◌, ◌++◌, ◌∷◌, OnOk, codes, map};
+ghost use Rattle.std.specs.Option.{option_map};
+ghost use Rattle.json.specs.Token.{key};
+ghost use Rattle.json.specs.Tree.{json_tokens};
+ghost use Rattle.rtps_evidence.specs.Explanation.{explanation_value};
+ghost use Rattle.rtps_policies.specs.Fitting.{profile_value};
+ghost use Rattle.rtps_policies.specs.Unmatched.{unmatched_value};
+ghost use Rattle.rtps_report.specs.BestEfforts.{best_effort_value};
+ghost use Rattle.rtps_report.specs.FullReport.{report_value};
+ghost use Rattle.rtps_report.specs.Talk.{talk_value};
+ghost use Rattle.rtps_lines.specs.JsonText.{array_of, tokens_of, tokens_of_member, until_json};
+ghost use Rattle.rtps_lines.specs.TalkMembers.{address_json, best_effort_json, best_effort_member, one_way_json, one_way_member, participant_json, participants_member, reasons_json, silence_name as silence_name_lem, talk_members, unmatched_json, unmatched_member, unobserved_json, unobserved_member, values_json};
+
+use crate::json_members::{push_count, push_guid, push_name, push_text, push_total};
+use crate::policy_values::{Naming, PolicyValue};
+use json::Writer;
+use rtps_evidence::Explanation;
+use rtps_policies::{Address, OneWay, Policy, Profile, Silence, Unmatched, participant_of};
+use rtps_report::{BestEffort, FullReport, Participant, Stay, Talk};
+use std::alloc::{AllocError, Global};
+
+/// The endpoint of which it is told what it has of these policies.
+#[derive(Clone, Copy)]
+struct Valued<'p, 'a> {
+    policies: &'p [Policy],
+    profile: &'p Profile<'a>,
+}
+
+/// Appends the names of policies.
+fn push_reasons(
+    writer: &mut Writer,
+    text: &mut String,
+    policies: &[Policy],
+) -> Result<(), AllocError>
+    ensures tokens { OnOk result (writer.new.tokens ≡ writer.old.tokens ++ key (codes "because") ∷ json_tokens (reasons_json policies.now)) }
+    ensures before { writer.new.before ≡ writer.old.before }
+{
+    writer.key("because")?;
+    writer.begin_array()?;
+    for policy in policies {
+        text.clear();
+        write!(text, "{}", *policy)?;
+        writer.string(text)?;
+    }
+    writer.end_array()
+}
+
+/// Appends what an endpoint has of policies.
+fn push_values(
+    writer: &mut Writer,
+    text: &mut String,
+    name: &str,
+    valued: Valued<'_, '_>,
+) -> Result<(), AllocError>
+    ensures tokens { OnOk result (writer.new.tokens ≡ writer.old.tokens
+        ++ key name.now ∷ json_tokens (values_json valued.entry.policies.now (profile_value valued.entry.profile.now))) }
+    ensures before { writer.new.before ≡ writer.old.before }
+{
+    writer.key(name)?;
+    writer.begin_array()?;
+    for policy in valued.policies {
+        let value = PolicyValue {
+            policy: *policy,
+            profile: valued.profile,
+            naming: Naming::Dds,
+        };
+        text.clear();
+        write!(text, "{value}")?;
+        writer.string(text)?;
+    }
+    writer.end_array()
+}
+
+fn push_unmatched(
+    writer: &mut Writer,
+    text: &mut String,
+    one: &Unmatched<'_>,
+) -> Result<(), AllocError>
+    ensures tokens { OnOk result (writer.new.tokens ≡ writer.old.tokens ++ json_tokens (unmatched_json (unmatched_value one.now))) }
+    ensures before { writer.new.before ≡ writer.old.before }
+{
+    let offered = Valued {
+        policies: &one.reasons,
+        profile: &one.writer,
+    };
+    let requested = Valued {
+        policies: &one.reasons,
+        profile: &one.reader,
+    };
+    writer.begin_object()?;
+    push_name(writer, text, "topic", one.writer.endpoint.topic)?;
+    push_guid(writer, text, "writer", one.writer.endpoint.guid)?;
+    push_guid(writer, text, "reader", one.reader.endpoint.guid)?;
+    push_reasons(writer, text, &one.reasons)?;
+    push_values(writer, text, "offered", offered)?;
+    push_values(writer, text, "requested", requested)?;
+    writer.end_object()
+}
+
+fn push_all_unmatched(
+    writer: &mut Writer,
+    text: &mut String,
+    unmatched: &[Unmatched<'_>],
+) -> Result<(), AllocError>
+    ensures tokens { OnOk result (writer.new.tokens ≡ writer.old.tokens ++ tokens_of_member (unmatched_member (map unmatched_value unmatched.now))) }
+    ensures before { writer.new.before ≡ writer.old.before }
+{
+    writer.key("unmatched")?;
+    writer.begin_array()?;
+    for one in unmatched {
+        push_unmatched(writer, text, one)?;
+    }
+    writer.end_array()
+}
+
+/// Why a pair is silent, in a word.
+#[tactic(auto, unfolding(crate::specs::TalkMembers::silence_name))]
+fn silence_name(silence: Silence) -> &'static str
+    ensures { result.now ≡ silence_name_lem silence }
+{
+    match silence {
+        Silence::OneParticipant => "one participant",
+        Silence::TwoDomains => "two domains",
+        Silence::OneWay => "one way",
+        Silence::Silent => "silent",
+    }
+}
+
+fn push_unobserved(
+    writer: &mut Writer,
+    text: &mut String,
+    row: &Explanation<'_>,
+    silence: Silence,
+) -> Result<(), AllocError>
+    ensures tokens { OnOk result (writer.new.tokens ≡ writer.old.tokens ++ json_tokens (unobserved_json silence (explanation_value row.now))) }
+    ensures before { writer.new.before ≡ writer.old.before }
+{
+    writer.begin_object()?;
+    push_name(writer, text, "topic", row.topic)?;
+    push_guid(writer, text, "writer", row.pair.writer)?;
+    push_guid(writer, text, "reader", row.pair.reader)?;
+    push_text(writer, "because", silence_name(silence))?;
+    writer.end_object()
+}
+
+fn push_all_unobserved(
+    writer: &mut Writer,
+    text: &mut String,
+    rows: &[Explanation<'_>],
+    talk: &Talk<'_>,
+) -> Result<(), AllocError>
+    ensures tokens { OnOk result (writer.new.tokens ≡ writer.old.tokens
+        ++ tokens_of_member (unobserved_member (talk_value talk.now).silence (map explanation_value rows.now))) }
+    ensures before { writer.new.before ≡ writer.old.before }
+{
+    writer.key("unobserved")?;
+    writer.begin_array()?;
+    for row in rows {
+        push_unobserved(writer, text, row, talk.silence(row.pair))?;
+    }
+    writer.end_array()
+}
+
+fn push_one_way(writer: &mut Writer, text: &mut String, one: OneWay) -> Result<(), AllocError>
+    ensures tokens { OnOk result (writer.new.tokens ≡ writer.old.tokens ++ json_tokens (one_way_json one)) }
+    ensures before { writer.new.before ≡ writer.old.before }
+{
+    writer.begin_object()?;
+    push_guid(writer, text, "from", participant_of(one.naming.source))?;
+    push_guid(writer, text, "to", participant_of(one.naming.dest))?;
+    push_count(writer, "named", one.count)?;
+    writer.end_object()
+}
+
+fn push_all_one_way(
+    writer: &mut Writer,
+    text: &mut String,
+    one_way: &[OneWay],
+) -> Result<(), AllocError>
+    ensures tokens { OnOk result (writer.new.tokens ≡ writer.old.tokens ++ tokens_of_member (one_way_member one_way.now)) }
+    ensures before { writer.new.before ≡ writer.old.before }
+{
+    writer.key("one_way")?;
+    writer.begin_array()?;
+    for one in one_way {
+        push_one_way(writer, text, *one)?;
+    }
+    writer.end_array()
+}
+
+fn push_best_effort(
+    writer: &mut Writer,
+    text: &mut String,
+    sum: &BestEffort<'_>,
+) -> Result<(), AllocError>
+    ensures tokens { OnOk result (writer.new.tokens ≡ writer.old.tokens ++ json_tokens (best_effort_json (best_effort_value sum.now))) }
+    ensures before { writer.new.before ≡ writer.old.before }
+{
+    writer.begin_object()?;
+    push_name(writer, text, "topic", sum.topic)?;
+    push_count(writer, "pairs", sum.pairs)?;
+    push_total(writer, "numbers", sum.numbers)?;
+    push_total(writer, "recorded", sum.recorded)?;
+    writer.end_object()
+}
+
+fn push_all_best_effort(
+    writer: &mut Writer,
+    text: &mut String,
+    sums: &[BestEffort<'_>],
+) -> Result<(), AllocError>
+    ensures tokens { OnOk result (writer.new.tokens ≡ writer.old.tokens ++ tokens_of_member (best_effort_member (map best_effort_value sums.now))) }
+    ensures before { writer.new.before ≡ writer.old.before }
+{
+    writer.key("best_effort")?;
+    writer.begin_array()?;
+    for sum in sums {
+        push_best_effort(writer, text, sum)?;
+    }
+    writer.end_array()
+}
+
+fn push_address(
+    writer: &mut Writer,
+    text: &mut String,
+    address: Option<Address>,
+) -> Result<(), AllocError>
+    ensures tokens { OnOk result (writer.new.tokens ≡ writer.old.tokens ++ key (codes "address") ∷ json_tokens (address_json address)) }
+    ensures before { writer.new.before ≡ writer.old.before }
+{
+    writer.key("address")?;
+    let Some(address) = address else {
+        return writer.null();
+    };
+    text.clear();
+    write!(text, "{address}")?;
+    writer.string(text)
+}
+
+fn push_number(writer: &mut Writer, name: &str, number: Option<u64>) -> Result<(), AllocError>
+    ensures tokens { OnOk result (writer.new.tokens ≡ writer.old.tokens ++ key name.now ∷ json_tokens (until_json number)) }
+    ensures before { writer.new.before ≡ writer.old.before }
+{
+    writer.key(name)?;
+    match number {
+        Some(number) => writer.u64(number),
+        None => writer.null(),
+    }
+}
+
+/// The number of a domain.
+fn domain_number(domain: Option<u32>) -> Option<u64>
+    ensures { result ≡ domain }
+{
+    match domain {
+        Some(domain) => Some(u64::from(domain)),
+        None => None,
+    }
+}
+
+/// From which datagram on there is something of a participant.
+fn first_of(stay: Option<Stay>) -> Option<u64>
+    ensures { result ≡ option_map (λ stay. stay.first) stay }
+{
+    match stay {
+        Some(stay) => Some(stay.first),
+        None => None,
+    }
+}
+
+/// Up to which datagram there is something of a participant.
+fn last_of(stay: Option<Stay>) -> Option<u64>
+    ensures { result ≡ option_map (λ stay. stay.last) stay }
+{
+    match stay {
+        Some(stay) => Some(stay.last),
+        None => None,
+    }
+}
+
+fn push_participant(
+    writer: &mut Writer,
+    text: &mut String,
+    participant: &Participant,
+) -> Result<(), AllocError>
+    ensures tokens { OnOk result (writer.new.tokens ≡ writer.old.tokens ++ json_tokens (participant_json participant.now)) }
+    ensures before { writer.new.before ≡ writer.old.before }
+{
+    let domain = domain_number(participant.host.domain);
+    let first = first_of(participant.stay);
+    let last = last_of(participant.stay);
+    writer.begin_object()?;
+    push_guid(writer, text, "guid", participant.guid)?;
+    push_address(writer, text, participant.host.address)?;
+    push_number(writer, "domain", domain)?;
+    push_number(writer, "first", first)?;
+    push_number(writer, "last", last)?;
+    push_number(writer, "left", participant.left)?;
+    writer.end_object()
+}
+
+fn push_all_participants(
+    writer: &mut Writer,
+    text: &mut String,
+    participants: &[Participant],
+) -> Result<(), AllocError>
+    ensures tokens { OnOk result (writer.new.tokens ≡ writer.old.tokens ++ tokens_of_member (participants_member participants.now)) }
+    ensures before { writer.new.before ≡ writer.old.before }
+{
+    writer.key("participants")?;
+    writer.begin_array()?;
+    for participant in participants {
+        push_participant(writer, text, participant)?;
+    }
+    writer.end_array()
+}
+
+/// Appends who does not talk.
+pub(crate) fn push_talk_members(
+    alloc: Global,
+    writer: &mut Writer,
+    report: &FullReport<'_>,
+) -> Result<(), AllocError>
+    ensures tokens { OnOk result (writer.new.tokens ≡ writer.old.tokens ++ tokens_of (talk_members (report_value report.now))) }
+    ensures before { writer.new.before ≡ writer.old.before }
+{
+    let mut text = String::new(alloc);
+    let talk = &report.talk;
+    push_all_unmatched(writer, &mut text, &talk.unmatched)?;
+    push_all_unobserved(writer, &mut text, &report.left_out, talk)?;
+    push_all_one_way(writer, &mut text, &talk.one_way)?;
+    push_all_best_effort(writer, &mut text, &talk.best_effort)?;
+    push_all_participants(writer, &mut text, &talk.participants)
+}

@@ -1,0 +1,169 @@
+-- Which names a pattern stands for, part by part.
+use Rattle.std.proofs.Common.{◌≡◌, ◌∙◌, ℕ, ◌≤◌, ◌&&◌, ◌||◌, Bool, true, false, List, [], ◌∷◌, ◌++◌, Option, Some, None, append_assoc, ap, arith, drop, if◌then◌else◌, inl, inr, length, refl, subst, suc, sym, zero}
+use Rattle.std.specs.Cmp.{both_ways}
+use Rattle.std.specs.List.{list_any}
+use Rattle.std.proofs.lemmas.Bool.{or_cases, or_left, or_right}
+use Rattle.std.proofs.lemmas.List.{length-append}
+use Rattle.rtps_policies.specs.NamePatterns.{PartValue, accepts, ends_of, fits_parts, is_many, part_at, parts_behind, parts_of, size_at}
+use Rattle.rtps_policies.specs.NamePatterns.PartValue.{Many}
+use Rattle.rtps_policies.specs.Segments.{AreFixed, left_behind}
+
+pub clash : {X : Type 0} → false ≡ true → X
+clash e = absurd (let bad : false ≡ true = e in cc)
+
+-- ---- the parts of a pattern
+
+skipped : (count : ℕ) (pattern : List ℕ) → parts_behind count pattern ≡ parts_of (drop count pattern)
+skipped zero [] = refl
+skipped (suc count) [] = refl
+skipped zero (octet ∷ pattern) = refl
+skipped (suc count) (octet ∷ pattern) = skipped count pattern
+
+-- the first part, and those of what is behind it
+pub first_part : (octet : ℕ) (behind : List ℕ) → parts_of (octet ∷ behind) ≡ part_at octet behind ∷ parts_of (drop (size_at octet behind) behind)
+first_part octet behind = ap (λ parts. part_at octet behind ∷ parts) (skipped (size_at octet behind) behind)
+
+-- ---- parts that stand for one octet each
+
+-- what fits behind these parts, if a name begins with them
+abbrev pub fits_left : List PartValue → Option (List ℕ) → Bool
+fits_left rest None = false
+fits_left rest (Some left) = fits_parts rest left
+
+pub fits_front : (parts rest : List PartValue) (name : List ℕ) → AreFixed parts → fits_parts (parts ++ rest) name ≡ fits_left rest (left_behind parts name)
+fits_front [] rest name fixed = refl
+fits_front (part ∷ parts) rest [] fixed = ap (λ (b : Bool). if b then list_any (fits_parts (parts ++ rest)) (ends_of []) else false) fixed.0
+fits_front (part ∷ parts) rest (octet ∷ name) fixed =
+    ap (λ (b : Bool). if b then list_any (fits_parts (parts ++ rest)) (ends_of (octet ∷ name)) else (accepts part octet && fits_parts (parts ++ rest) name)) fixed.0
+    ∙ by (accepts part octet) (fits_front parts rest name fixed.1)
+  where
+    by : (b : Bool) → fits_parts (parts ++ rest) name ≡ fits_left rest (left_behind parts name)
+        → (b && fits_parts (parts ++ rest) name) ≡ fits_left rest (if b then left_behind parts name else None)
+    by true onward = onward
+    by false onward = refl
+
+-- one part more
+pub left_more : (parts : List PartValue) (part : PartValue) (name : List ℕ) (octet : ℕ) (left : List ℕ) → left_behind parts name ≡ Some (octet ∷ left) → accepts part octet ≡ true
+    → left_behind (parts ++ part ∷ []) name ≡ Some left
+left_more [] part [] octet left is fit = absurd (let bad = is in cc)
+left_more [] part (x ∷ name) octet left is fit =
+    let same : x ≡ octet = cc in
+    let rest : name ≡ left = cc in
+    ap (λ (b : Bool). if b then Some name else None) (ap (accepts part) same ∙ fit) ∙ ap (λ l. Some l) rest
+left_more (first ∷ parts) part [] octet left is fit = absurd (let bad = is in cc)
+left_more (first ∷ parts) part (x ∷ name) octet left is fit = by (accepts first x) is (λ here. left_more parts part name octet left here fit)
+  where
+    by : (b : Bool) → (if b then left_behind parts name else None) ≡ Some (octet ∷ left) → (left_behind parts name ≡ Some (octet ∷ left) → left_behind (parts ++ part ∷ []) name ≡ Some left)
+        → (if b then left_behind (parts ++ part ∷ []) name else None) ≡ Some left
+    by true here onward = onward here
+    by false here onward = absurd (let bad = here in cc)
+
+pub left_refused : (parts : List PartValue) (part : PartValue) (name : List ℕ) (octet : ℕ) (left : List ℕ) → left_behind parts name ≡ Some (octet ∷ left) → accepts part octet ≡ false
+    → left_behind (parts ++ part ∷ []) name ≡ None
+left_refused [] part [] octet left is unfit = refl
+left_refused [] part (x ∷ name) octet left is unfit =
+    let same : x ≡ octet = cc in
+    ap (λ (b : Bool). if b then Some name else None) (ap (accepts part) same ∙ unfit)
+left_refused (first ∷ parts) part [] octet left is unfit = refl
+left_refused (first ∷ parts) part (x ∷ name) octet left is unfit = by (accepts first x) is (λ here. left_refused parts part name octet left here unfit)
+  where
+    by : (b : Bool) → (if b then left_behind parts name else None) ≡ Some (octet ∷ left) → (left_behind parts name ≡ Some (octet ∷ left) → left_behind (parts ++ part ∷ []) name ≡ None)
+        → (if b then left_behind (parts ++ part ∷ []) name else None) ≡ None
+    by true here onward = onward here
+    by false here onward = refl
+
+pub left_short : (parts : List PartValue) (part : PartValue) (name : List ℕ) → left_behind parts name ≡ Some [] → left_behind (parts ++ part ∷ []) name ≡ None
+left_short [] part [] is = refl
+left_short [] part (x ∷ name) is = absurd (let bad = is in cc)
+left_short (first ∷ parts) part [] is = refl
+left_short (first ∷ parts) part (x ∷ name) is = by (accepts first x) is (λ here. left_short parts part name here)
+  where
+    by : (b : Bool) → (if b then left_behind parts name else None) ≡ Some [] → (left_behind parts name ≡ Some [] → left_behind (parts ++ part ∷ []) name ≡ None)
+        → (if b then left_behind (parts ++ part ∷ []) name else None) ≡ None
+    by true here onward = onward here
+    by false here onward = refl
+
+pub fixed_more : (parts : List PartValue) (part : PartValue) → AreFixed parts → is_many part ≡ false → AreFixed (parts ++ part ∷ [])
+fixed_more [] part fixed one = (one, tt)
+fixed_more (first ∷ parts) part fixed one = (fixed.0, fixed_more parts part fixed.1 one)
+
+-- the octets that the parts stand for are as many as these
+taken_octets : (parts : List PartValue) (name left : List ℕ) → left_behind parts name ≡ Some left → (front : List ℕ) × (name ≡ front ++ left) × (length front ≡ length parts)
+taken_octets [] name left is = ([], (let same : name ≡ left = cc in same), refl)
+taken_octets (part ∷ parts) [] left is = absurd (let bad = is in cc)
+taken_octets (part ∷ parts) (octet ∷ name) left is = by (accepts part octet) is (taken_octets parts name left)
+  where
+    by : (b : Bool) → (if b then left_behind parts name else None) ≡ Some left
+        → (left_behind parts name ≡ Some left → (front : List ℕ) × (name ≡ front ++ left) × (length front ≡ length parts))
+        → (front : List ℕ) × (octet ∷ name ≡ front ++ left) × (length front ≡ suc (length parts))
+    by true here onward = let found = onward here in (octet ∷ found.0, ap (λ l. octet ∷ l) found.1, ap suc found.2)
+    by false here onward = absurd (let bad = here in cc)
+
+pub left_length : (parts : List PartValue) (name left : List ℕ) → left_behind parts name ≡ Some left → length left ≤ length name
+left_length parts name left is =
+    let found = taken_octets parts name left is in
+    omega (arith, ap length found.1, length-append found.0 left)
+
+-- ---- a `*`
+
+pub star_more : (parts : List PartValue) (front name : List ℕ) → fits_parts (Many ∷ parts) name ≡ true → fits_parts (Many ∷ parts) (front ++ name) ≡ true
+star_more parts [] name fit = fit
+star_more parts (x ∷ front) name fit = or_right (fits_parts parts (x ∷ (front ++ name))) (list_any (fits_parts parts) (ends_of (front ++ name))) (star_more parts front name fit)
+
+star_here : (parts : List PartValue) (name : List ℕ) → fits_parts parts name ≡ true → fits_parts (Many ∷ parts) name ≡ true
+star_here parts [] fit = or_left (fits_parts parts []) false fit
+star_here parts (x ∷ name) fit = or_left (fits_parts parts (x ∷ name)) (list_any (fits_parts parts) (ends_of name)) fit
+
+pub star_split : (parts : List PartValue) (name : List ℕ) → fits_parts (Many ∷ parts) name ≡ true → (front left : List ℕ) × (name ≡ front ++ left) × (fits_parts parts left ≡ true)
+star_split parts [] fit = elim (or_cases (fits_parts parts []) false fit) [
+  | inl here ↦ ([], [], refl, here)
+  | inr there ↦ clash there
+]
+star_split parts (x ∷ name) fit = elim (or_cases (fits_parts parts (x ∷ name)) (list_any (fits_parts parts) (ends_of name)) fit) [
+  | inl here ↦ ([], x ∷ name, refl, here)
+  | inr there ↦ (let onward = star_split parts name there in (x ∷ onward.0, onward.1, ap (λ l. x ∷ l) onward.2, onward.3))
+]
+
+drop_front : (n : ℕ) (front rest : List ℕ) → n ≤ length front → drop n (front ++ rest) ≡ drop n front ++ rest
+drop_front zero front rest le = refl
+drop_front (suc n) [] rest le = absurd (omega arith)
+drop_front (suc n) (x ∷ front) rest le = drop_front n front rest (omega arith)
+
+drop_whole : (front rest : List ℕ) → drop (length front) (front ++ rest) ≡ rest
+drop_whole [] rest = refl
+drop_whole (x ∷ front) rest = drop_whole front rest
+
+-- parts that are found at once are found as well as later
+pub star_taken : (parts rest : List PartValue) (name left : List ℕ) → AreFixed parts → left_behind parts name ≡ Some left
+    → fits_parts (Many ∷ (parts ++ Many ∷ rest)) name ≡ fits_parts (Many ∷ rest) left
+star_taken parts rest name left fixed is = both_ways _ _ onward back
+  where
+    later : (front other : List ℕ) → name ≡ front ++ other → fits_parts (parts ++ Many ∷ rest) other ≡ true → fits_parts (Many ∷ rest) left ≡ true
+    later front other at fit = by (left_behind parts other) refl (sym (fits_front parts (Many ∷ rest) other fixed) ∙ fit)
+      where
+        by : (found : Option (List ℕ)) → left_behind parts other ≡ found → fits_left (Many ∷ rest) found ≡ true → fits_parts (Many ∷ rest) left ≡ true
+        by None here fit = clash fit
+        by (Some behind) here fit =
+            let first = taken_octets parts name left is in
+            let second = taken_octets parts other behind here in
+            let size = length-append front second.0 in
+            let whole : name ≡ (front ++ second.0) ++ behind = at ∙ ap (λ l. front ++ l) second.1 ∙ sym (append_assoc front second.0 behind) in
+            let same : left ≡ drop (length first.0) (front ++ second.0) ++ behind =
+            sym (drop_whole first.0 left) ∙ ap (drop (length first.0)) (sym first.1 ∙ whole) ∙ drop_front (length first.0) (front ++ second.0) behind (omega (arith, first.2, second.2)) in
+            subst (λ l. fits_parts (Many ∷ rest) l ≡ true) (sym same) (star_more rest (drop (length first.0) (front ++ second.0)) behind fit)
+
+    onward : fits_parts (Many ∷ (parts ++ Many ∷ rest)) name ≡ true → fits_parts (Many ∷ rest) left ≡ true
+    onward fit = let found = star_split (parts ++ Many ∷ rest) name fit in later found.0 found.1 found.2 found.3
+
+    back : fits_parts (Many ∷ rest) left ≡ true → fits_parts (Many ∷ (parts ++ Many ∷ rest)) name ≡ true
+    back fit = star_here (parts ++ Many ∷ rest) name (fits_front parts (Many ∷ rest) name fixed ∙ ap (fits_left (Many ∷ rest)) is ∙ fit)
+
+-- parts that do not stand here stand later or nowhere
+pub star_passed : (parts : List PartValue) (x : ℕ) (name : List ℕ) → fits_parts parts (x ∷ name) ≡ false → fits_parts (Many ∷ parts) (x ∷ name) ≡ fits_parts (Many ∷ parts) name
+star_passed parts x name unfit = ap (λ b. b || list_any (fits_parts parts) (ends_of name)) unfit
+
+pub star_failed : (parts : List PartValue) → fits_parts parts [] ≡ false → fits_parts (Many ∷ parts) [] ≡ false
+star_failed parts unfit = ap (λ b. b || false) unfit
+
+pub star_found : (parts : List PartValue) (name : List ℕ) → fits_parts parts name ≡ true → fits_parts (Many ∷ parts) name ≡ true
+star_found = star_here

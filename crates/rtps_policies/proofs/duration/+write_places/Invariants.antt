@@ -1,0 +1,5 @@
+use Rattle.std.proofs.Common.{ℕ}
+use Rattle.rtps_policies.proofs.duration.+write_places.Given as goal
+
+abbrev pub decreases-write_places : goal.decreases-write_places
+decreases-write_places g l = l.count

@@ -1,0 +1,56 @@
+-- Where a participant is, by the parameters that announce it. DDSI-RTPS 2.5, 8.5.3.2 "SPDPdiscoveredParticipantData", 9.6.3, and
+-- 9.3.2 ("Locator_t": kind, port, and an address of sixteen octets, of which the last four are one of IPv4). own: the domain and the kind of a
+-- locator are read without a sign, since no domain, and no kind that is read, is below 0.
+use Rattle.std.specs.Prelude.{ℕ, ◌==◌, Bool, true, false, if◌then◌else◌, List, Option, Some, None, drop, find, length, nat_lt, not, option_and_then, take}
+use Rattle.std.specs.List.{filter_map}
+use Rattle.std.specs.Option.{option_or}
+use Rattle.rtps_ids.specs.declared.order.Order.{Order}
+use Rattle.rtps_params.specs.Grammar.{Pairs}
+use Rattle.rtps_params.specs.Values.{u32_of}
+use Rattle.rtps_discovery.specs.Announcement.{Fields, field}
+use Rattle.rtps_policies.specs.declared.host.Address.{Address}
+use Rattle.rtps_policies.specs.declared.host.Address.TheVariants.{V4, V6}
+use Rattle.rtps_policies.specs.declared.host.Host.{Host}
+use Rattle.rtps_policies.specs.declared.layout.locator.TheConstants as locator
+use Rattle.rtps_policies.specs.declared.layout.pid.TheConstants.{DEFAULT_UNICAST_LOCATOR, DOMAIN_ID}
+
+-- the address of a kind of locator
+abbrev pub address_of_kind : ℕ → List ℕ → Option Address
+address_of_kind kind value =
+    if kind == locator.UDP_V4 then Some (V4 (take 4 (drop locator.V4_ADDRESS value)))
+    else if kind == locator.UDP_V6 then Some (V6 (take 16 (drop locator.ADDRESS value)))
+    else None
+
+-- the address in a locator
+abbrev pub address_of : Order → List ℕ → Option Address
+address_of order value =
+    if nat_lt (length value) locator.SIZE then None else option_and_then (λ kind. address_of_kind kind value) (u32_of order value)
+
+-- the address that a parameter announces
+abbrev pub address_by : Order → ℕ × List ℕ → Option Address
+address_by order pair = if pair.0 == DEFAULT_UNICAST_LOCATOR then address_of order pair.1 else None
+
+-- an address of IPv4
+abbrev pub is_v4 : Address → Bool
+is_v4 (V4 octets) = true
+is_v4 (V6 octets) = false
+
+-- the first of IPv4, or else the first (own: an address that people know, where there are several)
+abbrev pub best_of : List Address → Option Address
+best_of addresses = option_or (find is_v4 addresses) (find (λ address. not (is_v4 address)) addresses)
+
+-- the addresses that parameters announce, in order
+abbrev pub addresses_in : Order → Pairs → List Address
+addresses_in order pairs = filter_map (address_by order) pairs
+
+-- the address that a participant announces
+abbrev pub address_in : Fields → Option Address
+address_in fields = best_of (addresses_in fields.order fields.pairs)
+
+-- the domain that a participant announces (8.5.3.2 "domainId")
+abbrev pub domain_in : Fields → Option ℕ
+domain_in fields = option_and_then (u32_of fields.order) (field DOMAIN_ID fields)
+
+-- what a participant announces of where it is
+abbrev pub host_in : Fields → Host
+host_in fields = record { domain = domain_in fields; address = address_in fields }

@@ -1,0 +1,136 @@
+ghost use Rattle.std.specs.Prelude.{◌≡◌, Some};
+ghost use Rattle.std.specs.Fmt.{WritesOnOk};
+ghost use Rattle.rtps_discovery.specs.Fields.{fields_value};
+ghost use Rattle.rtps_policies.specs.AddressText.{address_text, groups_of, groups_text};
+ghost use Rattle.rtps_policies.specs.Hosts.{address_by, address_in as address_in_lem, address_of, domain_in as domain_in_lem, host_in, is_v4};
+
+use crate::layout::{locator, pid};
+use rtps_ids::Order;
+use rtps_params::{ParamList, read_u32};
+use std::fmt;
+
+/// Where a participant receives what is for it.
+#[derive(Clone, Copy, PartialEq, Eq, Debug)]
+pub enum Address {
+    V4([u8; 4]),
+    V6([u8; 16]),
+}
+
+impl Address {
+    /// Whether it is of IPv4.
+    pub(crate) fn is_v4(self) -> bool
+        ensures { result ≡ is_v4 self }
+    {
+        matches!(self, Address::V4(_))
+    }
+}
+
+impl fmt::Display for Address {
+    ghost output = { λ address. Some (address_text address) };
+
+    #[tactic(auto, unfolding(crate::specs::AddressText::address_text))]
+    fn fmt<W: fmt::Write>(&self, f: &mut fmt::Formatter<W>) -> fmt::Result {
+        match self {
+            Address::V4([a, b, c, d]) => write!(f, "{a}.{b}.{c}.{d}"),
+            Address::V6(octets) => write_groups(octets, f),
+        }
+    }
+}
+
+/// Writes the numbers of pairs of octets, with a colon between each two.
+fn write_groups<W: fmt::Write>(octets: &[u8], f: &mut fmt::Formatter<W>) -> fmt::Result
+    ensures { WritesOnOk W.write_str_gives f.old result (groups_text (groups_of octets.now)) f.new }
+{
+    let [high, low, behind @ ..] = octets else {
+        return Ok(());
+    };
+    let group = u16::from_be_bytes([*high, *low]);
+    write!(f, "{group:x}")?;
+    if behind.len() < 2 {
+        return Ok(());
+    }
+    write!(f, ":")?;
+    write_groups(behind, f)
+}
+
+/// What a participant announces of where it is (DDSI-RTPS 2.5, 8.5.3.2 "SPDPdiscoveredParticipantData").
+#[derive(Clone, Copy, PartialEq, Eq, Debug)]
+pub struct Host {
+    /// Its domain.
+    pub domain: Option<u32>,
+    /// Its first default unicast locator of IPv4, or else its first one of IPv6.
+    pub address: Option<Address>,
+}
+
+impl Host {
+    /// That of a participant that announces nothing of it.
+    pub const UNKNOWN: Host = Host {
+        domain: None,
+        address: None,
+    };
+
+    /// What a parameter list announces.
+    pub(crate) fn of(list: &ParamList<'_>) -> Host
+        ensures { result ≡ host_in (fields_value list.now) }
+    {
+        Host {
+            domain: domain_in(list),
+            address: address_in(list),
+        }
+    }
+}
+
+/// The domain in a list.
+fn domain_in(list: &ParamList<'_>) -> Option<u32>
+    ensures { result ≡ domain_in_lem (fields_value list.now) }
+{
+    let value = list.first(pid::DOMAIN_ID)?;
+    read_u32(value, list.order())
+}
+
+/// The address in a locator, or None if it is cut or of another kind.
+fn read_address(value: &[u8], order: Order) -> Option<Address>
+    ensures { result ≡ address_of order value.now }
+{
+    if value.len() < locator::SIZE {
+        return None;
+    }
+    match read_u32(value, order) {
+        Some(locator::UDP_V4) => {
+            let octets = value[locator::V4_ADDRESS..].first_chunk::<4>()?;
+            Some(Address::V4(*octets))
+        }
+        Some(locator::UDP_V6) => {
+            let octets = value[locator::ADDRESS..].first_chunk::<16>()?;
+            Some(Address::V6(*octets))
+        }
+        _ => None,
+    }
+}
+
+/// The address that a parameter announces, if it is a default unicast locator.
+fn announced_address(pid: u16, value: &[u8], order: Order) -> Option<Address>
+    ensures { result ≡ address_by order (pid, value.now) }
+{
+    if pid == pid::DEFAULT_UNICAST_LOCATOR {
+        read_address(value, order)
+    } else {
+        None
+    }
+}
+
+/// The first address of IPv4 in a list, or else the first one of IPv6.
+fn address_in(list: &ParamList<'_>) -> Option<Address>
+    ensures { result ≡ address_in_lem (fields_value list.now) }
+{
+    let mut found = None;
+    for (pid, value) in list.params() {
+        if let Some(address) = announced_address(pid, value, list.order()) {
+            if address.is_v4() {
+                return Some(address);
+            }
+            found = found.or(Some(address));
+        }
+    }
+    found
+}

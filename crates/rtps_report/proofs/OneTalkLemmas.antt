@@ -1,0 +1,122 @@
+-- Of a recording it is told in one way who does not talk.
+use Rattle.std.proofs.Common.{◌≡◌, ◌∙◌, ℕ, Bool, List, [], ◌∷◌, All, Contains, ap, ap₂, filter, if◌then◌else◌, map, refl, subst, sym}
+use Rattle.std.specs.Cmp.{IsTotalOrder}
+use Rattle.std.specs.Cmp.Lexicographic.{slice_cmp}
+use Rattle.std.specs.Ordering.{nat_cmp}
+use Rattle.std.proofs.lemmas.Cmp.{nat_list_cmp_total, on_total, then_total}
+use Rattle.std.proofs.lemmas.List.Elements.{All-contains_itself, All-weaker}
+use Rattle.std.proofs.lemmas.Map.Lookups.{CmpEqualImpliesEq, exact_bytes, exact_pairs}
+use Rattle.rtps_discovery.specs.Directory.{DirectoryValue, Entries, settled_in}
+use Rattle.rtps_discovery.specs.Matching.{matches_among}
+use Rattle.rtps_discovery.specs.declared.matching.Match.{Match}
+use Rattle.rtps_discovery.specs.declared.matching.Pair.{Pair}
+use Rattle.rtps_discovery.proofs.Members.{from_map, into_map}
+use Rattle.rtps_audit.specs.Intake.{Intake}
+use Rattle.rtps_audit.specs.Placed.{placed_in}
+use Rattle.rtps_audit.specs.Said.{datagrams_until}
+use Rattle.rtps_evidence.specs.Recorded.{AreRecordedIn, IsRecordedBy}
+use Rattle.rtps_evidence.specs.declared.recorded.Recorded.{Recorded}
+use Rattle.rtps_evidence.specs.declared.span.Span.{Span}
+use Rattle.rtps_evidence.proofs.OneSpan.{HasOneMap, one_extent}
+use Rattle.rtps_fragments.specs.RecordedSamples.{intake_as}
+use Rattle.rtps_policies.specs.Namings.{named_in, naming_cmp}
+use Rattle.rtps_policies.specs.OneWays.{AreOneWayIn}
+use Rattle.rtps_policies.specs.Silence.{Traffic}
+use Rattle.rtps_policies.specs.Unmatched.{UnmatchedValue, unmatched_among}
+use Rattle.rtps_policies.specs.declared.naming.Naming.{Naming}
+use Rattle.rtps_policies.specs.declared.one_way.OneWay.{OneWay}
+use Rattle.rtps_report.specs.Asked.{AskedValue}
+use Rattle.rtps_report.specs.BestEfforts.{AreSumsOf, BestEffortValue, CountedValue, sum_of, total_of}
+use Rattle.rtps_report.specs.Laws.{TellSame}
+use Rattle.rtps_report.specs.Participants.{participant_told}
+use Rattle.rtps_report.specs.Talk.{AreBestEffortIn, AreCounted, IsTalkAs, IsTalkOf, TalkValue, is_asked, is_counted, traffic_of}
+use Rattle.rtps_report.proofs.SameLists.{same_keys, same_members}
+
+-- ---- pairs of best effort
+
+one_recorded : HasOneMap → (spans : Bool) (from : ℕ) (pair : Pair) (intake : Intake) (one other : Recorded) → IsRecordedBy spans from pair intake one → IsRecordedBy spans from pair intake other → one ≡ other
+one_recorded unique spans from pair intake one other is also =
+    let span : is.span ≡ also.span = one_extent unique spans from pair intake is.span also.span is.is_extent also.is_extent in
+    let same = subst (λ (s : Span). AreRecordedIn s pair (placed_in (datagrams_until s.until intake.acts)) one) span is.are_recorded in
+    let made : ℕ → ℕ → Recorded = λ numbers recorded. record { numbers = numbers; recorded = recorded } in
+    ap₂ made (same.numbers ∙ sym also.are_recorded.numbers) (same.recorded ∙ sym also.are_recorded.recorded)
+
+one_counted : HasOneMap → (asked : AskedValue) (intake : Intake) (entries : Entries) (matches : List Match) (one other : List CountedValue) → AreCounted asked intake entries matches one
+    → AreCounted asked intake entries matches other → one ≡ other
+one_counted unique asked intake entries [] [] [] is also = refl
+one_counted unique asked intake entries [] [] (next ∷ other) is also = absurd also
+one_counted unique asked intake entries [] (first ∷ one) other is also = absurd is
+one_counted unique asked intake entries (found ∷ matches) [] other is also = absurd is
+one_counted unique asked intake entries (found ∷ matches) (first ∷ one) [] is also = absurd also
+one_counted unique asked intake entries (found ∷ matches) (first ∷ one) (next ∷ other) is also =
+    let made : List ℕ → Recorded → CountedValue = λ topic recorded. record { topic = topic; recorded = recorded } in
+    let same : first ≡ next = ap₂ made (is.0 ∙ sym also.0) (one_recorded unique asked.spans asked.from found.pair intake first.recorded next.recorded is.1 also.1) in
+    ap (λ front. front ∷ one) same ∙ ap (λ rest. next ∷ rest) (one_counted unique asked intake entries matches one other is.2 also.2)
+
+one_sums : (counted : List CountedValue) (one other : List BestEffortValue) → AreSumsOf counted one → AreSumsOf counted other → one ≡ other
+one_sums counted one other is also =
+    same_keys (λ (sum : BestEffortValue). sum.topic) (sum_of counted) one other is.each also.each
+    (same_members (slice_cmp nat_cmp) nat_list_cmp_total exact_bytes (map (λ (sum : BestEffortValue). sum.topic) one) (map (λ (sum : BestEffortValue). sum.topic) other) is.in_order also.in_order
+    (λ topic. (λ has. (also.topics topic).1 ((is.topics topic).0 has), λ has. (is.topics topic).1 ((also.topics topic).0 has))))
+
+-- ---- who talks one way
+
+namings_total : IsTotalOrder naming_cmp
+namings_total = then_total (on_total (λ naming. naming.source.0) nat_list_cmp_total) (on_total (λ naming. naming.dest.0) nat_list_cmp_total)
+
+naming_of_parts : List ℕ × List ℕ → Naming
+naming_of_parts parts = record { source = record { 0 = parts.0 }; dest = record { 0 = parts.1 } }
+
+exact_namings : CmpEqualImpliesEq naming_cmp
+unfolding naming_of_parts
+exact_namings a b h =
+    ap naming_of_parts (exact_pairs (slice_cmp nat_cmp) (slice_cmp nat_cmp) exact_bytes exact_bytes (a.source.0, a.dest.0) (b.source.0, b.dest.0) h)
+
+-- what is told of a naming
+abbrev told : Traffic → Naming → OneWay
+told traffic naming = record { naming = naming; count = named_in traffic.datagrams naming }
+
+each_told : (traffic : Traffic) (found : List OneWay) → AreOneWayIn traffic found → All (λ one. one ≡ told traffic one.naming) found
+each_told traffic found is =
+    All-weaker (Contains found) (λ (one : OneWay). one ≡ told traffic one.naming)
+    (λ one among. let made : ℕ → OneWay = λ count. record { naming = one.naming; count = count } in ap made ((is.each one).0 among).1) found (All-contains_itself found)
+
+naming_moved : (traffic : Traffic) (one other : List OneWay) → AreOneWayIn traffic one → AreOneWayIn traffic other → (naming : Naming) → Contains (map (λ (found : OneWay). found.naming) one) naming
+    → Contains (map (λ (found : OneWay). found.naming) other) naming
+naming_moved traffic one other is also naming has =
+    let made = from_map (λ (found : OneWay). found.naming) one naming has in
+    subst (Contains (map (λ (found : OneWay). found.naming) other)) made.2 (into_map (λ (found : OneWay). found.naming) other made.0 ((also.each made.0).1 ((is.each made.0).0 made.1)))
+
+one_way_once : (traffic : Traffic) (one other : List OneWay) → AreOneWayIn traffic one → AreOneWayIn traffic other → one ≡ other
+one_way_once traffic one other is also =
+    same_keys (λ (found : OneWay). found.naming) (told traffic) one other (each_told traffic one is) (each_told traffic other also)
+    (same_members naming_cmp namings_total exact_namings (map (λ (found : OneWay). found.naming) one) (map (λ (found : OneWay). found.naming) other) is.in_order also.in_order
+    (λ naming. (naming_moved traffic one other is also naming, naming_moved traffic other one also is naming)))
+
+-- ---- all of it
+
+talk_once : HasOneMap → (asked : AskedValue) (recording : List (List ℕ)) (one other : TalkValue) → IsTalkOf asked recording one → IsTalkOf asked recording other → TellSame one other
+talk_once unique asked recording one other is also =
+    let traffic = traffic_of asked recording in
+    let intake = intake_as asked.fragments recording in
+    let same : is.directory ≡ also.directory = unique traffic.announcing is.directory also.directory is.is_map also.is_map in
+    let unmatched : one.unmatched ≡ other.unmatched =
+    is.unmatched ∙ ap (λ (d : DirectoryValue). filter (is_asked asked) (unmatched_among traffic.announcing (settled_in d.endpoints))) same ∙ sym also.unmatched in
+    let moved = subst (λ (d : DirectoryValue). AreBestEffortIn asked intake traffic other.unmatched d.endpoints one.best_effort one.best_effort_total) same
+    (subst (λ (those : List UnmatchedValue). AreBestEffortIn asked intake traffic those is.directory.endpoints one.best_effort one.best_effort_total) unmatched is.best_effort) in
+    let entries = also.directory.endpoints in
+    let counted : moved.counted ≡ also.best_effort.counted =
+    one_counted unique asked intake entries (filter (is_counted asked traffic other.unmatched entries) (matches_among (settled_in entries))) moved.counted also.best_effort.counted moved.are_counted also.best_effort.are_counted in
+    record {
+      hosts = λ prefix. is.hosts prefix ∙ sym (also.hosts prefix);
+      silence = λ pair. is.silence pair ∙ sym (also.silence pair);
+      unmatched = unmatched;
+      one_way = one_way_once traffic one.one_way other.one_way is.one_way also.one_way;
+      best_effort = one_sums also.best_effort.counted one.best_effort other.best_effort
+          (subst (λ (those : List CountedValue). AreSumsOf those one.best_effort) counted moved.are_sums) also.best_effort.are_sums;
+      best_effort_total = moved.is_total ∙ ap total_of counted ∙ sym also.best_effort.is_total;
+      participants = is.participants ∙ ap (λ (d : DirectoryValue). map (participant_told intake traffic.datagrams) d.participants) same ∙ sym also.participants;
+    }
+
+pub one_talk : HasOneMap → (asked : AskedValue) (recording : List (List ℕ)) (one other : TalkValue) → IsTalkAs asked recording one → IsTalkAs asked recording other → TellSame one other
+one_talk unique asked recording one other is also = talk_once unique asked (if asked.talk then recording else []) one other is also

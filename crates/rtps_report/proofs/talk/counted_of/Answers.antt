@@ -1,0 +1,27 @@
+use Rattle.std.proofs.Common.{◌∙◌, subst}
+use Rattle.rtps_evidence.specs.Recorded.{IsRecordedBy}
+use Rattle.rtps_evidence.specs.declared.exchange.Extent.{Extent}
+use Rattle.rtps_report.specs.Asked.{asked_value}
+use Rattle.rtps_report.specs.Talk.{is_counted_of}
+use Rattle.rtps_report.proofs.TalkLemmas.{counted_by_topic, counted_more, counted_skip}
+use Rattle.rtps_report.proofs.talk.counted_of.Goals as goal
+use Rattle.rtps_report.proofs.talk.counted_of.Goals.{then-is_counted+in_ok-recorded+in_ok-push, else-is_counted}
+
+pub loop-found-preserved : goal.loop-found-preserved
+loop-found-preserved c = λ intake index.
+    let talk = c.args.talk.now in
+    let asked = asked_value c.args.heard.now.asked.now in
+    let entries = c.args.heard.now.directory.now.endpoints in
+    let test = is_counted_of talk.unfit talk.namings asked entries in
+    let by_topic = counted_by_topic talk.unfit talk.namings asked _ c.topic_of-topic.result.now _ c.is_counted.result c.topic_of-topic.ensures c.is_counted.ensures in
+    elim c.if-is_counted.branch [
+      | then-is_counted+in_ok-recorded+in_ok-push w ↦
+          rw w.counted-is
+          (counted_more asked intake entries test c.deref-found-items.result.now c.loop-found.counted.items _ c.loop-found.found-index _ _ c.loop-found-test.true
+          (by_topic ∙ w.if-is_counted.true) w.in_ok-push.ensures.items c.topic_of-topic.ensures
+          (subst (λ (extent : Extent). IsRecordedBy extent.in_spans extent.from _ intake w.in_ok-recorded.recorded) w.extent.ensures (w.in_ok-recorded.ensures intake index))
+          (c.loop-found.invariant intake index))
+      | else-is_counted w ↦
+          rw w.counted-is
+          (counted_skip asked intake entries test c.deref-found-items.result.now _ c.loop-found.found-index _ c.loop-found-test.true (by_topic ∙ w.if-is_counted.false) (c.loop-found.invariant intake index))
+    ]

@@ -1,0 +1,67 @@
+-- What a recording says of each participant that it announces. DDSI-RTPS 2.5, 8.5.3 "The Simple Participant Discovery Protocol".
+use Rattle.std.specs.Prelude.{◌≡◌, Bool, false, List, [], ◌∷◌, Option, Some, None, unwrap_or}
+use Rattle.std.specs.BTreeMap.{BTreeMap, get}
+use Rattle.std.specs.List.{find, list_all}
+use Rattle.std.specs.Option.{option_map}
+use Rattle.rtps_ids.specs.declared.identity.Guid.{Guid}
+use Rattle.rtps_receiver.specs.Values.{ActValue}
+use Rattle.rtps_discovery.specs.GuidOrder.{guid_cmp}
+use Rattle.rtps_discovery.specs.Notice.{announcement_of, participant_in}
+use Rattle.rtps_audit.specs.Placed.{PlacedValue, is_guid, placed_in}
+use Rattle.rtps_audit.specs.Intake.{Intake, acts_together}
+use Rattle.rtps_evidence.specs.Locations.{location_of}
+use Rattle.rtps_evidence.specs.Spans.{left_in}
+use Rattle.rtps_evidence.specs.declared.location.Location.{Location}
+use Rattle.rtps_policies.specs.Announcing.{host_among, unknown_host}
+use Rattle.rtps_policies.specs.Silence.{is_same_address}
+use Rattle.rtps_policies.specs.declared.host.Address.{Address}
+use Rattle.rtps_report.specs.Stays.{stay_of}
+use Rattle.rtps_report.specs.declared.participant.Participant.{Participant}
+
+-- a participant that is announced is this one
+abbrev pub is_that : Guid → Option Guid → Bool
+is_that guid (Some other) = is_guid guid other
+is_that guid None = false
+
+-- an act announces this participant
+abbrev pub announces : Guid → PlacedValue → Bool
+announces guid placed = is_that guid (participant_in (announcement_of placed.act))
+
+-- where a participant is announced first
+abbrev pub place_of : Guid → List PlacedValue → Option Location
+place_of guid acts = option_map location_of (find (announces guid) acts)
+
+-- these are the places of participants
+abbrev pub AreJoined : List PlacedValue → BTreeMap Guid Location → Type 0
+AreJoined acts joined = (guid : Guid) → get guid_cmp joined guid ≡ place_of guid acts
+
+-- what a recording says of a participant: of what is announced, of the acts of each datagram, and of the acts that rows are by
+abbrev pub participant_told : Intake → List (List ActValue) → Guid → Participant
+participant_told intake datagrams guid =
+    record {
+      guid = guid;
+      host = unwrap_or (host_among (acts_together intake.announcing) guid) unknown_host;
+      stay = stay_of datagrams guid.prefix;
+      left = left_in (place_of guid (placed_in intake.announcing)) guid (placed_in intake.acts);
+    }
+
+-- ---- hosts
+
+-- an address that is known is this one
+abbrev pub is_address : Address → Option Address → Bool
+is_address address (Some own) = is_same_address own address
+is_address address None = false
+
+-- the participant has this address
+abbrev pub has_address : Address → Participant → Bool
+has_address address participant = is_address address participant.host.address
+
+-- all of these have the address of the first, which has one
+abbrev pub share_address : Option Address → List Participant → Bool
+share_address None participants = false
+share_address (Some address) participants = list_all (has_address address) participants
+
+-- there are participants, each with an address, all with the same one
+abbrev pub are_on_one_host : List Participant → Bool
+are_on_one_host [] = false
+are_on_one_host (participant ∷ participants) = share_address participant.host.address participants

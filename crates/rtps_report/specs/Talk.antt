@@ -1,0 +1,145 @@
+-- Who does not talk. DDS 1.4, 2.2.3 "Supported QoS"; DDSI-RTPS 2.5, 8.5 "Discovery Module" and 8.3.8.8 "InfoDestination".
+-- own: rows tell what a reader got of a writer. If the two do not match, one never answers, or neither is heard here, no participant says
+-- so: it is told beside the rows. So is how much a recording has of pairs of best effort, which no row is about.
+use Rattle.std.specs.Prelude.{ℕ, ◌≡◌, ◌&&◌, Bool, not, nat_lt, if◌then◌else◌, List, [], ◌∷◌, filter, map}
+use Rattle.std.specs.BTreeSet.{BTreeSet, contains}
+use Rattle.std.specs.List.{list_any}
+use Rattle.rtps_ids.specs.declared.identity.GuidPrefix.{GuidPrefix}
+use Rattle.rtps_discovery.specs.Directory.{DirectoryValue, Entries, IsMapOf, settled_at, settled_in}
+use Rattle.rtps_discovery.specs.Listings.{pair_cmp}
+use Rattle.rtps_discovery.specs.Matching.{matches_among}
+use Rattle.rtps_discovery.specs.declared.matching.Match.{Match}
+use Rattle.rtps_discovery.specs.declared.matching.Pair.{Pair}
+use Rattle.rtps_audit.specs.Index.{IsIndexBy}
+use Rattle.rtps_audit.specs.Intake.{Intake, acts_together}
+use Rattle.rtps_audit.specs.Placed.{is_guid, placed_value}
+use Rattle.rtps_evidence.specs.Explanation.{topic_of}
+use Rattle.rtps_evidence.specs.Recorded.{IsRecordedBy}
+use Rattle.rtps_fragments.specs.Announcements.{announcements_in}
+use Rattle.rtps_fragments.specs.RecordedSamples.{intake_as}
+use Rattle.rtps_policies.specs.Announcing.{host_of, hosts_in}
+use Rattle.rtps_policies.specs.Namings.{named_by, named_in}
+use Rattle.rtps_policies.specs.OneWays.{AreOneWayIn}
+use Rattle.rtps_policies.specs.Silence.{Traffic, silence_by, silence_of}
+use Rattle.rtps_policies.specs.Unmatched.{UnmatchedValue, pair_of, unmatched_among, unmatched_value}
+use Rattle.rtps_policies.specs.declared.host.Host.{Host}
+use Rattle.rtps_policies.specs.declared.naming.Namings.{Namings}
+use Rattle.rtps_policies.specs.declared.one_way.OneWay.{OneWay}
+use Rattle.rtps_policies.specs.declared.silence.Silence.{Silence}
+use Rattle.rtps_report.specs.ActsRead.{datagrams_read}
+use Rattle.rtps_report.specs.Asked.{AskedValue}
+use Rattle.rtps_report.specs.BestEfforts.{AreSumsOf, BestEffortValue, CountedValue, best_effort_value, total_of}
+use Rattle.rtps_report.specs.Participants.{participant_told}
+use Rattle.rtps_report.specs.Rows.{fits_one}
+use Rattle.rtps_report.specs.declared.participant.Participant.{Participant}
+use Rattle.rtps_report.specs.declared.talk.Heard.{Heard}
+use Rattle.rtps_report.specs.declared.talk.Talk.{Talk}
+
+-- who does not talk: the host of each participant, why pairs are silent, which writers and readers do not match, who talks one way, the
+-- pairs of best effort by topic, and the participants
+pub record TalkValue : Type 0 where
+  pub hosts : GuidPrefix → Host
+  pub silence : Pair → Silence
+  pub unmatched : List UnmatchedValue
+  pub one_way : List OneWay
+  pub best_effort : List BestEffortValue
+  pub best_effort_total : BestEffortValue
+  pub participants : List Participant
+
+-- that of the code, as a value
+abbrev pub talk_value : Talk → TalkValue
+talk_value talk =
+    record {
+      hosts = hosts_in talk.announced;
+      silence = silence_by talk.announced talk.namings;
+      unmatched = map unmatched_value talk.unmatched.items;
+      one_way = talk.one_way.items;
+      best_effort = map best_effort_value talk.best_effort.items;
+      best_effort_total = best_effort_value talk.best_effort_total;
+      participants = talk.participants.items;
+    }
+
+-- ---- pairs that do not match
+
+-- two pairs are the same
+abbrev pub is_pair : Pair → Pair → Bool
+is_pair one other = is_guid one.writer other.writer && is_guid one.reader other.reader
+
+-- the two of a pair do not match
+abbrev pub is_unfit : List UnmatchedValue → Pair → Bool
+is_unfit unmatched pair = list_any (λ one. is_pair (pair_of one) pair) unmatched
+
+-- these are the pairs of those
+abbrev pub AreUnfit : List UnmatchedValue → BTreeSet Pair → Type 0
+AreUnfit unmatched pairs = (pair : Pair) → contains pair_cmp pairs pair ≡ is_unfit unmatched pair
+
+-- ---- pairs of best effort
+
+-- the reader's participant names the writer's
+abbrev pub is_named : Traffic → Pair → Bool
+is_named traffic pair = nat_lt 0 (named_in traffic.datagrams (record { source = pair.reader.prefix; dest = pair.writer.prefix }))
+
+-- a match is counted: not both are reliable, all policies fit, its topic is asked for, and the recording can speak of it
+abbrev pub is_counted : AskedValue → Traffic → List UnmatchedValue → Entries → Match → Bool
+is_counted asked traffic unmatched entries found =
+    not found.reliable && (not (is_unfit unmatched found.pair)
+    && (fits_one asked.rows.topics (topic_of (settled_at entries found.pair.writer)) && is_named traffic found.pair))
+
+-- the same by what is kept
+abbrev pub is_counted_by : BTreeSet Pair → Namings → AskedValue → List ℕ → Match → Bool
+is_counted_by unfit namings asked topic found =
+    not found.reliable && (not (contains pair_cmp unfit found.pair)
+    && (fits_one asked.rows.topics topic && nat_lt 0 (named_by namings (record { source = found.pair.reader.prefix; dest = found.pair.writer.prefix }))))
+
+-- the same, with the topic of the match looked up
+abbrev pub is_counted_of : BTreeSet Pair → Namings → AskedValue → Entries → Match → Bool
+is_counted_of unfit namings asked entries found = is_counted_by unfit namings asked (topic_of (settled_at entries found.pair.writer)) found
+
+-- what is counted of these matches, one by one
+abbrev pub AreCounted : AskedValue → Intake → Entries → List Match → List CountedValue → Type 0
+AreCounted asked intake entries [] [] = Unit {0}
+AreCounted asked intake entries [] (one ∷ counted) = ⊥
+AreCounted asked intake entries (found ∷ matches) [] = ⊥
+AreCounted asked intake entries (found ∷ matches) (one ∷ counted) =
+    (one.topic ≡ topic_of (settled_at entries found.pair.writer)) × IsRecordedBy asked.spans asked.from found.pair intake one.recorded
+    × AreCounted asked intake entries matches counted
+
+-- the sums of those that are counted
+pub record AreBestEffortIn (asked : AskedValue) (intake : Intake) (traffic : Traffic) (unmatched : List UnmatchedValue) (entries : Entries) (sums : List BestEffortValue) (total : BestEffortValue) : Type 0 where
+  pub counted : List CountedValue
+  pub are_counted : AreCounted asked intake entries (filter (is_counted asked traffic unmatched entries) (matches_among (settled_in entries))) counted
+  pub are_sums : AreSumsOf counted sums
+  pub is_total : total ≡ total_of counted
+
+-- ---- all of it
+
+-- what is said of participants: by what announces, and by all acts that are read
+abbrev pub traffic_of : AskedValue → List (List ℕ) → Traffic
+traffic_of asked recording =
+    record { announcing = acts_together (intake_as asked.fragments recording).announcing; datagrams = datagrams_read asked.fragments recording }
+
+-- the topic is asked for
+abbrev pub is_asked : AskedValue → UnmatchedValue → Bool
+is_asked asked one = fits_one asked.rows.topics one.writer.endpoint.topic
+
+-- who does not talk in a recording, of the topics that are asked for
+pub record IsTalkOf (asked : AskedValue) (recording : List (List ℕ)) (talk : TalkValue) : Type 0 where
+  pub directory : DirectoryValue
+  pub is_map : IsMapOf (traffic_of asked recording).announcing directory
+  pub hosts : (prefix : GuidPrefix) → talk.hosts prefix ≡ host_of (traffic_of asked recording).announcing prefix
+  pub silence : (pair : Pair) → talk.silence pair ≡ silence_of (traffic_of asked recording) pair
+  pub unmatched : talk.unmatched ≡ filter (is_asked asked) (unmatched_among (traffic_of asked recording).announcing (settled_in directory.endpoints))
+  pub one_way : AreOneWayIn (traffic_of asked recording) talk.one_way
+  pub best_effort : AreBestEffortIn asked (intake_as asked.fragments recording) (traffic_of asked recording) talk.unmatched directory.endpoints talk.best_effort talk.best_effort_total
+  pub participants : talk.participants
+      ≡ map (participant_told (intake_as asked.fragments recording) (traffic_of asked recording).datagrams) directory.participants
+
+-- where it is asked; where it is not, that of no datagrams
+abbrev pub IsTalkAs : AskedValue → List (List ℕ) → TalkValue → Type 0
+IsTalkAs asked recording talk = IsTalkOf asked (if asked.talk then recording else []) talk
+
+-- what is known of a recording to say so: its index, what it announces, and the DATA of built-in writers, which announce it
+pub record IsHeardIn (intake : Intake) (heard : Heard) : Type 0 where
+  pub index : IsIndexBy intake heard.index.now
+  pub directory : IsMapOf (acts_together intake.announcing) heard.directory.now
+  pub announcements : map placed_value heard.announcements.now ≡ announcements_in intake.announcing

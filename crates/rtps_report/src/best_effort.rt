@@ -1,0 +1,99 @@
+ghost use Rattle.std.specs.Prelude.{◌≡◌, IfOk, OnOk, map};
+ghost use Rattle.rtps_report.specs.BestEfforts.{AreSumsOf, AreWithin, IsSmall, IsWithin, added_to, best_effort_value, counted_value, total_of as total_of_lem, with_counted as with_counted_lem};
+
+use rtps_evidence::Recorded;
+use rtps_ids::Memory;
+use std::alloc::Global;
+
+/// A pair of best effort, and what the recording has of it.
+#[derive(Clone, Copy, Debug)]
+pub(crate) struct Counted<'a> {
+    pub(crate) topic: &'a [u8],
+    pub(crate) recorded: Recorded,
+}
+
+/// The pairs of best effort of a topic: how many numbers their writers sent, and how many of them the recording has for their
+/// readers.
+#[derive(Clone, Copy, Debug)]
+pub struct BestEffort<'a> {
+    pub topic: &'a [u8],
+    pub pairs: u64,
+    pub numbers: u128,
+    pub recorded: u128,
+}
+
+/// One pair more.
+fn with_counted<'a>(sum: BestEffort<'a>, one: &Counted<'a>) -> BestEffort<'a>
+    requires { IsWithin (best_effort_value sum) }
+    ensures sum { best_effort_value result ≡ with_counted_lem (best_effort_value sum.entry) (counted_value one.now) }
+    ensures small { IsSmall (counted_value one.now) }
+{
+    BestEffort {
+        topic: sum.topic,
+        pairs: sum.pairs + 1,
+        numbers: sum.numbers + u128::from(one.recorded.numbers),
+        recorded: sum.recorded + u128::from(one.recorded.recorded),
+    }
+}
+
+/// The sums of a topic of which no pair is counted.
+fn no_pairs(topic: &[u8]) -> BestEffort<'_>
+    ensures { best_effort_value result ≡ record { topic = topic.now; pairs = 0; numbers = 0; recorded = 0 } }
+{
+    BestEffort {
+        topic,
+        pairs: 0,
+        numbers: 0,
+        recorded: 0,
+    }
+}
+
+/// Adds a pair to the last of these topics where it is of that, and else to one of its own.
+fn add_counted<'a>(sums: &mut Vec<BestEffort<'a>>, one: &Counted<'a>) -> Result<(), Memory>
+    requires { AreWithin (map best_effort_value sums.old.items) }
+    ensures added { OnOk result (map best_effort_value sums.new.items ≡ added_to (map best_effort_value sums.old.items) (counted_value one.now)) }
+    ensures small { OnOk result (IsSmall (counted_value one.now)) }
+{
+    let Some(last) = sums.pop() else {
+        sums.push(with_counted(no_pairs(one.topic), one))?;
+        return Ok(());
+    };
+    if one.topic == last.topic {
+        sums.push(with_counted(last, one))?;
+        return Ok(());
+    }
+    sums.push(last)?;
+    sums.push(with_counted(no_pairs(one.topic), one))?;
+    Ok(())
+}
+
+/// The sums of all these pairs.
+pub(crate) fn total_of(counted: &[Counted<'_>]) -> BestEffort<'static>
+    ensures { best_effort_value result ≡ total_of_lem (map counted_value counted.now) }
+{
+    let mut total = no_pairs(&[]);
+    for one in counted {
+        total = BestEffort {
+            topic: &[],
+            pairs: total.pairs + 1,
+            numbers: total.numbers + u128::from(one.recorded.numbers),
+            recorded: total.recorded + u128::from(one.recorded.recorded),
+        };
+    }
+    total
+}
+
+/// The pairs by topic, octet by octet.
+pub(crate) fn sums_of<'a>(
+    alloc: Global,
+    counted: &mut Vec<Counted<'a>>,
+) -> Result<Vec<BestEffort<'a>>, Memory>
+    ensures { IfOk result (λ sums. AreSumsOf (map counted_value counted.old.items) (map best_effort_value sums.items)) }
+{
+    counted.sort_by_key(|one| one.topic)?;
+    let mut sums = Vec::new(alloc);
+    for one in counted.as_slice() {
+        add_counted(&mut sums, one)?;
+    }
+    Ok(sums)
+}

@@ -1,0 +1,97 @@
+ghost use Rattle.std.specs.Prelude.{◌≡◌, ◌++◌, ◌∷◌, [], IfOk, List, OnOk, map};
+ghost use Rattle.std.specs.BTreeMap.{get};
+ghost use Rattle.rtps_ids.specs.declared.identity.Guid.{Guid as GuidOf};
+ghost use Rattle.rtps_audit.specs.Placed.{PlacedValue, placed_value};
+ghost use Rattle.rtps_discovery.specs.GuidOrder.{guid_cmp};
+ghost use Rattle.rtps_policies.specs.Told.{KeepsFirst};
+ghost use Rattle.rtps_report.specs.Participants.{AreJoined, are_on_one_host as are_on_one_host_lem, has_address as has_address_lem};
+
+use crate::traffic::Stay;
+use rtps_audit::Placed;
+use rtps_evidence::Location;
+use rtps_ids::{Guid, Memory};
+use rtps_policies::{Address, Host, announced_participant};
+use std::alloc::Global;
+use std::collections::BTreeMap;
+
+/// A participant that is announced, and when it is there.
+#[derive(Clone, Copy, PartialEq, Eq, Debug)]
+pub struct Participant {
+    pub guid: Guid,
+    pub host: Host,
+    /// From when to when the recording has something of it; None where it has nothing.
+    pub stay: Option<Stay>,
+    /// The datagram in which it leaves; None where it does not.
+    pub left: Option<u64>,
+}
+
+/// Keeps a place of a GUID, unless there is one.
+fn keep_place(
+    joined: &mut BTreeMap<Guid, Location>,
+    guid: Guid,
+    place: Location,
+) -> Result<(), Memory>
+    ensures { OnOk result (KeepsFirst joined.old.entries joined.new.entries guid place) }
+{
+    if !joined.contains_key(&guid) {
+        joined.insert(guid, place)?;
+    }
+    Ok(())
+}
+
+/// Keeps where an act announces a participant, if it does, and unless there is a place of that one.
+fn note_joined(joined: &mut BTreeMap<Guid, Location>, placed: &Placed<'_>) -> Result<(), Memory>
+    ensures { OnOk result ((acts : List PlacedValue) → AreJoined acts joined.old → AreJoined (acts ++ placed_value placed.now ∷ []) joined.new) }
+{
+    let Some(guid) = announced_participant(&placed.act) else {
+        return Ok(());
+    };
+    let place = Location {
+        datagram: placed.datagram as u64,
+        at: placed.act.at,
+    };
+    keep_place(joined, guid, place)?;
+    Ok(())
+}
+
+/// Where each participant is announced first, by these acts.
+pub(crate) fn joined_of(
+    alloc: Global,
+    announcements: &[Placed<'_>],
+) -> Result<BTreeMap<Guid, Location>, Memory>
+    ensures { IfOk result (AreJoined (map placed_value announcements.now)) }
+{
+    let mut joined = BTreeMap::new(alloc);
+    for placed in announcements {
+        note_joined(&mut joined, placed)?;
+    }
+    Ok(joined)
+}
+
+/// Whether a participant has this address.
+fn has_address(participant: &Participant, address: Address) -> bool
+    ensures { result ≡ has_address_lem address participant.now }
+{
+    match participant.host.address {
+        Some(own) => own == address,
+        None => false,
+    }
+}
+
+/// Whether there are participants, each with an address, all with the same one.
+pub fn are_on_one_host(participants: &[Participant]) -> bool
+    ensures { result ≡ are_on_one_host_lem participants.now }
+{
+    let Some((first, others)) = participants.split_first() else {
+        return false;
+    };
+    let Some(address) = first.host.address else {
+        return false;
+    };
+    for other in others {
+        if !has_address(other, address) {
+            return false;
+        }
+    }
+    true
+}
