@@ -1,12 +1,15 @@
 """The text of `rtps-audit check`, from rows of a report: what a person and a test job ask of a recording.
 
 `check_lines` gives the lines, `because` the reasons for which the recording is not clean. Both are written from what is
-meant, and not from the program. The guide prints the table ADVICE. A row is that of `spans.Row`, and `talk` that of `talk.Talk`.
+meant, and not from the program. The guide prints the table ADVICE. A row is that of `spans.Row`, and `talk` that of `talk.Talk`;
+`sides` is what another recording shows, an `arrived.BothSides`, where there is one.
 """
+import arrived
+from times import behind, order_notes, timed_line, wait_line
 from told import hosted, one_way_lines, talk_notes, topic_text, type_text, unmatched_amount, unmatched_lines
 from wording import amount, grouped, in_pairs, of
 
-KINDS = 'received', 'missed', 'unsent', 'unanswered', 'likely', 'unconfirmed'
+KINDS = 'received', 'arrived', 'missed', 'unsent', 'unanswered', 'likely', 'unconfirmed'
 
 # ---- what to do for a row that is not clean: the first case that fits
 
@@ -55,7 +58,7 @@ ADVICE = [
     ('lacking', 'unfounded', '`told nowhere`',
      'the recording lacks it: see how many packets tcpdump says it dropped, and switch off shared memory'),
 ]
-SENTENCES = {name: sentence for name, _, _, sentence in ADVICE}
+SENTENCES = {name: sentence for name, _, _, sentence in ADVICE} | arrived.SENTENCES
 
 
 def is_unread(counts):
@@ -71,7 +74,7 @@ def missed_advice(row):
 
 
 def open_advice(row, values, counts):
-    if row.is_tail() and row.until is None:
+    if row.is_tail() and row.until is None and not row.reader_is_silent():
         return 'tail'
     if values['acknowledged'] is None and row.until is not None:
         return 'left'
@@ -102,6 +105,8 @@ def advice_of(row, counts):
         return 'alike' if all(one[part] == other[part] for part in ('payload', 'octets')) else 'unlike'
     if row.kind == 'unfounded':
         return unfounded_advice(row, values, counts)
+    if row.held and not row.is_tail() and any(row.delivery.kind(n) not in ('received', 'arrived') for n in row.delivery.brought if n >= row.first):
+        return 'lost'
     if row.counts['missed']:
         return missed_advice(row)
     if row.kind == 'open':
@@ -138,17 +143,18 @@ def no_pair_advice(talk):
     return next((advice for found, advice in cases if found), NO_PAIR)
 
 
-def first_lines(rows, talk, tail):
+def first_lines(rows, talk, tail, sides):
     if not rows:
         return ['there is no pair to judge', '  -> ' + no_pair_advice(talk)]
     numbers = sum(row.asked_about() for row in rows)
     pairs, what = ('pair is' if len(rows) == 1 else 'pairs are'), ('number' if numbers == 1 else 'numbers')
-    return [f"{of(cleans(rows, tail), len(rows))} {pairs} clean, {of(total(rows, 'received'), numbers)} {what} received"]
+    received = f"{of(total(rows, 'received'), numbers)} {what} received"
+    return [f"{of(cleans(rows, tail), len(rows))} {pairs} clean, {received}{arrived.more_arrived(rows) if sides else ''}"]
 
 
 # ---- the table by topic
 
-COLUMNS = 'received', 'likely', 'missed', 'unsent', 'unanswered', 'unconfirmed'
+COLUMNS = 'received', 'arrived', 'likely', 'missed', 'unsent', 'unanswered', 'unconfirmed'
 
 
 def by_topic(rows):
@@ -189,15 +195,26 @@ def beginning(line):
 
 def shown(row):
     """the lines that explain a row, of which the one on missed numbers is the first"""
-    lines = [line for line in row.lines if beginning(line) in SHOWN[row.kind]]
-    return ['    ' + line.strip() for line in sorted(lines, key=lambda line: not line.startswith('  '))]
+    lines = [line for line in row.lines if beginning(line) in SHOWN[row.kind] and not is_of_arrived(row, line)]
+    return arrived.lacking_lines(row) + [line.strip() for line in sorted(lines, key=lambda line: not line.startswith('  '))]
+
+
+def is_of_arrived(row, line):
+    """whether a line is the one on the first missed number, which arrived"""
+    return beginning(line) == '  number' and row.delivery.missed[0] in row.delivery.arrived
+
+
+def timed_lines(row):
+    """the lines that explain a row, each place with its second; how long the reader let the writer wait; and who is silent"""
+    waited = [wait_line(row.times, row.wait)] if row.wait else []
+    return [*(timed_line(row.times, line) for line in shown(row)), *waited, *row.silence_lines()]
 
 
 def row_lines(row, talk, counts):
-    left = f', left in datagram {row.until[0]}' if row.until else ''
+    left = f', left in datagram {row.until[0]}{behind(row.times, row.until[0])}' if row.until else ''
     kinds = [f'{kind} {row.counts[kind]}' for kind in COLUMNS if kind == 'received' or row.counts[kind]]
     return [f'  writer {hosted(talk.announced, row.w)}', f'  reader {hosted(talk.announced, row.r)}, from {row.first}{left}',
-            f"  {', '.join([row.verdict, *kinds])}", *shown(row), '    -> ' + SENTENCES[advice_of(row, counts)]]
+            f"  {', '.join([row.verdict, *kinds])}", *('    ' + line for line in timed_lines(row)), '    -> ' + SENTENCES[advice_of(row, counts)]]
 
 
 def section(rows, talk, counts, tail):
@@ -260,26 +277,26 @@ def tail_note(rows):
     return f"{amount(len(rows), 'pair is', 'pairs are')} clean with a tail, of at most {amount(longest, 'number', 'numbers')}"
 
 
-def notes(rows, talk, counts, tail):
+def notes(rows, talk, counts, tail, sides):
     """what weakens the report: each with the topics that it is about, or None, and what to do, or None"""
     late = [row for row in rows if row.wrote_before_alone]
-    tails = [row for row in rows if row.is_clean(tail) and row.kind == 'open']
-    found = talk_notes(talk)
+    tails = [row for row in rows if row.is_clean(tail) and row.kind == 'open' and row.tail()]
+    found = order_notes(talk.times) + talk_notes(talk) + (list(sides.notes(topic_text)) if sides else [])
     found += [(late_note(late), topics_of(late), LATE)] if late else []
     found += [(tail_note(tails), None, None)] if tails else []
-    counts = counts | {'likely': total(rows, 'likely')}
+    counts = counts | {'likely': total([row for row in rows if not row.held], 'likely')}
     return found + [(noted(counts, name, one, many), None, advice) for name, one, many, advice in NOTES if counts.get(name, 0)]
 
 
-def note_lines(rows, talk, counts, tail):
+def note_lines(rows, talk, counts, tail, sides):
     lines = []
-    for told, topics, advice in notes(rows, talk, counts, tail):
+    for told, topics, advice in notes(rows, talk, counts, tail, sides):
         lines += [told if topics is None else f'{told}: {topics}'] + (['  -> ' + advice] if advice else [])
     return lines
 
 
-def note_sentences(rows, talk, counts, tail):
-    return [f'{told} -> {advice}' if advice else told for told, _, advice in notes(rows, talk, counts, tail)]
+def note_sentences(rows, talk, counts, tail, sides=None):
+    return [f'{told} -> {advice}' if advice else told for told, _, advice in notes(rows, talk, counts, tail, sides)]
 
 
 # ---- why the recording is not clean
@@ -305,7 +322,11 @@ def row_reasons(rows, tail):
     reasons = [amount(len(unclean), 'pair is not complete', 'pairs are not complete')] if unclean else []
     reasons += lost(rows, 'missed', 'number was missed', 'numbers were missed')
     reasons += lost(rows, 'unsent', 'number was unsent', 'numbers were unsent')
-    return reasons + lost(rows, 'unanswered', 'number was unanswered', 'numbers were unanswered')
+    return reasons + lost(rows, 'unanswered', 'number was unanswered', 'numbers were unanswered') + arrived.lost_reasons(complete(rows))
+
+
+def complete(rows):
+    return [row for row in rows if row.kind == 'complete']
 
 
 def match_reasons(talk):
@@ -327,10 +348,11 @@ def block(lines):
     return [''] + lines if lines else []
 
 
-def check_lines(rows, talk, counts, tail, reasons):
+def check_lines(rows, talk, counts, tail, reasons, sides=None):
     """the lines of these rows, of who does not talk, of these counts, of which `refused` are longer than an octet, and of why it is not
     clean"""
-    return [*first_lines(rows, talk, tail), *block(table(rows, tail) if rows else []),
+    lost_here = sides.lines(lambda guid: hosted(talk.announced, guid), topic_text) if sides else []
+    return [*first_lines(rows, talk, tail, sides), *block(table(rows, tail) if rows else []),
             *(line for some in by_topic(rows) for line in section(some, talk, counts, tail)), *tail_lines(rows, tail),
-            *block(unmatched_lines(talk)), *block(one_way_lines(talk)), *block(note_lines(rows, talk, counts, tail)),
+            *block(unmatched_lines(talk)), *block(one_way_lines(talk)), *block(lost_here), *block(note_lines(rows, talk, counts, tail, sides)),
             *block([f"not clean: {'; '.join(reasons)}" if reasons else 'clean'])]

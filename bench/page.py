@@ -9,7 +9,6 @@
 
 An OPTION is one of `audit`, but for limits and --json.
 """
-import json
 import os
 import random
 import subprocess
@@ -26,6 +25,7 @@ import told
 from asked import PLAIN, asked_by
 from random_recordings import some_asked
 from random_systems import some_recorded
+from times import NO_TIMES, json_text
 
 # So many entries of acts and answers a page has room for.
 ENTRIES = 200000
@@ -106,8 +106,8 @@ def option_values(asked, any_capture):
 
 class Checked:
     """the rows that are asked for, those that the recording cannot speak of, the counts, and why the run does not end clean"""
-    def __init__(self, octets, asked, datagrams, ignored):
-        self.rows, self.talk, counted = spans.rows_of(datagrams, asked, asked.spans)
+    def __init__(self, octets, asked, datagrams, ignored, times=NO_TIMES):
+        self.rows, self.talk, counted = spans.rows_of(datagrams, asked, asked.spans, times)
         self.report = counted | (ignored if isinstance(ignored, dict) else {} if ignored is None else {'ignored': ignored})
         self.counts = spans.counts_of(octets, datagrams, self.report, ignored)
         self.because = self.reasons(asked)
@@ -145,26 +145,33 @@ class Checked:
 
 # ---- the page
 
-def page_of(datagrams, asked=PLAIN, ignored=None, octets=b''):
+def times_in(times, writers, answers):
+    """the second of each datagram that has one and stands in an entry, in order"""
+    named = {entry[0] for one in writers for entry in one['acts']} | {entry[0] for one in answers for entry in one['bases']}
+    return [[datagram, times.second(datagram)] for datagram in sorted(named) if times.second(datagram)]
+
+
+def page_of(datagrams, asked=PLAIN, ignored=None, octets=b'', times=NO_TIMES):
     """the text and the data of a page, as Python has it; where any capture was read, the ignored frames are told by their reasons"""
-    checked = Checked(octets, asked, datagrams, ignored)
+    checked = Checked(octets, asked, datagrams, ignored, times)
     _, endpoints, _, _, _ = reference.discovery(datagrams, asked.fragments)
     rows = [row.names() | {'verdict': row.kind} for row in checked.rows]
     traffic = Traffic([reference.acts_of(d, asked.fragments) for d in datagrams], rows)
     pairs = {(row['writer'], row['reader']) for row in traffic.charted(rows)}
     shown = [row for row in rows if (row['writer'], row['reader']) in pairs]
-    writers = list(dict.fromkeys(row['writer'] for row in shown))
+    writers = [{'guid': guid, 'acts': traffic.acts[octets_of(guid)]} for guid in dict.fromkeys(row['writer'] for row in shown)]
+    answers = [{'writer': row['writer'], 'reader': row['reader'], 'bases': traffic.bases_of(row)} for row in shown]
     return checked.text(), checked.members() | {
         'options': option_values(asked, isinstance(ignored, dict)),
         'endpoints': [endpoint_values(endpoint) for endpoint in endpoints],
-        'writers': [{'guid': guid, 'acts': traffic.acts[octets_of(guid)]} for guid in writers],
-        'answers': [{'writer': row['writer'], 'reader': row['reader'], 'bases': traffic.bases_of(row)} for row in shown],
-    }
+        'writers': writers,
+        'answers': answers,
+    } | ({'times': times_in(times, writers, answers)} if times.are_there() else {})
 
 
 def data_text(values):
     """the object on one line, with no octet by which a tag or an entity could begin"""
-    text = json.dumps(values, separators=(',', ':'), ensure_ascii=False)
+    text = json_text(values, ensure_ascii=False)
     return text.replace('<', '\\u003c').replace('>', '\\u003e').replace('&', '\\u0026')
 
 
@@ -178,10 +185,14 @@ def page_text(text, values):
     return head + escaped(text) + middle + data_text(values) + tail
 
 
+def times_of(octets, any_form):
+    return reference.times_of(octets, any_form=any_form)
+
+
 def parts_of(octets, asked=PLAIN, any_form=False):
     """the text and the data of the page of an input, or the last line of standard error"""
     found = reference.input_of(octets, any_form=any_form or asked.strict)
-    return found if isinstance(found, str) else page_of(found[0], asked, found[1], octets)
+    return found if isinstance(found, str) else page_of(found[0], asked, found[1], octets, times_of(octets, any_form or asked.strict))
 
 
 def answer_as(octets, asked, any_form=False):
@@ -190,8 +201,9 @@ def answer_as(octets, asked, any_form=False):
     read = reference.input_of(octets, any_form=any_form)
     if isinstance(read, str):
         return '', reference.told_of('-', octets, any_form=any_form), 2
-    checked = Checked(octets, asked, *read)
-    return page_text(*page_of(*read[:1], asked, read[1], octets)), checked.findings(asked), int(bool(checked.because))
+    times = times_of(octets, any_form)
+    checked = Checked(octets, asked, *read, times)
+    return page_text(*page_of(*read[:1], asked, read[1], octets, times)), checked.findings(asked), int(bool(checked.because))
 
 
 def compare(program, count, seed):

@@ -6,6 +6,7 @@
 -- Other programs read the outcome and its reasons without taking lines apart.
 use Rattle.std.specs.Prelude.{ℕ, ◌≡◌, ◌++◌, ◌==◌, if◌then◌else◌, nat_lt, List, [], ◌∷◌, Bool, codes, filter, fold, map, max, ℤ, decimal, length, Option, None, Some, flat_map, ◌↔◌}
 use Rattle.std.specs.List.{concat}
+use Rattle.rtps_evidence.specs.Times.{TimesValue}
 use Rattle.rtps_report.specs.Vocabulary.{CompleteGrounds, ConflictGrounds, Counts, EvidenceValue, Explanation, explanation_value, ExplanationValue, FirstMissed, GroundsValue, OpenGrounds, Outcomes, SentValue, UnfoundedGrounds}
 use Rattle.rtps_report.specs.declared.findings.Ending.TheVariants.{Clean}
 use Rattle.rtps_report.specs.declared.findings.Ending.{Ending}
@@ -31,7 +32,7 @@ use Rattle.rtps_policies.specs.declared.host.Host.{Host}
 use Rattle.rtps_report.specs.Talk.{TalkValue, talk_value}
 use Rattle.rtps_report.specs.Advice.{advice_of, sentence_of}
 use Rattle.rtps_report.specs.Reported.{number_of}
-use Rattle.rtps_lines.specs.Lines.{acknowledged_line, announced_line, asked_line, claimed_line, questions_line, sent_line, told_line, verdict_text}
+use Rattle.rtps_lines.specs.Lines.{acknowledged_line, announced_line, asked_line, claimed_line, questions_line, second_text, sent_line, told_line, verdict_text}
 use Rattle.rtps_parts.specs.Table.{table}
 use Rattle.rtps_lines.specs.CheckMembers.{check_members}
 use Rattle.rtps_lines.specs.JsonText.{IsJsonLine, object_of}
@@ -65,9 +66,10 @@ no_pair_remedy talk left_out =
 abbrev pub no_pair_lines : TalkValue → List ExplanationValue → List ℕ
 no_pair_lines talk left_out = concat (codes "there is no pair to judge\n  -> " ∷ no_pair_remedy talk left_out ∷ codes "\n" ∷ [])
 
--- what is told beside the rows: of what weakens the report, which rows it cannot speak of, by topic, who does not talk, what rows have to be,
--- and how the run ends
+-- what is told beside the rows: when datagrams came, what weakens the report, which rows it cannot speak of, by topic, who does not talk,
+-- what rows have to be, and how the run ends
 pub record Beside : Type 0 where
+  pub times : TimesValue
   pub facts : NoteFacts
   pub left_out : List ExplanationValue
   pub talk : TalkValue
@@ -129,56 +131,56 @@ kinds_text outcomes =
     ++ (kind_text (codes ", unanswered ") outcomes.unanswered ++ (kind_text (codes ", unconfirmed ") outcomes.unconfirmed ++ codes "\n")))))
 
 -- the line of the least number that is missed, which has its spaces; nothing where none is
-abbrev pub missed_text : Option FirstMissed → List ℕ
-missed_text None = []
-missed_text (Some first) = asked_line first
+abbrev pub missed_text : TimesValue → Option FirstMissed → List ℕ
+missed_text times None = []
+missed_text times (Some first) = asked_line times first
 
 -- the line of a payload that was sent for a number, if one was
-abbrev pub payload_line : ℤ → Option SentValue → List ℕ
-payload_line number None = []
-payload_line number (Some sent) = codes "  " ++ sent_line number (Some sent)
+abbrev pub payload_line : TimesValue → ℤ → Option SentValue → List ℕ
+payload_line times number None = []
+payload_line times number (Some sent) = codes "  " ++ sent_line times number (Some sent)
 
 -- the lines of `why` that explain a verdict on a number, behind two more spaces
-abbrev pub verdict_by : ℤ → EvidenceValue → GroundsValue → List ℕ
-verdict_by number evidence CompleteGrounds = []
-verdict_by number evidence (OpenGrounds teller count last) =
-    concat (codes "  " ∷ acknowledged_line evidence.acknowledgement ∷ codes "  " ∷ told_line number teller ∷ codes "  " ∷ questions_line count last ∷ [])
-verdict_by number evidence (ConflictGrounds first other) = payload_line number first ++ payload_line number other
-verdict_by number evidence (UnfoundedGrounds teller claim) =
-    concat (codes "  " ∷ announced_line evidence.announcement ∷ codes "  " ∷ claimed_line claim ∷ codes "  " ∷ told_line number teller ∷ [])
+abbrev pub verdict_by : TimesValue → ℤ → EvidenceValue → GroundsValue → List ℕ
+verdict_by times number evidence CompleteGrounds = []
+verdict_by times number evidence (OpenGrounds teller count last) =
+    concat (codes "  " ∷ acknowledged_line times evidence.acknowledgement ∷ codes "  " ∷ told_line times number teller ∷ codes "  " ∷ questions_line times count last ∷ [])
+verdict_by times number evidence (ConflictGrounds first other) = payload_line times number first ++ payload_line times number other
+verdict_by times number evidence (UnfoundedGrounds teller claim) =
+    concat (codes "  " ∷ announced_line times evidence.announcement ∷ codes "  " ∷ claimed_line times claim ∷ codes "  " ∷ told_line times number teller ∷ [])
 
 -- those of a row
-abbrev pub verdict_lines : EvidenceValue → List ℕ
-verdict_lines evidence = verdict_by (number_of evidence.verdict) evidence evidence.grounds
+abbrev pub verdict_lines : TimesValue → EvidenceValue → List ℕ
+verdict_lines times evidence = verdict_by times (number_of evidence.verdict) evidence evidence.grounds
 
--- the datagram in which a reader leaves; nothing where it does not
-abbrev pub left_text : Option ℕ → List ℕ
-left_text None = []
-left_text (Some datagram) = codes ", left in datagram " ++ decimal datagram
+-- the datagram in which a reader leaves, and when that came; nothing where it does not
+abbrev pub left_text : TimesValue → Option ℕ → List ℕ
+left_text times None = []
+left_text times (Some datagram) = codes ", left in datagram " ++ (decimal datagram ++ second_text times datagram)
 
 -- the lines of a writer and a reader: from which number on the row is, and where the reader leaves
-abbrev pub pair_lines : (GuidPrefix → Host) → ℕ → ExplanationValue → List ℕ
-pair_lines hosts from row =
+abbrev pub pair_lines : (GuidPrefix → Host) → TimesValue → ℕ → ExplanationValue → List ℕ
+pair_lines hosts times from row =
     concat (codes "  writer " ∷ hosted hosts row.pair.writer ∷ codes "\n  reader " ∷ hosted hosts row.pair.reader
-    ∷ codes ", from " ∷ decimal (row_from from row.evidence.in_span) ∷ []) ++ (left_text (left_in row.evidence.in_span) ++ codes "\n")
+    ∷ codes ", from " ∷ decimal (row_from from row.evidence.in_span) ∷ []) ++ (left_text times (left_in row.evidence.in_span) ++ codes "\n")
 
 -- the lines of a pair, up to what became of its numbers
-abbrev pub row_head : (GuidPrefix → Host) → ℕ → ExplanationValue → List ℕ
-row_head hosts from row = pair_lines hosts from row ++ ((codes "  " ++ verdict_text row.evidence.verdict) ++ kinds_text (outcomes_of row.evidence))
+abbrev pub row_head : (GuidPrefix → Host) → TimesValue → ℕ → ExplanationValue → List ℕ
+row_head hosts times from row = pair_lines hosts times from row ++ ((codes "  " ++ verdict_text row.evidence.verdict) ++ kinds_text (outcomes_of row.evidence))
 
 -- what to do, behind an arrow
 abbrev pub advice_line : Scope → EvidenceValue → List ℕ
 advice_line scope evidence = concat (codes "    -> " ∷ sentence_of (advice_of scope evidence) ∷ codes "\n" ∷ [])
 
 -- the lines of a pair
-abbrev pub row_lines : (GuidPrefix → Host) → Scope → ExplanationValue → List ℕ
-row_lines hosts scope row =
-    row_head hosts scope.from row
-    ++ (missed_text row.evidence.first_missed ++ (verdict_lines row.evidence ++ advice_line scope row.evidence))
+abbrev pub row_lines : (GuidPrefix → Host) → TimesValue → Scope → ExplanationValue → List ℕ
+row_lines hosts times scope row =
+    row_head hosts times scope.from row
+    ++ (missed_text times row.evidence.first_missed ++ (verdict_lines times row.evidence ++ advice_line scope row.evidence))
 
 -- the lines of a pair that someone has to look at; nothing for another
-abbrev pub noted_lines : (GuidPrefix → Host) → Scope → ExplanationValue → List ℕ
-noted_lines hosts scope row = if is_noted scope.tail row.evidence then row_lines hosts scope row else []
+abbrev pub noted_lines : (GuidPrefix → Host) → TimesValue → Scope → ExplanationValue → List ℕ
+noted_lines hosts times scope row = if is_noted scope.tail row.evidence then row_lines hosts times scope row else []
 
 -- the line of a topic: its name and its type, by ROS 2, as `list` writes names between quotes
 abbrev pub topic_head : List ExplanationValue → List ℕ
@@ -191,8 +193,8 @@ headed head [] = []
 headed head (octet ∷ lines) = 10 ∷ (head ++ octet ∷ lines)
 
 -- the lines of a topic
-abbrev pub section : (GuidPrefix → Host) → Scope → List ExplanationValue → List ℕ
-section hosts scope rows = headed (topic_head rows) (flat_map (noted_lines hosts scope) rows)
+abbrev pub section : (GuidPrefix → Host) → TimesValue → Scope → List ExplanationValue → List ℕ
+section hosts times scope rows = headed (topic_head rows) (flat_map (noted_lines hosts times scope) rows)
 
 -- ---- the pairs that lack only a tail
 
@@ -220,8 +222,8 @@ tail_block tail rows = tails_of (filter (λ row. is_tail_alone tail row.evidence
 -- ---- the whole text
 
 -- the lines by topic: the table, the pairs that someone has to look at, and those that lack only a tail
-abbrev pub topics_text : (GuidPrefix → Host) → Scope → Totals → List ExplanationValue → List ℕ
-topics_text hosts scope totals rows = topic_table scope totals (topics_of rows) ++ (flat_map (section hosts scope) (topics_of rows) ++ tail_block scope.tail rows)
+abbrev pub topics_text : (GuidPrefix → Host) → TimesValue → Scope → Totals → List ExplanationValue → List ℕ
+topics_text hosts times scope totals rows = topic_table scope totals (topics_of rows) ++ (flat_map (section hosts times scope) (topics_of rows) ++ tail_block scope.tail rows)
 
 -- what weakens the report
 abbrev pub told_notes : Scope → Beside → List ExplanationValue → List (List ℕ)
@@ -241,13 +243,14 @@ pub record IsTextBy (scope : Scope) (beside : Beside) (rows : List ExplanationVa
   pub unmatched : List UnmatchedValue
   pub unmatched_by_topic : UnmatchedByTopic beside.talk.unmatched unmatched
   pub is_text : let totals = totals_of scope rows in text ≡ first_lines totals beside
-      ++ (topics_text beside.talk.hosts scope totals rows
+      ++ (topics_text beside.talk.hosts beside.times scope totals rows
       ++ (unmatched_lines beside.talk.hosts unmatched ++ (one_way_block beside.talk ++ ending_text scope beside totals rows)))
 
 -- what the code knows of it, as a value
 abbrev pub beside_value : Told → Beside
 beside_value told =
     record {
+      times = told.times.now;
       facts = told.facts;
       left_out = map explanation_value told.left_out.now;
       talk = talk_value told.talk.now;
@@ -259,6 +262,7 @@ beside_value told =
 abbrev pub beside_of : AskedValue → RecordingValue → ReportValue → List Explanation → Beside
 beside_of asked recording report left_out =
     record {
+      times = recording.times;
       facts = note_facts asked recording report;
       left_out = map explanation_value left_out;
       talk = report.talk;

@@ -12,7 +12,7 @@ use crate::tails::{late_among, push_tail_block};
 use crate::topic_table::push_topic_table;
 use crate::unmatched_block::push_unmatched_block;
 use json::Writer;
-use rtps_evidence::Explanation;
+use rtps_evidence::{Explanation, Times};
 use rtps_lines::{
     Judged, NotedRows, causes_of, json_line, notes_of, push_check_members, push_last,
 };
@@ -27,6 +27,7 @@ use std::alloc::{AllocError, Global};
 #[derive(Clone, Copy)]
 struct Told<'r, 'a> {
     scope: Scope,
+    times: &'r Times,
     facts: NoteFacts,
     rows: &'r [Explanation<'a>],
     left_out: &'r [Explanation<'a>],
@@ -109,11 +110,12 @@ fn push_topics(
     told: &Told<'_, '_>,
     totals: &Totals,
 ) -> Result<(), AllocError>
-    ensures { OnOk result (string_bytes text.new ≡ string_bytes text.old ++ topics_text (talk_value told.now.talk.now).hosts told.now.scope totals.now (map explanation_value told.now.rows.now)) }
+    ensures { OnOk result (string_bytes text.new ≡ string_bytes text.old ++ topics_text (talk_value told.now.talk.now).hosts told.now.times.now told.now.scope totals.now (map explanation_value told.now.rows.now)) }
 {
     let telling = RowTelling {
         scope: told.scope,
         talk: told.talk,
+        times: told.times,
     };
     let topics = topics_of(alloc, told.rows)?;
     push_topic_table(alloc, text, &topics, (totals, told.scope))?;
@@ -175,6 +177,7 @@ pub fn check_text(alloc: Global, report: &FullReport<'_>) -> Result<String, Allo
     let left_out = by_topic(alloc, &report.left_out)?;
     let told = Told {
         scope: scope_of(report),
+        times: report.recording.times(),
         facts: notes_on(report),
         rows: &rows,
         left_out: &left_out,

@@ -5,10 +5,10 @@ ghost use Rattle.rtps_parts.specs.Parts.{part_text};
 ghost use Rattle.rtps_check.specs.CheckText.{advice_line, headed, hosts_of, kind_text, kinds_text, left_text, missed_text, noted_lines, pair_lines, payload_line, row_head, row_lines, section, topic_head as topic_head_lem, verdict_lines};
 
 use crate::unmatched_block::hosted_by;
-use rtps_evidence::{Evidence, Explanation, FirstMissed, Grounds, Outcomes, Sent};
+use rtps_evidence::{Evidence, Explanation, FirstMissed, Grounds, Outcomes, Sent, Times};
 use rtps_lines::{
-    AcknowledgedLine, AnnouncedLine, AskedLine, ClaimedLine, QuestionsLine, ToldLine, VerdictText,
-    push_field, push_sent,
+    AcknowledgedLine, AnnouncedLine, AskedLine, ClaimedLine, QuestionsLine, SecondText, ToldLine,
+    VerdictText, push_field, push_sent,
 };
 use rtps_parts::{Part, render};
 use rtps_report::{Scope, Talk, advice_of, is_noted, left_at, number_of, outcomes_of, row_from};
@@ -20,6 +20,8 @@ pub(crate) struct RowTelling<'t, 'a> {
     pub(crate) scope: Scope,
     /// Where participants are.
     pub(crate) talk: &'t Talk<'a>,
+    /// When datagrams came.
+    pub(crate) times: &'t Times,
 }
 
 fn push_kind(text: &mut String, name: &str, count: u64) -> Result<(), AllocError>
@@ -43,27 +45,37 @@ fn push_kinds(text: &mut String, outcomes: Outcomes) -> Result<(), AllocError>
     text.push_str("\n")
 }
 
-fn push_missed(text: &mut String, first: Option<FirstMissed>) -> Result<(), AllocError>
-    ensures { OnOk result (string_bytes text.new ≡ string_bytes text.old ++ missed_text first) }
+fn push_missed(
+    text: &mut String,
+    first: Option<FirstMissed>,
+    times: &Times,
+) -> Result<(), AllocError>
+    ensures { OnOk result (string_bytes text.new ≡ string_bytes text.old ++ missed_text times.now first) }
 {
     match first {
         None => Ok(()),
-        Some(first) => write!(text, "{}", AskedLine(first)),
+        Some(first) => write!(text, "{}", AskedLine(times, first)),
     }
 }
 
-fn push_payload(text: &mut String, number: i64, sent: Option<Sent<'_>>) -> Result<(), AllocError>
-    ensures { OnOk result (string_bytes text.new ≡ string_bytes text.old ++ payload_line number (option_map sent_value sent.entry)) }
+fn push_payload(
+    text: &mut String,
+    number: i64,
+    sent: Option<Sent<'_>>,
+    times: &Times,
+) -> Result<(), AllocError>
+    ensures { OnOk result (string_bytes text.new
+        ≡ string_bytes text.old ++ payload_line times.now number (option_map sent_value sent.entry)) }
 {
     if sent.is_none() {
         return Ok(());
     }
     text.push_str("  ")?;
-    push_sent(text, number, sent)
+    push_sent(text, number, sent, times)
 }
 
-fn push_verdict(text: &mut String, evidence: &Evidence<'_>) -> Result<(), AllocError>
-    ensures { OnOk result (string_bytes text.new ≡ string_bytes text.old ++ verdict_lines (evidence_value evidence.now)) }
+fn push_verdict(text: &mut String, evidence: &Evidence<'_>, times: &Times) -> Result<(), AllocError>
+    ensures { OnOk result (string_bytes text.new ≡ string_bytes text.old ++ verdict_lines times.now (evidence_value evidence.now)) }
 {
     let number = number_of(&evidence.verdict);
     match evidence.grounds {
@@ -76,32 +88,35 @@ fn push_verdict(text: &mut String, evidence: &Evidence<'_>) -> Result<(), AllocE
             write!(
                 text,
                 "  {}  {}  {}",
-                AcknowledgedLine(evidence.acknowledgement),
-                ToldLine(number, teller),
-                QuestionsLine(asked_since, last_asked)
+                AcknowledgedLine(times, evidence.acknowledgement),
+                ToldLine(times, number, teller),
+                QuestionsLine(times, asked_since, last_asked)
             )
         }
         Grounds::Conflict { first, other } => {
-            push_payload(text, number, first)?;
-            push_payload(text, number, other)
+            push_payload(text, number, first, times)?;
+            push_payload(text, number, other, times)
         }
         Grounds::Unfounded { teller, claim } => {
             write!(
                 text,
                 "  {}  {}  {}",
-                AnnouncedLine(evidence.announcement),
-                ClaimedLine(claim),
-                ToldLine(number, teller)
+                AnnouncedLine(times, evidence.announcement),
+                ClaimedLine(times, claim),
+                ToldLine(times, number, teller)
             )
         }
     }
 }
 
-fn push_left(text: &mut String, left: Option<u64>) -> Result<(), AllocError>
-    ensures { OnOk result (string_bytes text.new ≡ string_bytes text.old ++ left_text left) }
+fn push_left(text: &mut String, left: Option<u64>, times: &Times) -> Result<(), AllocError>
+    ensures { OnOk result (string_bytes text.new ≡ string_bytes text.old ++ left_text times.now left) }
 {
     match left {
-        Some(datagram) => push_field(text, ", left in datagram ", datagram),
+        Some(datagram) => {
+            let second = SecondText(times, datagram);
+            write!(text, ", left in datagram {datagram}{second}")
+        }
         None => Ok(()),
     }
 }
@@ -111,13 +126,13 @@ fn push_pair(
     row: &Explanation<'_>,
     told: RowTelling<'_, '_>,
 ) -> Result<(), AllocError>
-    ensures { OnOk result (string_bytes text.new ≡ string_bytes text.old ++ pair_lines (hosts_of told.entry) told.entry.scope.from (explanation_value row.now)) }
+    ensures { OnOk result (string_bytes text.new ≡ string_bytes text.old ++ pair_lines (hosts_of told.entry) told.entry.times.now told.entry.scope.from (explanation_value row.now)) }
 {
     let first = row_from(told.scope.from, &row.evidence);
     let writer = hosted_by(told.talk, row.pair.writer);
     let reader = hosted_by(told.talk, row.pair.reader);
     write!(text, "  writer {writer}\n  reader {reader}, from {first}")?;
-    push_left(text, left_at(&row.evidence))?;
+    push_left(text, left_at(&row.evidence), told.times)?;
     text.push_str("\n")
 }
 
@@ -126,7 +141,7 @@ fn push_head(
     row: &Explanation<'_>,
     told: RowTelling<'_, '_>,
 ) -> Result<(), AllocError>
-    ensures { OnOk result (string_bytes text.new ≡ string_bytes text.old ++ row_head (hosts_of told.entry) told.entry.scope.from (explanation_value row.now)) }
+    ensures { OnOk result (string_bytes text.new ≡ string_bytes text.old ++ row_head (hosts_of told.entry) told.entry.times.now told.entry.scope.from (explanation_value row.now)) }
 {
     push_pair(text, row, told)?;
     write!(text, "  {}", VerdictText(row.evidence.verdict))?;
@@ -144,11 +159,11 @@ fn push_row(
     row: &Explanation<'_>,
     told: RowTelling<'_, '_>,
 ) -> Result<(), AllocError>
-    ensures { OnOk result (string_bytes text.new ≡ string_bytes text.old ++ row_lines (hosts_of told.entry) told.entry.scope (explanation_value row.now)) }
+    ensures { OnOk result (string_bytes text.new ≡ string_bytes text.old ++ row_lines (hosts_of told.entry) told.entry.times.now told.entry.scope (explanation_value row.now)) }
 {
     push_head(text, row, told)?;
-    push_missed(text, row.evidence.first_missed)?;
-    push_verdict(text, &row.evidence)?;
+    push_missed(text, row.evidence.first_missed, told.times)?;
+    push_verdict(text, &row.evidence, told.times)?;
     push_advice(text, &row.evidence, told.scope)
 }
 
@@ -158,7 +173,7 @@ fn lines_of(
     rows: &[Explanation<'_>],
     told: RowTelling<'_, '_>,
 ) -> Result<String, AllocError>
-    ensures { IfOk result (λ lines. string_bytes lines ≡ flat_map (noted_lines (hosts_of told.entry) told.entry.scope) (map explanation_value rows.now)) }
+    ensures { IfOk result (λ lines. string_bytes lines ≡ flat_map (noted_lines (hosts_of told.entry) told.entry.times.now told.entry.scope) (map explanation_value rows.now)) }
 {
     let mut lines = String::new(alloc);
     for row in rows {
@@ -201,7 +216,7 @@ fn push_section(
     rows: &[Explanation<'_>],
     told: RowTelling<'_, '_>,
 ) -> Result<(), AllocError>
-    ensures { OnOk result (string_bytes text.new ≡ string_bytes text.old ++ section (hosts_of told.entry) told.entry.scope (map explanation_value rows.now)) }
+    ensures { OnOk result (string_bytes text.new ≡ string_bytes text.old ++ section (hosts_of told.entry) told.entry.times.now told.entry.scope (map explanation_value rows.now)) }
 {
     let lines = lines_of(alloc, rows, told)?;
     push_headed(text, &topic_head(rows), &lines)
@@ -214,7 +229,7 @@ pub(crate) fn push_sections(
     told: RowTelling<'_, '_>,
 ) -> Result<(), AllocError>
     ensures { OnOk result (string_bytes text.new
-        ≡ string_bytes text.old ++ flat_map (section (hosts_of told.entry) told.entry.scope) (map (λ topic. map explanation_value topic.now) topics.now)) }
+        ≡ string_bytes text.old ++ flat_map (section (hosts_of told.entry) told.entry.times.now told.entry.scope) (map (λ topic. map explanation_value topic.now) topics.now)) }
 {
     for rows in topics {
         push_section(alloc, text, rows, told)?;

@@ -1,4 +1,4 @@
-ghost use Rattle.std.specs.Prelude.{◌≡◌, IfOk, List};
+ghost use Rattle.std.specs.Prelude.{◌≡◌, IfOk, List, Option};
 ghost use Rattle.rtps_receiver.specs.Values.{ActValue};
 ghost use Rattle.rtps_audit.specs.Index.{IsIndexBy};
 ghost use Rattle.rtps_audit.specs.Intake.{Intake};
@@ -16,6 +16,7 @@ use crate::last_announcement::Announcement;
 use crate::missed::count_missed;
 use crate::missed_numbers::find_missed;
 use crate::not_received::NotReceived;
+use crate::other_side::{Arrivals, Sides};
 use crate::outcome::Unreceived;
 use crate::received::count_received;
 use crate::rising::rising;
@@ -58,6 +59,7 @@ pub struct Evidence<'a> {
 
 impl<'a> Evidence<'a> {
     ghost use Rattle.rtps_evidence.specs.Evidence.{IsBeside, IsEvidence, IsEvidenceFrom, IsShown, IsVerdictIn};
+    ghost use Rattle.rtps_evidence.specs.OtherSide.{AreSides, AreThere, OtherRecording};
     ghost use Rattle.rtps_evidence.specs.Spans.{since_of};
     ghost use Rattle.rtps_evidence.specs.WriterSummary.{IsSummary, IsSummaryOf};
 
@@ -74,14 +76,15 @@ impl<'a> Evidence<'a> {
         let verdict = index.judge_from(pair, from)?;
         let judgement = Judgement::of(index, Row { pair, verdict }, from, false)?;
         let summary = WriterSummary::turned_to(alloc, index, None, &judgement)?;
-        let evidence = Evidence::of_judged(alloc, index, &summary, &judgement)?;
+        let sides = Sides { index, other: None };
+        let evidence = Evidence::of_judged(alloc, &sides, &summary, &judgement)?;
         Ok(evidence)
     }
 
     /// The evidence for a judgement, where this is what the pair's writer says. `Memory` as of [`Evidence::of_from`].
     pub(crate) fn of_judged(
         alloc: Global,
-        index: &Index<'a>,
+        sides: &Sides<'_, 'a, '_, '_>,
         summary: &WriterSummary,
         judgement: &Judgement,
     ) -> Result<Evidence<'a>, Memory>
@@ -89,18 +92,21 @@ impl<'a> Evidence<'a> {
         requires from { summary.now.asked.from ≡ judgement.now.span.from }
         requires until { summary.now.until ≡ judgement.now.span.until }
         ensures judged { IfOk result (λ evidence. evidence.verdict ≡ judgement.now.verdict) }
-        ensures shown { (intake : Intake) → IsIndexBy intake index.now → IsSummaryOf intake.acts summary.now
+        ensures shown { (intake : Intake) → IsIndexBy intake sides.now.index.now → IsSummaryOf intake.acts summary.now
             → IsVerdictIn judgement.now.span judgement.now.pair intake.acts judgement.now.verdict
             → IfOk result (IsShown judgement.now.span.from (since_of judgement.now.span) judgement.now.pair (datagrams_until judgement.now.span.until intake.acts)) }
-        ensures beside { (intake : Intake) → IsIndexBy intake index.now → IsSummaryOf intake.acts summary.now
+        ensures beside { (intake : Intake) (other : Option OtherRecording) → AreSides intake other sides.now → IsSummaryOf intake.acts summary.now
             → IsVerdictIn judgement.now.span judgement.now.pair intake.acts judgement.now.verdict
-            → IfOk result (λ evidence. IsBeside judgement.now.in_spans judgement.now.span judgement.now.pair (datagrams_until judgement.now.span.until intake.acts) evidence.in_span) }
+            → IfOk result (λ evidence. IsBeside judgement.now.in_spans other judgement.now.span judgement.now.pair (datagrams_until judgement.now.span.until intake.acts) evidence.in_span) }
     {
+        let arrivals = Arrivals::of(alloc, sides, judgement.pair)?;
         let exchange = Exchange {
             pair: judgement.pair,
             span: judgement.span,
             in_spans: judgement.in_spans,
-            said: Said::until(index, judgement.pair, judgement.span.until),
+            said: Said::until(sides.index, judgement.pair, judgement.span.until),
+            is_held: arrivals.is_held,
+            there: &arrivals.numbers,
         };
         let evidence = Evidence::of_exchange(alloc, &exchange, summary, judgement.verdict)?;
         Ok(evidence)
@@ -119,9 +125,11 @@ impl<'a> Evidence<'a> {
         ensures shown { (recording : List (List ActValue)) → IsSaid exchange.now.pair recording exchange.now.said → IsSummary recording summary.now
             → IsVerdictFrom exchange.now.span.from (speech_by exchange.now.pair.writer exchange.now.pair.reader recording) verdict
             → IfOk result (IsShown exchange.now.span.from (since_of exchange.now.span) exchange.now.pair recording) }
-        ensures beside { (recording : List (List ActValue)) → IsSaid exchange.now.pair recording exchange.now.said → IsSummary recording summary.now
+        ensures beside { (recording : List (List ActValue)) (other : Option OtherRecording) → IsSaid exchange.now.pair recording exchange.now.said
+            → IsSummary recording summary.now
             → IsVerdictFrom exchange.now.span.from (speech_by exchange.now.pair.writer exchange.now.pair.reader recording) verdict
-            → IfOk result (λ evidence. IsBeside exchange.now.in_spans exchange.now.span exchange.now.pair recording evidence.in_span) }
+            → AreThere other exchange.now.pair exchange.now.is_held exchange.now.there.now
+            → IfOk result (λ evidence. IsBeside exchange.now.in_spans other exchange.now.span exchange.now.pair recording evidence.in_span) }
     {
         let asked = &summary.asked;
         let mut heard = summary.heard_by(alloc, exchange.said.acts, exchange.pair.reader)?;

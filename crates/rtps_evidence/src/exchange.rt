@@ -1,6 +1,7 @@
 ghost use Rattle.std.specs.Prelude.{◌≡◌};
 ghost use Rattle.rtps_evidence.specs.Spans.{since_of as since_of_lem};
 
+use crate::amount::Stretch;
 use crate::listener::Listener;
 use crate::span::Span;
 use rtps_audit::Said;
@@ -24,6 +25,10 @@ pub(crate) struct Exchange<'s, 'a> {
     pub(crate) span: Span,
     pub(crate) in_spans: bool,
     pub(crate) said: Said<'s, 'a>,
+    /// Whether the pair is held against another recording.
+    pub(crate) is_held: bool,
+    /// The numbers of which the reader hears a payload in that; none where the pair is not held.
+    pub(crate) there: &'s [Stretch],
 }
 
 impl<'s, 'a> Exchange<'s, 'a> {

@@ -117,6 +117,8 @@ impl WriterSummary {
             span: judgement.span,
             in_spans: judgement.in_spans,
             said: Said::until(index, judgement.pair, judgement.span.until),
+            is_held: false,
+            there: &[],
         };
         let summary = WriterSummary::of(alloc, &exchange)?;
         Ok(summary)

@@ -20,8 +20,8 @@ check_depth asked recording report =
     let rows = rows_members telling (rows_of report) report.explained.counts recording in
     let few = strings_within causes in
     let last = strings_within notes in
-    let talk = talk_members report in
-    let end = joined 4 talk (notes_members notes) (omega (arith, talk_depth report)) (omega (arith, last)) in
+    let talk = talk_members recording.times report in
+    let end = joined 4 talk (notes_members notes) (omega (arith, talk_depth recording.times report)) (omega (arith, last)) in
     let behind = joined 4 rows (talk ++ notes_members notes) (rows_depth telling (rows_of report) report.explained.counts recording) end in
     joined 4 (status_members report.ending causes) (rows ++ (talk ++ notes_members notes)) (omega (arith, few)) behind
 

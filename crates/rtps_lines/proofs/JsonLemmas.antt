@@ -9,20 +9,23 @@ use Rattle.std.proofs.lemmas.Str.Parse.{digit_at}
 use Rattle.std.specs.Char.{is_ascii_digit}
 use Rattle.std.specs.List.{flat_map, prefix_len}
 use Rattle.json.proofs.Printed.Trees.{value-json_tokens}
-use Rattle.json.specs.Json.{Json, document, if_last, max_depth, null, string, value}
+use Rattle.json.specs.Json.{Json, boolean, document, if_last, max_depth, null, string, value}
 use Rattle.json.specs.Lex.{tokens}
 use Rattle.json.specs.Print.{IsNumber, print}
-use Rattle.json.specs.Token.{begin_array, begin_object, end_array, end_object, key}
+use Rattle.json.specs.Token.{Token, begin_array, begin_object, end_array, end_object, key}
 use Rattle.json.specs.Tree.{depth, items_depth, items_tokens, json_tokens, members_depth, members_tokens}
 use Rattle.json.specs.Word.{after_exponent, after_fraction, after_number, after_whole, head}
+use Rattle.rtps_evidence.specs.Times.{TimesValue, are_there}
+use Rattle.rtps_evidence.specs.declared.times.Seconds.{Seconds}
 use Rattle.rtps_report.specs.Vocabulary.{Absent, Announcement, Claim, Complete, CompleteGrounds, Conflict, ConflictGrounds, Counts, EvidenceValue, Explanation, ExplanationValue, FirstMissed, GroundsValue, InSpan, Key, Location, NotReceived, Open, OpenGrounds, PayloadValue, SentValue, Teller, Unfounded, UnfoundedGrounds, Verdict, Whole, explanation_value}
 use Rattle.rtps_report.specs.declared.recording.Reasons.{Reasons}
 use Rattle.rtps_report.specs.declared.advice.Scope.{Scope}
 use Rattle.rtps_report.specs.Advice.{advice_of, sentence_of}
 use Rattle.rtps_report.specs.RowFacts.{is_clean}
 use Rattle.rtps_report.specs.Recording.{RecordingValue}
-use Rattle.rtps_lines.specs.JsonText.{Member, advice_json, advice_members, announcement_json, array_of, audit_telling, claim_json, counts_members, delivery_members, evidence_members, first_missed_members, ignored_members, is_advised, items_of, members_of, not_received_json, object_of, pair_members, payload_members, place_json, place_members, reasons_members, report_json, row_json, rows_members, sent_json, shown_members, span_by, span_members, spanned_members, teller_json, tokens_of, tokens_of_member, until_json, verdict_members}
+use Rattle.rtps_lines.specs.JsonText.{Member, advice_json, advice_members, announcement_json, array_of, audit_telling, claim_json, counts_members, delivery_members, evidence_members, first_missed_members, ignored_members, is_advised, items_of, members_of, not_received_json, object_of, outcomes_json, pair_members, payload_members, place_json, place_members, reasons_members, report_json, row_json, rows_members, second_at, second_json, sent_json, shown_members, span_by, span_members, spanned_members, teller_json, timed_members, tokens_of, tokens_of_member, until_json, until_members, verdict_members}
 use Rattle.rtps_lines.specs.declared.json_object.Telling.{Telling}
+use Rattle.rtps_lines.proofs.PartLemmas.{four_parts}
 
 -- ---- tokens
 
@@ -55,6 +58,13 @@ audit_tokens a b c d =
 pub object_tokens : (members : List Member) → json_tokens (object_of members) ≡ begin_object ∷ (tokens_of members ++ end_object ∷ [])
 object_tokens members = ap (λ rest. begin_object ∷ rest) (whole members)
 
+-- an object that is written in two parts
+pub object_written : {one two three four : List Token} (start : List Token) (a b : List Member)
+    → one ≡ start ++ begin_object ∷ [] → two ≡ one ++ tokens_of a → three ≡ two ++ tokens_of b → four ≡ three ++ end_object ∷ [] → four ≡ start ++ json_tokens (object_of (a ++ b))
+object_written start a b first second third fourth =
+    four_parts start (begin_object ∷ []) (tokens_of a) (tokens_of b) (end_object ∷ []) first second third fourth
+    ∙ ap (λ tokens. start ++ begin_object ∷ tokens) (ap (λ rest. tokens_of a ++ rest) (sym (whole b)) ∙ sym (front a b))
+
 list_tokens : (values : List Json) → items_tokens (items_of values) ≡ flat_map json_tokens values ++ end_array ∷ []
 list_tokens [] = refl
 list_tokens (value ∷ values) =
@@ -65,12 +75,12 @@ pub mapped_tokens : {X : Type 0} (f : X → Json) (xs : List X) → json_tokens 
 mapped_tokens f xs = ap (λ rest. begin_array ∷ rest) (list_tokens (map f xs) ∙ ap (λ rest. rest ++ end_array ∷ []) (flat_map-map json_tokens f xs))
 
 -- the array of rows
-pub rows_tokens : (telling : Telling) (rows : List Explanation)
-    → flat_map (λ row. json_tokens (row_json telling (explanation_value row))) rows ++ end_array ∷ [] ≡ items_tokens (items_of (map (row_json telling) (map explanation_value rows)))
-rows_tokens telling [] = refl
-rows_tokens telling (row ∷ rows) =
-    let first = json_tokens (row_json telling (explanation_value row)) in
-    append_assoc first (flat_map (λ each. json_tokens (row_json telling (explanation_value each))) rows) (end_array ∷ []) ∙ ap (λ rest. first ++ rest) (rows_tokens telling rows)
+pub rows_tokens : (telling : Telling) (times : TimesValue) (rows : List Explanation)
+    → flat_map (λ row. json_tokens (row_json telling times (explanation_value row))) rows ++ end_array ∷ [] ≡ items_tokens (items_of (map (row_json telling times) (map explanation_value rows)))
+rows_tokens telling times [] = refl
+rows_tokens telling times (row ∷ rows) =
+    let first = json_tokens (row_json telling times (explanation_value row)) in
+    append_assoc first (flat_map (λ each. json_tokens (row_json telling times (explanation_value each))) rows) (end_array ∷ []) ∙ ap (λ rest. first ++ rest) (rows_tokens telling times rows)
 
 -- ---- depth
 
@@ -78,17 +88,32 @@ pub joined : (most : ℕ) (one other : List Member) → members_depth (members_o
 joined most [] other h k = k
 joined most ((name, json) ∷ one) other h k = let rest = joined most one other (omega (arith, h)) k in omega (arith, h, rest)
 
-announcement_within : (announcement : Option Announcement) → depth (announcement_json announcement) ≤ 1
-announcement_within None = omega arith
-announcement_within (Some announcement) = omega arith
+pub second_within : (second : Option Seconds) → depth (second_json second) ≤ 0
+second_within None = omega arith
+second_within (Some second) = omega arith
 
-claim_within : (claim : Option Claim) → depth (claim_json claim) ≤ 1
-claim_within None = omega arith
-claim_within (Some claim) = omega arith
+pub timed_within : (most : ℕ) (times : TimesValue) (members : List Member) → members_depth (members_of members) ≤ most → members_depth (members_of (timed_members times members)) ≤ most
+timed_within most times members h = go (are_there times.of_datagrams)
+  where
+    go : (timed : Bool) → members_depth (members_of (if timed then members else [])) ≤ most
+    go true = h
+    go false = omega arith
 
-teller_within : (teller : Option Teller) → depth (teller_json teller) ≤ 1
-teller_within None = omega arith
-teller_within (Some teller) = omega arith
+places_within : (times : TimesValue) (place : Location) → members_depth (members_of (place_members times place)) ≤ 0
+places_within times place =
+    omega (arith, timed_within 0 times ((codes "time", second_json (second_at times (Some place.datagram))) ∷ []) (omega (arith, second_within (second_at times (Some place.datagram)))))
+
+announcement_within : (times : TimesValue) (announcement : Option Announcement) → depth (announcement_json times announcement) ≤ 1
+announcement_within times None = omega arith
+announcement_within times (Some announcement) = omega (arith, places_within times announcement.place)
+
+claim_within : (times : TimesValue) (claim : Option Claim) → depth (claim_json times claim) ≤ 1
+claim_within times None = omega arith
+claim_within times (Some claim) = omega (arith, places_within times claim.place)
+
+teller_within : (times : TimesValue) (teller : Option Teller) → depth (teller_json times teller) ≤ 1
+teller_within times None = omega arith
+teller_within times (Some teller) = omega (arith, places_within times teller.place)
 
 payload_within : (payload : Option PayloadValue) → members_depth (members_of (payload_members payload)) ≤ 0
 payload_within None = omega arith
@@ -96,10 +121,10 @@ payload_within (Some Absent) = omega arith
 payload_within (Some (Whole octets)) = omega arith
 payload_within (Some (Key octets)) = omega arith
 
-sent_within : (sent : Option SentValue) → depth (sent_json sent) ≤ 1
-sent_within None = omega arith
-sent_within (Some sent) =
-    let members = joined 0 (payload_members sent.payload) (place_members sent.place) (payload_within sent.payload) (omega arith) in
+sent_within : (times : TimesValue) (sent : Option SentValue) → depth (sent_json times sent) ≤ 1
+sent_within times None = omega arith
+sent_within times (Some sent) =
+    let members = joined 0 (payload_members sent.payload) (place_members times sent.place) (payload_within sent.payload) (places_within times sent.place) in
     omega (arith, members)
 
 verdict_within : (verdict : Verdict) → members_depth (members_of (verdict_members verdict)) ≤ 2
@@ -108,29 +133,29 @@ verdict_within (Open n) = omega arith
 verdict_within (Conflict n) = omega arith
 verdict_within (Unfounded datagram n) = omega arith
 
-evidence_within : (evidence : EvidenceValue) → members_depth (members_of (evidence_members evidence)) ≤ 2
-evidence_within evidence = omega (arith, announcement_within evidence.announcement, claim_within evidence.acknowledgement)
+evidence_within : (times : TimesValue) (evidence : EvidenceValue) → members_depth (members_of (evidence_members times evidence)) ≤ 2
+evidence_within times evidence = omega (arith, announcement_within times evidence.announcement, claim_within times evidence.acknowledgement)
 
-place_within : (place : Option Location) → depth (place_json place) ≤ 1
-place_within None = omega arith
-place_within (Some place) = omega arith
+place_within : (times : TimesValue) (place : Option Location) → depth (place_json times place) ≤ 1
+place_within times None = omega arith
+place_within times (Some place) = omega (arith, places_within times place)
 
-not_received_within : (kept : Option NotReceived) → depth (not_received_json kept) ≤ 2
-not_received_within None = omega arith
-not_received_within (Some kept) = omega (arith, teller_within kept.gone, place_within kept.acknowledged)
+not_received_within : (times : TimesValue) (kept : Option NotReceived) → depth (not_received_json times kept) ≤ 2
+not_received_within times None = omega arith
+not_received_within times (Some kept) = omega (arith, teller_within times kept.gone, place_within times kept.acknowledged)
 
-first_missed_within : (first : Option FirstMissed) → members_depth (members_of (first_missed_members first)) ≤ 2
-first_missed_within None = omega arith
-first_missed_within (Some first) = omega (arith, place_within first.again, teller_within first.gone)
+first_missed_within : (times : TimesValue) (first : Option FirstMissed) → members_depth (members_of (first_missed_members times first)) ≤ 2
+first_missed_within times None = omega arith
+first_missed_within times (Some first) = omega (arith, places_within times first.asked, place_within times first.again, teller_within times first.gone)
 
-delivery_within : (evidence : EvidenceValue) → members_depth (members_of (delivery_members evidence)) ≤ 2
-delivery_within evidence = omega (arith, not_received_within evidence.not_received, first_missed_within evidence.first_missed)
+delivery_within : (times : TimesValue) (evidence : EvidenceValue) → members_depth (members_of (delivery_members times evidence)) ≤ 2
+delivery_within times evidence = omega (arith, not_received_within times evidence.not_received, first_missed_within times evidence.first_missed)
 
-shown_within : (grounds : GroundsValue) → members_depth (members_of (shown_members grounds)) ≤ 2
-shown_within CompleteGrounds = omega arith
-shown_within (OpenGrounds teller count last) = omega (arith, teller_within teller, place_within last)
-shown_within (ConflictGrounds first other) = omega (arith, sent_within first, sent_within other)
-shown_within (UnfoundedGrounds teller claim) = omega (arith, claim_within claim, teller_within teller)
+shown_within : (times : TimesValue) (grounds : GroundsValue) → members_depth (members_of (shown_members times grounds)) ≤ 2
+shown_within times CompleteGrounds = omega arith
+shown_within times (OpenGrounds teller count last) = omega (arith, teller_within times teller, place_within times last)
+shown_within times (ConflictGrounds first other) = omega (arith, sent_within times first, sent_within times other)
+shown_within times (UnfoundedGrounds teller claim) = omega (arith, claim_within times claim, teller_within times teller)
 
 sentence_within : (clean : Bool) (sentence : List ℕ) → depth (if clean then null else string sentence) ≤ 0
 sentence_within true sentence = omega arith
@@ -140,34 +165,48 @@ until_within : (until : Option ℕ) → depth (until_json until) ≤ 0
 until_within None = omega arith
 until_within (Some datagram) = omega arith
 
-span_by_within : (scope : Scope) (evidence : EvidenceValue) (in_span : Option InSpan) → members_depth (members_of (span_by scope evidence in_span)) ≤ 1
-span_by_within scope evidence None = omega arith
-span_by_within scope evidence (Some in_span) = omega (arith, until_within in_span.until)
+untils_within : (times : TimesValue) (until : Option ℕ) → members_depth (members_of (until_members times until)) ≤ 1
+untils_within times until =
+    omega (
+      arith,
+      until_within until,
+      timed_within 0 times ((codes "until_time", second_json (second_at times until)) ∷ []) (omega (arith, second_within (second_at times until))),
+    )
+
+span_by_within : (scope : Scope) (times : TimesValue) (evidence : EvidenceValue) (in_span : Option InSpan) → members_depth (members_of (span_by scope times evidence in_span)) ≤ 1
+span_by_within scope times evidence None = omega arith
+span_by_within scope times evidence (Some in_span) =
+    let behind : List Member = (codes "outcomes", outcomes_json in_span.outcomes) ∷ (codes "clean", boolean (is_clean scope.tail evidence)) ∷ [] in
+    let members = joined 1 (until_members times in_span.until) behind (untils_within times in_span.until) (omega arith) in
+    omega (arith, members)
 
 told_within : (told : Bool) (scope : Scope) (evidence : EvidenceValue) → members_depth (members_of (if told then (codes "advice", advice_json scope evidence) ∷ [] else [])) ≤ 1
 told_within true scope evidence = omega (arith, sentence_within (is_clean scope.tail evidence) (sentence_of (advice_of scope evidence)))
 told_within false scope evidence = omega arith
 
-spanned_within : (telling : Telling) (evidence : EvidenceValue) → members_depth (members_of (spanned_members telling evidence)) ≤ 2
-spanned_within telling evidence =
-    let members = joined 1 (span_members telling.scope evidence) (advice_members telling evidence) (span_by_within telling.scope evidence evidence.in_span)
+spanned_within : (telling : Telling) (times : TimesValue) (evidence : EvidenceValue) → members_depth (members_of (spanned_members telling times evidence)) ≤ 2
+spanned_within telling times evidence =
+    let members = joined 1 (span_members telling.scope times evidence) (advice_members telling evidence) (span_by_within telling.scope times evidence evidence.in_span)
     (told_within (is_advised telling.advised evidence.in_span) telling.scope evidence) in
     omega (arith, members)
 
-row_within : (telling : Telling) (row : ExplanationValue) → depth (row_json telling row) ≤ 3
-row_within telling row =
+row_within : (telling : Telling) (times : TimesValue) (row : ExplanationValue) → depth (row_json telling times row) ≤ 3
+row_within telling times row =
     let evidence = row.evidence in
-    let spanned = spanned_members telling evidence in
-    let shown = joined 2 (shown_members evidence.grounds) spanned (shown_within evidence.grounds) (spanned_within telling evidence) in
-    let last = joined 2 (delivery_members evidence) (shown_members evidence.grounds ++ spanned) (delivery_within evidence) shown in
-    let late = joined 2 (evidence_members evidence) (delivery_members evidence ++ (shown_members evidence.grounds ++ spanned)) (evidence_within evidence) last in
-    let later = joined 2 (verdict_members evidence.verdict) (evidence_members evidence ++ (delivery_members evidence ++ (shown_members evidence.grounds ++ spanned))) (verdict_within evidence.verdict) late in
-    let all = joined 2 (pair_members row) (verdict_members evidence.verdict ++ (evidence_members evidence ++ (delivery_members evidence ++ (shown_members evidence.grounds ++ spanned)))) (omega arith) later in
+    let told = evidence_members times evidence in
+    let delivered = delivery_members times evidence in
+    let grounds = shown_members times evidence.grounds in
+    let spanned = spanned_members telling times evidence in
+    let shown = joined 2 grounds spanned (shown_within times evidence.grounds) (spanned_within telling times evidence) in
+    let last = joined 2 delivered (grounds ++ spanned) (delivery_within times evidence) shown in
+    let late = joined 2 told (delivered ++ (grounds ++ spanned)) (evidence_within times evidence) last in
+    let later = joined 2 (verdict_members evidence.verdict) (told ++ (delivered ++ (grounds ++ spanned))) (verdict_within evidence.verdict) late in
+    let all = joined 2 (pair_members row) (verdict_members evidence.verdict ++ (told ++ (delivered ++ (grounds ++ spanned)))) (omega arith) later in
     omega (arith, all)
 
-rows_within : (telling : Telling) (rows : List ExplanationValue) → items_depth (items_of (map (row_json telling) rows)) ≤ 3
-rows_within telling [] = omega arith
-rows_within telling (row ∷ rows) = omega (arith, row_within telling row, rows_within telling rows)
+rows_within : (telling : Telling) (times : TimesValue) (rows : List ExplanationValue) → items_depth (items_of (map (row_json telling times) rows)) ≤ 3
+rows_within telling times [] = omega arith
+rows_within telling times (row ∷ rows) = omega (arith, row_within telling times row, rows_within telling times rows)
 
 ignored_within : (ignored : Option ℕ) → members_depth (members_of (ignored_members ignored)) ≤ 0
 ignored_within None = omega arith
@@ -181,7 +220,7 @@ pub rows_depth : (telling : Telling) (rows : List ExplanationValue) (counts : Co
 rows_depth telling rows counts recording =
     let frames = joined 0 (ignored_members recording.ignored) (reasons_members recording.reasons) (ignored_within recording.ignored) (reasons_within recording.reasons) in
     let last = joined 0 (counts_members counts) (ignored_members recording.ignored ++ reasons_members recording.reasons) (omega arith) frames in
-    omega (arith, rows_within telling rows, last)
+    omega (arith, rows_within telling recording.times rows, last)
 
 pub report_depth : (rows : List ExplanationValue) (counts : Counts) (recording : RecordingValue) → depth (report_json rows counts recording) ≤ 5
 report_depth rows counts recording = omega (arith, rows_depth (audit_telling counts recording.reasons) rows counts recording)
@@ -211,7 +250,7 @@ whole_digits (digit ∷ digits) first all = (
 )
 
 -- no number but 0 begins with the digit 0
-first_digit : (n : ℕ) → 0 < n → n < 10 ^ 64 → 48 < get_or (decimal n) 0 0
+pub first_digit : (n : ℕ) → 0 < n → n < 10 ^ 64 → 48 < get_or (decimal n) 0 0
 first_digit n some small =
     (decimal_by_steps_wide (λ m digits. (0 < length digits) × (0 < m → 48 < get_or digits 0 0)) (λ m l. (omega arith, λ a. omega arith))
     (λ m digits l h. (omega (arith, length-append digits ((48 + m % 10) ∷ [])), λ a. omega (arith, get_or_append_left digits ((48 + m % 10) ∷ []) 0 0 h.0, h.1 (omega arith)))) n small).1 some

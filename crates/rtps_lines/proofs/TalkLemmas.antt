@@ -1,13 +1,13 @@
 -- Tokens of arrays of what is made alike, and how deep the members nest that say who does not talk.
-use Rattle.std.proofs.Common.{◌≡◌, ◌≤◌, ◌++◌, ◌∷◌, [], ◌∙◌, ℕ, List, Option, None, Some, ap, append-nil, arith, map, sym}
+use Rattle.std.proofs.Common.{◌≡◌, ◌≤◌, ◌++◌, ◌∷◌, [], ◌∙◌, ℕ, Bool, true, false, if◌then◌else◌, List, Option, None, Some, ap, append-nil, arith, codes, map, refl, sym}
 use Rattle.std.proofs.lemmas.List.Concat.{flat_map-append}
 use Rattle.std.proofs.lemmas.List.Folds.{flat_map-map}
 use Rattle.std.specs.List.{flat_map}
-use Rattle.std.specs.Option.{option_map}
-use Rattle.json.specs.Json.{Json, string}
+use Rattle.json.specs.Json.{Json, boolean, string}
 use Rattle.json.specs.Token.{Token, begin_array, end_array}
 use Rattle.json.specs.Tree.{depth, items_depth, json_tokens, members_depth}
 use Rattle.rtps_evidence.specs.Explanation.{ExplanationValue, explanation_value}
+use Rattle.rtps_evidence.specs.Times.{TimesValue, are_there}
 use Rattle.rtps_policies.specs.Fitting.{ProfileValue}
 use Rattle.rtps_policies.specs.PolicyText.{policy_name}
 use Rattle.rtps_policies.specs.Unmatched.{UnmatchedValue}
@@ -15,11 +15,11 @@ use Rattle.rtps_policies.specs.declared.fitting.Policy.{Policy}
 use Rattle.rtps_policies.specs.declared.host.Address.{Address}
 use Rattle.rtps_report.specs.FullReport.{ReportValue}
 use Rattle.rtps_report.specs.declared.participant.Participant.{Participant}
-use Rattle.rtps_lines.specs.JsonText.{Member, array_of, items_of, members_of, tokens_of, tokens_of_member, until_json}
+use Rattle.rtps_lines.specs.JsonText.{Member, array_of, items_of, members_of, second_at, second_json, timed_members, tokens_of, tokens_of_member, until_json}
 use Rattle.rtps_lines.specs.PolicyValues.{value_text}
-use Rattle.rtps_lines.specs.TalkMembers.{address_json, best_effort_json, one_way_json, participant_json, reasons_json, talk_members, unmatched_json, unobserved_json, values_json}
+use Rattle.rtps_lines.specs.TalkMembers.{address_json, best_effort_json, first_of, last_of, one_way_json, participant_json, reasons_json, stay_times, talk_members, unmatched_json, unobserved_json, values_json}
 use Rattle.rtps_lines.specs.declared.policy_values.Naming.TheVariants.{Dds}
-use Rattle.rtps_lines.proofs.JsonLemmas.{mapped_tokens}
+use Rattle.rtps_lines.proofs.JsonLemmas.{mapped_tokens, second_within, timed_within}
 use Rattle.rtps_lines.proofs.PartLemmas.{four_parts}
 
 -- ---- tokens
@@ -40,6 +40,37 @@ pub views_written : {X Y : Type 0} {one two three four : List Token} (f : Y → 
 views_written {X} {Y} {one} {two} f g xs taken start name all first second third fourth =
     array_written f (map g xs) (map g taken) start name (ap (map g) all) first second
     (third ∙ ap (λ tokens. two ++ tokens) (sym (flat_map-map (λ y. json_tokens (f y)) g taken))) fourth
+
+-- three members
+pub three_tokens : (a b c : Member) → tokens_of_member a ++ (tokens_of_member b ++ tokens_of_member c) ≡ tokens_of (a ∷ b ∷ c ∷ [])
+three_tokens a b c = ap (λ last. tokens_of_member a ++ (tokens_of_member b ++ last)) (sym (append-nil (tokens_of_member c)))
+
+-- four members that stand only where there are times, each by itself
+pub timed_tokens : (times : TimesValue) (a b c d : Member)
+    → tokens_of (timed_members times (a ∷ [])) ++ (tokens_of (timed_members times (b ∷ [])) ++ (tokens_of (timed_members times (c ∷ [])) ++ tokens_of (timed_members times (d ∷ []))))
+    ≡ tokens_of (timed_members times (a ∷ b ∷ c ∷ d ∷ []))
+timed_tokens times a b c d = go (are_there times.of_datagrams)
+  where
+    one : List Token
+    one = tokens_of_member a
+
+    two : List Token
+    two = tokens_of_member b
+
+    three : List Token
+    three = tokens_of_member c
+
+    four : List Token
+    four = tokens_of_member d
+
+    go : (timed : Bool)
+        → tokens_of (if timed then a ∷ [] else [])
+        ++ (tokens_of (if timed then b ∷ [] else []) ++ (tokens_of (if timed then c ∷ [] else []) ++ tokens_of (if timed then d ∷ [] else [])))
+        ≡ tokens_of (if timed then a ∷ b ∷ c ∷ d ∷ [] else [])
+    go true =
+        ap (λ first. first ++ ((two ++ []) ++ ((three ++ []) ++ (four ++ [])))) (append-nil one) ∙ ap (λ next. one ++ (next ++ ((three ++ []) ++ (four ++ [])))) (append-nil two)
+        ∙ ap (λ next. one ++ (two ++ (next ++ (four ++ [])))) (append-nil three)
+    go false = refl
 
 -- five members
 pub five_tokens : (a b c d e : Member)
@@ -80,22 +111,32 @@ until_within : (until : Option ℕ) → depth (until_json until) ≤ 0
 until_within None = omega arith
 until_within (Some datagram) = omega arith
 
-participant_within : (participant : Participant) → depth (participant_json participant) ≤ 1
-participant_within participant =
+stay_times_within : (times : TimesValue) (participant : Participant) → members_depth (members_of (stay_times times participant)) ≤ 0
+stay_times_within times participant =
+    let first = second_at times (first_of participant) in
+    let last = second_at times (last_of participant) in
+    let left = second_at times participant.left in
+    timed_within 0 times ((codes "first_time", second_json first) ∷ (codes "last_time", second_json last) ∷ (codes "left_time", second_json left)
+    ∷ (codes "silent", boolean participant.silent) ∷ [])
+    (omega (arith, second_within first, second_within last, second_within left))
+
+participant_within : (times : TimesValue) (participant : Participant) → depth (participant_json times participant) ≤ 1
+participant_within times participant =
     omega (
       arith,
       address_within participant.host.address,
       until_within participant.host.domain,
-      until_within (option_map (λ stay. stay.first) participant.stay),
-      until_within (option_map (λ stay. stay.last) participant.stay),
+      until_within (first_of participant),
+      until_within (last_of participant),
       until_within participant.left,
+      stay_times_within times participant,
     )
 
-pub talk_depth : (report : ReportValue) → members_depth (members_of (talk_members report)) ≤ 3
-talk_depth report =
+pub talk_depth : (times : TimesValue) (report : ReportValue) → members_depth (members_of (talk_members times report)) ≤ 3
+talk_depth times report =
     let unmatched = items_within unmatched_json 2 report.talk.unmatched unmatched_within in
     let left_out = items_within (λ (row : ExplanationValue). unobserved_json (report.talk.silence row.pair) row) 1 (map explanation_value report.left_out) (λ row. omega arith) in
     let one_way = items_within one_way_json 1 report.talk.one_way (λ one. omega arith) in
     let sums = items_within best_effort_json 1 report.talk.best_effort (λ sum. omega arith) in
-    let participants = items_within participant_json 1 report.talk.participants participant_within in
+    let participants = items_within (participant_json times) 1 report.talk.participants (participant_within times) in
     omega (arith, unmatched, left_out, one_way, sums, participants)

@@ -40,4 +40,4 @@ abbrev pub check_members : AskedValue → RecordingValue → ReportValue → Lis
 check_members asked recording report =
     status_members report.ending (report_causes asked recording report)
     ++ (rows_members (record { scope = scope_of asked recording report; advised = All }) (rows_of report) report.explained.counts recording
-    ++ (talk_members report ++ notes_members (report_notes asked recording report)))
+    ++ (talk_members recording.times report ++ notes_members (report_notes asked recording report)))

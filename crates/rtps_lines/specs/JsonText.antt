@@ -1,6 +1,8 @@
 -- A report as an object of JSON. RFC 8259 "The JavaScript Object Notation (JSON) Data Interchange Format".
 -- own: other programs read the rows, what each rests on, and the counts. Members stand in this order, no space stands between tokens,
--- and numbers are integers in decimal. Names are strings of what `list` writes between the quotes, and places are as `why` writes them.
+-- and numbers are integers in decimal, but seconds have three places. Names are strings of what `list` writes between the quotes, and places
+-- are as `why` writes them. Where some datagram of the recording has a time, each place has a second, and so has each datagram that stands
+-- alone.
 use Rattle.std.specs.Prelude.{ℕ, ℤ, ◌≡◌, ◌++◌, Bool, true, if◌then◌else◌, is_some, List, [], ◌∷◌, codes, length, map, Option, None, Some}
 use Rattle.std.specs.Fmt.{decimal, signed_decimal}
 use Rattle.std.specs.List.{flat_map}
@@ -8,6 +10,8 @@ use Rattle.json.specs.Json.{Json, null, boolean, number, string, array, object, 
 use Rattle.json.specs.Print.{print}
 use Rattle.json.specs.Token.{Token, key}
 use Rattle.json.specs.Tree.{json_tokens}
+use Rattle.rtps_evidence.specs.Times.{TimesValue, are_there}
+use Rattle.rtps_evidence.specs.declared.times.Seconds.{Seconds}
 use Rattle.rtps_report.specs.Vocabulary.{Absent, Announcement, Claim, Complete, CompleteGrounds, Conflict, ConflictGrounds, Counts, EvidenceValue, ExplanationValue, FirstMissed, GroundsValue, InSpan, Key, Location, NotReceived, Open, OpenGrounds, Outcomes, PayloadValue, SentValue, Teller, Unfounded, UnfoundedGrounds, Verdict, Whole}
 use Rattle.rtps_report.specs.declared.recording.Reasons.{Reasons}
 use Rattle.rtps_report.specs.declared.advice.Scope.{Scope}
@@ -15,7 +19,7 @@ use Rattle.rtps_report.specs.Advice.{advice_of, sentence_of}
 use Rattle.rtps_report.specs.NoteFacts.{is_unread}
 use Rattle.rtps_report.specs.RowFacts.{is_clean, row_from}
 use Rattle.rtps_report.specs.Recording.{RecordingValue}
-use Rattle.rtps_lines.specs.Lines.{kind_text}
+use Rattle.rtps_lines.specs.Lines.{kind_text, second_in, seconds_text}
 use Rattle.rtps_lines.specs.declared.json_object.Advised.{Advised}
 use Rattle.rtps_lines.specs.declared.json_object.Advised.TheVariants.{InSpans, All}
 use Rattle.rtps_lines.specs.declared.json_object.Telling.{Telling}
@@ -51,43 +55,62 @@ count_json n = number (decimal n)
 abbrev pub number_json : ℤ → Json
 number_json n = number (signed_decimal n)
 
--- where a submessage stands
-abbrev pub place_members : Location → List Member
-place_members place = (codes "datagram", count_json place.datagram) ∷ (codes "at", count_json place.at) ∷ []
+-- a time in seconds, with three places; null where there is none
+abbrev pub second_json : Option Seconds → Json
+second_json None = null
+second_json (Some second) = number (seconds_text second)
+
+-- the second of a datagram, if there is one
+abbrev pub second_at : TimesValue → Option ℕ → Option Seconds
+second_at times None = None
+second_at times (Some datagram) = second_in times datagram
+
+-- members that stand only where some datagram of the recording has a time
+abbrev pub timed_members : TimesValue → List Member → List Member
+timed_members times members = if are_there times.of_datagrams then members else []
+
+-- the second of a datagram, under a name
+abbrev pub second_member : List ℕ → TimesValue → Option ℕ → Member
+second_member name times datagram = (name, second_json (second_at times datagram))
+
+-- where a submessage stands, and when its datagram came
+abbrev pub place_members : TimesValue → Location → List Member
+place_members times place = (codes "datagram", count_json place.datagram) ∷ (codes "at", count_json place.at)
+    ∷ timed_members times (second_member (codes "time") times (Some place.datagram) ∷ [])
 
 -- the last number that the writer announced, and the submessage that did so first; null where there is none
-abbrev pub announcement_json : Option Announcement → Json
-announcement_json None = null
-announcement_json (Some announcement) =
-    object_of ((codes "number", number_json announcement.number) ∷ (codes "by", string (kind_text announcement.kind)) ∷ place_members announcement.place)
+abbrev pub announcement_json : TimesValue → Option Announcement → Json
+announcement_json times None = null
+announcement_json times (Some announcement) =
+    object_of ((codes "number", number_json announcement.number) ∷ (codes "by", string (kind_text announcement.kind)) ∷ place_members times announcement.place)
 
 -- an answer of the reader, or null where there is none
-abbrev pub claim_json : Option Claim → Json
-claim_json None = null
-claim_json (Some claim) = object_of ((codes "below", number_json claim.below) ∷ place_members claim.place)
+abbrev pub claim_json : TimesValue → Option Claim → Json
+claim_json times None = null
+claim_json times (Some claim) = object_of ((codes "below", number_json claim.below) ∷ place_members times claim.place)
 
 -- the submessage that told a number first, or null where none did
-abbrev pub teller_json : Option Teller → Json
-teller_json None = null
-teller_json (Some teller) = object_of ((codes "by", string (kind_text teller.kind)) ∷ place_members teller.place)
+abbrev pub teller_json : TimesValue → Option Teller → Json
+teller_json times None = null
+teller_json times (Some teller) = object_of ((codes "by", string (kind_text teller.kind)) ∷ place_members times teller.place)
 
 -- where a submessage stands, or null where there is none
-abbrev pub place_json : Option Location → Json
-place_json None = null
-place_json (Some place) = object_of (place_members place)
+abbrev pub place_json : TimesValue → Option Location → Json
+place_json times None = null
+place_json times (Some place) = object_of (place_members times place)
 
 -- the least number that is not received, and what keeps it; null where all are received
-abbrev pub not_received_json : Option NotReceived → Json
-not_received_json None = null
-not_received_json (Some kept) = object_of ((codes "number", count_json kept.number) ∷ (codes "gone", teller_json kept.gone) ∷ (codes "acknowledged", place_json kept.acknowledged) ∷ [])
+abbrev pub not_received_json : TimesValue → Option NotReceived → Json
+not_received_json times None = null
+not_received_json times (Some kept) = object_of ((codes "number", count_json kept.number) ∷ (codes "gone", teller_json times kept.gone) ∷ (codes "acknowledged", place_json times kept.acknowledged) ∷ [])
 
 -- the least number that is missed, what asks for it last, where it was sent again since, and what told it gone; no member where none is
-abbrev pub first_missed_members : Option FirstMissed → List Member
-first_missed_members None = []
-first_missed_members (Some first) = (
+abbrev pub first_missed_members : TimesValue → Option FirstMissed → List Member
+first_missed_members times None = []
+first_missed_members times (Some first) = (
   codes "first_missed",
-  object_of ((codes "number", count_json first.number) ∷ (codes "asked", place_json (Some first.asked)) ∷ (codes "again", place_json first.again)
-      ∷ (codes "gone", teller_json first.gone) ∷ []),
+  object_of ((codes "number", count_json first.number) ∷ (codes "asked", place_json times (Some first.asked)) ∷ (codes "again", place_json times first.again)
+      ∷ (codes "gone", teller_json times first.gone) ∷ []),
 ) ∷ []
 
 -- the name of a kind of payload, and so many octets
@@ -102,9 +125,9 @@ payload_members (Some (Whole octets)) = carried_members (codes "whole") (length 
 payload_members (Some (Key octets)) = carried_members (codes "key") (length octets)
 
 -- what was sent for a number, or null where nothing was
-abbrev pub sent_json : Option SentValue → Json
-sent_json None = null
-sent_json (Some sent) = object_of (payload_members sent.payload ++ place_members sent.place)
+abbrev pub sent_json : TimesValue → Option SentValue → Json
+sent_json times None = null
+sent_json times (Some sent) = object_of (payload_members sent.payload ++ place_members times sent.place)
 
 -- the name of a topic or a type: a string of what `list` writes between the quotes
 abbrev pub name_json : List ℕ → Json
@@ -124,21 +147,25 @@ verdict_members (Unfounded datagram n) =
     (codes "verdict", string (codes "unfounded")) ∷ (codes "number", number_json n) ∷ (codes "datagram", count_json datagram) ∷ []
 
 -- what is said of each pair, whatever its verdict is
-abbrev pub evidence_members : EvidenceValue → List Member
-evidence_members evidence = (codes "announced", announcement_json evidence.announcement) ∷ (codes "acknowledged", claim_json evidence.acknowledgement)
+abbrev pub evidence_members : TimesValue → EvidenceValue → List Member
+evidence_members times evidence = (codes "announced", announcement_json times evidence.announcement) ∷ (codes "acknowledged", claim_json times evidence.acknowledgement)
     ∷ (codes "payloads", count_json evidence.payloads) ∷ (codes "gone", count_json evidence.gone) ∷ (codes "untold", count_json evidence.untold) ∷ []
 
 -- which numbers are received, and which are missed
-abbrev pub delivery_members : EvidenceValue → List Member
-delivery_members evidence = (codes "received", count_json evidence.received) ∷ (codes "not_received", not_received_json evidence.not_received)
-    ∷ (codes "missed", count_json evidence.missed) ∷ first_missed_members evidence.first_missed
+abbrev pub delivery_members : TimesValue → EvidenceValue → List Member
+delivery_members times evidence = (codes "received", count_json evidence.received) ∷ (codes "not_received", not_received_json times evidence.not_received)
+    ∷ (codes "missed", count_json evidence.missed) ∷ first_missed_members times evidence.first_missed
+
+-- how often an answer is asked for since the last one, and where last
+abbrev pub asked_members : TimesValue → ℕ → Option Location → List Member
+asked_members times count last = (codes "asked_since", count_json count) ∷ (codes "last_asked", place_json times last) ∷ []
 
 -- what the verdict rests on
-abbrev pub shown_members : GroundsValue → List Member
-shown_members CompleteGrounds = []
-shown_members (OpenGrounds teller count last) = (codes "told", teller_json teller) ∷ (codes "asked_since", count_json count) ∷ (codes "last_asked", place_json last) ∷ []
-shown_members (ConflictGrounds first other) = (codes "sent", array_of (sent_json first ∷ sent_json other ∷ [])) ∷ []
-shown_members (UnfoundedGrounds teller claim) = (codes "claimed", claim_json claim) ∷ (codes "told", teller_json teller) ∷ []
+abbrev pub shown_members : TimesValue → GroundsValue → List Member
+shown_members times CompleteGrounds = []
+shown_members times (OpenGrounds teller count last) = (codes "told", teller_json times teller) ∷ asked_members times count last
+shown_members times (ConflictGrounds first other) = (codes "sent", array_of (sent_json times first ∷ sent_json times other ∷ [])) ∷ []
+shown_members times (UnfoundedGrounds teller claim) = (codes "claimed", claim_json times claim) ∷ (codes "told", teller_json times teller) ∷ []
 
 -- how many numbers have each outcome
 abbrev pub outcome_members : Outcomes → List Member
@@ -154,15 +181,19 @@ abbrev pub until_json : Option ℕ → Json
 until_json None = null
 until_json (Some datagram) = count_json datagram
 
+-- the same as a member, and when that datagram came
+abbrev pub until_members : TimesValue → Option ℕ → List Member
+until_members times until = (codes "until", until_json until) ∷ timed_members times (second_member (codes "until_time") times until ∷ [])
+
 -- of a row in a span: its first number, the datagram in which its reader leaves, what became of its numbers, and whether it is clean
-abbrev pub span_by : Scope → EvidenceValue → Option InSpan → List Member
-span_by scope evidence None = []
-span_by scope evidence (Some in_span) = (codes "from", count_json (row_from scope.from evidence.in_span)) ∷ (codes "until", until_json in_span.until)
-    ∷ (codes "outcomes", outcomes_json in_span.outcomes) ∷ (codes "clean", boolean (is_clean scope.tail evidence)) ∷ []
+abbrev pub span_by : Scope → TimesValue → EvidenceValue → Option InSpan → List Member
+span_by scope times evidence None = []
+span_by scope times evidence (Some in_span) = (codes "from", count_json (row_from scope.from evidence.in_span)) ∷ (until_members times in_span.until
+    ++ (codes "outcomes", outcomes_json in_span.outcomes) ∷ (codes "clean", boolean (is_clean scope.tail evidence)) ∷ [])
 
 -- what is told of a row in a span; nothing of others
-abbrev pub span_members : Scope → EvidenceValue → List Member
-span_members scope evidence = span_by scope evidence evidence.in_span
+abbrev pub span_members : Scope → TimesValue → EvidenceValue → List Member
+span_members scope times evidence = span_by scope times evidence evidence.in_span
 
 -- what to do for a row; null for a clean one
 abbrev pub advice_json : Scope → EvidenceValue → Json
@@ -178,17 +209,17 @@ abbrev pub advice_members : Telling → EvidenceValue → List Member
 advice_members telling evidence = if is_advised telling.advised evidence.in_span then (codes "advice", advice_json telling.scope evidence) ∷ [] else []
 
 -- what is told of a row beside its evidence
-abbrev pub spanned_members : Telling → EvidenceValue → List Member
-spanned_members telling evidence = span_members telling.scope evidence ++ advice_members telling evidence
+abbrev pub spanned_members : Telling → TimesValue → EvidenceValue → List Member
+spanned_members telling times evidence = span_members telling.scope times evidence ++ advice_members telling evidence
 
 -- a row of the report with its evidence
-abbrev pub row_json : Telling → ExplanationValue → Json
-row_json telling row =
+abbrev pub row_json : Telling → TimesValue → ExplanationValue → Json
+row_json telling times row =
     object_of (pair_members row
     ++ (verdict_members row.evidence.verdict
-    ++ (evidence_members row.evidence
-    ++ (delivery_members row.evidence
-    ++ (shown_members row.evidence.grounds ++ spanned_members telling row.evidence)))))
+    ++ (evidence_members times row.evidence
+    ++ (delivery_members times row.evidence
+    ++ (shown_members times row.evidence.grounds ++ spanned_members telling times row.evidence)))))
 
 -- how many frames of a capture gave no datagram; a text has none
 abbrev pub ignored_members : Option ℕ → List Member
@@ -207,13 +238,13 @@ counts_members counts = (codes "datagrams", count_json counts.datagrams) ∷ (co
     ∷ (codes "fragments", count_json counts.fragments) ∷ (codes "undirected", count_json counts.undirected) ∷ (codes "unsettled", count_json counts.unsettled) ∷ []
 
 -- the rows, under their name
-abbrev pub pairs_member : Telling → List ExplanationValue → Member
-pairs_member telling rows = (codes "pairs", array_of (map (row_json telling) rows))
+abbrev pub pairs_member : Telling → TimesValue → List ExplanationValue → Member
+pairs_member telling times rows = (codes "pairs", array_of (map (row_json telling times) rows))
 
 -- what is told of these rows and counts, and of the frames of this recording
 abbrev pub rows_members : Telling → List ExplanationValue → Counts → RecordingValue → List Member
 rows_members telling rows counts recording =
-    pairs_member telling rows ∷ (counts_members counts ++ (ignored_members recording.ignored ++ reasons_members recording.reasons))
+    pairs_member telling recording.times rows ∷ (counts_members counts ++ (ignored_members recording.ignored ++ reasons_members recording.reasons))
 
 -- by what the rows of an audit are told: with what to do, where they are in spans. No tail is allowed. A row in a span has its own first
 -- number

@@ -2,6 +2,7 @@
 use Rattle.std.specs.Prelude.{ℕ, ◌++◌, ◌==◌, Bool, true, false, if◌then◌else◌, nat_lt, List, [], ◌∷◌, codes, filter, length, Some}
 use Rattle.std.specs.List.{concat, flat_map, join_by}
 use Rattle.rtps_evidence.specs.Explanation.{ExplanationValue}
+use Rattle.rtps_evidence.specs.Times.{seconds_of}
 use Rattle.rtps_parts.specs.Parts.{WordsValue, amount, grouped, share, words_for}
 use Rattle.rtps_parts.specs.RosNames.{topic_text}
 use Rattle.rtps_discovery.specs.declared.matching.Pair.{Pair}
@@ -13,6 +14,7 @@ use Rattle.rtps_report.specs.Talk.{TalkValue}
 use Rattle.rtps_report.specs.declared.participant.Participant.{Participant}
 use Rattle.rtps_report.specs.ByTopic.{topics_of}
 use Rattle.rtps_report.specs.declared.note_facts.NoteFacts.{NoteFacts}
+use Rattle.rtps_lines.specs.Lines.{seconds_text}
 use Rattle.rtps_lines.specs.declared.notes.Weakness.{Weakness}
 use Rattle.rtps_lines.specs.declared.notes.Weakness.TheVariants.{Likely, Pieces, Cut, Links, Other, Fragments, Unsettled, Refused}
 
@@ -125,6 +127,16 @@ left_out_notes silence_of rows = flat_map (silent_note silence_of rows) silences
 abbrev pub short_left_out_notes : (Pair → Silence) → List ExplanationValue → List (List ℕ)
 short_left_out_notes silence_of rows = flat_map (short_silent_note silence_of rows) silences
 
+-- that times go back by so many seconds, and behind an arrow what to do
+abbrev pub back_by : List ℕ → List ℕ → List ℕ
+back_by seconds arrow =
+    concat (codes "times go back by up to " ∷ seconds ∷ codes " s" ∷ arrow
+    ∷ codes "the datagrams are out of order: reordercap FILE OUT sorts them by time, and OUT can be checked" ∷ [])
+
+-- the note on times that go back by so many nanoseconds; none where they do not
+abbrev pub order_note : List ℕ → ℕ → List (List ℕ)
+order_note arrow back = if back == 0 then [] else back_by (seconds_text (seconds_of back)) arrow ∷ []
+
 -- that all participants are on one host, if it is so
 abbrev pub host_note : List ℕ → List Participant → List (List ℕ)
 host_note arrow participants =
@@ -182,16 +194,18 @@ tail_note facts =
 -- all notes, in one line each, without the names of topics
 unfoldable pub short_notes : NoteFacts → TalkValue → List ExplanationValue → List (List ℕ)
 short_notes facts talk left_out =
-    host_note (codes " -> ") talk.participants
+    order_note (codes " -> ") facts.back
+    ++ (host_note (codes " -> ") talk.participants
     ++ (short_left_out_notes talk.silence left_out
     ++ (best_effort_note (codes " -> ") talk.best_effort_total []
-    ++ (short_late_note facts.late ++ (tail_note facts ++ flat_map (note (codes " -> ")) (weaknesses facts)))))
+    ++ (short_late_note facts.late ++ (tail_note facts ++ flat_map (note (codes " -> ")) (weaknesses facts))))))
 
 -- all notes, with the names of topics: of pairs that are left out and of those whose writer wrote nothing since their reader joined, each by
 -- topic
 abbrev pub notes : List ℕ → NoteFacts → TalkValue → List ExplanationValue → List ExplanationValue → List (List ℕ)
 notes arrow facts talk left_out late =
-    host_note arrow talk.participants
+    order_note arrow facts.back
+    ++ (host_note arrow talk.participants
     ++ (left_out_notes talk.silence left_out
     ++ (best_effort_note arrow talk.best_effort_total (shares_text talk.best_effort)
-    ++ (late_note arrow late ++ (tail_note facts ++ flat_map (note arrow) (weaknesses facts)))))
+    ++ (late_note arrow late ++ (tail_note facts ++ flat_map (note arrow) (weaknesses facts))))))

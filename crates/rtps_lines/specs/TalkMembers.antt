@@ -2,9 +2,10 @@
 -- values are those of the text.
 use Rattle.std.specs.Prelude.{ℕ, ◌++◌, List, [], ◌∷◌, codes, map, Option, None, Some}
 use Rattle.std.specs.Option.{option_map}
-use Rattle.json.specs.Json.{Json, null, string}
+use Rattle.json.specs.Json.{Json, boolean, null, string}
 use Rattle.rtps_discovery.specs.declared.matching.Pair.{Pair}
 use Rattle.rtps_evidence.specs.Explanation.{ExplanationValue, explanation_value}
+use Rattle.rtps_evidence.specs.Times.{TimesValue}
 use Rattle.rtps_parts.specs.Names.{guid_text}
 use Rattle.rtps_policies.specs.AddressText.{address_text}
 use Rattle.rtps_policies.specs.Announcing.{participant_of}
@@ -19,7 +20,7 @@ use Rattle.rtps_policies.specs.declared.silence.Silence.TheVariants as silence
 use Rattle.rtps_report.specs.BestEfforts.{BestEffortValue}
 use Rattle.rtps_report.specs.FullReport.{ReportValue}
 use Rattle.rtps_report.specs.declared.participant.Participant.{Participant}
-use Rattle.rtps_lines.specs.JsonText.{Member, array_of, count_json, name_json, object_of, until_json}
+use Rattle.rtps_lines.specs.JsonText.{Member, array_of, count_json, name_json, object_of, second_member, timed_members, until_json}
 use Rattle.rtps_lines.specs.PolicyValues.{value_text}
 use Rattle.rtps_lines.specs.declared.policy_values.Naming.TheVariants.{Dds}
 
@@ -84,19 +85,38 @@ abbrev pub address_json : Option Address → Json
 address_json None = null
 address_json (Some address) = string (address_text address)
 
--- a participant: where it is, from when to when there is something of it, and where it leaves
-abbrev pub participant_json : Participant → Json
-participant_json participant =
+-- from which datagram on there is something of a participant
+abbrev pub first_of : Participant → Option ℕ
+first_of participant = option_map (λ stay. stay.first) participant.stay
+
+-- up to which there is
+abbrev pub last_of : Participant → Option ℕ
+last_of participant = option_map (λ stay. stay.last) participant.stay
+
+-- when these datagrams came, and the one in which it leaves; and whether it is silent
+abbrev pub stay_times : TimesValue → Participant → List Member
+stay_times times participant =
+    timed_members times (second_member (codes "first_time") times (first_of participant) ∷ second_member (codes "last_time") times (last_of participant)
+    ∷ second_member (codes "left_time") times participant.left ∷ (codes "silent", boolean participant.silent) ∷ [])
+
+-- from when to when there is something of a participant, and where it leaves
+abbrev pub stay_members : TimesValue → Participant → List Member
+stay_members times participant =
+    (codes "first", until_json (first_of participant)) ∷ (codes "last", until_json (last_of participant)) ∷ (codes "left", until_json participant.left)
+    ∷ stay_times times participant
+
+-- a participant: where it is, and when there is something of it
+abbrev pub participant_json : TimesValue → Participant → Json
+participant_json times participant =
     object_of ((codes "guid", string (guid_text participant.guid)) ∷ (codes "address", address_json participant.host.address)
-    ∷ (codes "domain", until_json participant.host.domain) ∷ (codes "first", until_json (option_map (λ stay. stay.first) participant.stay))
-    ∷ (codes "last", until_json (option_map (λ stay. stay.last) participant.stay)) ∷ (codes "left", until_json participant.left) ∷ [])
+    ∷ (codes "domain", until_json participant.host.domain) ∷ stay_members times participant)
 
 -- the member of all participants
-abbrev pub participants_member : List Participant → Member
-participants_member participants = (codes "participants", array_of (map participant_json participants))
+abbrev pub participants_member : TimesValue → List Participant → Member
+participants_member times participants = (codes "participants", array_of (map (participant_json times) participants))
 
 -- all of them
-abbrev pub talk_members : ReportValue → List Member
-talk_members report =
+abbrev pub talk_members : TimesValue → ReportValue → List Member
+talk_members times report =
     unmatched_member report.talk.unmatched ∷ unobserved_member report.talk.silence (map explanation_value report.left_out) ∷ one_way_member report.talk.one_way
-    ∷ best_effort_member report.talk.best_effort ∷ participants_member report.talk.participants ∷ []
+    ∷ best_effort_member report.talk.best_effort ∷ participants_member times report.talk.participants ∷ []

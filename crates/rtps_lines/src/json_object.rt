@@ -7,11 +7,11 @@ ghost use Rattle.json.specs.Tree.{depth, json_tokens};
 ghost use Rattle.rtps_evidence.specs.Explanation.{evidence_value, explanation_value};
 ghost use Rattle.rtps_evidence.specs.Grounds.{grounds_value};
 ghost use Rattle.rtps_report.specs.FullReport.{report_value, rows_of};
-ghost use Rattle.rtps_lines.specs.JsonText.{IsJsonLine, advice_members, audit_telling as audit_telling_lem, counts_members, ignored_members, is_advised as is_advised_lem, outcome_members, outcomes_json, pair_members, pairs_member, reasons_members, report_json, row_json, rows_members, shown_members, span_members, spanned_members, tokens_of, tokens_of_member, until_json, verdict_members};
+ghost use Rattle.rtps_lines.specs.JsonText.{IsJsonLine, advice_members, audit_telling as audit_telling_lem, counts_members, ignored_members, is_advised as is_advised_lem, outcome_members, outcomes_json, pair_members, pairs_member, reasons_members, report_json, row_json, rows_members, shown_members, span_members, spanned_members, tokens_of, tokens_of_member, until_members, verdict_members};
 
 use crate::json_members::{
-    push_claim, push_count, push_delivery, push_evidence, push_guid, push_name, push_number,
-    push_open, push_sent, push_teller, push_text, push_total,
+    Clock, push_asked, push_claim, push_count, push_delivery, push_evidence, push_guid, push_name,
+    push_number, push_optional, push_sent, push_teller, push_text, push_timed, push_total,
 };
 use json::Writer;
 use rtps_audit::{Counts, Verdict};
@@ -44,6 +44,13 @@ pub enum Advised {
     InSpans,
     /// Of all rows.
     All,
+}
+
+/// By what the members of a row are made.
+#[derive(Clone, Copy)]
+struct RowForm<'t> {
+    telling: Telling,
+    clock: Clock<'t>,
 }
 
 fn audit_telling(counts: &Counts, reasons: Option<Reasons>) -> Telling
@@ -87,7 +94,16 @@ pub fn push_report_members(
     ensures before { writer.new.before ≡ writer.old.before }
 {
     let mut text = String::new(alloc);
-    push_pairs(writer, &mut text, &report.explained.rows, telling)?;
+    let clock = Clock {
+        times: report.recording.times(),
+        alloc,
+    };
+    push_pairs(
+        writer,
+        &mut text,
+        &report.explained.rows,
+        RowForm { telling, clock },
+    )?;
     push_counts(writer, report.explained.counts)?;
     push_ignored(writer, report.recording.ignored())?;
     push_reasons(writer, report.recording.reasons())
@@ -98,16 +114,16 @@ fn push_pairs(
     writer: &mut Writer,
     text: &mut String,
     rows: &[Explanation<'_>],
-    telling: Telling,
+    form: RowForm<'_>,
 ) -> Result<(), AllocError>
     ensures tokens { OnOk result (writer.new.tokens
-        ≡ writer.old.tokens ++ tokens_of_member (pairs_member telling (map explanation_value rows.now))) }
+        ≡ writer.old.tokens ++ tokens_of_member (pairs_member form.entry.telling form.entry.clock.times.now (map explanation_value rows.now))) }
     ensures before { writer.new.before ≡ writer.old.before }
 {
     writer.key("pairs")?;
     writer.begin_array()?;
     for row in rows {
-        push_row(writer, text, row, telling)?;
+        push_row(writer, text, row, form)?;
     }
     writer.end_array()
 }
@@ -116,57 +132,62 @@ fn push_row(
     writer: &mut Writer,
     text: &mut String,
     row: &Explanation<'_>,
-    telling: Telling,
+    form: RowForm<'_>,
 ) -> Result<(), AllocError>
-    ensures tokens { OnOk result (writer.new.tokens ≡ writer.old.tokens ++ json_tokens (row_json telling (explanation_value row.now))) }
+    ensures tokens { OnOk result (writer.new.tokens
+        ≡ writer.old.tokens ++ json_tokens (row_json form.entry.telling form.entry.clock.times.now (explanation_value row.now))) }
     ensures before { writer.new.before ≡ writer.old.before }
 {
     writer.begin_object()?;
     push_pair(writer, text, row)?;
     push_verdict(writer, row.evidence.verdict)?;
-    push_evidence(writer, &row.evidence)?;
-    push_delivery(writer, &row.evidence)?;
-    push_shown(writer, &row.evidence.grounds)?;
-    push_spanned(writer, &row.evidence, telling)?;
+    push_evidence(writer, &row.evidence, form.clock)?;
+    push_delivery(writer, &row.evidence, form.clock)?;
+    push_shown(writer, &row.evidence.grounds, form.clock)?;
+    push_spanned(writer, &row.evidence, form)?;
     writer.end_object()
 }
 
 fn push_spanned(
     writer: &mut Writer,
     evidence: &Evidence<'_>,
-    telling: Telling,
+    form: RowForm<'_>,
 ) -> Result<(), AllocError>
-    ensures tokens { OnOk result (writer.new.tokens ≡ writer.old.tokens ++ tokens_of (spanned_members telling (evidence_value evidence.now))) }
+    ensures tokens { OnOk result (writer.new.tokens
+        ≡ writer.old.tokens ++ tokens_of (spanned_members form.entry.telling form.entry.clock.times.now (evidence_value evidence.now))) }
     ensures before { writer.new.before ≡ writer.old.before }
 {
-    push_span(writer, evidence, telling.scope)?;
-    push_advice(writer, evidence, telling)
+    push_span(writer, evidence, form.telling.scope, form.clock)?;
+    push_advice(writer, evidence, form.telling)
 }
 
 /// Appends the span of a row, what became of its numbers, and whether it is clean; nothing where it is in no span.
-fn push_span(writer: &mut Writer, evidence: &Evidence<'_>, scope: Scope) -> Result<(), AllocError>
-    ensures tokens { OnOk result (writer.new.tokens ≡ writer.old.tokens ++ tokens_of (span_members scope (evidence_value evidence.now))) }
+fn push_span(
+    writer: &mut Writer,
+    evidence: &Evidence<'_>,
+    scope: Scope,
+    clock: Clock<'_>,
+) -> Result<(), AllocError>
+    ensures tokens { OnOk result (writer.new.tokens
+        ≡ writer.old.tokens ++ tokens_of (span_members scope clock.entry.times.now (evidence_value evidence.now))) }
     ensures before { writer.new.before ≡ writer.old.before }
 {
     let Some(in_span) = &evidence.in_span else {
         return Ok(());
     };
     push_count(writer, "from", row_from(scope.from, evidence))?;
-    push_until(writer, in_span.until)?;
+    push_until(writer, in_span.until, clock)?;
     push_outcomes(writer, in_span.outcomes)?;
     writer.key("clean")?;
     writer.boolean(is_clean(scope.tail, evidence))
 }
 
-fn push_until(writer: &mut Writer, until: Option<u64>) -> Result<(), AllocError>
-    ensures tokens { OnOk result (writer.new.tokens ≡ writer.old.tokens ++ key (codes "until") ∷ json_tokens (until_json until)) }
+fn push_until(writer: &mut Writer, until: Option<u64>, clock: Clock<'_>) -> Result<(), AllocError>
+    ensures tokens { OnOk result (writer.new.tokens ≡ writer.old.tokens ++ tokens_of (until_members clock.entry.times.now until)) }
     ensures before { writer.new.before ≡ writer.old.before }
 {
-    writer.key("until")?;
-    match until {
-        Some(datagram) => writer.u64(datagram),
-        None => writer.null(),
-    }
+    push_optional(writer, "until", until)?;
+    push_timed(writer, "until_time", until, clock)
 }
 
 fn push_outcomes(writer: &mut Writer, outcomes: Outcomes) -> Result<(), AllocError>
@@ -257,8 +278,13 @@ fn push_verdict(writer: &mut Writer, verdict: Verdict) -> Result<(), AllocError>
     }
 }
 
-fn push_shown(writer: &mut Writer, grounds: &Grounds<'_>) -> Result<(), AllocError>
-    ensures tokens { OnOk result (writer.new.tokens ≡ writer.old.tokens ++ tokens_of (shown_members (grounds_value grounds.now))) }
+fn push_shown(
+    writer: &mut Writer,
+    grounds: &Grounds<'_>,
+    clock: Clock<'_>,
+) -> Result<(), AllocError>
+    ensures tokens { OnOk result (writer.new.tokens
+        ≡ writer.old.tokens ++ tokens_of (shown_members clock.entry.times.now (grounds_value grounds.now))) }
     ensures before { writer.new.before ≡ writer.old.before }
 {
     match *grounds {
@@ -267,17 +293,20 @@ fn push_shown(writer: &mut Writer, grounds: &Grounds<'_>) -> Result<(), AllocErr
             teller,
             asked_since,
             last_asked,
-        } => push_open(writer, teller, asked_since, last_asked),
+        } => {
+            push_teller(writer, "told", teller, clock)?;
+            push_asked(writer, asked_since, last_asked, clock)
+        }
         Grounds::Conflict { first, other } => {
             writer.key("sent")?;
             writer.begin_array()?;
-            push_sent(writer, first)?;
-            push_sent(writer, other)?;
+            push_sent(writer, first, clock)?;
+            push_sent(writer, other, clock)?;
             writer.end_array()
         }
         Grounds::Unfounded { teller, claim } => {
-            push_claim(writer, "claimed", claim)?;
-            push_teller(writer, "told", teller)
+            push_claim(writer, "claimed", claim, clock)?;
+            push_teller(writer, "told", teller, clock)
         }
     }
 }

@@ -6,9 +6,10 @@ ghost use Rattle.rtps_parts.specs.Parts.{part_text, words_value};
 ghost use Rattle.rtps_report.specs.ByTopic.{topics_of as topics_of_lem};
 ghost use Rattle.rtps_report.specs.BestEfforts.{best_effort_value};
 ghost use Rattle.rtps_report.specs.Talk.{talk_value};
-ghost use Rattle.rtps_lines.specs.Notes.{best_effort_note, best_effort_remedy as best_effort_remedy_lem, detail_of, host_note, is_silence, joined_names as joined_names_lem, late_by as late_by_lem, late_note, left_out_by as left_out_by_lem, left_out_notes, note, notes as notes_lem, number_words as number_words_lem, pair_words as pair_words_lem, remedy_of, share_text, shares_text, short_late_note, short_left_out_notes, short_notes as short_notes_lem, short_silent_note, silence_words as silence_words_lem, silent_in, silent_note, tail_note, topic_name as topic_name_lem, weaknesses as weaknesses_lem, words_of};
+ghost use Rattle.rtps_lines.specs.Notes.{back_by as back_by_lem, best_effort_note, best_effort_remedy as best_effort_remedy_lem, detail_of, host_note, is_silence, joined_names as joined_names_lem, late_by as late_by_lem, late_note, left_out_by as left_out_by_lem, left_out_notes, note, notes as notes_lem, number_words as number_words_lem, order_note, pair_words as pair_words_lem, remedy_of, share_text, shares_text, short_late_note, short_left_out_notes, short_notes as short_notes_lem, short_silent_note, silence_words as silence_words_lem, silent_in, silent_note, tail_note, topic_name as topic_name_lem, weaknesses as weaknesses_lem, words_of};
 
-use rtps_evidence::Explanation;
+use crate::fields::SecondsText;
+use rtps_evidence::{Explanation, Seconds};
 use rtps_parts::{Part, Words, push_rendered, render, words_for};
 use rtps_policies::Silence;
 use rtps_report::{BestEffort, NoteFacts, Talk, are_on_one_host, topics_of};
@@ -325,6 +326,37 @@ fn push_short_left_out(
     Ok(())
 }
 
+fn back_by<'t>(seconds: &'t str, arrow: &'t str) -> [Part<'t>; 5]
+    ensures { flat_map part_text result ≡ back_by_lem seconds.now arrow.now }
+{
+    [
+        Part::Text("times go back by up to "),
+        Part::Text(seconds),
+        Part::Text(" s"),
+        Part::Text(arrow),
+        Part::Text(
+            "the datagrams are out of order: reordercap FILE OUT sorts them by time, and OUT can be checked",
+        ),
+    ]
+}
+
+/// Appends by how many nanoseconds times go back, and what to do.
+fn push_order(
+    alloc: Global,
+    notes: &mut Vec<String>,
+    back: u64,
+    arrow: &str,
+) -> Result<(), AllocError>
+    ensures { OnOk result (map string_bytes notes.new.items ≡ map string_bytes notes.old.items ++ order_note arrow.now back) }
+{
+    if back == 0 {
+        return Ok(());
+    }
+    let mut seconds = String::new(alloc);
+    write!(seconds, "{}", SecondsText(Seconds::of(back)))?;
+    push_rendered(alloc, notes, &back_by(&seconds, arrow))
+}
+
 fn push_hosts(
     alloc: Global,
     notes: &mut Vec<String>,
@@ -516,6 +548,7 @@ pub fn notes_of(
     let talk = rows.talk;
     let shares = shares_of(alloc, &talk.best_effort)?;
     let mut notes = Vec::new(alloc);
+    push_order(alloc, &mut notes, facts.back, arrow)?;
     push_hosts(alloc, &mut notes, talk, arrow)?;
     push_left_out(alloc, &mut notes, rows)?;
     push_best_effort(alloc, &mut notes, (&talk.best_effort_total, &shares), arrow)?;
@@ -537,6 +570,7 @@ pub(crate) fn short_notes(
 {
     let talk = rows.talk;
     let mut notes = Vec::new(alloc);
+    push_order(alloc, &mut notes, facts.back, " -> ")?;
     push_hosts(alloc, &mut notes, talk, " -> ")?;
     push_short_left_out(alloc, &mut notes, rows)?;
     push_best_effort(alloc, &mut notes, (&talk.best_effort_total, ""), " -> ")?;

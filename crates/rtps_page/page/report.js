@@ -74,7 +74,13 @@ class Report {
     this.acts = new Map(data.writers.map(({ guid, acts }) => [guid, acts]));
     this.endpointOf = new Map(data.endpoints.map((endpoint) => [endpoint.guid, endpoint]));
     this.participants = participantsOf(data);
+    this.seconds = new Map(data.times || []);
     this.bases = null;
+  }
+
+  // the second of a datagram that a chart has, or undefined where it has none
+  secondOf(datagram) {
+    return this.seconds.get(datagram);
   }
 
   // the counts of the recording, as the last line of `audit` has them

@@ -3,8 +3,11 @@
 
 const KIND_OF_ACT = { data: 'a DATA', heartbeat: 'a HEARTBEAT', gap: 'a GAP', data_frag: 'a DATA_FRAG' };
 
-// A place: the datagram, and the octet of it at which the submessage begins.
-const placeText = ({ datagram, at }) => `datagram ${datagram}, octet ${at}`;
+// The second of a datagram, behind it; nothing where it has none.
+const secondText = (time) => (typeof time === 'number' ? `, ${time.toFixed(3)} s` : '');
+
+// A place: the datagram, the octet of it at which the submessage begins, and its second.
+const placeText = ({ datagram, at, time }) => `datagram ${datagram}, octet ${at}${secondText(time)}`;
 const actText = (act) => `${KIND_OF_ACT[act.by] || act.by} in ${placeText(act)}`;
 
 // The verdict of a row in a sentence.
@@ -33,12 +36,14 @@ function completeSentence({ kind, number, announced, missed, first_missed: first
 }
 
 // What a verdict rests on, a sentence for each line of `why`.
-const evidenceSentences = (row) => [...spanSentences(row), ...commonSentences(row), ...receivedSentences(row), ...OWN_SENTENCES[row.verdict](row)];
+const evidenceSentences = (row) => [
+  ...spanSentences(row), ...commonSentences(row), ...receivedSentences(row), ...OWN_SENTENCES[row.verdict](row), ...waitSentences(row), ...silenceSentences(row),
+];
 
-function spanSentences({ from, until, outcomes }) {
+function spanSentences({ from, until, until_time: time, outcomes }) {
   if (!outcomes) return [];
   const kinds = Object.keys(OUTCOMES).filter((name) => outcomes[name] > 0).map((name) => `${counted(outcomes[name])} ${name}`);
-  const left = until === null ? '' : `, until datagram ${until}, in which the reader left`;
+  const left = until === null ? '' : `, until datagram ${until}${secondText(time)}, in which the reader left`;
   return [`The row is about the numbers from ${from} on${left}: ${kinds.join(', ') || 'none is announced'}.`];
 }
 
@@ -79,6 +84,16 @@ const OWN_SENTENCES = {
   unfounded: (row) => [`The reader acknowledged all numbers below ${row.claimed.below} in ${placeText(row.claimed)}.`, tellerSentence(row)],
   complete: () => [],
 };
+
+// The longest that the reader let the writer wait, where that is told.
+function waitSentences({ wait }) {
+  if (!wait) return [];
+  const answered = wait.answered ? `answered in ${placeText(wait.answered)}` : 'did not answer';
+  return [`The reader let the writer wait ${wait.seconds.toFixed(3)} s: it was asked in ${placeText(wait.asked)}, and ${answered}.`];
+}
+
+// That the writer's participant or the reader's is silent.
+const silenceSentences = ({ silence = [] }) => silence.map((text) => `${text[0].toUpperCase()}${text.slice(1)}.`);
 
 const tellerSentence = ({ number, told }) => (
   told ? `Number ${number} was first told by ${actText(told)}.` : `Nothing in the recording tells number ${number} to this reader.`);

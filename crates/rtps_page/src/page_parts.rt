@@ -6,7 +6,7 @@ pub(crate) const HEAD: &str = "\
 <html lang=\"en\">\n\
 <head>\n\
 <meta charset=\"utf-8\">\n\
-<meta http-equiv=\"Content-Security-Policy\" content=\"default-src 'none'; style-src 'sha256-D7NQYoL6K5psbpM/oSyybKzUtnAMB0mzCrpSeQGJ4vo='; script-src 'sha256-hpmW3mDyoQhB9f0WRZW6RarG+nvTxqFH2yl+nJ5/Zek=' 'sha256-7RpT3IrYJB551BYio0+5hBL+a58pinUQjnu7IP6CpHw=' 'sha256-gK9uXRMqayxEKG6mFjKwZcia0MvlKZKvzSq2+HcE4mY=' 'sha256-n2EgmHhWWpnml3YTzI6c2fFT9d1c1NfLrdJeY+ysa88=' 'sha256-x80gHsw23sK6utT9UcSQmetkwNsuwBSOQzPZtigpQ0M=' 'sha256-aR+c6MmybDAK573gD0a0adnHobcEg2hk7AMzhdtu9Gs=' 'sha256-d7We5lL4dteDLFrr8UpIwIw5zKj82CL+aKdX1LPBTDM=' 'sha256-7mX1/jJqBaTbsRrKZhqN0u+b0Wx2ckFhGtp5TJHu0EQ=' 'sha256-mUTKrhY1ZfucvOGBdh1oOA04GC7XSXVnZlo1ezN51s8=' 'sha256-ncKhZ8LJHPHpxsbShdWaihXHet0HRxgWttYRDNL5HT4=' 'sha256-L5++YkTFEJl3kdO/H0jWJMkHnWI15lupByHpRLDl5VA='; base-uri 'none'; form-action 'none'\">\n\
+<meta http-equiv=\"Content-Security-Policy\" content=\"default-src 'none'; style-src 'sha256-D7NQYoL6K5psbpM/oSyybKzUtnAMB0mzCrpSeQGJ4vo='; script-src 'sha256-hpmW3mDyoQhB9f0WRZW6RarG+nvTxqFH2yl+nJ5/Zek=' 'sha256-DgfGBA55OA3JhxfKLf7d4ZxwBR15SNFfESDt5fHUFFI=' 'sha256-gK9uXRMqayxEKG6mFjKwZcia0MvlKZKvzSq2+HcE4mY=' 'sha256-ky4PCNdOmqiAAL6Qb9JE3brEsE/2HtpWMB+qbj0LpNA=' 'sha256-x80gHsw23sK6utT9UcSQmetkwNsuwBSOQzPZtigpQ0M=' 'sha256-aR+c6MmybDAK573gD0a0adnHobcEg2hk7AMzhdtu9Gs=' 'sha256-qYVlcvDsrJla7cbqzS5xi5/MVZWOWKHBgZKG7flkdto=' 'sha256-7mX1/jJqBaTbsRrKZhqN0u+b0Wx2ckFhGtp5TJHu0EQ=' 'sha256-mUTKrhY1ZfucvOGBdh1oOA04GC7XSXVnZlo1ezN51s8=' 'sha256-ncKhZ8LJHPHpxsbShdWaihXHet0HRxgWttYRDNL5HT4=' 'sha256-L5++YkTFEJl3kdO/H0jWJMkHnWI15lupByHpRLDl5VA='; base-uri 'none'; form-action 'none'\">\n\
 <meta name=\"viewport\" content=\"width=device-width, initial-scale=1\">\n\
 <meta name=\"color-scheme\" content=\"light dark\">\n\
 <meta name=\"referrer\" content=\"no-referrer\">\n\
@@ -364,7 +364,11 @@ this.groups = groupsOf(this.rows);\n\
 this.acts = new Map(data.writers.map(({ guid, acts }) => [guid, acts]));\n\
 this.endpointOf = new Map(data.endpoints.map((endpoint) => [endpoint.guid, endpoint]));\n\
 this.participants = participantsOf(data);\n\
+this.seconds = new Map(data.times || []);\n\
 this.bases = null;\n\
+}\n\
+secondOf(datagram) {\n\
+return this.seconds.get(datagram);\n\
 }\n\
 counts() {\n\
 return Object.entries(this.data).filter(([, value]) => typeof value === 'number');\n\
@@ -483,7 +487,8 @@ more(first);\n\
 </script>\n\
 <script>'use strict';\n\
 const KIND_OF_ACT = { data: 'a DATA', heartbeat: 'a HEARTBEAT', gap: 'a GAP', data_frag: 'a DATA_FRAG' };\n\
-const placeText = ({ datagram, at }) => `datagram ${datagram}, octet ${at}`;\n\
+const secondText = (time) => (typeof time === 'number' ? `, ${time.toFixed(3)} s` : '');\n\
+const placeText = ({ datagram, at, time }) => `datagram ${datagram}, octet ${at}${secondText(time)}`;\n\
 const actText = (act) => `${KIND_OF_ACT[act.by] || act.by} in ${placeText(act)}`;\n\
 const VERDICTS = {\n\
 unfounded: ({ number, datagram }) => `In datagram ${datagram} the reader acknowledged sample ${number}, but nothing before that sent it `\n\
@@ -504,11 +509,13 @@ if (kind === 'missed') return `${all}, but it missed ${missed === 1 ? `sample ${
 if (kind === 'gone') return `${all}, but ${counted(gone)} of them ${gone === 1 ? 'was' : 'were'} only said to be gone.`;\n\
 return `${all}.`;\n\
 }\n\
-const evidenceSentences = (row) => [...spanSentences(row), ...commonSentences(row), ...receivedSentences(row), ...OWN_SENTENCES[row.verdict](row)];\n\
-function spanSentences({ from, until, outcomes }) {\n\
+const evidenceSentences = (row) => [\n\
+...spanSentences(row), ...commonSentences(row), ...receivedSentences(row), ...OWN_SENTENCES[row.verdict](row), ...waitSentences(row), ...silenceSentences(row),\n\
+];\n\
+function spanSentences({ from, until, until_time: time, outcomes }) {\n\
 if (!outcomes) return [];\n\
 const kinds = Object.keys(OUTCOMES).filter((name) => outcomes[name] > 0).map((name) => `${counted(outcomes[name])} ${name}`);\n\
-const left = until === null ? '' : `, until datagram ${until}, in which the reader left`;\n\
+const left = until === null ? '' : `, until datagram ${until}${secondText(time)}, in which the reader left`;\n\
 return [`The row is about the numbers from ${from} on${left}: ${kinds.join(', ') || 'none is announced'}.`];\n\
 }\n\
 function commonSentences(row) {\n\
@@ -544,6 +551,12 @@ conflict: ({ number, sent }) => sent.map((one) => `Number ${number} was sent wit
 unfounded: (row) => [`The reader acknowledged all numbers below ${row.claimed.below} in ${placeText(row.claimed)}.`, tellerSentence(row)],\n\
 complete: () => [],\n\
 };\n\
+function waitSentences({ wait }) {\n\
+if (!wait) return [];\n\
+const answered = wait.answered ? `answered in ${placeText(wait.answered)}` : 'did not answer';\n\
+return [`The reader let the writer wait ${wait.seconds.toFixed(3)} s: it was asked in ${placeText(wait.asked)}, and ${answered}.`];\n\
+}\n\
+const silenceSentences = ({ silence = [] }) => silence.map((text) => `${text[0].toUpperCase()}${text.slice(1)}.`);\n\
 const tellerSentence = ({ number, told }) => (\n\
 told ? `Number ${number} was first told by ${actText(told)}.` : `Nothing in the recording tells number ${number} to this reader.`);\n\
 function askedSentence({ asked_since: count, last_asked: last }) {\n\
@@ -697,11 +710,11 @@ const REACH = 12;\n\
 const MANY_DOTS = 3000;\n\
 const MANY_ANSWERS = 150;\n\
 const POINT = 'Point at a dot to read it.';\n\
-function marksOf(report, row) {\n\
-const acts = report.actsOf(row).map(entryParts);\n\
+function marksOf(report, row, axis) {\n\
+const acts = report.actsOf(row).map((entry) => entryParts(entry, axis));\n\
 const to = namesOf(row.reader);\n\
 const heard = acts.filter(({ named }) => to.includes(named));\n\
-const answers = report.basesOf(row).map(([x, at, base]) => ({ x, y: Number(base) - 1, at }));\n\
+const answers = report.basesOf(row).map(([datagram, at, base]) => ({ x: axis.at(datagram), y: Number(base) - 1, at }));\n\
 return {\n\
 dots: dotsOf(heard.filter(({ what }) => what === 'data')),\n\
 bands: bandsOf(heard.filter(({ what }) => what === 'gone')),\n\
@@ -709,12 +722,26 @@ announced: stepsOf(acts.filter(({ what }) => what === 'announced').map(({ x, num
 answers,\n\
 acknowledged: stepsOf(answers),\n\
 numbers: markedNumbers(row),\n\
-datagrams: row.verdict === 'unfounded' ? [{ x: row.datagram, label: `datagram ${row.datagram}` }] : [],\n\
+datagrams: row.verdict === 'unfounded' ? [{ x: axis.at(row.datagram), label: `datagram ${row.datagram}` }] : [],\n\
 };\n\
 }\n\
-function entryParts([x, at, what, ...rest]) {\n\
+function axisOf(report, row) {\n\
+const drawn = [...report.actsOf(row), ...report.basesOf(row)].map(([datagram]) => datagram);\n\
+const seconds = drawn.map((datagram) => report.secondOf(datagram));\n\
+if (drawn.length === 0 || seconds.includes(undefined)) {\n\
+return {\n\
+word: 'datagram', name: 'Datagrams', at: (datagram) => datagram, low: 0, high: Math.max(2, report.data.datagrams + 1), window: 4, step: 1, text: shortNumber,\n\
+};\n\
+}\n\
+const [first, last] = [seconds.reduce((a, b) => Math.min(a, b)), seconds.reduce((a, b) => Math.max(a, b))];\n\
+const room = Math.max(0.01, (last - first) * 0.02);\n\
+return {\n\
+word: 's', name: 'Seconds', at: (datagram) => report.secondOf(datagram), low: first - room, high: last + room, window: 0.02, step: 0.001, text: shortSecond,\n\
+};\n\
+}\n\
+function entryParts([datagram, at, what, ...rest], axis) {\n\
 const count = what === 'gone' ? 2 : 1;\n\
-return { x, at, what, numbers: rest.slice(0, count), named: rest[count] };\n\
+return { x: axis.at(datagram), datagram, at, what, numbers: rest.slice(0, count), named: rest[count] };\n\
 }\n\
 const namesOf = (reader) => [undefined, reader, prefixOf(reader), entityOf(reader)];\n\
 function markedNumbers({ verdict, number, first_missed: missed }) {\n\
@@ -723,10 +750,10 @@ return missed && missed.number !== number ? [...found, { y: Number(missed.number
 }\n\
 function dotsOf(entries) {\n\
 const seen = new Set();\n\
-return entries.map(({ x, at, numbers: [number] }) => {\n\
+return entries.map(({ x, datagram, at, numbers: [number] }) => {\n\
 const again = seen.has(number);\n\
 seen.add(number);\n\
-return { x, y: Number(number), number, at, again };\n\
+return { x, y: Number(number), number, datagram, at, again };\n\
 });\n\
 }\n\
 function bandsOf(entries) {\n\
@@ -748,40 +775,42 @@ if (steps.length === 0 || point.y > steps[steps.length - 1].y) steps.push(point)
 }\n\
 return steps;\n\
 }\n\
-function ticks(low, high, about) {\n\
+function ticks(low, high, about, least = 1) {\n\
 const rough = (high - low) / about;\n\
 const power = 10 ** Math.floor(Math.log10(rough));\n\
-const step = Math.max(1, [1, 2, 5, 10].map((n) => n * power).find((n) => n >= rough));\n\
+const step = Math.max(least, [1, 2, 5, 10].map((n) => n * power).find((n) => n >= rough));\n\
 const found = [];\n\
 for (let at = Math.ceil(low / step) * step; at <= high && found.length < 50; at += step) found.push(at);\n\
 return found;\n\
 }\n\
 const shortNumber = (n) => (n < 1e7 ? String(Math.round(n)) : n.toExponential(1).replace('e+', 'e'));\n\
+const shortSecond = (s) => String(Number(s.toFixed(3)));\n\
 class Chart {\n\
 constructor(report, row) {\n\
-this.marks = marksOf(report, row);\n\
-this.all = this.extent(report.data.datagrams);\n\
+this.axis = axisOf(report, row);\n\
+this.marks = marksOf(report, row, this.axis);\n\
+this.all = this.extent();\n\
 Object.assign(this, { view: this.all, at: null, drag: null, width: 0, still: document.createElement('canvas') });\n\
 this.canvas = make('canvas', {\n\
 tabindex: '0', role: 'application', 'aria-label': this.description(row), 'aria-describedby': 'chart-help',\n\
 });\n\
 this.readout = make('p', { class: 'readout', role: 'status' }, POINT);\n\
 this.element = make('figure', { class: 'chart' }, this.canvas, this.controls(), this.readout, legend(),\n\
-make('figcaption', { id: 'chart-help' }, 'Datagrams to the right, numbers upwards. Drag to zoom, double-click to show all. Keys: left and '\n\
+make('figcaption', { id: 'chart-help' }, `${this.axis.name} to the right, numbers upwards. Drag to zoom, double-click to show all. Keys: left and `\n\
 + 'right go from dot to dot, + and − zoom, Shift and an arrow move, 0 shows all.'));\n\
 this.listen();\n\
 }\n\
-extent(datagrams) {\n\
+extent() {\n\
 const { dots, bands, announced, acknowledged, numbers } = this.marks;\n\
 let top = 1;\n\
 for (const { y, high } of [...announced, ...acknowledged, ...numbers, ...bands]) top = Math.max(top, y ?? high);\n\
 for (const { y } of dots) top = Math.max(top, y);\n\
-return { x0: 0, x1: Math.max(2, datagrams + 1), y0: 0, y1: top * 1.06 + 1 };\n\
+return { x0: this.axis.low, x1: this.axis.high, y0: 0, y1: top * 1.06 + 1 };\n\
 }\n\
 description(row) {\n\
 const { dots, answers } = this.marks;\n\
 const again = dots.filter((dot) => dot.again).length;\n\
-return `Chart of datagrams and numbers: ${plural(dots.length, 'DATA', 'DATA')} to this reader, ${counted(again)} of them sent again, `\n\
+return `Chart of ${this.axis.name.toLowerCase()} and numbers: ${plural(dots.length, 'DATA', 'DATA')} to this reader, ${counted(again)} of them sent again, `\n\
 + `${plural(answers.length, 'answer')} of the reader, and a line at ${row.verdict} ${row.number}.`;\n\
 }\n\
 controls() {\n\
@@ -839,19 +868,23 @@ const [dx, dy] = [right * (x1 - x0), up * (y1 - y0)];\n\
 this.show(this.within([x0 + dx, x1 + dx, y0 + dy, y1 + dy]));\n\
 }\n\
 within([left, right, bottom, top]) {\n\
-const fit = (low, high, least, most) => {\n\
-const size = Math.min(Math.max(high - low, Math.min(4, most - least)), most - least);\n\
+const fit = (low, high, least, most, smallest) => {\n\
+const size = Math.min(Math.max(high - low, Math.min(smallest, most - least)), most - least);\n\
 const start = Math.min(Math.max((low + high - size) / 2, least), most - size);\n\
 return [start, start + size];\n\
 };\n\
-const [[x0, x1], [y0, y1]] = [fit(left, right, this.all.x0, this.all.x1), fit(bottom, top, this.all.y0, this.all.y1)];\n\
+const [[x0, x1], [y0, y1]] = [fit(left, right, this.all.x0, this.all.x1, this.axis.window), fit(bottom, top, this.all.y0, this.all.y1, 4)];\n\
 return { x0, x1, y0, y1 };\n\
 }\n\
 choose(dot) {\n\
 if (dot === this.at) return;\n\
 this.at = dot;\n\
-this.readout.textContent = dot ? `DATA of number ${dot.number} in datagram ${dot.x}, octet ${dot.at}${dot.again ? ', sent again' : ''}.` : POINT;\n\
+this.readout.textContent = dot ? this.dotText(dot) : POINT;\n\
 this.paint();\n\
+}\n\
+dotText({ number, datagram, at, again, x }) {\n\
+const place = placeText({ datagram, at, time: this.axis.word === 's' ? x : null });\n\
+return `DATA of number ${number} in ${place}${again ? ', sent again' : ''}.`;\n\
 }\n\
 pointed({ offsetX, offsetY }) {\n\
 if (!this.drag) {\n\
@@ -958,12 +991,12 @@ for (const y of ticks(view.y0, view.y1, 6)) {\n\
 this.line(EDGES.left, this.pixelY(y), width - EDGES.right, this.pixelY(y));\n\
 pen.fillText(shortNumber(y), EDGES.left - 8, this.pixelY(y));\n\
 }\n\
-pen.fillText('datagram', width - EDGES.right, CHART_HEIGHT - 8);\n\
+pen.fillText(this.axis.word, width - EDGES.right, CHART_HEIGHT - 8);\n\
 pen.textBaseline = 'top';\n\
-for (const x of ticks(view.x0, view.x1, Math.max(2, width / 110))) {\n\
+for (const x of ticks(view.x0, view.x1, Math.max(2, width / 110), this.axis.step)) {\n\
 this.line(this.pixelX(x), CHART_HEIGHT - EDGES.bottom, this.pixelX(x), CHART_HEIGHT - EDGES.bottom + 4);\n\
 pen.textAlign = this.pixelX(x) > width - 30 ? 'right' : 'center';\n\
-pen.fillText(shortNumber(x), Math.min(this.pixelX(x), width - 4), CHART_HEIGHT - EDGES.bottom + 6);\n\
+pen.fillText(this.axis.text(x), Math.min(this.pixelX(x), width - 4), CHART_HEIGHT - EDGES.bottom + 6);\n\
 }\n\
 Object.assign(pen, { textAlign: 'left', textBaseline: 'middle' });\n\
 pen.fillText('number', 4, 8);\n\

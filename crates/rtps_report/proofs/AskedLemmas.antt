@@ -8,6 +8,7 @@ use Rattle.rtps_report.specs.Vocabulary.{ActValue, Counts, DirectoryValue, Expla
 use Rattle.rtps_audit.specs.Placed.{placed_in}
 use Rattle.rtps_audit.specs.Said.{datagrams_until}
 use Rattle.rtps_evidence.specs.Evidence.{IsEvidenceBy, IsEvidenceFrom}
+use Rattle.rtps_evidence.specs.OtherSide.{OtherRecording}
 use Rattle.rtps_evidence.specs.Spans.{IsWhole, is_joined_here, since_of}
 use Rattle.rtps_evidence.specs.declared.evidence.Evidence.{Evidence}
 use Rattle.rtps_report.specs.Rows.{RowsValue, acts_read, is_kept}
@@ -103,7 +104,7 @@ rows_kept rows acts directory explained named =
     ∙ map_filter row_of (is_row_kept rows acts directory) explained
 
 -- a report whose rows are those of explained ones, which are by the whole recording
-pub report_of_explained : (asked : AskedValue) (recording : List (List ℕ)) (explained : Explained) (report : Report) → asked.spans ≡ false → IsExplainedAs asked recording explained
+pub report_of_explained : (asked : AskedValue) (recording : List (List ℕ)) (explained : Explained) (report : Report) → asked.spans ≡ false → IsExplainedAs asked None recording explained
     → report.rows.items ≡ map row_of explained.rows.items → report.counts ≡ explained.counts → IsReportAs asked recording report
 report_of_explained asked recording explained report spans explains rows counts =
     let whole = explains.explains in
@@ -130,13 +131,13 @@ missed_by_evidence from pair intake evidence is =
     ∙ ap (λ place. missed_since from place pair intake.acts) since
 
 -- the rows with missed numbers are as many by their evidence as by the recording
-pub missed_of_explained : (asked : AskedValue) (recording : List (List ℕ)) (explained : Explained) → asked.spans ≡ false → IsExplainedAs asked recording explained
+pub missed_of_explained : (asked : AskedValue) (recording : List (List ℕ)) (explained : Explained) → asked.spans ≡ false → IsExplainedAs asked None recording explained
     → missed_in (map explanation_value explained.rows.items) ≡ missed_rows asked.from (intake_as asked.fragments recording) (map row_of explained.rows.items)
 missed_of_explained asked recording explained spans explains =
     let intake = intake_as asked.fragments recording in
     let IsShownRow : Explanation → Type 0 = λ row. IsEvidenceFrom asked.from row.pair intake row.evidence in
     let whole : All IsShownRow explains.whole.rows.items =
-    subst (λ spans. All (λ (row : Explanation). IsEvidenceBy spans asked.from row.pair intake row.evidence) explains.whole.rows.items) spans explains.explains.shown in
+    subst (λ spans. All (λ (row : Explanation). IsEvidenceBy spans asked.from None row.pair intake row.evidence) explains.whole.rows.items) spans explains.explains.shown in
     let shown : All IsShownRow explained.rows.items = All-same IsShownRow _ _ explains.rows (All-filter _ IsShownRow explains.whole.rows.items whole) in
     let by_evidence = λ (row : ExplanationValue). not (row.evidence.missed == 0) in
     let by_recording = λ (row : Row). not (missed_of asked.from intake row.pair == 0) in
@@ -168,9 +169,10 @@ one_rows asked recording one other is also rows directory =
     is.rows ∙ ap (filter (is_row_kept asked.rows (acts_read asked.fragments recording) is.directory)) rows
     ∙ ap (λ found. filter (is_row_kept asked.rows (acts_read asked.fragments recording) found) also.whole.rows.items) directory ∙ sym also.rows
 
-pub one_explained : (asked : AskedValue) (recording : List (List ℕ)) (one other : Explained) (is : IsExplainedAs asked recording one) (also : IsExplainedAs asked recording other)
+pub one_explained : (asked : AskedValue) (theirs : Option OtherRecording) (recording : List (List ℕ)) (one other : Explained)
+    → (is : IsExplainedAs asked theirs recording one) (also : IsExplainedAs asked theirs recording other)
     → map explanation_value is.whole.rows.items ≡ map explanation_value also.whole.rows.items → map explanation_value one.rows.items ≡ map explanation_value other.rows.items
-one_explained asked recording one other is also rows =
+one_explained asked theirs recording one other is also rows =
     let test = λ (row : ExplanationValue). is_kept asked.rows (acts_read asked.fragments recording) row.topic row.pair in
     ap (map explanation_value) is.rows ∙ map_filter explanation_value test is.whole.rows.items ∙ ap (filter test) rows
     ∙ sym (map_filter explanation_value test also.whole.rows.items) ∙ sym (ap (map explanation_value) also.rows)

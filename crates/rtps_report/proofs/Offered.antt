@@ -1,6 +1,6 @@
 -- Lemmas for the crates above: rows that are asked for are the same where the report is; texts of rows and their endings are decided by
 -- the recording; where nothing but a number is asked, they are those by this number.
-use Rattle.std.proofs.Common.{◌≡◌, ◌∙◌, ℕ, false, List, ap, filter, map, refl, subst, sym}
+use Rattle.std.proofs.Common.{◌≡◌, ◌∙◌, ℕ, false, List, None, ap, filter, map, refl, subst, sym}
 use Rattle.rtps_report.specs.Vocabulary.{Counts, ExplanationValue, HasOneExplanation, acts_in, explanation_value}
 use Rattle.rtps_report.specs.Asked.{AskedValue, plainly}
 use Rattle.rtps_report.specs.FullReport.{AreRowsTold, AreRowsToldFrom, RecordingValue, RowsForm, ending_of_rows, is_left_out, rows_of}
@@ -32,7 +32,7 @@ rows_told_once law IsForm unique asked = λ recording one other ending last is a
 
 pub rows_told_from_once : HasOneExplanation → (IsForm : RowsForm) → HasOneForm IsForm → (from : ℕ) → HasOneText (AreRowsToldFrom IsForm from)
 rows_told_from_once law IsForm unique from = λ recording one other ending last is also.
-    let whole = law false from _ is.explained also.explained is.explains also.explains in (
+    let whole = law false from None _ is.explained also.explained is.explains also.explains in (
       unique (map explanation_value also.explained.rows.items) also.explained.counts recording one other
           (form_of IsForm _ _ is.explained.counts also.explained.counts recording one whole.0 whole.1 is.is_text) also.is_text,
       is.ends ∙ ap ending_of_rows whole.0 ∙ sym also.ends,
@@ -55,8 +55,9 @@ rows_plainly IsForm from = λ recording text ending. (
   λ is.
       let left_out = filter (is_left_out (plainly from).rows (acts_in recording.datagrams)) is.explained.rows.items in
       record {
-        report = record { explained = is.explained; left_out = left_out; talk = nobody; ending = ending };
+        report = record { arrived = None; explained = is.explained; left_out = left_out; talk = nobody; ending = ending };
         is_report = record {
+          beside = refl;
           explained = is.explained;
           left_out = left_out;
           parts = record {
@@ -68,7 +69,7 @@ rows_plainly IsForm from = λ recording text ending. (
             };
             left_out_too = refl;
           };
-          talks = nobody_talks from recording.datagrams;
+          talks = nobody_talks from recording;
           rows = sym (all_fitting nobody.unmatched is.explained.rows.items);
           counts = refl;
           rest = sym (all_fitting nobody.unmatched left_out);

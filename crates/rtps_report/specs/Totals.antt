@@ -33,6 +33,7 @@ totals_of scope rows =
       before = sum_by (λ row. before_of scope.from row.evidence) rows;
       numbers = sum_by (λ row. numbers_of scope.from row.evidence) rows;
       received = sum_by (λ row. (outcomes_of row.evidence).received) rows;
+      arrived = sum_by (λ row. (outcomes_of row.evidence).arrived) rows;
       likely = sum_by (λ row. (outcomes_of row.evidence).likely) rows;
       missed = sum_by (λ row. (outcomes_of row.evidence).missed) rows;
       unsent = sum_by (λ row. (outcomes_of row.evidence).unsent) rows;
@@ -57,6 +58,7 @@ with_row scope totals row =
       before = totals.before + before_of scope.from row.evidence;
       numbers = totals.numbers + numbers_of scope.from row.evidence;
       received = totals.received + (outcomes_of row.evidence).received;
+      arrived = totals.arrived + (outcomes_of row.evidence).arrived;
       likely = totals.likely + (outcomes_of row.evidence).likely;
       missed = totals.missed + (outcomes_of row.evidence).missed;
       unsent = totals.unsent + (outcomes_of row.evidence).unsent;
@@ -78,6 +80,7 @@ pub record AreWithin (totals : Totals) : Type 0 where
   pub before : totals.before ≤ totals.pairs * 18446744073709551615
   pub numbers : totals.numbers ≤ totals.pairs * 18446744073709551615
   pub received : totals.received ≤ totals.pairs * 18446744073709551615
+  pub arrived : totals.arrived ≤ totals.pairs * 18446744073709551615
   pub likely : totals.likely ≤ totals.pairs * 18446744073709551615
   pub missed : totals.missed ≤ totals.pairs * 18446744073709551615
   pub unsent : totals.unsent ≤ totals.pairs * 18446744073709551615

@@ -15,7 +15,7 @@ use crate::rows::RowFilter;
 use crate::traffic::namings_for;
 use rtps_audit::{Report, Row, Watch};
 use rtps_discovery::Directory;
-use rtps_evidence::{Explanation, explain_index};
+use rtps_evidence::{Explanation, Sides, explain_index};
 use rtps_fragments::Samples;
 use rtps_ids::{Guid, Memory};
 use std::alloc::{AllocError, Global};
@@ -55,7 +55,11 @@ fn strict_report<P: Watch>(
     let mut samples = Samples::none(alloc);
     let index = index_asked(alloc, recording, asked, &mut samples)?;
     let asked = asked.by_whole();
-    let whole = explain_index(alloc, &index, asked.extent(), watch)?;
+    let sides = Sides {
+        index: &index,
+        other: None,
+    };
+    let whole = explain_index(alloc, &sides, asked.extent(), watch)?;
     let parted = parted_of(alloc, whole, &asked, recording)?;
     let explained = &parted.explained;
     let rows = rows_in(alloc, &explained.rows)?;

@@ -37,6 +37,8 @@ pub struct Totals {
     pub numbers: u128,
     /// How many of them are received.
     pub received: u128,
+    /// How many of them arrived, of rows that are held against another recording.
+    pub arrived: u128,
     /// How many of them are likely.
     pub likely: u128,
     /// How many of them are missed.
@@ -93,6 +95,7 @@ impl Totals {
             before: 0,
             numbers: 0,
             received: 0,
+            arrived: 0,
             likely: 0,
             missed: 0,
             unsent: 0,
@@ -123,6 +126,7 @@ impl Totals {
             before: self.before + u128::from(before_of(scope.from, evidence)),
             numbers: self.numbers + u128::from(numbers_of(scope.from, evidence)),
             received: self.received + u128::from(outcomes.received),
+            arrived: self.arrived + u128::from(outcomes.arrived),
             likely: self.likely + u128::from(outcomes.likely),
             missed: self.missed + u128::from(outcomes.missed),
             unsent: self.unsent + u128::from(outcomes.unsent),

@@ -94,6 +94,16 @@ impl From<AllocError> for RecFault {
     }
 }
 
+impl From<Memory> for RecFault {
+    ghost use Rattle.rtps_tool.specs.declared.faults.RecFault.TheVariants.{Memory};
+
+    ghost from_gives = { λ _ fault. fault ≡ Memory };
+
+    fn from(_error: Memory) -> RecFault {
+        RecFault::Memory
+    }
+}
+
 impl<T: Drop> From<AllocFailed<T>> for RecFault {
     ghost use Rattle.rtps_tool.specs.declared.faults.RecFault.TheVariants.{Memory};
 

@@ -130,7 +130,11 @@ fn text_of<P: Watch>(
     ensures { IfOk result (λ answer. IsTextOf options.now.command (asked_value options.now.asked) recording.now (string_bytes answer.0) answer.1) }
 {
     let asked = &options.asked;
-    let subject = Subject { recording, asked };
+    let subject = Subject {
+        recording,
+        asked,
+        arrived: None,
+    };
     match options.command {
         Command::Check => told(alloc, Form::Check, subject, watch),
         Command::CheckJson => told(alloc, Form::CheckJson, subject, watch),

@@ -19,7 +19,7 @@ returns c =
     record {
       unmatched = block.sorted;
       unmatched_by_topic = block.by_topic;
-      is_text = five_parts [] (first_lines totals beside) (topics_text hosts told.scope totals rows) unmatched one_way (ending_text told.scope beside totals rows)
+      is_text = five_parts [] (first_lines totals beside) (topics_text hosts beside.times told.scope totals rows) unmatched one_way (ending_text told.scope beside totals rows)
           (c.in_ok-push_first.ensures ∙ ap (λ bytes. bytes ++ first_lines totals beside) c.new-text.ensures.bytes) c.in_ok-push_topics.ensures block.is_text c.in_ok-push_one_way_block.ensures c.in_ok-push_ending.ensures
-          ∙ ap (λ (totals : Totals). first_lines totals beside ++ (topics_text hosts told.scope totals rows ++ (unmatched ++ (one_way ++ ending_text told.scope beside totals rows)))) c.totals_of-totals.ensures;
+          ∙ ap (λ (totals : Totals). first_lines totals beside ++ (topics_text hosts beside.times told.scope totals rows ++ (unmatched ++ (one_way ++ ending_text told.scope beside totals rows)))) c.totals_of-totals.ensures;
     }

@@ -34,7 +34,7 @@ members_with asked recording ending counts rows left_out talk =
     status_members ending (causes_of asked.standard (totals_of scope rows) (findings_in ending))
     ++ (rows_members (record { scope = scope; advised = All }) rows counts recording
     ++ ((unmatched_member talk.unmatched ∷ unobserved_member talk.silence left_out ∷ one_way_member talk.one_way ∷ best_effort_member talk.best_effort
-    ∷ participants_member talk.participants ∷ []) ++ notes_members (short_notes (facts_by rows scope counts recording) talk left_out)))
+    ∷ participants_member recording.times talk.participants ∷ []) ++ notes_members (short_notes (facts_by rows scope counts recording) talk left_out)))
 
 -- what is told of who does not talk, by its parts
 abbrev talk_of : (GuidPrefix → Host) → (Pair → Silence) → List UnmatchedValue → List OneWay → List BestEffortValue → BestEffortValue → List Participant → TalkValue

@@ -12,6 +12,6 @@ returns c =
     let row = explanation_value c.args.row.now in
     let told = c.args.told in
     on_ok_weaker c.push_kinds.result
-    (λ last. three_parts (string_bytes c.args.text.now) (pair_lines (hosts_of told) told.scope.from row) (codes "  " ++ verdict_text row.evidence.verdict) (kinds_text (outcomes_of row.evidence))
+    (λ last. three_parts (string_bytes c.args.text.now) (pair_lines (hosts_of told) told.times.now told.scope.from row) (codes "  " ++ verdict_text row.evidence.verdict) (kinds_text (outcomes_of row.evidence))
     c.in_ok-push_pair.ensures c.in_ok-write.ensures.bytes (last ∙ ap (λ outcomes. string_bytes c.write.new.self ++ kinds_text outcomes) c.outcomes_of.ensures))
     c.push_kinds.ensures

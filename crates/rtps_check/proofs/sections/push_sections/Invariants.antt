@@ -6,4 +6,4 @@ use Rattle.rtps_check.proofs.sections.push_sections.Given as goal
 abbrev pub invariant-loop-rows : goal.invariant-loop-rows
 invariant-loop-rows l =
     string_bytes l.text ≡ string_bytes l.initial.text
-    ++ flat_map (section (hosts_of l.told) l.told.scope) (map (λ topic. map explanation_value topic.now) (take l.rows-index l.topics))
+    ++ flat_map (section (hosts_of l.told) l.told.times.now l.told.scope) (map (λ topic. map explanation_value topic.now) (take l.rows-index l.topics))

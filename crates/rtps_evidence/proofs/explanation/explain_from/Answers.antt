@@ -1,4 +1,5 @@
+use Rattle.std.proofs.Common.{None}
 use Rattle.rtps_evidence.proofs.explanation.explain_from.Goals as goal
 
 pub returns : goal.returns
-returns g c = c.in_ok-explained.ensures _ c.in_ok-index.ensures
+returns g c = c.in_ok-explained.ensures _ None (record { index = c.in_ok-index.ensures; beside = tt })

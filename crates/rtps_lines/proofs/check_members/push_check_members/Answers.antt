@@ -28,7 +28,7 @@ returns-clause-tokens c =
     let rows = rows_of value in
     let status = status_members report.ending (report_causes asked recording value) in
     let members = rows_members (record { scope = scope_of asked recording value; advised = All }) rows report.explained.counts recording in
-    let talk = talk_members value in
+    let talk = talk_members recording.times value in
     let notes = notes_members (report_notes asked recording value) in
     let first = c.in_ok-push_status.ensures.tokens
     ∙ ap (λ (all : List (List ℕ)). start ++ tokens_of (status_members report.ending all)) (ap (map string_bytes) c.deref-2.ensures.value ∙ c.in_ok-causes.ensures) in

@@ -7,5 +7,5 @@ use Rattle.rtps_lines.proofs.json_object.push_pairs.Given as goal
 
 abbrev pub invariant-loop-row : goal.invariant-loop-row
 invariant-loop-row l =
-    (l.writer.tokens ≡ l.initial.writer.tokens ++ flat_map (λ row. json_tokens (row_json l.telling (explanation_value row))) (take l.row-index l.rows))
+    (l.writer.tokens ≡ l.initial.writer.tokens ++ flat_map (λ row. json_tokens (row_json l.form.telling l.form.clock.times.now (explanation_value row))) (take l.row-index l.rows))
     × (l.writer.before ≡ l.initial.writer.before)

@@ -19,7 +19,8 @@ returns-clause-tokens c =
     let unobserved = unobserved_member report.talk.silence (map explanation_value report.left_out) in
     let one_way = one_way_member report.talk.one_way in
     let best_effort = best_effort_member report.talk.best_effort in
-    let participants = participants_member report.talk.participants in
+    let times = c.args.report.now.recording.now.times in
+    let participants = participants_member times report.talk.participants in
     on_ok_weaker c.push_all_participants.result
     (λ last.
     five_parts start (tokens_of_member unmatched) (tokens_of_member unobserved) (tokens_of_member one_way) (tokens_of_member best_effort) (tokens_of_member participants)
@@ -29,6 +30,7 @@ returns-clause-tokens c =
     (c.in_ok-push_all_one_way.ensures.tokens ∙ ap (λ items. c.push_all_unobserved.new.writer.tokens ++ tokens_of_member (one_way_member items)) c.deref-3.ensures.value)
     (c.in_ok-push_all_best_effort.ensures.tokens
     ∙ ap (λ items. c.push_all_one_way.new.writer.tokens ++ tokens_of_member (best_effort_member (map best_effort_value items))) c.deref-4.ensures.value)
-    (last ∙ ap (λ items. c.push_all_best_effort.new.writer.tokens ++ tokens_of_member (participants_member items)) c.deref-5.ensures.value)
+    (last ∙ ap (λ all. c.push_all_best_effort.new.writer.tokens ++ tokens_of_member (participants_member all c.deref-5.result.now)) c.times.ensures
+    ∙ ap (λ items. c.push_all_best_effort.new.writer.tokens ++ tokens_of_member (participants_member times items)) c.deref-5.ensures.value)
     ∙ ap (λ tokens. start ++ tokens) (five_tokens unmatched unobserved one_way best_effort participants))
     c.push_all_participants.ensures.tokens

@@ -1,4 +1,4 @@
-use Rattle.std.proofs.Common.{◌≡◌, false, subst}
+use Rattle.std.proofs.Common.{◌≡◌, None, false, subst}
 use Rattle.rtps_audit.specs.Said.{datagrams_until}
 use Rattle.rtps_discovery.specs.declared.matching.Pair.{Pair}
 use Rattle.rtps_evidence.specs.Evidence.{IsBeside, IsShown}
@@ -18,6 +18,7 @@ returns c = λ intake is.
       span = judgement.span;
       extent = c.in_ok-judgement.ensures.extent intake is;
       shown = subst (λ (p : Pair). IsShown judgement.span.from (since_of judgement.span) p recording evidence) same (c.in_ok-evidence.ensures.shown intake is summed verdict);
-      beside = subst (λ (p : Pair). IsBeside false judgement.span p recording evidence.in_span) same
-          (subst (λ b. IsBeside b judgement.span judgement.pair recording evidence.in_span) c.in_ok-judgement.ensures.in_spans (c.in_ok-evidence.ensures.beside intake is summed verdict));
+      beside = subst (λ (p : Pair). IsBeside false None judgement.span p recording evidence.in_span) same
+          (subst (λ b. IsBeside b None judgement.span judgement.pair recording evidence.in_span) c.in_ok-judgement.ensures.in_spans
+          (c.in_ok-evidence.ensures.beside intake None (record { index = is; beside = tt }) summed verdict));
     }

@@ -1,0 +1,80 @@
+ghost use Rattle.std.specs.Prelude.{◌≡◌, map};
+ghost use Rattle.rtps_evidence.specs.Explanation.{explanation_value};
+ghost use Rattle.rtps_report.specs.FullReport.{report_value};
+ghost use Rattle.rtps_report.specs.SideFacts.{facts_beside as facts_beside_lem, numbers_absent as numbers_absent_lem, rows_absent as rows_absent_lem, rows_alone as rows_alone_lem, side_facts};
+ghost use Rattle.rtps_report.specs.Talk.{talk_value};
+
+use crate::full_report::FullReport;
+use crate::row_facts::{absent_of, is_held};
+use crate::talk::Talk;
+use rtps_evidence::Explanation;
+
+/// What is told of another recording against which rows are held, in numbers.
+#[derive(Clone, Copy, PartialEq, Eq, Debug)]
+pub struct SideFacts {
+    /// The pairs that are not held against it: rows, and pairs of best effort that are counted.
+    pub alone: u128,
+    /// The rows of which numbers are received for certain though it has none of them.
+    pub absent_pairs: u64,
+    /// How many numbers these are.
+    pub absent: u128,
+}
+
+/// How many rows are not held.
+fn rows_alone(rows: &[Explanation<'_>]) -> u64
+    ensures { result ≡ rows_alone_lem (map explanation_value rows.now) }
+{
+    let mut alone = 0;
+    for row in rows {
+        if !is_held(&row.evidence) {
+            alone += 1;
+        }
+    }
+    alone
+}
+
+/// How many rows have numbers that are received for certain though the other recording has none of them.
+fn rows_absent(rows: &[Explanation<'_>]) -> u64
+    ensures { result ≡ rows_absent_lem (map explanation_value rows.now) }
+{
+    let mut absent = 0;
+    for row in rows {
+        if absent_of(&row.evidence) > 0 {
+            absent += 1;
+        }
+    }
+    absent
+}
+
+/// How many numbers these are.
+fn numbers_absent(rows: &[Explanation<'_>]) -> u128
+    ensures { result ≡ numbers_absent_lem (map explanation_value rows.now) }
+{
+    let mut absent = 0;
+    for row in rows {
+        absent += u128::from(absent_of(&row.evidence));
+    }
+    absent
+}
+
+fn facts_beside(rows: &[Explanation<'_>], talk: &Talk<'_>) -> SideFacts
+    ensures { result ≡ facts_beside_lem (map explanation_value rows.now) (talk_value talk.now) }
+{
+    let held = talk.held.len() as u64;
+    let alone = talk.best_effort_total.pairs.saturating_sub(held);
+    SideFacts {
+        alone: u128::from(rows_alone(rows)) + u128::from(alone),
+        absent_pairs: rows_absent(rows),
+        absent: numbers_absent(rows),
+    }
+}
+
+/// What is told of the other recording; None where there is none.
+pub fn facts_of_side(report: &FullReport<'_>) -> Option<SideFacts>
+    ensures { result ≡ side_facts (report_value report.now) }
+{
+    match report.arrived {
+        Some(_) => Some(facts_beside(&report.explained.rows, &report.talk)),
+        None => None,
+    }
+}
