@@ -1,5 +1,6 @@
 """What is asked of a report: from which number on, which rows, how many, whether anything may weaken it, and whether samples in
-DATA_FRAG count. Of spans too: whether rows are in them, how long a tail may be, and whether each number has to be received."""
+DATA_FRAG count. Of spans too: whether rows are in them, how long a tail may be, whether each number has to be received, and which other
+recording says what arrived."""
 import re
 
 from ros import ros_topic
@@ -15,13 +16,14 @@ def fits(pattern, topic):
 
 
 class Asked:
-    def __init__(self, first=1, topics=(), observed=False, expect=None, strict=False, fragments=False, spans=False, tail=0, certain=False):
+    def __init__(self, first=1, topics=(), observed=False, expect=None, strict=False, fragments=False, spans=False, tail=0, certain=False,
+                 arrived=None):
         self.first, self.topics, self.observed, self.expect, self.strict = first, list(topics), observed, expect, strict
-        self.fragments, self.spans, self.tail, self.certain = fragments, spans, tail, certain
+        self.fragments, self.spans, self.tail, self.certain, self.arrived = fragments, spans, tail, certain, arrived
 
     def checked(self):
         """the same as `check` asks it"""
-        return Asked(self.first, self.topics, True, self.expect, True, True, True, self.tail, self.certain)
+        return Asked(self.first, self.topics, True, self.expect, True, True, True, self.tail, self.certain, self.arrived)
 
     def words(self):
         """the words of the command line that ask so"""
@@ -34,7 +36,8 @@ class Asked:
         words += ['--fragments'] if self.fragments else []
         words += ['--spans'] if self.spans else []
         words += ['--tail', str(self.tail)] if self.tail else []
-        return words + (['--certain'] if self.certain else [])
+        words += ['--certain'] if self.certain else []
+        return words + (['--arrived', self.arrived] if self.arrived is not None else [])
 
     def chooses(self, topic):
         """whether a topic is asked for, by its name of DDS or of ROS 2"""
@@ -73,4 +76,4 @@ def asked_by(words):
     return Asked(first=int((values('--from') + ['1'])[0]), topics=values('--topic'), observed='--observed' in words,
                  expect=int(values('--expect')[0]) if '--expect' in words else None, strict='--strict' in words,
                  fragments='--fragments' in words, spans='--spans' in words, tail=int((values('--tail') + ['0'])[0]),
-                 certain='--certain' in words)
+                 certain='--certain' in words, arrived=(values('--arrived') + [None])[0])

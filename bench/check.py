@@ -1,17 +1,23 @@
 """The text of `rtps-audit check`, from rows of a report: what a person and a test job ask of a recording.
 
 `check_lines` gives the lines, `because` the reasons for which the recording is not clean. Both are written from what is
-meant, and not from the program. The guide prints the table ADVICE. A row is that of `spans.Row`, and `talk` that of `talk.Talk`.
+meant, and not from the program. The guide prints the table ADVICE. A row is that of `spans.Row`, and `talk` that of `talk.Talk`;
+`sides` is what another recording shows, an `arrived.BothSides`, where there is one.
 """
+import arrived
+from times import behind, order_notes, timed_line, wait_line
 from told import hosted, one_way_lines, talk_notes, topic_text, type_text, unmatched_amount, unmatched_lines
 from wording import amount, grouped, in_pairs, of
 
-KINDS = 'received', 'missed', 'unsent', 'unanswered', 'likely', 'unconfirmed'
+KINDS = 'received', 'arrived', 'missed', 'unsent', 'unanswered', 'likely', 'unconfirmed'
 
 # ---- what to do for a row that is not clean: the first case that fits
 
 # name, verdict, what fits, what to do
 ADVICE = [
+    ('lost', 'complete, open', 'with `--arrived`: numbers that were sent are `not arrived`, and not only a tail',
+     "it was sent and did not reach the reader's host: look at the network; raise the history depth, so that the writer still has what is "
+     'asked for again'),
     ('missed_unsent', 'complete, open', '`missed` above 0, and no DATA or DATA_FRAG of the first one that the reader hears',
      "the reader asked for it and the recording has none: it was lost before this recording, or record at the writer's side"),
     ('missed_again', 'complete, open', '`missed` above 0, the first one `sent again`',
@@ -24,7 +30,7 @@ ADVICE = [
     ('unanswered', 'complete', '`unanswered` above 0',
      'it was asked about and gave no answer until the writer had dropped them: an outage of the network or of the reader; raise the '
      'history depth if these must not be lost'),
-    ('tail', 'open', 'only a tail',
+    ('tail', 'open', 'only a tail, of a reader that is not silent',
      'stop publishing some seconds before the recording ends, or allow a tail (--tail)'),
     ('left', 'open', '`acknowledged nothing`, and the reader left',
      'it was never asked, or its answers are not in the recording: see that it took anything'),
@@ -71,7 +77,7 @@ def missed_advice(row):
 
 
 def open_advice(row, values, counts):
-    if row.is_tail() and row.until is None:
+    if row.is_tail() and row.until is None and not row.reader_is_silent():
         return 'tail'
     if values['acknowledged'] is None and row.until is not None:
         return 'left'
@@ -94,6 +100,12 @@ def unfounded_advice(row, values, counts):
     return 'began_late' if values['number'] == row.first and not row.joined_here else 'lacking'
 
 
+def is_lost(row):
+    """numbers that were sent did not arrive: those of some kinds were, and missed ones by what the first of them tells"""
+    was_sent = any(row.counts[kind] for kind in ('likely', 'unanswered', 'unconfirmed'))
+    return was_sent or row.counts['missed'] > 0 and row.delivery.missed[0] in row.delivery.brought
+
+
 def advice_of(row, counts):
     """the case of a row that is not clean"""
     values = row.values()
@@ -102,6 +114,8 @@ def advice_of(row, counts):
         return 'alike' if all(one[part] == other[part] for part in ('payload', 'octets')) else 'unlike'
     if row.kind == 'unfounded':
         return unfounded_advice(row, values, counts)
+    if row.held and not row.is_tail() and is_lost(row):
+        return 'lost'
     if row.counts['missed']:
         return missed_advice(row)
     if row.kind == 'open':
@@ -138,17 +152,18 @@ def no_pair_advice(talk):
     return next((advice for found, advice in cases if found), NO_PAIR)
 
 
-def first_lines(rows, talk, tail):
+def first_lines(rows, talk, tail, sides):
     if not rows:
         return ['there is no pair to judge', '  -> ' + no_pair_advice(talk)]
     numbers = sum(row.asked_about() for row in rows)
     pairs, what = ('pair is' if len(rows) == 1 else 'pairs are'), ('number' if numbers == 1 else 'numbers')
-    return [f"{of(cleans(rows, tail), len(rows))} {pairs} clean, {of(total(rows, 'received'), numbers)} {what} received"]
+    received = f"{of(total(rows, 'received'), numbers)} {what} received"
+    return [f"{of(cleans(rows, tail), len(rows))} {pairs} clean, {received}{arrived.more_arrived(rows) if sides else ''}"]
 
 
 # ---- the table by topic
 
-COLUMNS = 'received', 'likely', 'missed', 'unsent', 'unanswered', 'unconfirmed'
+COLUMNS = 'received', 'arrived', 'likely', 'missed', 'unsent', 'unanswered', 'unconfirmed'
 
 
 def by_topic(rows):
@@ -189,15 +204,26 @@ def beginning(line):
 
 def shown(row):
     """the lines that explain a row, of which the one on missed numbers is the first"""
-    lines = [line for line in row.lines if beginning(line) in SHOWN[row.kind]]
-    return ['    ' + line.strip() for line in sorted(lines, key=lambda line: not line.startswith('  '))]
+    lines = [line for line in row.lines if beginning(line) in SHOWN[row.kind] and not is_of_arrived(row, line)]
+    return arrived.lacking_lines(row) + [line.strip() for line in sorted(lines, key=lambda line: not line.startswith('  '))]
+
+
+def is_of_arrived(row, line):
+    """whether a line is the one on the first missed number of a row that is held, and the number is none of the first that lack"""
+    return row.held and beginning(line) == '  number' and row.delivery.missed[0] not in arrived.first_named(row.lacking())
+
+
+def timed_lines(row):
+    """the lines that explain a row, each place with its second; how long the reader let the writer wait; and who is silent"""
+    waited = [wait_line(row.times, row.wait)] if row.wait else []
+    return [*(timed_line(row.times, line) for line in shown(row)), *waited, *row.silence_lines()]
 
 
 def row_lines(row, talk, counts):
-    left = f', left in datagram {row.until[0]}' if row.until else ''
+    left = f', left in datagram {row.until[0]}{behind(row.times, row.until[0])}' if row.until else ''
     kinds = [f'{kind} {row.counts[kind]}' for kind in COLUMNS if kind == 'received' or row.counts[kind]]
     return [f'  writer {hosted(talk.announced, row.w)}', f'  reader {hosted(talk.announced, row.r)}, from {row.first}{left}',
-            f"  {', '.join([row.verdict, *kinds])}", *shown(row), '    -> ' + SENTENCES[advice_of(row, counts)]]
+            f"  {', '.join([row.verdict, *kinds])}", *('    ' + line for line in timed_lines(row)), '    -> ' + SENTENCES[advice_of(row, counts)]]
 
 
 def section(rows, talk, counts, tail):
@@ -260,26 +286,26 @@ def tail_note(rows):
     return f"{amount(len(rows), 'pair is', 'pairs are')} clean with a tail, of at most {amount(longest, 'number', 'numbers')}"
 
 
-def notes(rows, talk, counts, tail):
+def notes(rows, talk, counts, tail, sides):
     """what weakens the report: each with the topics that it is about, or None, and what to do, or None"""
     late = [row for row in rows if row.wrote_before_alone]
-    tails = [row for row in rows if row.is_clean(tail) and row.kind == 'open']
-    found = talk_notes(talk)
+    tails = [row for row in rows if row.is_clean(tail) and row.is_tail()]
+    found = order_notes(talk.times) + talk_notes(talk) + (list(sides.notes(topic_text)) if sides else [])
     found += [(late_note(late), topics_of(late), LATE)] if late else []
     found += [(tail_note(tails), None, None)] if tails else []
-    counts = counts | {'likely': total(rows, 'likely')}
+    counts = counts | {'likely': total([row for row in rows if not row.held], 'likely')}
     return found + [(noted(counts, name, one, many), None, advice) for name, one, many, advice in NOTES if counts.get(name, 0)]
 
 
-def note_lines(rows, talk, counts, tail):
+def note_lines(rows, talk, counts, tail, sides):
     lines = []
-    for told, topics, advice in notes(rows, talk, counts, tail):
+    for told, topics, advice in notes(rows, talk, counts, tail, sides):
         lines += [told if topics is None else f'{told}: {topics}'] + (['  -> ' + advice] if advice else [])
     return lines
 
 
-def note_sentences(rows, talk, counts, tail):
-    return [f'{told} -> {advice}' if advice else told for told, _, advice in notes(rows, talk, counts, tail)]
+def note_sentences(rows, talk, counts, tail, sides=None):
+    return [f'{told} -> {advice}' if advice else told for told, _, advice in notes(rows, talk, counts, tail, sides)]
 
 
 # ---- why the recording is not clean
@@ -305,7 +331,7 @@ def row_reasons(rows, tail):
     reasons = [amount(len(unclean), 'pair is not complete', 'pairs are not complete')] if unclean else []
     reasons += lost(rows, 'missed', 'number was missed', 'numbers were missed')
     reasons += lost(rows, 'unsent', 'number was unsent', 'numbers were unsent')
-    return reasons + lost(rows, 'unanswered', 'number was unanswered', 'numbers were unanswered')
+    return reasons + lost(rows, 'unanswered', 'number was unanswered', 'numbers were unanswered') + arrived.lost_reasons(rows)
 
 
 def match_reasons(talk):
@@ -327,10 +353,11 @@ def block(lines):
     return [''] + lines if lines else []
 
 
-def check_lines(rows, talk, counts, tail, reasons):
+def check_lines(rows, talk, counts, tail, reasons, sides=None):
     """the lines of these rows, of who does not talk, of these counts, of which `refused` are longer than an octet, and of why it is not
     clean"""
-    return [*first_lines(rows, talk, tail), *block(table(rows, tail) if rows else []),
+    lost_here = sides.lines(lambda guid: hosted(talk.announced, guid), topic_text) if sides else []
+    return [*first_lines(rows, talk, tail, sides), *block(table(rows, tail) if rows else []),
             *(line for some in by_topic(rows) for line in section(some, talk, counts, tail)), *tail_lines(rows, tail),
-            *block(unmatched_lines(talk)), *block(one_way_lines(talk)), *block(note_lines(rows, talk, counts, tail)),
+            *block(unmatched_lines(talk)), *block(one_way_lines(talk)), *block(lost_here), *block(note_lines(rows, talk, counts, tail, sides)),
             *block([f"not clean: {'; '.join(reasons)}" if reasons else 'clean'])]

@@ -7,25 +7,29 @@
     page.py compare PROGRAM [COUNT [SEED]]
                                          runs PROGRAM on COUNT random recordings, and says where its page differs
 
-An OPTION is one of `audit`, but for limits and --json.
+An OPTION is one of `audit`, but for limits and --json; or --arrived OTHER, by which rows in spans are held against OTHER, a recording
+that is read as FILE is. It sets --spans.
 """
-import json
 import os
 import random
 import subprocess
 import sys
+from copy import copy
+from importlib import import_module
 
 sys.dont_write_bytecode = True
 ROOT = os.path.dirname(os.path.dirname(os.path.abspath(__file__)))
 sys.path[:0] = [os.path.join(ROOT, 'bench'), os.path.join(ROOT, 'crates', 'rtps_page', 'page')]
+import arrived
 import check
 import parts
 import reference
 import spans
 import told
 from asked import PLAIN, asked_by
-from random_recordings import some_asked
-from random_systems import some_recorded
+from random_recordings import some_asked, text_of_datagrams
+from random_systems import some_other, some_recorded
+from times import NO_TIMES, json_text
 
 # So many entries of acts and answers a page has room for.
 ENTRIES = 200000
@@ -106,8 +110,9 @@ def option_values(asked, any_capture):
 
 class Checked:
     """the rows that are asked for, those that the recording cannot speak of, the counts, and why the run does not end clean"""
-    def __init__(self, octets, asked, datagrams, ignored):
-        self.rows, self.talk, counted = spans.rows_of(datagrams, asked, asked.spans)
+    def __init__(self, octets, asked, datagrams, ignored, times=NO_TIMES, other=None):
+        self.rows, self.talk, counted = spans.rows_of(datagrams, asked, asked.spans, times, other)
+        self.sides = arrived.BothSides(self.rows, self.talk, other) if other else None
         self.report = counted | (ignored if isinstance(ignored, dict) else {} if ignored is None else {'ignored': ignored})
         self.counts = spans.counts_of(octets, datagrams, self.report, ignored)
         self.because = self.reasons(asked)
@@ -133,38 +138,45 @@ class Checked:
         return [f'rtps-audit: not clean: {line}' for line in asked.findings(len(self.rows), missed, counts, self.counts)]
 
     def text(self):
-        return ''.join(line + '\n' for line in check.check_lines(self.rows, self.talk, self.counts, 0, self.because))
+        return ''.join(line + '\n' for line in check.check_lines(self.rows, self.talk, self.counts, 0, self.because, self.sides))
 
     def members(self):
         """the members of `check --json`"""
         head = {'status': 'unclean' if self.because else 'clean', 'because': self.because}
         pairs = [row.values() | row.span_values() | {'advice': row.advice(self.counts)} for row in self.rows]
-        notes = {'notes': check.note_sentences(self.rows, self.talk, self.counts, 0)}
-        return head | {'pairs': pairs} | self.report | told.talk_members(self.talk) | notes
+        notes = {'notes': check.note_sentences(self.rows, self.talk, self.counts, 0, self.sides)}
+        return head | {'pairs': pairs} | self.report | told.talk_members(self.talk, self.sides) | notes
 
 
 # ---- the page
 
-def page_of(datagrams, asked=PLAIN, ignored=None, octets=b''):
+def times_in(times, writers, answers):
+    """the second of each datagram that has one and stands in an entry, in order"""
+    named = {entry[0] for one in writers for entry in one['acts']} | {entry[0] for one in answers for entry in one['bases']}
+    return [[datagram, times.second(datagram)] for datagram in sorted(named) if times.second(datagram)]
+
+
+def page_of(datagrams, asked=PLAIN, ignored=None, octets=b'', times=NO_TIMES, other=None):
     """the text and the data of a page, as Python has it; where any capture was read, the ignored frames are told by their reasons"""
-    checked = Checked(octets, asked, datagrams, ignored)
+    checked = Checked(octets, asked, datagrams, ignored, times, other)
     _, endpoints, _, _, _ = reference.discovery(datagrams, asked.fragments)
     rows = [row.names() | {'verdict': row.kind} for row in checked.rows]
     traffic = Traffic([reference.acts_of(d, asked.fragments) for d in datagrams], rows)
     pairs = {(row['writer'], row['reader']) for row in traffic.charted(rows)}
     shown = [row for row in rows if (row['writer'], row['reader']) in pairs]
-    writers = list(dict.fromkeys(row['writer'] for row in shown))
+    writers = [{'guid': guid, 'acts': traffic.acts[octets_of(guid)]} for guid in dict.fromkeys(row['writer'] for row in shown)]
+    answers = [{'writer': row['writer'], 'reader': row['reader'], 'bases': traffic.bases_of(row)} for row in shown]
     return checked.text(), checked.members() | {
         'options': option_values(asked, isinstance(ignored, dict)),
         'endpoints': [endpoint_values(endpoint) for endpoint in endpoints],
-        'writers': [{'guid': guid, 'acts': traffic.acts[octets_of(guid)]} for guid in writers],
-        'answers': [{'writer': row['writer'], 'reader': row['reader'], 'bases': traffic.bases_of(row)} for row in shown],
-    }
+        'writers': writers,
+        'answers': answers,
+    } | ({'times': times_in(times, writers, answers)} if times.are_there() else {})
 
 
 def data_text(values):
     """the object on one line, with no octet by which a tag or an entity could begin"""
-    text = json.dumps(values, separators=(',', ':'), ensure_ascii=False)
+    text = json_text(values, ensure_ascii=False)
     return text.replace('<', '\\u003c').replace('>', '\\u003e').replace('&', '\\u0026')
 
 
@@ -178,33 +190,76 @@ def page_text(text, values):
     return head + escaped(text) + middle + data_text(values) + tail
 
 
+def times_of(octets, any_form):
+    return reference.times_of(octets, any_form=any_form)
+
+
+def other_of(asked, any_form):
+    """the other recording that is asked for, or None; and the lines of standard error where it is refused"""
+    if asked.arrived is None:
+        return None, []
+    with open(asked.arrived, 'rb') as f:
+        found = arrived.other_of(f.read(), asked.arrived, view='page', any_form=any_form, fragments=asked.fragments)
+    return (None, found) if isinstance(found, list) else (found, [])
+
+
+def widened(asked):
+    """the same, in spans where another recording is asked for"""
+    asked = copy(asked)
+    asked.spans = asked.spans or asked.arrived is not None
+    return asked
+
+
 def parts_of(octets, asked=PLAIN, any_form=False):
     """the text and the data of the page of an input, or the last line of standard error"""
-    found = reference.input_of(octets, any_form=any_form or asked.strict)
-    return found if isinstance(found, str) else page_of(found[0], asked, found[1], octets)
+    asked, any_form = widened(asked), any_form or asked.strict
+    found, (other, refused) = reference.input_of(octets, any_form=any_form), other_of(asked, any_form)
+    if isinstance(found, str) or refused:
+        return found if isinstance(found, str) else refused[-1]
+    return page_of(found[0], asked, found[1], octets, times_of(octets, any_form), other)
 
 
 def answer_as(octets, asked, any_form=False):
     """text, lines on standard error and status of `page`"""
-    any_form = any_form or asked.strict
-    read = reference.input_of(octets, any_form=any_form)
-    if isinstance(read, str):
-        return '', reference.told_of('-', octets, any_form=any_form), 2
-    checked = Checked(octets, asked, *read)
-    return page_text(*page_of(*read[:1], asked, read[1], octets)), checked.findings(asked), int(bool(checked.because))
+    asked, any_form = widened(asked), any_form or asked.strict
+    read, (other, refused) = reference.input_of(octets, any_form=any_form), other_of(asked, any_form)
+    if isinstance(read, str) or refused:
+        return '', reference.told_of('-', octets, any_form=any_form) if isinstance(read, str) else refused, 2
+    times = times_of(octets, any_form)
+    checked = Checked(octets, asked, *read, times, other)
+    return page_text(*page_of(read[0], asked, read[1], octets, times, other)), checked.findings(asked), int(bool(checked.because))
+
+
+# ---- random recordings
+
+
+def some_run(rng):
+    """the octets of a recording, of which some have times; what is asked of it; and words for it. Of some another recording is kept in a file"""
+    asked = some_asked(rng)
+    asked.spans = rng.random() < 0.5
+    is_capture = rng.random() < 0.4
+    octets = import_module('random_times').some_timed(rng) if is_capture else some_recorded(rng)
+    read = reference.input_of(octets, any_form=True)
+    if rng.random() < 0.5 and not isinstance(read, str):
+        asked.arrived = reference.kept(text_of_datagrams(some_other(rng, read[0])) + (b'0\n' if rng.random() < 0.03 else b''))
+    return octets, asked, asked.words() + (['--any'] if is_capture and not asked.strict else [])
 
 
 def compare(program, count, seed):
     rng, differing = random.Random(seed), 0
+    seen = dict.fromkeys(('"times":[[', '"wait":{', '"silence":["', '"arrived":', '"not_arrived":[', '"arrived":[{'), 0)
     for k in range(count):
-        text, asked = some_recorded(rng), some_asked(rng)
-        asked.spans = rng.random() < 0.5
-        want, told, status = answer_as(text, asked)
-        got = subprocess.run(program.split() + ['page', *asked.words(), '-'], input=text, capture_output=True)
+        octets, asked, words = some_run(rng)
+        want, told, status = answer_as(octets, asked, '--any' in words)
+        got = subprocess.run(program.split() + ['page', *words, '-'], input=octets, capture_output=True)
         if got.stdout.decode() != want or got.returncode != status or status < 2 and got.stderr.decode().splitlines() != told:
             differing += 1
-            print(f'page {" ".join(asked.words())} differs on recording {k}, kept in {reference.kept(text)}')
-    print(f'{count} recordings, {differing} differences')
+            print(f'page {" ".join(words)} differs on recording {k}, kept in {reference.kept(octets)}')
+        elif asked.arrived is not None:
+            os.unlink(asked.arrived)
+        for what in seen:
+            seen[what] += what in want
+    print(f'{count} recordings, {differing} differences; {seen}')
     return int(differing > 0)
 
 

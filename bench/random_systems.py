@@ -156,3 +156,22 @@ def some_recorded(rng):
     """a recording text of one of several kinds"""
     kind = rng.random()
     return text_of_datagrams(some_system(rng) if kind < 0.4 else some_life(rng)) if kind < 0.8 else some_input(rng)
+
+
+# ---- another recording of the same, at a reader's host
+
+
+def some_other(rng, datagrams):
+    """what another host may have of these datagrams: most of them, in an order of its own, some twice, and some that are in no other"""
+    part = rng.choice([0.4, 0.8, 0.95, 1])
+    found = [d for d in datagrams if rng.random() < part]
+    if rng.random() < 0.2:
+        absent = rng.choice(PREFIXES)
+        found = [d for d in found if d[8:20] != absent]
+    if rng.random() < 0.1:
+        found = found[rng.randrange(len(found) + 1):]
+    for _ in range(rng.choice([0, 0, 2, 5])):
+        found.insert(rng.randrange(len(found) + 1), rng.choice(datagrams or [b'']))
+    if rng.random() < 0.3:
+        rng.shuffle(found)
+    return found + (some_life(rng) if rng.random() < 0.1 else [])

@@ -28,7 +28,6 @@ It is written for clearness: every verdict of a small recording is found by tryi
 (`verdict_by_runs`), and so are the numbers that it received (`received_by_runs`); those of a large one by the plain
 conditions.
 """
-import json
 import random
 import subprocess
 import sys
@@ -40,6 +39,7 @@ from asked import GREATEST, PLAIN, Asked, asked_by
 from fragments import by_writer, payloads_told, placed_samples, without_sample
 from random_captures import some_capture
 from random_recordings import A, B, START, some_asked, some_delivery, some_input, text_of_datagrams
+from times import NO_TIMES, Times, json_text, timed_values
 
 READ = {0x06, 0x07, 0x08, 0x09, 0x0c, 0x0e, 0x15}
 FRAGMENTS = {0x12, 0x13, 0x16}
@@ -311,6 +311,12 @@ def input_of(octets, limits=USUAL, any_form=False):
     return reading.datagrams, counts if any_form else counts['ignored']
 
 
+def times_of(octets, limits=USUAL, any_form=False):
+    """the times of the datagrams of an input; there are none where it is no capture, or is refused"""
+    reading = capture_of(octets, limits, any_form)
+    return Times(reading.start, reading.times) if isinstance(reading, capture_reader.Reading) else NO_TIMES
+
+
 def first_link(octets, limits=USUAL):
     """the link type of the first frame of a capture whose link is not read; None where its interface is not declared"""
     reading = capture_of(octets, limits, True)
@@ -322,10 +328,10 @@ def first_link(octets, limits=USUAL):
 TSHARK = "tshark -r IN -Y 'udp && !icmp' -T fields -e udp.payload >OUT makes a recording of it"
 
 
-def of_form(name, octets, any_form):
-    """what an input is, where it is not read, and what reads it"""
+def of_form(name, octets, any_form, words):
+    """what an input is, where it is not read, and what reads it; `words` are those of a command that reads standard input"""
     if octets[:2] == b'\x1f\x8b':
-        yield f'a gzip file; gunzip -c {name} | rtps-audit audit - reads what it holds'
+        yield f'a gzip file; gunzip -c {name} | rtps-audit {words} reads what it holds'
     if not any_form and octets[:4] == capture_reader.SECTION:
         yield 'a pcapng file; --any reads it'
 
@@ -353,12 +359,12 @@ def of_limit(octets, limits):
     return f'more than {most} {what}; --max-{what} N raises this limit'
 
 
-def told_of(name, octets, limits=USUAL, any_form=False):
+def told_of(name, octets, limits=USUAL, any_form=False, words='audit -'):
     """the lines on standard error where an input is refused"""
     line = input_of(octets, limits, any_form)
     if not isinstance(line, str):
         return []
-    told = [*of_form(name, octets, any_form), *of_fault(octets, limits, any_form), *of_link(octets, any_form)]
+    told = [*of_form(name, octets, any_form, words), *of_fault(octets, limits, any_form), *of_link(octets, any_form)]
     told += [of_limit(octets, limits)] if line == capture_reader.TOO_MANY else []
     return [f'rtps-audit: {name}: {reason}' for reason in told] + [f'rtps-audit: {line}']
 
@@ -995,7 +1001,7 @@ def evidence_values(verdict, lines):
     return values
 
 
-def report_values(datagrams, asked=PLAIN):
+def report_values(datagrams, asked=PLAIN, times=NO_TIMES):
     """the report as Python has it"""
     rows = audit(datagrams, asked)
     named = {guid: (topic, kind) for guid, _, topic, kind, _, _ in discovery(datagrams, asked.fragments)[1]}
@@ -1006,14 +1012,14 @@ def report_values(datagrams, asked=PLAIN):
         w, r = (bytes.fromhex(guid.replace('.', '')) for guid in (writer, reader))
         topic, kind = map(name_text, named[w])
         names = {'writer': writer, 'reader': reader, 'topic': topic, 'type': kind}
-        pairs.append(names | evidence_values(verdict, evidence(recording, w, r, asked.first)))
+        pairs.append(names | timed_values(times, evidence_values(verdict, evidence(recording, w, r, asked.first))))
     counts = rows[-1].split()
     return {'pairs': pairs} | {name: int(count) for name, count in zip(counts[::2], counts[1::2])}
 
 
-def json_lines(datagrams, asked=PLAIN, ignored=None):
+def json_lines(datagrams, asked=PLAIN, ignored=None, times=NO_TIMES):
     counted = ignored if isinstance(ignored, dict) else {} if ignored is None else {'ignored': ignored}
-    return [json.dumps(report_values(datagrams, asked) | counted, separators=(',', ':'))]
+    return [json_text(report_values(datagrams, asked, times) | counted)]
 
 
 VIEWS = {'show': show, 'list': list_text, 'audit': audit, 'why': why, 'json': json_lines}
@@ -1051,7 +1057,7 @@ def answer_as(view, text, asked, limits=USUAL, any_form=False, name='-'):
     if view not in REPORTS:
         lines = show(datagrams, asked.fragments) if view == 'show' else list_text(datagrams)
         return ''.join(line + '\n' for line in lines), [], 0
-    lines = json_lines(datagrams, asked, ignored) if view == 'json' else VIEWS[view](datagrams, asked)
+    lines = json_lines(datagrams, asked, ignored, times_of(text, limits, any_form)) if view == 'json' else VIEWS[view](datagrams, asked)
     if view != 'json' and ignored is not None:
         lines[-1] += f" ignored {ignored['ignored'] if any_form else ignored}"
     found = findings(datagrams, asked, reasons_of(text, ignored, limits))

@@ -1,7 +1,7 @@
 #!/usr/bin/env python3
 """Rows in spans, and outcomes of numbers, apart from the proved program: a part of the second implementation.
 
-    spans.py check [--json] [--from N] [--topic PATTERN].. [--expect N] [--tail N] [--certain] FILE
+    spans.py check [--json] [--from N] [--topic PATTERN].. [--expect N] [--tail N] [--certain] [--arrived OTHER] FILE
     spans.py why|json [--spans] [what `reference.py why` takes].. FILE
                             print what `rtps-audit` should print
     spans.py laws [COUNT [SEED]]
@@ -12,11 +12,11 @@
 A row in a span is the verdict of the datagrams before the reader left, from the first number on that is for the reader. Each number
 that is asked about is in one of six kinds, the first of KINDS that fits.
 """
-import json
 import random
 import subprocess
 import sys
 
+import arrived
 import reference
 from asked import Asked, asked_by
 from check import KINDS, SENTENCES, advice_of, because, check_lines, note_sentences
@@ -25,15 +25,18 @@ from random_recordings import some_asked, some_checked, some_life, text_of_datag
 from random_systems import some_recorded
 from reference import Delivery, acts_of, guid_text, name_text
 from talk import Talk
+from times import NO_TIMES, alone, json_text, longest_wait, silence_line, timed_values, wait_values
 from told import talk_members
 
 
 # ---- outcomes
 
 class Outcome(Delivery):
-    """what a writer and a reader said to each other from a number on, with the kind of each number"""
-    def __init__(self, recording, w, r, first, since):
+    """what a writer and a reader said to each other from a number on, with the kind of each number. `told_there` has the numbers of
+    which the reader is told a payload in another recording, where the pair is held against one"""
+    def __init__(self, recording, w, r, first, since, told_there=None):
         super().__init__(recording, w, r, first, since)
+        self.arrived = {n for n in told_there or () if first <= n <= self.last} - self.received
         self.questions = [(place, act) for place, act, _ in self.told if act['kind'] == 'heartbeat' and not act['final'] and place > since]
         self.counts = self.count()
 
@@ -47,6 +50,8 @@ class Outcome(Delivery):
     def kind(self, n):
         if n in self.received:
             return 'received'
+        if n in self.arrived:
+            return 'arrived'
         if self.is_missed(n):
             return 'missed'
         if not self.brought_since(n):
@@ -57,7 +62,7 @@ class Outcome(Delivery):
 
     def bounds(self):
         """the numbers from which on the kind may be another: between those that some act names, all are of one kind"""
-        bounds = {self.first, self.last + 1} | {n + k for n in [*self.asked, *self.brought, *self.received] for k in (0, 1)}
+        bounds = {self.first, self.last + 1} | {n + k for n in [*self.asked, *self.brought, *self.received, *self.arrived] for k in (0, 1)}
         bounds |= {end for _, _, words in self.told for span in words.spans for end in span}
         bounds |= {end for _, act in self.questions for end in (act['first'], act['last'] + 1)} | {base for _, (base, *_) in self.answers}
         return sorted(n for n in bounds if self.first <= n <= self.last + 1)
@@ -77,18 +82,27 @@ class Outcome(Delivery):
 # ---- rows
 
 class Row:
-    """a row of the report: in a span, or of the whole recording. Of one that is in no span it is only told what is received and missed"""
-    def __init__(self, recording, talk, w, r, asked):
+    """a row of the report: in a span, or of the whole recording. Of one that is in no span it is only told what is received and missed.
+    One that is held against another recording tells what arrived by that one"""
+    def __init__(self, recording, talk, w, r, asked, other=None):
         self.w, self.r, self.key, self.in_span = w[0], r[0], w[2:4], asked.spans
         span = Span(recording, talk.life, self.w, self.r, asked)
         self.first, self.until, self.joined_here = span.first, span.until, span.joined_here
         self.datagrams = span.datagrams(recording)
-        self.delivery = Outcome(self.datagrams, self.w, self.r, self.first, span.since)
+        told_there = other.told(self.w, self.r) if other else None
+        self.beside, self.held = other is not None, told_there is not None
+        self.delivery = Outcome(self.datagrams, self.w, self.r, self.first, span.since, told_there)
+        # how many numbers are received for certain though the other recording has none of them
+        self.absent = len(self.delivery.received - told_there) if self.held else 0
         self.verdict = reference.judge(self.datagrams, self.w, self.r, self.first)
         self.kind, self.last = self.verdict.split()[0], self.delivery.last
         self.lines = reference.evidence_lines(self.delivery, self.verdict)
         self.counts = {kind: count if asked.spans or kind in ('received', 'missed') else 0 for kind, count in self.delivery.counts.items()}
         # how many of the numbers that are asked for stand before the first of the row, and whether all that were announced do
+        # where there are times, the longest that the reader let the writer wait, and whose participants are silent
+        self.times, self.silences = talk.times, talk.silences(self.w, self.r)
+        questions, answers = [place for place, _ in self.delivery.questions], [place for place, _ in self.delivery.answers]
+        self.wait = longest_wait(self.times, questions, answers, len(self.datagrams)) if asked.spans else None
         self.before = self.first - asked.first
         self.wrote_before_alone = self.kind == 'complete' and self.before > 0 and self.last < self.first
 
@@ -100,19 +114,38 @@ class Row:
         if not self.in_span or self.kind != 'open' or self.delivery.base() <= 1:
             return False
         kinds = {n: self.delivery.kind(n) for n in self.delivery.bounds() if n <= self.last}
-        return all(kind in (('received', 'likely') if n < self.delivery.base() else ('unconfirmed',)) for n, kind in kinds.items())
+        below, behind = (('received', 'arrived'), ('arrived', 'unconfirmed')) if self.held else (('received', 'likely'), ('unconfirmed',))
+        return all(kind in (below if n < self.delivery.base() else behind) for n, kind in kinds.items())
 
     def tail(self):
         return self.counts['unconfirmed']
 
+    def lacking_count(self):
+        """how many numbers are neither received nor arrived"""
+        return self.asked_about() - self.counts['received'] - self.counts['arrived']
+
+    def lacking(self):
+        """these numbers, in their order"""
+        bounds = self.delivery.bounds()
+        return (n for lo, hi in zip(bounds, bounds[1:]) if self.delivery.kind(lo) not in ('received', 'arrived') for n in range(lo, hi))
+
     def is_clean(self, tail=0):
-        if any(self.counts[kind] for kind in ('missed', 'unsent', 'unanswered')):
+        lost = ('missed', 'unsent', 'unanswered', 'likely') if self.held else ('missed', 'unsent', 'unanswered')
+        if any(self.counts[kind] for kind in lost):
             return False
+        if self.held and self.kind == 'open' and not self.lacking_count():
+            return True
         return self.kind == 'complete' or self.is_tail() and (self.until is not None or self.tail() <= tail)
 
     def is_tail_alone(self, tail=0):
-        """it is not clean for its tail alone"""
-        return not self.is_clean(tail) and self.is_tail()
+        """it is not clean for its tail alone, and nobody is silent"""
+        return not self.is_clean(tail) and self.is_tail() and not self.silences
+
+    def reader_is_silent(self):
+        return any(side == 'reader' for side, _ in self.silences)
+
+    def silence_lines(self):
+        return [silence_line(self.times, side, last) for side, last in self.silences]
 
     def names(self):
         """the members that name it"""
@@ -120,46 +153,75 @@ class Row:
 
     def values(self):
         """the members of the row that it has without spans"""
-        return self.names() | reference.evidence_values(self.verdict.split(), self.lines)
+        return self.names() | timed_values(self.times, reference.evidence_values(self.verdict.split(), self.lines))
 
     def advice(self, counts, tail=0):
         """what to do, or None"""
         return None if self.is_clean(tail) else SENTENCES[advice_of(self, counts)]
 
-    def span_values(self, tail=0):
-        """those that a row in a span has, behind what it has"""
-        return {'from': self.first, 'until': self.until and self.until[0], 'outcomes': self.counts, 'clean': self.is_clean(tail)} if self.in_span else {}
+    def span_values(self, tail=0, told=True):
+        """those that a row in a span has, behind what it has; and who is silent, where that is told"""
+        if not self.in_span:
+            return {}
+        outcomes = {kind: count for kind, count in self.counts.items() if self.beside or kind != 'arrived'}
+        outcomes |= {'arrived': None} if self.beside and not self.held else {}
+        named = {'not_arrived': arrived.first_named(self.lacking()) if self.held else None} if self.beside else {}
+        until = self.until and self.until[0]
+        said = {'wait': wait_values(self.times, self.wait)} if self.times.are_there() else {}
+        said |= {'silence': self.silence_lines()} if said and told else {}
+        spanned = {'from': self.first, 'until': until} | alone(self.times, until=until)
+        return spanned | {'outcomes': outcomes, **named, 'clean': self.is_clean(tail)} | said
 
 
-def rows_of(datagrams, asked, fitting=False):
+def rows_of(datagrams, asked, fitting=False, times=NO_TIMES, other=None):
     """the rows that are asked for, who talks, and the counts of the whole recording. `fitting` says whether pairs for which any
-    policy does not fit are no rows"""
+    policy does not fit are no rows. Rows are held against another recording, where there is one"""
     recording = [acts_of(d, asked.fragments) for d in datagrams]
     _, settled, matched, unsettled, _ = reference.discovery(datagrams, asked.fragments)
-    talk = Talk(recording, settled, matched, Life(recording), asked, fitting)
-    rows = [Row(recording, talk, w, r, asked) for w, r in talk.judged]
+    talk = Talk(recording, settled, matched, Life(recording), asked, fitting, times)
+    rows = [Row(recording, talk, w, r, asked, other) for w, r in talk.judged]
     line = reference.counts_line(datagrams, recording, unsettled, asked).split()
     return rows, talk, dict(zip(line[::2], map(int, line[1::2])))
 
 
-def check(octets, asked, as_json=False, limits=reference.USUAL):
-    """text and status of `check`"""
+def check(octets, asked, as_json=False, limits=reference.USUAL, other=None):
+    """text and status of `check`, by what arrived in another recording, where there is one"""
     read = reference.input_of(octets, limits, True)
     if isinstance(read, str):
         return '', 2
     datagrams, ignored = read
-    rows, talk, report = rows_of(datagrams, asked.checked(), True)
+    rows, talk, report = rows_of(datagrams, asked.checked(), True, reference.times_of(octets, limits, True), other)
+    sides = arrived.BothSides(rows, talk, other) if other else None
     report |= ignored or {}
     counts = counts_of(octets, datagrams, report, ignored, limits)
     reasons = because(rows, talk, counts, asked)
     if as_json:
         pairs = [row.values() | row.span_values(asked.tail) | {'advice': row.advice(counts, asked.tail)} for row in rows]
         head = {'status': 'unclean' if reasons else 'clean', 'because': reasons, 'pairs': pairs}
-        notes = {'notes': note_sentences(rows, talk, counts, asked.tail)}
-        lines = [json.dumps(head | report | talk_members(talk) | notes, separators=(',', ':'))]
+        notes = {'notes': note_sentences(rows, talk, counts, asked.tail, sides)}
+        lines = [json_text(head | report | talk_members(talk, sides) | notes)]
     else:
-        lines = check_lines(rows, talk, counts, asked.tail, reasons)
+        lines = check_lines(rows, talk, counts, asked.tail, reasons, sides)
     return ''.join(line + '\n' for line in lines), int(bool(reasons))
+
+
+def checked_with(octets, asked, as_json, name, limits=reference.USUAL):
+    """text, lines on standard error and status of `check` of an input of this name, by the other file that is asked for, where one is"""
+    told = reference.told_of(name, octets, limits, True)
+    if told or asked.arrived is None:
+        text, status = check(octets, asked, as_json, limits)
+        return text, told, status
+    if name == asked.arrived == '-':
+        return '', arrived.TWICE, 2
+    try:
+        with open(asked.arrived, 'rb') as f:
+            other = arrived.other_of(f.read(), asked.arrived, limits)
+    except OSError as error:
+        return '', [f'rtps-audit: {asked.arrived}: {error.strerror}', f'rtps-audit: {asked.arrived}: cannot read input'], 3
+    if isinstance(other, list):
+        return '', other, 2
+    text, status = check(octets, asked, as_json, limits, other)
+    return text, [], status
 
 
 def counts_of(octets, datagrams, report, ignored, limits=reference.USUAL):
@@ -187,11 +249,13 @@ def report(view, octets, asked, any_form=False):
     if isinstance(read, str):
         return '', [f'rtps-audit: {read}'], 2
     datagrams, ignored = read
-    rows, _, counted = rows_of(datagrams, asked)
+    rows, _, counted = rows_of(datagrams, asked, times=reference.times_of(octets, any_form=any_form))
     kinds = ignored if isinstance(ignored, dict) else {} if ignored is None else {'ignored': ignored}
     if view == 'json':
-        pairs = [row.values() | row.span_values() | ({'advice': row.advice(counted | kinds)} if asked.spans else {}) for row in rows]
-        lines = [json.dumps({'pairs': pairs} | counted | kinds, separators=(',', ':'))]
+        for row in rows:
+            row.silences = []
+        pairs = [row.values() | row.span_values(told=False) | ({'advice': row.advice(counted | kinds)} if asked.spans else {}) for row in rows]
+        lines = [json_text({'pairs': pairs} | counted | kinds)]
     else:
         lines = why_lines(rows, counted, asked.spans)
         lines[-1] += f" ignored {kinds['ignored']}" if kinds else ''
@@ -284,7 +348,7 @@ def main():
         octets = f.read()
     asked, told = asked_by(words), []
     if view == 'check':
-        text, status = check(octets, asked, '--json' in words)
+        text, told, status = checked_with(octets, asked, '--json' in words, path)
     else:
         text, told, status = report(view, octets, asked, '--any' in words)
     sys.stdout.write(text)

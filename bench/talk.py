@@ -7,6 +7,7 @@ differ from anything.
 from life import Span
 from policies import address_in, domain_in, policies_in, reasons, values_of
 from reference import told_to
+from times import NO_TIMES, is_silent
 
 # The entity id of a participant.
 PARTICIPANT = b'\x00\x00\x01\xc1'
@@ -79,8 +80,8 @@ class Talk:
     """what a recording says of who talks, of the topics that are asked for. Where `fitting` says so, endpoints for which any policy
     does not fit are not judged"""
 
-    def __init__(self, recording, settled, matched, life, asked, fitting):
-        self.recording, self.life, self.asked = recording, life, asked
+    def __init__(self, recording, settled, matched, life, asked, fitting, times=NO_TIMES):
+        self.recording, self.life, self.asked, self.times = recording, life, asked, times
         self.announced, self.namings = Announced(life.announced), named_by(recording)
         self.unmatched = list(self.find_unmatched(settled))
         unfit = {(one.w, one.r) for one in self.unmatched}
@@ -90,6 +91,7 @@ class Talk:
         self.unobserved = [pair for pair in reliable if asked.observed and not self.is_observed(*pair)]
         self.best_effort = [pair for pair in pairs if not is_reliable(*pair) and pair not in unfit and self.is_observed(*pair)]
         self.one_way = [(source, dest, count) for (source, dest), count in self.namings.items() if self.is_one_way(source, dest)]
+        self.silent = self.find_silent() if times.are_there() else {}
 
     def find_unmatched(self, settled):
         """the writers and readers of one topic that do not fit, though they may meet"""
@@ -123,14 +125,18 @@ class Talk:
 
     # ---- pairs of best effort
 
+    def numbers(self, w, r):
+        """the numbers that the writer sent since the reader's first"""
+        span = Span(self.recording, self.life, w[0], r[0], self.asked)
+        greatest = max((act['number'] for acts in span.datagrams(self.recording) for act in acts if act['kind'] in ('data', 'data_frag')
+                        and act['source'] + act['writer'] == w[0]), default=0)
+        return range(span.first, greatest + 1)
+
     def counted(self, w, r):
         """how many numbers the writer sent since the reader's first, and how many of these the recording has for it"""
-        span = Span(self.recording, self.life, w[0], r[0], self.asked)
-        datagrams = span.datagrams(self.recording)
-        greatest = max((act['number'] for acts in datagrams for act in acts if act['kind'] in ('data', 'data_frag')
-                        and act['source'] + act['writer'] == w[0]), default=0)
+        datagrams, numbers = Span(self.recording, self.life, w[0], r[0], self.asked).datagrams(self.recording), self.numbers(w, r)
         told = {act['number'] for _, act, words in told_to(datagrams, w[0], r[0]) if words.payload is not None}
-        return max(0, greatest + 1 - span.first), sum(n >= span.first for n in told)
+        return max(0, numbers.stop - numbers.start), sum(n in numbers for n in told)
 
     def best_effort_counts(self):
         """by topic: how many pairs, numbers, and numbers that the recording has"""
@@ -147,9 +153,22 @@ class Talk:
         """of each participant the first and the last datagram that has something of it, and the one in which it leaves; None where there
         is none"""
         for guid, (joined, _, _) in sorted(self.announced.participants.items()):
-            own = [i for i, acts in enumerate(self.recording, 1) if any(act['source'] == guid[:12] for act in acts)]
+            own = self.datagrams_of(guid)
             left = self.life.leaves(guid, joined)
             yield guid, min(own, default=None), max(own, default=None), left and left[0]
+
+    def datagrams_of(self, guid):
+        """those that have an act of a participant"""
+        return [i for i, acts in enumerate(self.recording, 1) if any(act['source'] == guid[:12] for act in acts)]
+
+    def find_silent(self):
+        """the participants that are silent, with their last datagrams"""
+        return {guid: last for guid, _, last, left in self.lifetimes() if is_silent(self.times, self.datagrams_of(guid), left)}
+
+    def silences(self, w, r):
+        """of a pair the sides whose participants are silent, with their last datagrams"""
+        found = [(side, self.silent.get(guid[:12] + PARTICIPANT)) for side, guid in (('writer', w), ('reader', r))]
+        return [(side, last) for side, last in found if last is not None]
 
 
 def is_reliable(w, r):

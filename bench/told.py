@@ -3,6 +3,7 @@ from policies import address_text, value_text
 from reference import guid_text, name_text
 from ros import ros_topic, ros_type
 from talk import PARTICIPANT
+from times import alone
 from wording import amount, of
 
 # Why a pair is not observed, in the order in which it is told, and what is said of it.
@@ -132,14 +133,18 @@ def unmatched_members(one):
 def participant_members(talk):
     for guid, first, last, left in talk.lifetimes():
         _, domain, address = talk.announced.participants[guid]
-        yield {'guid': guid_text(guid), 'address': address and address_text(address), 'domain': domain, 'first': first, 'last': last, 'left': left}
+        members = {'guid': guid_text(guid), 'address': address and address_text(address), 'domain': domain, 'first': first, 'last': last, 'left': left}
+        silent = {'silent': guid in talk.silent} if talk.times.are_there() else {}
+        yield members | alone(talk.times, first=first, last=last, left=left) | silent
 
 
-def talk_members(talk):
+def talk_members(talk, sides=None):
+    """`sides` is what another recording shows, where there is one"""
     return {
         'unmatched': [unmatched_members(one) for one in talk.unmatched],
         'unobserved': [named(w, r) | {'because': talk.silence(w, r)} for w, r in talk.unobserved],
         'one_way': [{'from': guid_text(one + PARTICIPANT), 'to': guid_text(other + PARTICIPANT), 'named': count} for one, other, count in talk.one_way],
         'best_effort': [dict(zip(('topic', 'pairs', 'numbers', 'recorded'), (name_text(topic), *counts))) for topic, counts in talk.best_effort_counts()],
+        **(sides.members() if sides else {}),
         'participants': list(participant_members(talk)),
     }

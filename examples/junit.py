@@ -10,8 +10,8 @@ import sys
 from xml.etree.ElementTree import Element, SubElement, tostring
 
 
-# the outcomes of numbers that are no good news
-LOST = 'missed', 'unsent', 'unanswered'
+# the outcomes of numbers that are no good news; likely ones are so of a pair that is held against a second recording
+LOST = 'missed', 'unsent', 'unanswered', 'likely'
 
 
 def is_failed(row):
@@ -20,7 +20,11 @@ def is_failed(row):
 
 def lost(row):
     """how many numbers of a pair were lost, by kind"""
-    return {kind: row['outcomes'][kind] for kind in LOST} if 'outcomes' in row else {'missed': row['missed']}
+    if 'outcomes' not in row:
+        return {'missed': row['missed']}
+    outcomes = row['outcomes']
+    is_held = outcomes.get('arrived') is not None
+    return {kind: outcomes[kind] for kind in LOST if kind != 'likely' or is_held}
 
 
 def told(row):

@@ -8,6 +8,7 @@ with what was counted. The last line is 'N passed, M failed'.
 """
 import os
 import random
+import re
 import subprocess
 import sys
 
@@ -93,7 +94,8 @@ def rows(tests):
         if view in ('audit', 'why'):
             wanted = wanted[:-1] + ' ignored 0\n'
         if view == 'json':
-            wanted = wanted[:-2] + ',"ignored":0}\n'
+            # All frames come at the same time, the first of the capture.
+            wanted = re.sub(r'("at":\d+)', r'\1,"time":0.000', wanted[:-2]) + ',"ignored":0}\n'
         if view == 'audit':
             tests.answers('the datagrams of pose.rec as raw IP, from 3 on', view, packets, wanted, words=('--from', '3'))
         tests.answers('the datagrams of pose.rec as raw IP', view, packets, wanted)

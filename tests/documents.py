@@ -21,7 +21,7 @@ from program import ROOT, Counts, file_of
 
 # Each page, and the most lines that it may have.
 PAGES = {'README.md': 130, 'CONTRIBUTING.md': 120, 'CHANGELOG.md': None, 'docs/GUIDE.md': 250, 'docs/ARCHITECTURE.md': None,
-         'docs/PROOFS.md': None, 'docs/PERFORMANCE.md': None, 'docs/DECISIONS.md': 120}
+         'docs/JSON.md': None, 'docs/BOTH_SIDES.md': None, 'docs/PROOFS.md': None, 'docs/PERFORMANCE.md': None, 'docs/DECISIONS.md': 120}
 EXAMPLES = sorted(name for name in os.listdir(os.path.join(ROOT, 'examples')) if name.endswith(('.rec', '.pcap')))
 COMMANDS = 'bin/rtps-audit ', 'grep '
 ANSWERS = re.compile(r'(pairs?|announced|acknowledged|payloads|received|missed|number|claimed|datagrams) ["0-9a-z]|\{"pairs"|[0-9a-f]{24}\.[0-9a-f]{8} ')

@@ -3,7 +3,8 @@
 
     tests/pages.py [--program PROGRAM] [--recordings FOLDER] [--pictures FOLDER] [NAME ..]
 
-Pages are made by bench/page.py, the second implementation, of recordings of examples/, of tests/recorded.py and of 90,000 rows;
+Pages are made by bench/page.py, the second implementation, of recordings of examples/, of tests/recorded.py, of captures with times, of
+those of tests/rows/ beside which another one lies that was made at the host of readers, and of 90,000 rows;
 with --recordings of each recording of a folder, too, read as `check` reads it. A PROGRAM has to write the same pages, octet for
 octet. Where no Chromium is installed, that is said, and only what needs none is tried. A NAME is a word of the name of a test below.
 With --pictures the pages are kept as pictures of 1280 and 390 pixels, light and dark. The last line is 'N passed, M failed'.
@@ -25,15 +26,24 @@ import parts
 import recorded
 import reference
 import spans
+import timed
+from arrived import listed
 from asked import asked_by
 from browser import SHIFT, Browser, Tab, browser_path
+from capture_writer import enhanced, interface, packet, section, simple
 from ros import ros_type
+from times import json_text
+from wording import grouped as counted
 
 RECORDINGS = '.rec', '.pcap', '.pcapng'
 EXAMPLES = sorted(name for name in os.listdir(os.path.join(ROOT, 'examples')) if name.endswith(RECORDINGS))
 MADE = 'robot', 'hostile', 'greatest', 'chatty', 'unmatched', 'none'
 # Rows of the tests that have something to tell of who does not talk, read as `check` reads them.
 TALKING = 'each_reason_of_silence.rec', 'best_effort_pairs_by_topic.rec', 'reasons_in_order_and_topics_in_order.rec'
+# Rows of the tests that are held against another recording, which stands beside them, read as `check` reads them.
+HELD = sorted(name.removesuffix('.arrived.rec') for name in os.listdir(os.path.join(ROOT, 'tests', 'rows')) if name.endswith('.arrived.rec'))
+MADE_HELD = 'lost_on_the_way', 'lost_of_many'
+BOTH_SIDES = *HELD, *MADE_HELD
 # The most octets of a page of an example and of one of 90,000 pairs.
 EXAMPLE_SIZE, MANY_SIZE = 100_000, 85_000_000
 # What `check` asks by itself.
@@ -41,23 +51,22 @@ AS_CHECK = ['--any', '--fragments', '--observed', '--strict', '--spans']
 PROBE = file_of('tests', 'page_probe.js').decode()
 # So many pairs of a page are chosen one after another.
 MOST_CHOSEN = 30
-GROUPED = re.compile(r'(?<=\d)(?=(?:\d{3})+$)')
-
-
-def counted(n):
-    """an integer as the page counts with it"""
-    return GROUPED.sub(',', str(n))
-
-
+# Any second.
+SECOND = re.compile(r'\d\.\d{3} s')
 # the outcomes of numbers, in the order of their columns
-OUTCOMES = 'received', 'likely', 'missed', 'unsent', 'unanswered', 'unconfirmed'
+OUTCOMES = 'received', 'arrived', 'likely', 'missed', 'unsent', 'unanswered', 'unconfirmed'
+
+
+def lost_outcomes(row):
+    """the outcomes of numbers that are lost: of a row that is held against another recording likely ones, too"""
+    return (*(['likely'] if row['outcomes'].get('arrived') is not None else []), 'missed', 'unsent', 'unanswered')
 
 
 def row_wanted(at, row):
     """what the page shows of a row"""
     badges = [row['verdict']]
     if 'outcomes' in row:
-        badges += [f'{kind} {counted(row["outcomes"][kind])}' for kind in ('missed', 'unsent', 'unanswered') if row['outcomes'][kind]]
+        badges += [f'{kind} {counted(row["outcomes"][kind])}' for kind in lost_outcomes(row) if row['outcomes'][kind]]
         badges += ['clean'] if row['clean'] else []
     elif row['verdict'] == 'complete' and row['missed']:
         badges.append(f"missed {counted(row['missed'])}")
@@ -65,12 +74,25 @@ def row_wanted(at, row):
         badges.append(f"gone {counted(row['gone'])}")
     announced, below = row['announced'], row['acknowledged']
     counts = [str(announced['number']) if announced else '–', str(below['below']) if below else '–']
-    amounts = [row['outcomes'][kind] for kind in OUTCOMES] if 'outcomes' in row else [row[name] for name in ('payloads', 'gone', 'untold', 'received', 'missed')]
+    amounts = [row[name] for name in ('payloads', 'gone', 'untold', 'received', 'missed')]
+    if 'outcomes' in row:
+        amounts = [row['outcomes'][kind] for kind in OUTCOMES if kind in row['outcomes']]
     return {
         'id': f'pair-{at + 1}', 'topic': row['topic'], 'type': row['type'], 'badges': badges, 'number': str(row['number']),
         'datagram': [f"in datagram {row['datagram']}"] if 'datagram' in row else [], 'guids': [row['writer'], row['reader']],
-        'counts': counts + [counted(amount) for amount in amounts],
+        'counts': counts + ['–' if amount is None else counted(amount) for amount in amounts],
     }
+
+
+def lacking_wanted(one):
+    """what the page shows of a pair of best effort of which numbers did not arrive"""
+    named = listed(one['not_arrived'], one['numbers'] - one['arrived'])
+    return f"arrived {counted(one['arrived'])} of {counted(one['numbers'])}, not {named}"
+
+
+def lacking_pairs(values):
+    """these pairs, by topic"""
+    return sorted((one for one in values.get('arrived', []) if one['not_arrived']), key=lambda one: one['topic'])
 
 
 def unfit_wanted(one):
@@ -114,8 +136,73 @@ def places_of(value):
         return {place for one in value for place in places_of(one)}
     if not isinstance(value, dict):
         return set()
-    own = {f"datagram {value['datagram']}, octet {value['at']}"} if 'at' in value else set()
+    own = {place_of(value)} if 'at' in value else set()
     return own | {place for one in value.values() for place in places_of(one)}
+
+
+def place_of(place):
+    return f"datagram {place['datagram']}, octet {place['at']}{second_of(place.get('time'))}"
+
+
+def second_of(time):
+    return '' if time is None else f', {time:.3f} s'
+
+
+def waits_of(row):
+    """how long the reader let the writer wait, as the page writes it"""
+    wait = row.get('wait')
+    if wait is None:
+        return []
+    answered = 'not answered' if wait['answered'] is None else f"answered in {place_of(wait['answered'])}"
+    return [f"The reader let the writer wait {wait['seconds']:.3f} s: asked in {place_of(wait['asked'])}, {answered}."]
+
+
+def sentence_of(line):
+    """a line of `check` as a sentence of the page, where it has one"""
+    line = re.sub(r'in datagram (\d+) at (\d+)', r'in datagram \1, octet \2', line.strip())
+    if line.startswith('let the writer wait'):
+        return f'The reader {line}.'
+    return f'{line[0].upper()}{line[1:]}.' if line.startswith('not arrived') or 'is silent since' in line else None
+
+
+# ---- captures with times: the name of each, and its octets
+
+def missed_in_time():
+    """a datagram each 100 ms: number 2 is lost twice, and the writer drops it"""
+    return timed.timed(timed.lost(), timed.STEADY)
+
+
+def waiting():
+    """the reader lets the writer wait for 3 seconds, and then says nothing for 12"""
+    return timed.timed(let_wait(), [timed.at(50)] * 6 + [timed.at(53), timed.at(65)])
+
+
+def let_wait():
+    topic = timed.pair()
+    return [*timed.TWO, *topic.announced, topic.sent(1), topic.asks(1, 1), topic.answers(1, 1), topic.sent(2)]
+
+
+def half_timed():
+    """the same, where the last datagram has no time"""
+    *frames, last = map(packet, let_wait())
+    return section() + interface() + b''.join(enhanced(frame, time=500000 * k) for k, frame in enumerate(frames)) + simple(last)
+
+
+# What the pair of the second one rests on.
+WAITING = [
+    'The row is about the numbers from 1 on: 1 missed, 1 unconfirmed.',
+    'The writer announced number 2, first by a DATA in datagram 8, octet 20, 15.000 s.',
+    'The reader acknowledged nothing.',
+    'Of 2 numbers, 2 were sent to this reader, 0 only said to be gone, and 0 neither.',
+    'The recording proves 0 of 2 numbers received.',
+    'The reader missed 1 number: it asked for 1 in datagram 7, octet 36, 3.000 s, and 1 was not told gone since.',
+    'Number 1 may not be received: it is not acknowledged.',
+    'Number 1 was first told by a DATA in datagram 5, octet 20, 0.000 s.',
+    'The writer did not ask for an answer since the reader’s last one.',
+    'The reader let the writer wait 3.000 s: asked in datagram 6, octet 20, 0.000 s, answered in datagram 7, octet 36, 3.000 s.',
+    "The reader's participant is silent since datagram 7, 3.000 s, and did not leave: it was killed, or cut off.",
+]
+IN_TIME = {'missed_in_time': missed_in_time, 'waiting': waiting, 'half_timed': half_timed}
 
 
 def octets_of(path):
@@ -137,10 +224,10 @@ class PageTests(Counts):
     """the tests, with a browser and the pages that were made"""
     def __init__(self, room, program, recordings, pictures):
         super().__init__()
-        self.room, self.program, self.pictures, self.browser, self.made = room, program, pictures, None, {}
+        self.room, self.program, self.pictures, self.browser, self.made, self.read = room, program, pictures, None, {}, {}
         names = sorted(os.listdir(recordings)) if recordings else []
         self.recordings = {name: os.path.join(recordings, name) for name in names if name.removesuffix('.gz').endswith(RECORDINGS)}
-        self.names = *EXAMPLES, *MADE, *self.recordings
+        self.names = *EXAMPLES, *MADE, *IN_TIME, *MADE_HELD, *self.recordings
 
     # ---- pages
 
@@ -154,6 +241,11 @@ class PageTests(Counts):
                 self.made[name] = page.page_of([])
             elif name in MADE:
                 self.made[name] = page.page_of(getattr(recorded, name)())
+            elif name in IN_TIME:
+                self.made[name] = page.parts_of(IN_TIME[name](), asked_by(AS_CHECK), True)
+            elif name in BOTH_SIDES:
+                path, other = self.both_sides(name)
+                self.made[name] = page.parts_of(octets_of(path), asked_by([*AS_CHECK, '--arrived', other]), True)
             elif name in TALKING:
                 self.made[name] = page.parts_of(file_of('tests', 'rows', name), asked_by(AS_CHECK), True)
             elif name in self.recordings:
@@ -163,7 +255,21 @@ class PageTests(Counts):
         return self.made[name]
 
     def values(self, name):
-        return self.parts(name)[1]
+        """the data of a page, as it is read back"""
+        if name not in self.read:
+            values = self.parts(name)[1]
+            self.read[name] = json.loads(json_text(values)) if 'times' in values else values
+        return self.read[name]
+
+    def both_sides(self, name):
+        """the files of a recording and of another one, made at the host of its readers"""
+        if name in HELD:
+            return [os.path.join(ROOT, 'tests', 'rows', name + suffix) for suffix in ('.rec', '.arrived.rec')]
+        paths = [os.path.join(self.room, f'{name}{suffix}.rec') for suffix in ('', '.arrived')]
+        for path, datagrams in zip(paths, getattr(recorded, name)()):
+            with open(path, 'wb') as f:
+                f.write(text_of(datagrams))
+        return paths
 
     def path(self, name):
         path = os.path.join(self.room, f'{name}.html')
@@ -241,6 +347,15 @@ class PageTests(Counts):
             with open(path, 'wb') as f:
                 f.write(text_of([] if name == 'none' else getattr(recorded, name)()))
             self.same_page(name, path)
+        for name, made in IN_TIME.items():
+            path = os.path.join(self.room, f'{name}.pcap')
+            with open(path, 'wb') as f:
+                f.write(made())
+            self.same_page(name, path, AS_CHECK)
+            self.same_page(name, path, ['--any'])
+        for name in BOTH_SIDES:
+            path, other = self.both_sides(name)
+            self.same_page(name, path, [*AS_CHECK, '--arrived', other])
         for name, packed in self.recordings.items():
             path = os.path.join(self.room, name.removesuffix('.gz'))
             with open(path, 'wb') as f:
@@ -265,7 +380,7 @@ class PageTests(Counts):
             self.holds(f'{name}: a page is its parts', head + shown + middle + data + tail, page.page_text(text, values))
             self.holds(f'{name}: no octet of a recording begins markup', [], [c for c in '<>&' if c in data] + [c for c in '<>' if c in shown])
             self.holds(f'{name}: the text is read back', text, html.unescape(shown))
-            self.holds(f'{name}: the data is read back', values, json.loads(data))
+            self.holds(f'{name}: the data is read back', self.values(name), json.loads(data))
         text, values = self.parts('robot')
         stored = parts.stored(page.escaped(text), page.data_text(values))
         self.holds('page.html has the page of recorded.py robot: run bench/page.py stored', stored, parts.file_of('page.html'))
@@ -279,9 +394,15 @@ class PageTests(Counts):
             octets = file_of('examples', name)
             text, values = page.parts_of(octets, asked_by(AS_CHECK), True)
             checked = json.loads(spans.check(octets, asked_by([]), True)[0])
-            own = {member: values[member] for member in checked}
+            own = {member: json.loads(json_text(values[member])) for member in checked}
             self.holds(f'{name}: the object of check', checked, own)
             self.holds(f'{name}: the text of check', spans.check(octets, asked_by([]))[0], text)
+        for name in BOTH_SIDES:
+            path, other = self.both_sides(name)
+            text, checked = (spans.checked_with(octets_of(path), asked_by(['--arrived', other]), is_json, path)[0] for is_json in (False, True))
+            own = {member: self.values(name)[member] for member in json.loads(checked)}
+            self.holds(f'{name}: the object of check', json.loads(checked), own)
+            self.holds(f'{name}: the text of check', text, self.parts(name)[0])
 
     def rows_with_charts(self):
         values = self.values('chatty')
@@ -369,10 +490,19 @@ class PageTests(Counts):
                 self.choose(tab, at)
                 text = self.text(tab, 'tr.detail .detail-words')
                 self.holds(f'{name}: pair {at + 1} tells each place', [], sorted(place for place in places_of(row) if place not in text))
+                self.waits_and_silence(name, tab, row)
+                if 'times' not in self.values(name):
+                    self.holds(f'{name}: pair {at + 1} has no second', None, SECOND.search(text))
                 advice = [] if row['advice'] is None else [row['advice']]
                 self.holds(f'{name}: pair {at + 1} has its advice', advice, tab.evaluate("textsOf(document, 'tr.detail .advice')"))
                 self.holds(f'{name}: one pair is chosen', 1, self.found(tab, 'tr.detail'))
             self.leave(name, tab)
+
+    def waits_and_silence(self, name, tab, row):
+        """those of the pair that is chosen, each once"""
+        sentences = tab.evaluate("textsOf(document, 'tr.detail .detail-words li')")
+        said = waits_of(row) + [sentence_of(line) for line in row.get('silence', [])]
+        self.holds(f'{name}: waits and silence', said, [one for one in sentences if 'wait' in one or 'silent' in one])
 
     def participants(self):
         for name in self.names:
@@ -397,10 +527,96 @@ class PageTests(Counts):
                 'unmatched': [unfit_wanted(one) for one in values['unmatched']], 'one-way': [counted(one['named']) for one in values['one_way']],
                 'unobserved': [one['because'] for one in values['unobserved']],
                 'best-effort': [f"{counted(one['recorded'])} of {counted(one['numbers'])}" for one in values['best_effort']],
+                'not-arrived': [lacking_wanted(one) for one in lacking_pairs(values)],
             }
             self.holds(f'{name}: who does not talk', wanted, {kind: tab.evaluate(f"talkShown('{kind}')") for kind in wanted})
             self.holds(f'{name}: there is a part for it', any(wanted.values()), not tab.evaluate("document.getElementById('talk').hidden"))
             self.leave(name, tab)
+
+    # ---- seconds, and what arrived
+
+    def seconds(self):
+        """in words that are written out here"""
+        tab = self.open('waiting', '#pair-1')
+        self.holds('seconds: what the pair rests on', WAITING, tab.evaluate("textsOf(document, 'tr.detail .detail-words li')"))
+        tab.close()
+        wanted = {
+            'missed_in_time': ('s', 'seconds', [[0.4, 1], [0.7, 2], [1, 2]], 'datagram 11, octet 36, 1.000 s, sent again.'),
+            'half_timed': ('datagram', 'datagrams', [[5, 1], [8, 2]], 'datagram 8, octet 20.'),
+        }
+        for name, (word, axis, dots, last) in wanted.items():
+            tab = self.open(name, '#pair-1')
+            self.holds(f'{name}: the axis', word, tab.evaluate('chartInSight.axis.word'))
+            self.holds(f'{name}: the dots', dots, tab.evaluate('chartInSight.marks.dots.map(({ x, y }) => [x, y])'))
+            self.holds(f'{name}: the chart is told', [f'Chart of {axis} and numbers', f'{axis.capitalize()} to the right, numbers upwards'],
+                       [tab.evaluate("document.querySelector('canvas').ariaLabel").split(':')[0], self.text(tab, '#chart-help').split('.')[0]])
+            tab.evaluate("document.querySelector('canvas').focus()")
+            for _ in dots:
+                tab.press('ArrowRight')
+            self.holds(f'{name}: a dot is read', f'DATA of number 2 in {last}', tab.evaluate('chartInSight.readout.textContent'))
+            for _ in range(40):
+                tab.press('+')
+            view = tab.evaluate('chartInSight.view')
+            self.holds(f'{name}: the smallest window', {'s': 0.02, 'datagram': 4}[word], round(view['x1'] - view['x0'], 9))
+            self.picture(tab, f'{name}_zoomed')
+            self.leave(name, tab)
+
+    def both_sides_shown(self):
+        """what arrived by another recording, as the text of `check` tells it"""
+        for name in BOTH_SIDES:
+            tab, values = self.open(name), self.values(name)
+            lines = self.parts(name)[0].splitlines()
+            more = re.findall(r', [\d,]+ more arrived$', lines[0])
+            self.holds(f'{name}: how many more arrived', more, re.findall(r', [\d,]+ more arrived(?=\.$)', self.text(tab, '#received')))
+            self.holds(f'{name}: each row is that of the report', self.wanted(name), in_order(self.shown(tab)))
+            self.holds(f'{name}: it is told what arrived means', [], tab.evaluate("hidden('#arrived')"))
+            self.holds(f'{name}: the option is told', True, self.text(tab, '#asked').endswith('--spans --arrived OTHER'))
+            pairs = [line.strip() for line in lines if line.startswith('    arrived ')]
+            self.holds(f'{name}: pairs of best effort', pairs, tab.evaluate("talkShown('not-arrived')"))
+            heads = [line for line in lines if re.match(r'[\d,]+ numbers? of .* did not arrive$', line)]
+            self.holds(f'{name}: their head', heads, [head for head in tab.evaluate("textsOf(document, '.talk-part h3')") if head != 'Pairs of best effort'])
+            self.lacking_sentences(name, tab, values, lines)
+            self.leave(name, tab)
+
+    def lacking_sentences(self, name, tab, values, lines):
+        """each pair says which numbers did not arrive, once"""
+        said = []
+        for at, row in enumerate(values['pairs'][:MOST_CHOSEN]):
+            self.choose(tab, at)
+            count = sum(row['outcomes'][kind] for kind in OUTCOMES if kind not in ('received', 'arrived'))
+            wanted = [f"Not arrived {listed(row['not_arrived'], count)}."] if row['not_arrived'] else []
+            said += wanted
+            shown = re.findall(r'Not arrived.*?\.', self.text(tab, 'tr.detail .detail-words'))
+            self.holds(f'{name}: which numbers of pair {at + 1} did not arrive', wanted, shown)
+        self.holds(f'{name}: as check says it', [], [line for line in lines if 'not arrived' in line and sentence_of(line) not in said])
+
+    def all_arrived(self):
+        """in words that are written out here"""
+        wanted = {
+            'a_reader_that_acknowledged_nothing_and_all_arrived': 'The reader never acknowledged sample 1, but all numbers are received or arrived.',
+            'lost_on_the_way': 'The reader may lack samples 3 to 1500: they are announced, and the reader never acknowledged them. '
+                               'Not arrived 3, 4, 5, 6, 8, 9, 10, 11, 12, 13 and 1,486 more.',
+        }
+        for name, sentence in wanted.items():
+            tab = self.open(name, '#pair-1')
+            self.holds(f'{name}: the sentence of the verdict', sentence, self.text(tab, 'tr.detail .lead'))
+            self.leave(name, tab)
+        tab = self.open('lost_on_the_way')
+        self.holds('both sides: it stands among what to look at', True, 'Not arrived 3, 4, 5' in self.text(tab, 'table.topics td'))
+        self.holds('both sides: by topic, with large numbers', ['arrived 0 of 1, not 1', 'arrived 1 of 3, not 9007199254740993, 9007199254740995'],
+                   tab.evaluate("talkShown('not-arrived')"))
+        tab.close()
+        tab = self.open('a_reader_of_which_the_other_recording_has_no_act')
+        self.holds('both sides: a row that is not held', ['–', '1'], tab.evaluate("textsOf(document, 'td.arrived')"))
+        for ids in ['pair-2', 'pair-1'], ['pair-1', 'pair-2']:
+            tab.click('.pairs thead th.arrived button')
+            self.holds('both sides: by what arrived', ids, self.ids(tab))
+        tab.close()
+        tab = self.open('waiting')
+        self.holds('one side: nothing is said to have arrived', [0, 0, 1, False],
+                   [self.found(tab, '.arrived'), self.found(tab, '.talk.not-arrived'), len(tab.evaluate("hidden('#arrived')")),
+                    'arrived' in tab.evaluate('document.body.innerText')])
+        tab.close()
 
     def hostile_names(self):
         tab = self.open('hostile')
@@ -505,25 +721,29 @@ class PageTests(Counts):
 
     @staticmethod
     def dot_text(dot):
-        return f"DATA of number {dot['number']} in datagram {dot['x']}, octet {dot['at']}{', sent again' if dot['again'] else ''}."
+        return f"DATA of number {dot['number']} in datagram {dot['datagram']}, octet {dot['at']}{', sent again' if dot['again'] else ''}."
 
     def charts(self):
-        for name in ('robot', 'gone.rec', 'conflict.rec', 'cyclone_reliable.rec'):
+        for name in ('robot', 'gone.rec', 'conflict.rec', 'cyclone_reliable.rec', 'ipv6.pcapng', 'loopback.pcap', *IN_TIME):
             tab, values = self.open(name), self.values(name)
             acts = {one['guid']: one['acts'] for one in values['writers']}
             bases = {(one['writer'], one['reader']): one['bases'] for one in values['answers']}
             for at, row in enumerate(self.rows(name)):
                 self.choose(tab, at)
                 heard = [act for act in acts[row['writer']] if is_heard(act, row['reader'])]
-                self.chart(f'{name}: pair {at + 1}', heard, bases[row['writer'], row['reader']], tab.evaluate('chartInSight.marks'))
+                answers, seconds = bases[row['writer'], row['reader']], dict(values.get('times', []))
+                drawn = {entry[0] for entry in acts[row['writer']] + answers}
+                place = seconds.get if drawn <= set(seconds) else int
+                self.chart(f'{name}: pair {at + 1}', heard, [answers, place], tab.evaluate('chartInSight.marks'))
             tab.close()
 
-    def chart(self, name, heard, bases, marks):
-        """what a chart has of what a reader hears and of what it answers"""
+    def chart(self, name, heard, answered, marks):
+        """what a chart has of what a reader hears and of what it answers, each in the place of its datagram"""
+        bases, place = answered
         sent = [act for act in heard if act[2] == 'data']
-        dots = [[act[0], act[3], act[1], act[3] in [one[3] for one in sent[:k]]] for k, act in enumerate(sent)]
+        dots = [[place(act[0]), act[3], act[1], act[3] in [one[3] for one in sent[:k]]] for k, act in enumerate(sent)]
         self.holds(f'{name}: the dots', dots, [[dot['x'], dot['y'], dot['at'], dot['again']] for dot in marks['dots']])
-        answers = [[datagram, base - 1] for datagram, _, base in bases]
+        answers = [[place(datagram), base - 1] for datagram, _, base in bases]
         self.holds(f'{name}: the answers', answers, [[one['x'], one['y']] for one in marks['answers']])
         gone = {n for act in heard if act[2] == 'gone' for n in range(act[3], act[4] + 1)}
         drawn = {n for band in marks['bands'] for n in range(band['low'], band['high'] + 1)}
@@ -678,7 +898,8 @@ def is_heard(act, reader):
 
 WITHOUT_BROWSER = 'constants', 'pages_of_the_program', 'text_of_a_page', 'data_of_check', 'rows_with_charts'
 IN_BROWSER = (
-    'each_row', 'working_copy', 'outcome', 'asked', 'first_screen', 'topics_to_look_at', 'chosen_pairs', 'participants', 'talk', 'hostile_names',
+    'each_row', 'working_copy', 'outcome', 'asked', 'first_screen', 'topics_to_look_at', 'chosen_pairs', 'participants', 'talk', 'seconds',
+    'both_sides_shown', 'all_arrived', 'hostile_names',
     'without_scripts', 'filters', 'orders', 'clicks', 'keyboard', 'charts', 'pointer', 'charts_left_out', 'contrast', 'widths', 'paper',
     'more_rows', 'many_pairs',
 )

@@ -179,6 +179,25 @@ def chatty():
     return [*few.announced, *many.announced, *later.announced, *sent]
 
 
+def lost_on_the_way():
+    """a recording and another one, made at the host of its readers. Of 1,500 numbers five are in the first one, and 2 more arrived. By best
+    effort one of three that JavaScript cannot hold did, and none of another topic"""
+    one, other = Participant(0x0a), Participant(0x1b)
+    odom = Topic(b'rt/odom', b'A', one, other)
+    (imu_told, imu), (gps_told, gps) = (one.endpoint(WRITERS, topic, b'B', BEST_EFFORT) for topic in (b'rt/imu', b'rt/gps'))
+    imu_heard, gps_heard = (other.endpoint(READERS, topic, b'B', BEST_EFFORT)[0] for topic in (b'rt/imu', b'rt/gps'))
+    by_best_effort = [header(one.prefix) + data(imu, 2 ** 53 + k, b'\0\1\0\0') for k in range(4)]
+    here = [one.announced(), other.announced(), *odom.announced, imu_told, gps_told, by_best_effort[0], imu_heard, gps_heard, *by_best_effort[1:]]
+    here += [header(one.prefix) + data(gps, 1, b'\0\1\0\0'), *map(odom.sent, (1, 2, 3, 7, 1500)), odom.asks(1, 1500), odom.answers(3)]
+    return here, [odom.answers(1), odom.sent(1), odom.sent(7), odom.sent(1500), by_best_effort[2]]
+
+
+def lost_of_many():
+    """another two, of numbers that JavaScript cannot hold: none arrived"""
+    far = Topic(b'rt/far', b'A', Participant(0x0a), Participant(0x1b))
+    return greatest(), [far.answers(1)]
+
+
 def unmatched():
     """writers and readers of which no two are a pair"""
     one, other = Participant(0x0a), Participant(0x1b)

@@ -10,10 +10,11 @@ _rtps_audit() {
     check | show | list | audit | why | page)
         local options='--any --max-datagrams --max-octets -h --help'
         case $command in
-        check) options='--from --topic --expect --tail --certain --json --max-datagrams --max-octets -h --help' ;;
+        check) options='--from --topic --expect --tail --certain --arrived --json --max-datagrams --max-octets -h --help' ;;
         show) options="--fragments $options" ;;
         audit) options="--fragments --from --topic --observed --expect --strict --spans --json $options" ;;
-        why | page) options="--fragments --from --topic --observed --expect --strict --spans $options" ;;
+        why) options="--fragments --from --topic --observed --expect --strict --spans $options" ;;
+        page) options="--fragments --from --topic --observed --expect --strict --spans --arrived $options" ;;
         esac
         case $word in
         -*) mapfile -t COMPREPLY < <(compgen -W "$options" -- "$word") ;;

@@ -19,6 +19,7 @@ complete -c rtps-audit -n '__fish_seen_subcommand_from audit why page' -l strict
 complete -c rtps-audit -n '__fish_seen_subcommand_from audit why page' -l spans -d 'Each row from the first number that was for the reader on, until the reader left'
 complete -c rtps-audit -n '__fish_seen_subcommand_from check' -x -l tail -d 'A pair is clean though so many last numbers are not acknowledged'
 complete -c rtps-audit -n '__fish_seen_subcommand_from check' -l certain -d 'Status 1 also if a number of a pair is not received for certain'
+complete -c rtps-audit -n '__fish_seen_subcommand_from check page' -r -l arrived -d 'A second recording of the same time, made at the host of readers'
 complete -c rtps-audit -n '__fish_seen_subcommand_from show audit why page' -l fragments -d 'Read samples that were sent in DATA_FRAG'
 complete -c rtps-audit -n '__fish_seen_subcommand_from check audit' -l json -d 'Print one JSON object, with what each verdict rests on'
 complete -c rtps-audit -n '__fish_seen_subcommand_from show list audit why page' -l any -d 'Read any capture'

@@ -19,7 +19,6 @@ use Rattle.rtps_audit.specs.Placed.{PlacedValue, is_from, placed_in}
 use Rattle.rtps_audit.specs.Speech.{announced_for, announced_of_body, base_for, said_by, speech_by, word_for}
 use Rattle.rtps_audit.proofs.IndexSpeech.{all_have, gives_from, heard_from, its_have, last_from, spoken_is_from}
 use Rattle.rtps_audit.proofs.PlacedActs.{stands_there, stands_where}
-use Rattle.rtps_audit.proofs.PlacedLemmas.{bytes_eq-sym}
 pub use Rattle.rtps_audit.proofs.DeliveryRuns.{Follows-append, place_within}
 pub use Rattle.rtps_audit.proofs.Sound.{reached-sound}
 pub use Rattle.rtps_audit.proofs.Verdicts.{runs_exist_where_founded}
@@ -27,8 +26,11 @@ pub use Rattle.rtps_audit.proofs.Verdicts.{runs_exist_where_founded}
 pub use Rattle.rtps_audit.proofs.WordLemmas.{gap_end, gap_range, is_in_gap_below}
 pub use Rattle.rtps_audit.proofs.IntakeLemmas.{intake_on}
 -- lists: what stands first or behind, what stands among what a function gives, what is below the greatest; tests of equal parts
-pub use Rattle.rtps_audit.proofs.PlacedActs.{contains_cases, contains_head, contains_none, contains_tail, kept_if_passed, kept_is_there, made_from, makes}
-pub use Rattle.rtps_audit.proofs.PlacedLemmas.{both}
+pub use Rattle.rtps_audit.proofs.PlacedActs.{placed_push, contains_cases, contains_head, contains_none, contains_tail, kept_if_passed, kept_is_there, made_from, makes}
+pub use Rattle.rtps_audit.proofs.PlacedLemmas.{both, bytes_eq-sym, is_eq-guid_cmp}
+-- entries of a map by GUID; the verdict by all runs
+pub use Rattle.rtps_audit.proofs.GroupLemmas.{entry_written, equal_of, found_alike}
+pub use Rattle.rtps_audit.proofs.ExactVerdicts.{exact_verdict}
 pub use Rattle.rtps_audit.proofs.Greatest.{below_greatest, greatest-append, greatest_below}
 pub use Rattle.rtps_audit.proofs.IndexSpeech.{if_some, contains_mapped, get_mapped, mapped_contains, mapped_get}
 

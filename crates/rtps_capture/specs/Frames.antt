@@ -47,13 +47,19 @@ is_damaged Any size = nat_lt frame_header.MOST size
 
 -- a frame of this link type, if that is read
 abbrev pub frame_of_link : Interface → Option ℕ → ByteRange → Option LinkType → Frame
-frame_of_link interface ticks range None = UnreadFrame (Some interface.link)
+frame_of_link interface ticks range None = UnreadFrame (Some interface.link) (option_and_then (block_time interface) ticks)
 frame_of_link interface ticks range (Some link) = Captured (record { link = link; range = range; time = option_and_then (block_time interface) ticks })
 
--- a frame of this interface, if the section declared it
+-- a frame of this interface, if the section declared it; else the unit of its time is not known
 abbrev pub frame_of_interface : Option ℕ → ByteRange → Option Interface → Frame
-frame_of_interface ticks range None = UnreadFrame None
+frame_of_interface ticks range None = UnreadFrame None None
 frame_of_interface ticks range (Some interface) = frame_of_link interface ticks range (link_type_numbered interface.link)
+
+-- the time of a frame, if it has one; the rest of a file that ends within a frame has none
+abbrev pub time_of : Frame → Option ℕ
+time_of (Captured frame) = frame.time
+time_of (UnreadFrame link time) = time
+time_of other = None
 
 -- the frame of so many octets that begins a range, where the range has them
 unfoldable pub framed : Option Interface → Option ℕ → ℕ → ByteRange → Frame

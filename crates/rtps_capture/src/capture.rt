@@ -26,6 +26,9 @@ pub struct CaptureReading {
     /// When the frame was captured that gave each of them, or completed its packet: in nanoseconds since 1970 began (UTC). None
     /// where the file does not tell it.
     pub times: Vec<Option<u64>>,
+    /// When the first frame of the file was captured that has a time, whether it gave a datagram or not: in nanoseconds since
+    /// 1970 began (UTC). None where no frame has one.
+    pub start: Option<u64>,
     /// Frames with fragments of packets that were never whole.
     pub pieces: u64,
     /// Frames whose captured octets end before their packet does, and the rest of a file that ends within a frame.
@@ -72,6 +75,8 @@ struct Collected {
     packet: Vec<u8>,
     datagrams: Vec<ByteRange>,
     times: Vec<Option<u64>>,
+    /// The first time of a frame.
+    start: Option<u64>,
     counts: Counts,
 }
 
@@ -124,6 +129,7 @@ impl Collected {
             packet: Vec::new(alloc),
             datagrams: Vec::new(alloc),
             times: Vec::new(alloc),
+            start: None,
             counts: Counts::default(),
         }
     }
@@ -140,6 +146,7 @@ impl Collected {
         ensures within { OnOk result (StaysWithin self.old self.new) }
     {
         let number = self.counts.frames + 1;
+        self.start = self.start.or(frame.time());
         match frame {
             Frame::Captured(frame) => {
                 let range = frame.range;
@@ -151,7 +158,7 @@ impl Collected {
                 }
                 Ok(())
             }
-            Frame::Unread(link) => {
+            Frame::Unread { link, .. } => {
                 if self.counts.links == 0 {
                     self.counts.first_link = link;
                 }
@@ -238,6 +245,7 @@ impl Collected {
             octets: self.octets.into_octets(),
             datagrams: self.datagrams,
             times: self.times,
+            start: self.start,
             pieces: u128::from(self.counts.fresh).saturating_sub(self.counts.settled) as u64,
             cut: self.counts.cut,
             other: self.counts.other,

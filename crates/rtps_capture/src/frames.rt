@@ -1,6 +1,6 @@
 ghost use Rattle.std.specs.Prelude.{◌≡◌, ◌≤◌, ◌<◌, ◌+◌, length, IfOk, IfSome, MatchOption, None, Some};
 ghost use Rattle.rtps_capture.specs.Blocks.{BlockStands, block_at as block_at_lem};
-ghost use Rattle.rtps_capture.specs.Frames.{GivesNext, StandsInFile, TakesStep, end_with, opened, frame_of_block as frame_of_block_lem, frame_of_interface as frame_of_interface_lem, framed as framed_lem, interfaces_behind, simple_size as simple_size_lem, snap_of as snap_of_lem, step_of_block, step_of_record, unread_of};
+ghost use Rattle.rtps_capture.specs.Frames.{GivesNext, StandsInFile, TakesStep, end_with, opened, frame_of_block as frame_of_block_lem, frame_of_interface as frame_of_interface_lem, framed as framed_lem, interfaces_behind, simple_size as simple_size_lem, snap_of as snap_of_lem, step_of_block, step_of_record, time_of, unread_of};
 ghost use Rattle.rtps_capture.specs.declared.blocks.Block.TheVariants.{Whole};
 
 use crate::blocks::{Block, Interface, WholeBlock, block_at};
@@ -20,7 +20,11 @@ use std::alloc::Global;
 pub(crate) enum Frame {
     Captured(CapturedFrame),
     /// A frame of this link type, which is not read; None where the section did not declare its interface.
-    Unread(Option<u32>),
+    Unread {
+        link: Option<u32>,
+        /// When it was captured, in nanoseconds since 1970, if that is told.
+        time: Option<u64>,
+    },
     /// A block that has no frame.
     NoFrame,
     /// The file ends within a record or a block.
@@ -31,6 +35,20 @@ pub(crate) enum Frame {
     Damaged,
     /// A block whose frame passes the block's end.
     CutFrame,
+}
+
+impl Frame {
+    /// When it was captured, in nanoseconds since 1970, if it is a frame and that is told.
+    #[inline]
+    pub(crate) fn time(self) -> Option<u64>
+        ensures { result ≡ time_of self }
+    {
+        match self {
+            Frame::Captured(frame) => frame.time,
+            Frame::Unread { time, .. } => time,
+            _ => None,
+        }
+    }
 }
 
 /// A frame whose link type is read.
@@ -70,16 +88,22 @@ fn frame_of_interface(interface: Option<Interface>, ticks: Option<u64>, range: B
     ensures { result ≡ frame_of_interface_lem ticks range interface }
 {
     let Some(interface) = interface else {
-        return Frame::Unread(None);
-    };
-    let Some(link) = link_type_numbered(interface.link) else {
-        return Frame::Unread(Some(interface.link));
+        return Frame::Unread {
+            link: None,
+            time: None,
+        };
     };
     let time = match ticks {
         Some(ticks) => block_time(interface, ticks),
         None => None,
     };
-    Frame::Captured(CapturedFrame { link, range, time })
+    match link_type_numbered(interface.link) {
+        Some(link) => Frame::Captured(CapturedFrame { link, range, time }),
+        None => Frame::Unread {
+            link: Some(interface.link),
+            time,
+        },
+    }
 }
 
 #[tactic(auto, unfolding(crate::specs::Frames::framed))]

@@ -1,5 +1,6 @@
 //! Laws of the definitions, as contracts of functions that do nothing.
 
+ghost use Rattle.rtps_capture.specs.Capture.{StartIsFirstTime};
 ghost use Rattle.rtps_capture.specs.Frames.{HasOneReading};
 ghost use Rattle.rtps_capture.specs.Layout.{LayoutIsStandard};
 ghost use Rattle.rtps_capture.specs.Sent.{EachPacketIsGiven, EachWasCarried};
@@ -8,6 +9,11 @@ ghost use Rattle.rtps_capture.specs.Sent.{EachPacketIsGiven, EachWasCarried};
 /// what [`crate::read_capture`] reads. What a step gives is `specs/Records.antt` and `specs/Blocks.antt`.
 pub fn one_reading()
     ensures { HasOneReading }
+{}
+
+/// The start that [`crate::read_capture`] gives is the first time among those of all frames of the file, whatever they carry.
+pub fn start_is_first_time()
+    ensures { StartIsFirstTime }
 {}
 
 /// Each datagram that [`crate::read_capture`] gives was carried by a packet whose octets stand in the capture: whole in one frame, or

@@ -1,4 +1,5 @@
 mod AppendLemmas
+mod ArrivedLemmas
 mod HostLemmas
 mod OneWayLemmas
 mod SortLemmas

@@ -1,11 +1,11 @@
 -- A stable sort of elements by a key of what they stand for sorts what they stand for.
-use Rattle.std.proofs.Common.{◌≡◌, ◌∙◌, ◌+◌, Bool, ℕ, List, [], ◌∷◌, ap, ap₂, arith, filter, length, map, refl, sym}
+use Rattle.std.proofs.Common.{◌≡◌, ◌∙◌, ◌+◌, Bool, List, [], ◌∷◌, ap, ap₂, arith, filter, length, map, refl, sym}
 use Rattle.std.proofs.lemmas.List.{get_or-map, length-map}
 use Rattle.std.proofs.lemmas.List.Elements.{filter_agree}
 use Rattle.std.specs.List.Sorted.{IsSorted, IsStable, ties}
 use Rattle.std.specs.Ordering.{is_lt}
 use Rattle.std.specs.declared.cmp.Ordering.{Ordering}
-use Rattle.rtps_discovery.proofs.Listing.{filter-map}
+use Rattle.rtps_discovery.proofs.Offered.{filter-map}
 
 pub sorted_values : {X Y : Type 0} (cmp : Y → Y → Ordering) (value : X → Y) (xs : List X) → IsSorted (λ x y. cmp (value x) (value y)) xs → IsSorted cmp (map value xs)
 sorted_values cmp value [] sorted = λ k d from within. absurd (omega arith)

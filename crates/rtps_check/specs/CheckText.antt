@@ -4,9 +4,11 @@
 -- recording is clean, or why not. A pair that is not clean has the lines of `why` that explain it, and in a last
 -- line what to do; those that lack only a tail share a line, since a system that is stopped while it publishes leaves one with each.
 -- Other programs read the outcome and its reasons without taking lines apart.
-use Rattle.std.specs.Prelude.{ℕ, ◌≡◌, ◌++◌, ◌==◌, if◌then◌else◌, nat_lt, List, [], ◌∷◌, Bool, codes, filter, fold, map, max, ℤ, decimal, length, Option, None, Some, flat_map, ◌↔◌}
-use Rattle.std.specs.List.{concat}
-use Rattle.rtps_report.specs.Vocabulary.{CompleteGrounds, ConflictGrounds, Counts, EvidenceValue, Explanation, explanation_value, ExplanationValue, FirstMissed, GroundsValue, OpenGrounds, Outcomes, SentValue, UnfoundedGrounds}
+use Rattle.std.specs.Prelude.{ℕ, ◌≡◌, ◌++◌, ◌==◌, ◌||◌, not, if◌then◌else◌, nat_lt, List, [], ◌∷◌, Bool, codes, filter, fold, map, max, ℤ, decimal, length, Option, None, Some, flat_map, ◌↔◌, true}
+use Rattle.std.specs.List.{concat, list_any}
+use Rattle.rtps_evidence.specs.FirstNumbers.{numbers_of}
+use Rattle.rtps_evidence.specs.Times.{TimesValue}
+use Rattle.rtps_report.specs.Vocabulary.{CompleteGrounds, ConflictGrounds, Counts, EvidenceValue, Explanation, explanation_value, ExplanationValue, FirstMissed, GroundsValue, InSpan, OpenGrounds, Outcomes, SentValue, UnfoundedGrounds}
 use Rattle.rtps_report.specs.declared.findings.Ending.TheVariants.{Clean}
 use Rattle.rtps_report.specs.declared.findings.Ending.{Ending}
 use Rattle.rtps_report.specs.declared.advice.Scope.{Scope}
@@ -20,22 +22,27 @@ use Rattle.rtps_report.specs.NoteFacts.{note_facts, scope_of}
 use Rattle.rtps_report.specs.Recording.{RecordingValue}
 use Rattle.rtps_report.specs.Totals.{totals_of}
 use Rattle.rtps_report.specs.RowFacts.{is_late, is_noted, is_tail_alone, left_in, outcomes_of, row_from}
+use Rattle.rtps_report.specs.SideFacts.{side_facts}
+use Rattle.rtps_report.specs.Silences.{silences_of}
+use Rattle.rtps_report.specs.BestEfforts.{HeldValue}
+use Rattle.rtps_report.specs.declared.side_facts.SideFacts.{SideFacts}
+use Rattle.rtps_report.specs.declared.silences.Silences.{Silences}
+use Rattle.rtps_evidence.specs.declared.waits.Wait.{Wait}
 use Rattle.rtps_report.specs.declared.advice.Advice.TheVariants.{Tail}
 use Rattle.rtps_report.specs.declared.note_facts.NoteFacts.{NoteFacts}
 use Rattle.rtps_lines.specs.Causes.{causes_of, findings_in, last_line}
-use Rattle.rtps_lines.specs.Notes.{joined_names, notes, number_words, topic_name}
-use Rattle.rtps_ids.specs.declared.identity.GuidPrefix.{GuidPrefix}
+use Rattle.rtps_lines.specs.Notes.{NotedValue, joined_names, notes, number_words, topic_name}
 use Rattle.rtps_parts.specs.RosNames.{topic_text, type_text}
 use Rattle.rtps_policies.specs.Unmatched.{UnmatchedValue}
-use Rattle.rtps_policies.specs.declared.host.Host.{Host}
 use Rattle.rtps_report.specs.Talk.{TalkValue, talk_value}
 use Rattle.rtps_report.specs.Advice.{advice_of, sentence_of}
 use Rattle.rtps_report.specs.Reported.{number_of}
-use Rattle.rtps_lines.specs.Lines.{acknowledged_line, announced_line, asked_line, claimed_line, questions_line, sent_line, told_line, verdict_text}
+use Rattle.rtps_lines.specs.Lines.{acknowledged_line, announced_line, asked_line, claimed_line, questions_line, second_text, sent_line, silence_lines, told_line, verdict_text, wait_text}
 use Rattle.rtps_parts.specs.Table.{table}
 use Rattle.rtps_lines.specs.CheckMembers.{check_members}
 use Rattle.rtps_lines.specs.JsonText.{IsJsonLine, object_of}
 use Rattle.rtps_report.specs.Findings.{ending_as}
+use Rattle.rtps_check.specs.ArrivedText.{AreByTopic as LossyByTopic, is_lossy, lossy_lines, not_arrived_line}
 use Rattle.rtps_check.specs.TalkText.{AreByTopic as UnmatchedByTopic, hosted, one_way_block, unmatched_lines}
 use Rattle.rtps_check.specs.declared.checked_text.Told.{Told}
 use Rattle.rtps_check.specs.declared.sections.RowTelling.{RowTelling}
@@ -45,7 +52,16 @@ abbrev pub clean_line : Totals → List ℕ
 clean_line totals = concat (share totals.clean_pairs totals.pairs
     ∷ words_for totals.pairs (record { one = codes " pair is clean, "; many = codes " pairs are clean, " })
     ∷ share totals.received totals.numbers
-    ∷ words_for totals.numbers (record { one = codes " number received\n"; many = codes " numbers received\n" }) ∷ [])
+    ∷ words_for totals.numbers (record { one = codes " number received"; many = codes " numbers received" }) ∷ [])
+
+-- how many more numbers arrived, where there is another recording
+abbrev pub arrived_text : Option SideFacts → Totals → List ℕ
+arrived_text None totals = []
+arrived_text (Some side) totals = concat (codes ", " ∷ grouped totals.arrived ∷ codes " more arrived" ∷ [])
+
+-- the line of both
+abbrev pub clean_lines : Option SideFacts → Totals → List ℕ
+clean_lines side totals = clean_line totals ++ (arrived_text side totals ++ codes "\n")
 
 -- something, where there are some
 abbrev pub where_some : {X : Type 0} → List X → List ℕ → List ℕ → List ℕ
@@ -65,10 +81,12 @@ no_pair_remedy talk left_out =
 abbrev pub no_pair_lines : TalkValue → List ExplanationValue → List ℕ
 no_pair_lines talk left_out = concat (codes "there is no pair to judge\n  -> " ∷ no_pair_remedy talk left_out ∷ codes "\n" ∷ [])
 
--- what is told beside the rows: of what weakens the report, which rows it cannot speak of, by topic, who does not talk, what rows have to be,
--- and how the run ends
+-- what is told beside the rows: when datagrams came, what weakens the report, what is told of the other recording, if there is one, which
+-- rows it cannot speak of, by topic, who does not talk, what rows have to be, and how the run ends
 pub record Beside : Type 0 where
+  pub times : TimesValue
   pub facts : NoteFacts
+  pub side : Option SideFacts
   pub left_out : List ExplanationValue
   pub talk : TalkValue
   pub standard : Standard
@@ -76,7 +94,7 @@ pub record Beside : Type 0 where
 
 -- the first lines
 abbrev pub first_lines : Totals → Beside → List ℕ
-first_lines totals beside = if totals.pairs == 0 then no_pair_lines beside.talk beside.left_out else clean_line totals
+first_lines totals beside = if totals.pairs == 0 then no_pair_lines beside.talk beside.left_out else clean_lines beside.side totals
 
 -- notes behind an empty line; nothing where there are none
 abbrev pub notes_block : List (List ℕ) → List ℕ
@@ -87,15 +105,15 @@ notes_block (note ∷ notes) = codes "\n" ++ flat_map (λ one. one ++ codes "\n"
 
 -- the heads of its columns
 abbrev pub table_head : List (List ℕ)
-table_head = codes "topic" ∷ codes "pairs" ∷ codes "clean" ∷ codes "before" ∷ codes "received" ∷ codes "likely" ∷ codes "missed" ∷ codes "unsent"
-    ∷ codes "unanswered" ∷ codes "unconfirmed" ∷ []
+table_head = codes "topic" ∷ codes "pairs" ∷ codes "clean" ∷ codes "before" ∷ codes "received" ∷ codes "arrived" ∷ codes "likely"
+    ∷ codes "missed" ∷ codes "unsent" ∷ codes "unanswered" ∷ codes "unconfirmed" ∷ []
 
 -- what is told of a topic
 abbrev pub topic_row : Scope → List ExplanationValue → List (List ℕ)
 topic_row scope rows =
     let totals = totals_of scope rows in
-    topic_name rows ∷ grouped totals.pairs ∷ grouped totals.clean_pairs ∷ grouped totals.before ∷ grouped totals.received ∷ grouped totals.likely
-    ∷ grouped totals.missed ∷ grouped totals.unsent ∷ grouped totals.unanswered ∷ grouped totals.unconfirmed ∷ []
+    topic_name rows ∷ grouped totals.pairs ∷ grouped totals.clean_pairs ∷ grouped totals.before ∷ grouped totals.received ∷ grouped totals.arrived
+    ∷ grouped totals.likely ∷ grouped totals.missed ∷ grouped totals.unsent ∷ grouped totals.unanswered ∷ grouped totals.unconfirmed ∷ []
 
 -- the place of a column, where its entries are not all 0
 abbrev pub shown_where : ℕ → ℕ → List ℕ
@@ -105,8 +123,9 @@ shown_where place sum = if sum == 0 then [] else place ∷ []
 abbrev pub shown_places : Totals → List ℕ
 shown_places totals =
     0 ∷ 1 ∷ 2 ∷ 3 ∷ (shown_where 4 totals.received
-    ++ (shown_where 5 totals.likely
-    ++ (shown_where 6 totals.missed ++ (shown_where 7 totals.unsent ++ (shown_where 8 totals.unanswered ++ shown_where 9 totals.unconfirmed)))))
+    ++ (shown_where 5 totals.arrived
+    ++ (shown_where 6 totals.likely
+    ++ (shown_where 7 totals.missed ++ (shown_where 8 totals.unsent ++ (shown_where 9 totals.unanswered ++ shown_where 10 totals.unconfirmed))))))
 
 -- the table of topics, of whose rows this is counted, behind an empty line; nothing where there is none
 abbrev pub topic_table : Scope → Totals → List (List ExplanationValue) → List ℕ
@@ -114,6 +133,20 @@ topic_table scope totals [] = []
 topic_table scope totals (topic ∷ topics) = codes "\n" ++ table (shown_places totals) (table_head ∷ map (topic_row scope) (topic ∷ topics))
 
 -- ---- the pairs that someone has to look at
+
+-- by what rows are told beside themselves: what is asked, who does not talk, and when datagrams came
+pub record RowTold : Type 0 where
+  pub scope : Scope
+  pub talk : TalkValue
+  pub times : TimesValue
+
+-- that of the code, as a value
+abbrev pub row_told : RowTelling → RowTold
+row_told told = record { scope = told.scope; talk = talk_value told.talk.now; times = told.times.now }
+
+-- since when the participants of a row are silent
+abbrev pub silences_in : RowTold → ExplanationValue → Silences
+silences_in told row = silences_of told.talk row.pair
 
 -- how many numbers have an outcome; nothing where none has
 abbrev pub kind_text : List ℕ → ℕ → List ℕ
@@ -123,62 +156,93 @@ kind_text name count = if count == 0 then [] else name ++ decimal count
 abbrev pub kinds_text : Outcomes → List ℕ
 kinds_text outcomes =
     (codes ", received " ++ decimal outcomes.received)
+    ++ (kind_text (codes ", arrived ") outcomes.arrived
     ++ (kind_text (codes ", likely ") outcomes.likely
     ++ (kind_text (codes ", missed ") outcomes.missed
     ++ (kind_text (codes ", unsent ") outcomes.unsent
-    ++ (kind_text (codes ", unanswered ") outcomes.unanswered ++ (kind_text (codes ", unconfirmed ") outcomes.unconfirmed ++ codes "\n")))))
+    ++ (kind_text (codes ", unanswered ") outcomes.unanswered ++ (kind_text (codes ", unconfirmed ") outcomes.unconfirmed ++ codes "\n"))))))
 
--- the line of the least number that is missed, which has its spaces; nothing where none is
-abbrev pub missed_text : Option FirstMissed → List ℕ
-missed_text None = []
-missed_text (Some first) = asked_line first
+-- a number that a row missed is told: of a row that is held, where it is among the first that lack
+abbrev pub is_missed_told : Option InSpan → ℕ → Bool
+is_missed_told None number = true
+is_missed_told (Some in_span) number = not in_span.is_held || list_any (λ one. one == number) (numbers_of in_span.lacking)
+
+-- the line of the least number that is missed, which has its spaces; nothing where none is, or where it is not told
+abbrev pub missed_text : TimesValue → Option InSpan → Option FirstMissed → List ℕ
+missed_text times in_span None = []
+missed_text times in_span (Some first) = if is_missed_told in_span first.number then asked_line times first else []
+
+-- that of a row
+abbrev pub missed_line : TimesValue → EvidenceValue → List ℕ
+missed_line times evidence = missed_text times evidence.in_span evidence.first_missed
 
 -- the line of a payload that was sent for a number, if one was
-abbrev pub payload_line : ℤ → Option SentValue → List ℕ
-payload_line number None = []
-payload_line number (Some sent) = codes "  " ++ sent_line number (Some sent)
+abbrev pub payload_line : TimesValue → ℤ → Option SentValue → List ℕ
+payload_line times number None = []
+payload_line times number (Some sent) = codes "  " ++ sent_line times number (Some sent)
 
 -- the lines of `why` that explain a verdict on a number, behind two more spaces
-abbrev pub verdict_by : ℤ → EvidenceValue → GroundsValue → List ℕ
-verdict_by number evidence CompleteGrounds = []
-verdict_by number evidence (OpenGrounds teller count last) =
-    concat (codes "  " ∷ acknowledged_line evidence.acknowledgement ∷ codes "  " ∷ told_line number teller ∷ codes "  " ∷ questions_line count last ∷ [])
-verdict_by number evidence (ConflictGrounds first other) = payload_line number first ++ payload_line number other
-verdict_by number evidence (UnfoundedGrounds teller claim) =
-    concat (codes "  " ∷ announced_line evidence.announcement ∷ codes "  " ∷ claimed_line claim ∷ codes "  " ∷ told_line number teller ∷ [])
+abbrev pub verdict_by : TimesValue → ℤ → EvidenceValue → GroundsValue → List ℕ
+verdict_by times number evidence CompleteGrounds = []
+verdict_by times number evidence (OpenGrounds teller count last) =
+    concat (codes "  " ∷ acknowledged_line times evidence.acknowledgement ∷ codes "  " ∷ told_line times number teller ∷ codes "  " ∷ questions_line times count last ∷ [])
+verdict_by times number evidence (ConflictGrounds first other) = payload_line times number first ++ payload_line times number other
+verdict_by times number evidence (UnfoundedGrounds teller claim) =
+    concat (codes "  " ∷ announced_line times evidence.announcement ∷ codes "  " ∷ claimed_line times claim ∷ codes "  " ∷ told_line times number teller ∷ [])
 
 -- those of a row
-abbrev pub verdict_lines : EvidenceValue → List ℕ
-verdict_lines evidence = verdict_by (number_of evidence.verdict) evidence evidence.grounds
+abbrev pub verdict_lines : TimesValue → EvidenceValue → List ℕ
+verdict_lines times evidence = verdict_by times (number_of evidence.verdict) evidence evidence.grounds
 
--- the datagram in which a reader leaves; nothing where it does not
-abbrev pub left_text : Option ℕ → List ℕ
-left_text None = []
-left_text (Some datagram) = codes ", left in datagram " ++ decimal datagram
+-- the datagram in which a reader leaves, and when that came; nothing where it does not
+abbrev pub left_text : TimesValue → Option ℕ → List ℕ
+left_text times None = []
+left_text times (Some datagram) = codes ", left in datagram " ++ (decimal datagram ++ second_text times datagram)
 
 -- the lines of a writer and a reader: from which number on the row is, and where the reader leaves
-abbrev pub pair_lines : (GuidPrefix → Host) → ℕ → ExplanationValue → List ℕ
-pair_lines hosts from row =
-    concat (codes "  writer " ∷ hosted hosts row.pair.writer ∷ codes "\n  reader " ∷ hosted hosts row.pair.reader
-    ∷ codes ", from " ∷ decimal (row_from from row.evidence.in_span) ∷ []) ++ (left_text (left_in row.evidence.in_span) ++ codes "\n")
+abbrev pub pair_lines : RowTold → ExplanationValue → List ℕ
+pair_lines told row =
+    concat (codes "  writer " ∷ hosted told.talk.hosts row.pair.writer ∷ codes "\n  reader " ∷ hosted told.talk.hosts row.pair.reader
+    ∷ codes ", from " ∷ decimal (row_from told.scope.from row.evidence.in_span) ∷ []) ++ (left_text told.times (left_in row.evidence.in_span) ++ codes "\n")
 
 -- the lines of a pair, up to what became of its numbers
-abbrev pub row_head : (GuidPrefix → Host) → ℕ → ExplanationValue → List ℕ
-row_head hosts from row = pair_lines hosts from row ++ ((codes "  " ++ verdict_text row.evidence.verdict) ++ kinds_text (outcomes_of row.evidence))
+abbrev pub row_head : RowTold → ExplanationValue → List ℕ
+row_head told row = pair_lines told row ++ ((codes "  " ++ verdict_text row.evidence.verdict) ++ kinds_text (outcomes_of row.evidence))
+
+-- a line of a sentence
+abbrev pub sentence_line : List ℕ → List ℕ
+sentence_line sentence = concat (codes "    " ∷ sentence ∷ codes "\n" ∷ [])
+
+-- the line of the longest that a reader let a writer wait; nothing where it is not told
+abbrev pub wait_by : TimesValue → Option Wait → List ℕ
+wait_by times None = []
+wait_by times (Some wait) = sentence_line (wait_text times wait)
+
+-- that of a row
+abbrev pub wait_line : TimesValue → Option InSpan → List ℕ
+wait_line times None = []
+wait_line times (Some in_span) = wait_by times in_span.wait
+
+-- the lines that explain a row: which numbers did not arrive, what it missed, what its verdict rests on, how long its reader let the writer
+-- wait, and who is silent
+abbrev pub reason_lines : RowTold → ExplanationValue → List ℕ
+reason_lines told row =
+    not_arrived_line row.evidence.in_span
+    ++ (missed_line told.times row.evidence
+    ++ (verdict_lines told.times row.evidence
+    ++ (wait_line told.times row.evidence.in_span ++ flat_map sentence_line (silence_lines told.times (silences_in told row)))))
 
 -- what to do, behind an arrow
-abbrev pub advice_line : Scope → EvidenceValue → List ℕ
-advice_line scope evidence = concat (codes "    -> " ∷ sentence_of (advice_of scope evidence) ∷ codes "\n" ∷ [])
+abbrev pub advice_line : RowTold → ExplanationValue → List ℕ
+advice_line told row = concat (codes "    -> " ∷ sentence_of (advice_of (silences_in told row) told.scope row.evidence) ∷ codes "\n" ∷ [])
 
 -- the lines of a pair
-abbrev pub row_lines : (GuidPrefix → Host) → Scope → ExplanationValue → List ℕ
-row_lines hosts scope row =
-    row_head hosts scope.from row
-    ++ (missed_text row.evidence.first_missed ++ (verdict_lines row.evidence ++ advice_line scope row.evidence))
+abbrev pub row_lines : RowTold → ExplanationValue → List ℕ
+row_lines told row = row_head told row ++ (reason_lines told row ++ advice_line told row)
 
 -- the lines of a pair that someone has to look at; nothing for another
-abbrev pub noted_lines : (GuidPrefix → Host) → Scope → ExplanationValue → List ℕ
-noted_lines hosts scope row = if is_noted scope.tail row.evidence then row_lines hosts scope row else []
+abbrev pub noted_lines : RowTold → ExplanationValue → List ℕ
+noted_lines told row = if is_noted (silences_in told row) told.scope.tail row.evidence then row_lines told row else []
 
 -- the line of a topic: its name and its type, by ROS 2, as `list` writes names between quotes
 abbrev pub topic_head : List ExplanationValue → List ℕ
@@ -191,8 +255,8 @@ headed head [] = []
 headed head (octet ∷ lines) = 10 ∷ (head ++ octet ∷ lines)
 
 -- the lines of a topic
-abbrev pub section : (GuidPrefix → Host) → Scope → List ExplanationValue → List ℕ
-section hosts scope rows = headed (topic_head rows) (flat_map (noted_lines hosts scope) rows)
+abbrev pub section : RowTold → List ExplanationValue → List ℕ
+section told rows = headed (topic_head rows) (flat_map (noted_lines told) rows)
 
 -- ---- the pairs that lack only a tail
 
@@ -213,42 +277,64 @@ abbrev pub tails_of : List ExplanationValue → List ℕ
 tails_of [] = []
 tails_of (row ∷ rows) = tails_text (length (row ∷ rows)) (longest_tail (row ∷ rows)) (joined_names (topics_of (row ∷ rows)))
 
--- those of the rows that are not clean for their tail alone
-abbrev pub tail_block : ℕ → List ExplanationValue → List ℕ
-tail_block tail rows = tails_of (filter (λ row. is_tail_alone tail row.evidence) rows)
+-- a row is not clean for its tail alone, and neither of its participants is silent
+abbrev pub lacks_tail_alone : RowTold → ExplanationValue → Bool
+lacks_tail_alone told row = is_tail_alone (silences_in told row) told.scope.tail row.evidence
+
+-- those of the rows that are so
+abbrev pub tail_block : RowTold → List ExplanationValue → List ℕ
+tail_block told rows = tails_of (filter (lacks_tail_alone told) rows)
 
 -- ---- the whole text
 
 -- the lines by topic: the table, the pairs that someone has to look at, and those that lack only a tail
-abbrev pub topics_text : (GuidPrefix → Host) → Scope → Totals → List ExplanationValue → List ℕ
-topics_text hosts scope totals rows = topic_table scope totals (topics_of rows) ++ (flat_map (section hosts scope) (topics_of rows) ++ tail_block scope.tail rows)
+abbrev pub topics_text : RowTold → Totals → List ExplanationValue → List ℕ
+topics_text told totals rows = topic_table told.scope totals (topics_of rows) ++ (flat_map (section told) (topics_of rows) ++ tail_block told rows)
+
+-- of what the notes tell
+abbrev pub noted_beside : Scope → Beside → List ExplanationValue → NotedValue
+noted_beside scope beside rows =
+    record {
+      talk = beside.talk;
+      left_out = beside.left_out;
+      late = filter (λ row. is_late scope.from row.evidence) rows;
+      rows = rows;
+      side = beside.side;
+      named = true;
+    }
 
 -- what weakens the report
 abbrev pub told_notes : Scope → Beside → List ExplanationValue → List (List ℕ)
-told_notes scope beside rows = notes (codes "\n  -> ") beside.facts beside.talk beside.left_out (filter (λ row. is_late scope.from row.evidence) rows)
+told_notes scope beside rows = notes (codes "\n  -> ") beside.facts (noted_beside scope beside rows)
 
 -- the lines behind them: what weakens the report, and whether the recording is clean
 abbrev pub ending_text : Scope → Beside → Totals → List ExplanationValue → List ℕ
 ending_text scope beside totals rows =
     notes_block (told_notes scope beside rows) ++ 10 ∷ last_line beside.ending (causes_of beside.standard totals (findings_in beside.ending))
 
--- where participants are
-abbrev pub hosts_of : RowTelling → GuidPrefix → Host
-hosts_of told = (talk_value told.talk.now).hosts
+-- by what rows are told, where this is told beside them
+abbrev pub told_beside : Scope → Beside → RowTold
+told_beside scope beside = record { scope = scope; talk = beside.talk; times = beside.times }
 
--- the text of what is told, of rows by topic: those that do not match stand by topic, too
+-- the text of what is told, of rows by topic: those that do not match stand by topic, too, and so do those of best effort of which not all
+-- numbers arrived
 pub record IsTextBy (scope : Scope) (beside : Beside) (rows : List ExplanationValue) (text : List ℕ) : Type 0 where
   pub unmatched : List UnmatchedValue
   pub unmatched_by_topic : UnmatchedByTopic beside.talk.unmatched unmatched
+  pub lossy : List HeldValue
+  pub lossy_by_topic : LossyByTopic (filter is_lossy beside.talk.held) lossy
   pub is_text : let totals = totals_of scope rows in text ≡ first_lines totals beside
-      ++ (topics_text beside.talk.hosts scope totals rows
-      ++ (unmatched_lines beside.talk.hosts unmatched ++ (one_way_block beside.talk ++ ending_text scope beside totals rows)))
+      ++ (topics_text (told_beside scope beside) totals rows
+      ++ (unmatched_lines beside.talk.hosts unmatched
+      ++ (one_way_block beside.talk ++ (lossy_lines beside.talk.hosts lossy ++ ending_text scope beside totals rows))))
 
 -- what the code knows of it, as a value
 abbrev pub beside_value : Told → Beside
 beside_value told =
     record {
+      times = told.times.now;
       facts = told.facts;
+      side = told.side;
       left_out = map explanation_value told.left_out.now;
       talk = talk_value told.talk.now;
       standard = told.standard;
@@ -259,7 +345,9 @@ beside_value told =
 abbrev pub beside_of : AskedValue → RecordingValue → ReportValue → List Explanation → Beside
 beside_of asked recording report left_out =
     record {
+      times = recording.times;
       facts = note_facts asked recording report;
+      side = side_facts report;
       left_out = map explanation_value left_out;
       talk = report.talk;
       standard = asked.standard;
@@ -280,10 +368,10 @@ pub record IsCheckText (asked : AskedValue) (recording : RecordingValue) (report
 abbrev pub IsCheckJson : AskedValue → RecordingValue → ReportValue → List ℕ → Type 0
 IsCheckJson asked recording report text = IsJsonLine (object_of (check_members asked recording report)) text
 
--- what `check --json` answers of what is asked: that line of the rows that are asked for, in the order of the report, and the ending
--- of `check`
-abbrev pub IsCheckedJsonAs : AskedValue → RecordingValue → List ℕ → Ending → Type 0
-IsCheckedJsonAs asked recording text ending = IsTold IsCheckJson asked recording text ending
+-- what `check --json` answers of what is asked of a recording, beside another one, if there is one: that line of the rows that are asked
+-- for, in the order of the report, and the ending of `check`
+abbrev pub IsCheckedJsonAs : AskedValue → Option RecordingValue → RecordingValue → List ℕ → Ending → Type 0
+IsCheckedJsonAs asked other recording text ending = IsTold IsCheckJson asked other recording text ending
 
 -- ---- what holds of it
 

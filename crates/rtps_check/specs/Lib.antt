@@ -1,2 +1,3 @@
+pub mod ArrivedText
 pub mod CheckText
 pub mod TalkText

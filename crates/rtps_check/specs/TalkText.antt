@@ -1,6 +1,6 @@
 -- What `check` prints of who does not talk. own: both values stand beside each other, so that a person sees which one to change; topics and
 -- types have the names that ROS 2 gives them.
-use Rattle.std.specs.Prelude.{ℕ, ◌≡◌, ◌++◌, ◌==◌, if◌then◌else◌, List, [], ◌∷◌, codes, length, IsPermutation, IsSorted, Option, None, Some}
+use Rattle.std.specs.Prelude.{ℕ, ◌≡◌, ◌++◌, if◌then◌else◌, List, [], ◌∷◌, codes, length, IsPermutation, IsSorted, Option, None, Some}
 use Rattle.std.specs.Cmp.Lexicographic.{slice_cmp}
 use Rattle.std.specs.List.{concat, flat_map}
 use Rattle.std.specs.List.Sorted.{IsStable}

@@ -4,22 +4,23 @@ ghost use Rattle.rtps_parts.specs.Parts.{part_text};
 ghost use Rattle.rtps_report.specs.Asked.{asked_value};
 ghost use Rattle.rtps_report.specs.FullReport.{report_value};
 ghost use Rattle.rtps_report.specs.Talk.{talk_value};
-ghost use Rattle.rtps_check.specs.CheckText.{IsCheckJson, IsCheckText, beside_value, clean_line as clean_line_lem, ending_text, first_lines, IsTextBy, no_pair_remedy as no_pair_remedy_lem, notes_block, told_notes as told_notes_lem, topics_text};
+ghost use Rattle.rtps_check.specs.CheckText.{IsCheckJson, IsCheckText, IsTextBy, arrived_text, beside_value, clean_line as clean_line_lem, clean_lines, ending_text, first_lines, no_pair_remedy as no_pair_remedy_lem, notes_block, told_beside, told_notes as told_notes_lem, topics_text};
 
+use crate::arrived_block::push_arrived_block;
 use crate::one_way_block::push_one_way_block;
 use crate::sections::{RowTelling, push_sections};
 use crate::tails::{late_among, push_tail_block};
 use crate::topic_table::push_topic_table;
 use crate::unmatched_block::push_unmatched_block;
 use json::Writer;
-use rtps_evidence::Explanation;
+use rtps_evidence::{Explanation, Times};
 use rtps_lines::{
     Judged, NotedRows, causes_of, json_line, notes_of, push_check_members, push_last,
 };
 use rtps_parts::{Part, Words, render, words_for};
 use rtps_report::{
-    Ending, FullReport, NoteFacts, Scope, Standard, Talk, Totals, by_topic, notes_on, scope_of,
-    topics_of, totals_of,
+    Ending, FullReport, NoteFacts, Scope, SideFacts, Standard, Talk, Totals, by_topic,
+    facts_of_side, notes_on, scope_of, topics_of, totals_of,
 };
 use std::alloc::{AllocError, Global};
 
@@ -27,7 +28,10 @@ use std::alloc::{AllocError, Global};
 #[derive(Clone, Copy)]
 struct Told<'r, 'a> {
     scope: Scope,
+    times: &'r Times,
     facts: NoteFacts,
+    /// What is told of the other recording; None where there is none.
+    side: Option<SideFacts>,
     rows: &'r [Explanation<'a>],
     left_out: &'r [Explanation<'a>],
     talk: &'r Talk<'a>,
@@ -45,8 +49,8 @@ fn clean_line(totals: &Totals) -> [Part<'static>; 4]
         many: " pairs are clean, ",
     };
     let number_words = Words {
-        one: " number received\n",
-        many: " numbers received\n",
+        one: " number received",
+        many: " numbers received",
     };
     [
         Part::Share(u128::from(totals.clean_pairs), pairs),
@@ -74,6 +78,35 @@ fn no_pair_remedy(talk: &Talk<'_>, left_out: &[Explanation<'_>]) -> &'static str
     }
 }
 
+/// Appends how many more numbers arrived, where there is another recording.
+fn push_arrived(
+    text: &mut String,
+    side: Option<SideFacts>,
+    totals: &Totals,
+) -> Result<(), AllocError>
+    ensures { OnOk result (string_bytes text.new ≡ string_bytes text.old ++ arrived_text side totals.now) }
+{
+    match side {
+        None => Ok(()),
+        Some(_) => {
+            let parts = [
+                Part::Text(", "),
+                Part::Grouped(totals.arrived),
+                Part::Text(" more arrived"),
+            ];
+            render(text, &parts)
+        }
+    }
+}
+
+fn push_clean(text: &mut String, side: Option<SideFacts>, totals: &Totals) -> Result<(), AllocError>
+    ensures { OnOk result (string_bytes text.new ≡ string_bytes text.old ++ clean_lines side totals.now) }
+{
+    render(text, &clean_line(totals))?;
+    push_arrived(text, side, totals)?;
+    text.push_str("\n")
+}
+
 fn push_first(text: &mut String, totals: &Totals, told: &Told<'_, '_>) -> Result<(), AllocError>
     ensures { OnOk result (string_bytes text.new ≡ string_bytes text.old ++ first_lines totals.now (beside_value told.now)) }
 {
@@ -86,7 +119,7 @@ fn push_first(text: &mut String, totals: &Totals, told: &Told<'_, '_>) -> Result
         ];
         render(text, &parts)
     } else {
-        render(text, &clean_line(totals))
+        push_clean(text, told.side, totals)
     }
 }
 
@@ -109,16 +142,17 @@ fn push_topics(
     told: &Told<'_, '_>,
     totals: &Totals,
 ) -> Result<(), AllocError>
-    ensures { OnOk result (string_bytes text.new ≡ string_bytes text.old ++ topics_text (talk_value told.now.talk.now).hosts told.now.scope totals.now (map explanation_value told.now.rows.now)) }
+    ensures { OnOk result (string_bytes text.new ≡ string_bytes text.old ++ topics_text (told_beside told.now.scope (beside_value told.now)) totals.now (map explanation_value told.now.rows.now)) }
 {
     let telling = RowTelling {
         scope: told.scope,
         talk: told.talk,
+        times: told.times,
     };
     let topics = topics_of(alloc, told.rows)?;
     push_topic_table(alloc, text, &topics, (totals, told.scope))?;
     push_sections(alloc, text, &topics, telling)?;
-    push_tail_block(alloc, text, told.rows, told.scope.tail)
+    push_tail_block(alloc, text, told.rows, telling)
 }
 
 fn told_notes(alloc: Global, told: &Told<'_, '_>) -> Result<Vec<String>, AllocError>
@@ -130,6 +164,9 @@ fn told_notes(alloc: Global, told: &Told<'_, '_>) -> Result<Vec<String>, AllocEr
         talk: told.talk,
         left_out: told.left_out,
         late: &late,
+        rows: told.rows,
+        side: told.side,
+        named: true,
     };
     notes_of(alloc, &told.facts, rows, "\n  -> ")
 }
@@ -163,6 +200,7 @@ fn text_of(alloc: Global, told: &Told<'_, '_>) -> Result<String, AllocError>
     push_topics(alloc, &mut text, told, &totals)?;
     push_unmatched_block(alloc, &mut text, told.talk)?;
     push_one_way_block(&mut text, told.talk)?;
+    push_arrived_block(alloc, &mut text, told.talk)?;
     push_ending(alloc, &mut text, told, &totals)?;
     Ok(text)
 }
@@ -175,7 +213,9 @@ pub fn check_text(alloc: Global, report: &FullReport<'_>) -> Result<String, Allo
     let left_out = by_topic(alloc, &report.left_out)?;
     let told = Told {
         scope: scope_of(report),
+        times: report.recording.times(),
         facts: notes_on(report),
+        side: facts_of_side(report),
         rows: &rows,
         left_out: &left_out,
         talk: &report.talk,

@@ -1,7 +1,9 @@
 //! Laws of the definitions, each the contract of a function that does nothing.
 
+ghost use Rattle.std.specs.Prelude.{Option};
 ghost use Rattle.rtps_report.specs.Asked.{AskedValue};
 ghost use Rattle.rtps_report.specs.Laws.{HasOneText};
+ghost use Rattle.rtps_report.specs.Recording.{RecordingValue};
 ghost use Rattle.rtps_check.specs.CheckText.{IsCheckedJsonAs, TellsWhyUnclean};
 
 use rtps_report::laws::one_full_report;
@@ -11,9 +13,10 @@ pub fn unclean_has_a_reason()
     ensures { TellsWhyUnclean }
 {}
 
-/// What `check --json` prints of a recording, and how its run ends, is decided by the recording and by what is asked.
+/// What `check --json` prints of a recording, and how its run ends, is decided by the recording, by the other one beside it, if there is
+/// one, and by what is asked.
 pub fn one_json()
-    ensures { (asked : AskedValue) → HasOneText (IsCheckedJsonAs asked) }
+    ensures { (asked : AskedValue) (other : Option RecordingValue) → HasOneText (IsCheckedJsonAs asked other) }
 {
     one_full_report();
 }

@@ -1,8 +1,10 @@
 //! What `check` prints of a recording: which topics lost data, and what to do. It is for a person and for a test job.
 #![tactic(auto)]
 
+mod arrived_block;
 mod checked_text;
 pub mod laws;
+mod not_arrived;
 mod one_way_block;
 mod sections;
 mod tails;

@@ -1,17 +1,21 @@
-ghost use Rattle.std.specs.Prelude.{◌≡◌, ◌++◌, OnOk, IfOk, map, flat_map, option_map, string_bytes};
+ghost use Rattle.std.specs.Prelude.{◌≡◌, ◌++◌, OnOk, IfOk, map, flat_map, option_copied, option_map, string_bytes};
 ghost use Rattle.rtps_evidence.specs.Explanation.{evidence_value, explanation_value};
 ghost use Rattle.rtps_evidence.specs.Locations.{sent_value};
+ghost use Rattle.rtps_lines.specs.Lines.{silence_lines as silence_lines_lem};
 ghost use Rattle.rtps_parts.specs.Parts.{part_text};
-ghost use Rattle.rtps_check.specs.CheckText.{advice_line, headed, hosts_of, kind_text, kinds_text, left_text, missed_text, noted_lines, pair_lines, payload_line, row_head, row_lines, section, topic_head as topic_head_lem, verdict_lines};
+ghost use Rattle.rtps_check.specs.CheckText.{advice_line, headed, is_missed_told as is_missed_told_lem, kind_text, kinds_text, left_text, missed_line, noted_lines, pair_lines, payload_line, reason_lines, row_head, row_lines, row_told, section, sentence_line, topic_head as topic_head_lem, verdict_lines, wait_line};
 
+use crate::not_arrived::push_not_arrived;
 use crate::unmatched_block::hosted_by;
-use rtps_evidence::{Evidence, Explanation, FirstMissed, Grounds, Outcomes, Sent};
+use rtps_evidence::{Evidence, Explanation, Grounds, InSpan, Outcomes, Sent, Times};
 use rtps_lines::{
-    AcknowledgedLine, AnnouncedLine, AskedLine, ClaimedLine, QuestionsLine, ToldLine, VerdictText,
-    push_field, push_sent,
+    AcknowledgedLine, AnnouncedLine, AskedLine, ClaimedLine, QuestionsLine, SecondText, ToldLine,
+    VerdictText, WaitText, push_field, push_sent, silence_lines,
 };
 use rtps_parts::{Part, render};
-use rtps_report::{Scope, Talk, advice_of, is_noted, left_at, number_of, outcomes_of, row_from};
+use rtps_report::{
+    Scope, Silences, Talk, advice_of, is_noted, left_at, number_of, outcomes_of, row_from,
+};
 use std::alloc::{AllocError, Global};
 
 /// By what rows are told beside themselves.
@@ -20,6 +24,8 @@ pub(crate) struct RowTelling<'t, 'a> {
     pub(crate) scope: Scope,
     /// Where participants are.
     pub(crate) talk: &'t Talk<'a>,
+    /// When datagrams came.
+    pub(crate) times: &'t Times,
 }
 
 fn push_kind(text: &mut String, name: &str, count: u64) -> Result<(), AllocError>
@@ -35,6 +41,7 @@ fn push_kinds(text: &mut String, outcomes: Outcomes) -> Result<(), AllocError>
     ensures { OnOk result (string_bytes text.new ≡ string_bytes text.old ++ kinds_text outcomes) }
 {
     push_field(text, ", received ", outcomes.received)?;
+    push_kind(text, ", arrived ", outcomes.arrived)?;
     push_kind(text, ", likely ", outcomes.likely)?;
     push_kind(text, ", missed ", outcomes.missed)?;
     push_kind(text, ", unsent ", outcomes.unsent)?;
@@ -43,27 +50,46 @@ fn push_kinds(text: &mut String, outcomes: Outcomes) -> Result<(), AllocError>
     text.push_str("\n")
 }
 
-fn push_missed(text: &mut String, first: Option<FirstMissed>) -> Result<(), AllocError>
-    ensures { OnOk result (string_bytes text.new ≡ string_bytes text.old ++ missed_text first) }
+/// Whether a number that a row missed is told: of a row that is held, where it is among the first that lack.
+fn is_missed_told(in_span: Option<&InSpan>, number: u64) -> bool
+    ensures { result ≡ is_missed_told_lem (option_copied in_span.entry) number }
 {
-    match first {
-        None => Ok(()),
-        Some(first) => write!(text, "{}", AskedLine(first)),
+    match in_span {
+        Some(in_span) => !in_span.is_held || in_span.lacking.as_slice().contains(&number),
+        None => true,
     }
 }
 
-fn push_payload(text: &mut String, number: i64, sent: Option<Sent<'_>>) -> Result<(), AllocError>
-    ensures { OnOk result (string_bytes text.new ≡ string_bytes text.old ++ payload_line number (option_map sent_value sent.entry)) }
+fn push_missed(text: &mut String, evidence: &Evidence<'_>, times: &Times) -> Result<(), AllocError>
+    ensures { OnOk result (string_bytes text.new ≡ string_bytes text.old ++ missed_line times.now (evidence_value evidence.now)) }
+{
+    let in_span = evidence.in_span.as_ref();
+    match evidence.first_missed {
+        Some(first) if is_missed_told(in_span, first.number) => {
+            write!(text, "{}", AskedLine(times, first))
+        }
+        _ => Ok(()),
+    }
+}
+
+fn push_payload(
+    text: &mut String,
+    number: i64,
+    sent: Option<Sent<'_>>,
+    times: &Times,
+) -> Result<(), AllocError>
+    ensures { OnOk result (string_bytes text.new
+        ≡ string_bytes text.old ++ payload_line times.now number (option_map sent_value sent.entry)) }
 {
     if sent.is_none() {
         return Ok(());
     }
     text.push_str("  ")?;
-    push_sent(text, number, sent)
+    push_sent(text, number, sent, times)
 }
 
-fn push_verdict(text: &mut String, evidence: &Evidence<'_>) -> Result<(), AllocError>
-    ensures { OnOk result (string_bytes text.new ≡ string_bytes text.old ++ verdict_lines (evidence_value evidence.now)) }
+fn push_verdict(text: &mut String, evidence: &Evidence<'_>, times: &Times) -> Result<(), AllocError>
+    ensures { OnOk result (string_bytes text.new ≡ string_bytes text.old ++ verdict_lines times.now (evidence_value evidence.now)) }
 {
     let number = number_of(&evidence.verdict);
     match evidence.grounds {
@@ -76,32 +102,35 @@ fn push_verdict(text: &mut String, evidence: &Evidence<'_>) -> Result<(), AllocE
             write!(
                 text,
                 "  {}  {}  {}",
-                AcknowledgedLine(evidence.acknowledgement),
-                ToldLine(number, teller),
-                QuestionsLine(asked_since, last_asked)
+                AcknowledgedLine(times, evidence.acknowledgement),
+                ToldLine(times, number, teller),
+                QuestionsLine(times, asked_since, last_asked)
             )
         }
         Grounds::Conflict { first, other } => {
-            push_payload(text, number, first)?;
-            push_payload(text, number, other)
+            push_payload(text, number, first, times)?;
+            push_payload(text, number, other, times)
         }
         Grounds::Unfounded { teller, claim } => {
             write!(
                 text,
                 "  {}  {}  {}",
-                AnnouncedLine(evidence.announcement),
-                ClaimedLine(claim),
-                ToldLine(number, teller)
+                AnnouncedLine(times, evidence.announcement),
+                ClaimedLine(times, claim),
+                ToldLine(times, number, teller)
             )
         }
     }
 }
 
-fn push_left(text: &mut String, left: Option<u64>) -> Result<(), AllocError>
-    ensures { OnOk result (string_bytes text.new ≡ string_bytes text.old ++ left_text left) }
+fn push_left(text: &mut String, left: Option<u64>, times: &Times) -> Result<(), AllocError>
+    ensures { OnOk result (string_bytes text.new ≡ string_bytes text.old ++ left_text times.now left) }
 {
     match left {
-        Some(datagram) => push_field(text, ", left in datagram ", datagram),
+        Some(datagram) => {
+            let second = SecondText(times, datagram);
+            write!(text, ", left in datagram {datagram}{second}")
+        }
         None => Ok(()),
     }
 }
@@ -111,13 +140,13 @@ fn push_pair(
     row: &Explanation<'_>,
     told: RowTelling<'_, '_>,
 ) -> Result<(), AllocError>
-    ensures { OnOk result (string_bytes text.new ≡ string_bytes text.old ++ pair_lines (hosts_of told.entry) told.entry.scope.from (explanation_value row.now)) }
+    ensures { OnOk result (string_bytes text.new ≡ string_bytes text.old ++ pair_lines (row_told told.entry) (explanation_value row.now)) }
 {
     let first = row_from(told.scope.from, &row.evidence);
     let writer = hosted_by(told.talk, row.pair.writer);
     let reader = hosted_by(told.talk, row.pair.reader);
     write!(text, "  writer {writer}\n  reader {reader}, from {first}")?;
-    push_left(text, left_at(&row.evidence))?;
+    push_left(text, left_at(&row.evidence), told.times)?;
     text.push_str("\n")
 }
 
@@ -126,30 +155,91 @@ fn push_head(
     row: &Explanation<'_>,
     told: RowTelling<'_, '_>,
 ) -> Result<(), AllocError>
-    ensures { OnOk result (string_bytes text.new ≡ string_bytes text.old ++ row_head (hosts_of told.entry) told.entry.scope.from (explanation_value row.now)) }
+    ensures { OnOk result (string_bytes text.new ≡ string_bytes text.old ++ row_head (row_told told.entry) (explanation_value row.now)) }
 {
     push_pair(text, row, told)?;
     write!(text, "  {}", VerdictText(row.evidence.verdict))?;
     push_kinds(text, outcomes_of(&row.evidence))
 }
 
-fn push_advice(text: &mut String, evidence: &Evidence<'_>, scope: Scope) -> Result<(), AllocError>
-    ensures { OnOk result (string_bytes text.new ≡ string_bytes text.old ++ advice_line scope (evidence_value evidence.now)) }
+/// Appends the longest that the reader of a row let the writer wait, where that is told.
+fn push_wait(text: &mut String, in_span: Option<&InSpan>, times: &Times) -> Result<(), AllocError>
+    ensures { OnOk result (string_bytes text.new ≡ string_bytes text.old ++ wait_line times.now (option_copied in_span.entry)) }
 {
-    writeln!(text, "    -> {}", advice_of(scope, evidence).sentence())
+    match in_span {
+        Some(
+            InSpan {
+                wait: Some(wait),
+                ..
+            },
+        ) => writeln!(text, "    {}", WaitText(times, *wait)),
+        _ => Ok(()),
+    }
 }
 
-fn push_row(
+/// Appends sentences, each in a line of its own.
+fn push_sentences(text: &mut String, sentences: &[String]) -> Result<(), AllocError>
+    ensures { OnOk result (string_bytes text.new ≡ string_bytes text.old ++ flat_map sentence_line (map string_bytes sentences.now)) }
+{
+    for sentence in sentences {
+        let parts = [Part::Text("    "), Part::Text(sentence), Part::Text("\n")];
+        render(text, &parts)?;
+    }
+    Ok(())
+}
+
+/// Appends since when the participants of a row are silent, of those that are.
+fn push_silences(
+    alloc: Global,
+    text: &mut String,
+    silences: Silences,
+    times: &Times,
+) -> Result<(), AllocError>
+    ensures { OnOk result (string_bytes text.new ≡ string_bytes text.old ++ flat_map sentence_line (silence_lines_lem times.now silences)) }
+{
+    let sentences = silence_lines(alloc, times, silences)?;
+    push_sentences(text, &sentences)
+}
+
+/// Appends what explains a row: its numbers, its verdict, how long it let the writer wait, and who is silent.
+fn push_reasons(
+    alloc: Global,
     text: &mut String,
     row: &Explanation<'_>,
     told: RowTelling<'_, '_>,
 ) -> Result<(), AllocError>
-    ensures { OnOk result (string_bytes text.new ≡ string_bytes text.old ++ row_lines (hosts_of told.entry) told.entry.scope (explanation_value row.now)) }
+    ensures { OnOk result (string_bytes text.new ≡ string_bytes text.old ++ reason_lines (row_told told.entry) (explanation_value row.now)) }
+{
+    push_not_arrived(text, row.evidence.in_span.as_ref())?;
+    push_missed(text, &row.evidence, told.times)?;
+    push_verdict(text, &row.evidence, told.times)?;
+    push_wait(text, row.evidence.in_span.as_ref(), told.times)?;
+    push_silences(alloc, text, told.talk.silences(row.pair), told.times)
+}
+
+fn push_advice(
+    text: &mut String,
+    row: &Explanation<'_>,
+    told: RowTelling<'_, '_>,
+) -> Result<(), AllocError>
+    ensures { OnOk result (string_bytes text.new ≡ string_bytes text.old ++ advice_line (row_told told.entry) (explanation_value row.now)) }
+{
+    let silences = told.talk.silences(row.pair);
+    let advice = advice_of(told.scope, &row.evidence, silences);
+    writeln!(text, "    -> {}", advice.sentence())
+}
+
+fn push_row(
+    alloc: Global,
+    text: &mut String,
+    row: &Explanation<'_>,
+    told: RowTelling<'_, '_>,
+) -> Result<(), AllocError>
+    ensures { OnOk result (string_bytes text.new ≡ string_bytes text.old ++ row_lines (row_told told.entry) (explanation_value row.now)) }
 {
     push_head(text, row, told)?;
-    push_missed(text, row.evidence.first_missed)?;
-    push_verdict(text, &row.evidence)?;
-    push_advice(text, &row.evidence, told.scope)
+    push_reasons(alloc, text, row, told)?;
+    push_advice(text, row, told)
 }
 
 /// The lines of those of these pairs that someone has to look at.
@@ -158,12 +248,12 @@ fn lines_of(
     rows: &[Explanation<'_>],
     told: RowTelling<'_, '_>,
 ) -> Result<String, AllocError>
-    ensures { IfOk result (λ lines. string_bytes lines ≡ flat_map (noted_lines (hosts_of told.entry) told.entry.scope) (map explanation_value rows.now)) }
+    ensures { IfOk result (λ lines. string_bytes lines ≡ flat_map (noted_lines (row_told told.entry)) (map explanation_value rows.now)) }
 {
     let mut lines = String::new(alloc);
     for row in rows {
-        if is_noted(told.scope.tail, &row.evidence) {
-            push_row(&mut lines, row, told)?;
+        if is_noted(told.scope.tail, &row.evidence, told.talk.silences(row.pair)) {
+            push_row(alloc, &mut lines, row, told)?;
         }
     }
     Ok(lines)
@@ -201,7 +291,7 @@ fn push_section(
     rows: &[Explanation<'_>],
     told: RowTelling<'_, '_>,
 ) -> Result<(), AllocError>
-    ensures { OnOk result (string_bytes text.new ≡ string_bytes text.old ++ section (hosts_of told.entry) told.entry.scope (map explanation_value rows.now)) }
+    ensures { OnOk result (string_bytes text.new ≡ string_bytes text.old ++ section (row_told told.entry) (map explanation_value rows.now)) }
 {
     let lines = lines_of(alloc, rows, told)?;
     push_headed(text, &topic_head(rows), &lines)
@@ -214,7 +304,7 @@ pub(crate) fn push_sections(
     told: RowTelling<'_, '_>,
 ) -> Result<(), AllocError>
     ensures { OnOk result (string_bytes text.new
-        ≡ string_bytes text.old ++ flat_map (section (hosts_of told.entry) told.entry.scope) (map (λ topic. map explanation_value topic.now) topics.now)) }
+        ≡ string_bytes text.old ++ flat_map (section (row_told told.entry)) (map (λ topic. map explanation_value topic.now) topics.now)) }
 {
     for rows in topics {
         push_section(alloc, text, rows, told)?;

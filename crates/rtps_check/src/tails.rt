@@ -1,8 +1,9 @@
 ghost use Rattle.std.specs.Prelude.{◌≡◌, ◌++◌, IfOk, OnOk, filter, map, string_bytes};
 ghost use Rattle.rtps_evidence.specs.Explanation.{explanation_value};
-ghost use Rattle.rtps_report.specs.RowFacts.{is_late as is_late_lem, is_tail_alone as is_tail_alone_lem};
-ghost use Rattle.rtps_check.specs.CheckText.{longest_tail as longest_tail_lem, tail_block, tails_text};
+ghost use Rattle.rtps_report.specs.RowFacts.{is_late as is_late_lem};
+ghost use Rattle.rtps_check.specs.CheckText.{lacks_tail_alone, longest_tail as longest_tail_lem, row_told, tail_block, tails_text};
 
+use crate::sections::RowTelling;
 use rtps_evidence::Explanation;
 use rtps_lines::{names_of, number_words, push_field};
 use rtps_parts::{Part, Words, render};
@@ -12,13 +13,13 @@ use std::alloc::{AllocError, Global};
 fn tails_among<'a>(
     alloc: Global,
     rows: &[Explanation<'a>],
-    tail: u64,
+    told: RowTelling<'_, '_>,
 ) -> Result<Vec<Explanation<'a>>, AllocError>
-    ensures { IfOk result (λ alone. map explanation_value alone.items ≡ filter (λ row. is_tail_alone_lem tail row.evidence) (map explanation_value rows.now)) }
+    ensures { IfOk result (λ alone. map explanation_value alone.items ≡ filter (lacks_tail_alone (row_told told.entry)) (map explanation_value rows.now)) }
 {
     let mut alone = Vec::new(alloc);
     for row in rows {
-        if is_tail_alone(tail, &row.evidence) {
+        if is_tail_alone(told.scope.tail, &row.evidence, told.talk.silences(row.pair)) {
             alone.push(*row)?;
         }
     }
@@ -82,11 +83,11 @@ pub(crate) fn push_tail_block(
     alloc: Global,
     text: &mut String,
     rows: &[Explanation<'_>],
-    tail: u64,
+    told: RowTelling<'_, '_>,
 ) -> Result<(), AllocError>
-    ensures { OnOk result (string_bytes text.new ≡ string_bytes text.old ++ tail_block tail (map explanation_value rows.now)) }
+    ensures { OnOk result (string_bytes text.new ≡ string_bytes text.old ++ tail_block (row_told told.entry) (map explanation_value rows.now)) }
 {
-    let alone = tails_among(alloc, rows, tail)?;
+    let alone = tails_among(alloc, rows, told)?;
     if alone.is_empty() {
         return Ok(());
     }

@@ -9,7 +9,7 @@ use rtps_parts::{Part, push_table};
 use rtps_report::{Scope, Totals, totals_of};
 use std::alloc::{AllocError, Global};
 
-fn table_head<'a>() -> [Part<'a>; 10]
+fn table_head<'a>() -> [Part<'a>; 11]
     ensures { map part_text result ≡ table_head_lem }
 {
     [
@@ -18,6 +18,7 @@ fn table_head<'a>() -> [Part<'a>; 10]
         Part::Text("clean"),
         Part::Text("before"),
         Part::Text("received"),
+        Part::Text("arrived"),
         Part::Text("likely"),
         Part::Text("missed"),
         Part::Text("unsent"),
@@ -26,7 +27,7 @@ fn table_head<'a>() -> [Part<'a>; 10]
     ]
 }
 
-fn topic_row<'a>(rows: &[Explanation<'a>], scope: Scope) -> [Part<'a>; 10]
+fn topic_row<'a>(rows: &[Explanation<'a>], scope: Scope) -> [Part<'a>; 11]
     ensures { map part_text result ≡ topic_row_lem scope (map explanation_value rows.now) }
 {
     let totals = totals_of(rows, scope);
@@ -36,6 +37,7 @@ fn topic_row<'a>(rows: &[Explanation<'a>], scope: Scope) -> [Part<'a>; 10]
         Part::Grouped(u128::from(totals.clean_pairs)),
         Part::Grouped(totals.before),
         Part::Grouped(totals.received),
+        Part::Grouped(totals.arrived),
         Part::Grouped(totals.likely),
         Part::Grouped(totals.missed),
         Part::Grouped(totals.unsent),
@@ -76,11 +78,12 @@ fn shown_places(alloc: Global, totals: &Totals) -> Result<Vec<usize>, AllocError
 {
     let mut places = Vec::from_array(alloc, [0, 1, 2, 3])?;
     push_place(&mut places, 4, totals.received)?;
-    push_place(&mut places, 5, totals.likely)?;
-    push_place(&mut places, 6, totals.missed)?;
-    push_place(&mut places, 7, totals.unsent)?;
-    push_place(&mut places, 8, totals.unanswered)?;
-    push_place(&mut places, 9, totals.unconfirmed)?;
+    push_place(&mut places, 5, totals.arrived)?;
+    push_place(&mut places, 6, totals.likely)?;
+    push_place(&mut places, 7, totals.missed)?;
+    push_place(&mut places, 8, totals.unsent)?;
+    push_place(&mut places, 9, totals.unanswered)?;
+    push_place(&mut places, 10, totals.unconfirmed)?;
     Ok(places)
 }
 

@@ -66,7 +66,11 @@ fn push_pair(text: &mut String, one: &Unmatched<'_>, talk: &Talk<'_>) -> Result<
 }
 
 /// Appends the line of a topic, if it is not that of the pair before.
-fn push_topic(text: &mut String, before: Option<&[u8]>, topic: &[u8]) -> Result<(), AllocError>
+pub(crate) fn push_topic(
+    text: &mut String,
+    before: Option<&[u8]>,
+    topic: &[u8],
+) -> Result<(), AllocError>
     ensures { OnOk result (string_bytes text.new ≡ string_bytes text.old ++ topic_line (option_copied before.entry) topic.now) }
 {
     match before {

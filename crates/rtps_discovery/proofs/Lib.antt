@@ -19,5 +19,6 @@ pub mod Payloads
 pub mod Leavers
 pub mod OtherWriters
 pub mod DataAlone
+pub mod Offered
 pub mod OfferedReaders
 pub mod ReliablePairs

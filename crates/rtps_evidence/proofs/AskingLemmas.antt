@@ -6,8 +6,7 @@ use Rattle.rtps_receiver.specs.Speech.{asks_pair, entity_from, is_entity, is_for
 use Rattle.rtps_receiver.specs.Values.{ActBodyValue}
 use Rattle.rtps_receiver.specs.Values.ActBodyValue.{Data, Heartbeat, AckNack, Gap, DataFrag, NackFrag}
 use Rattle.rtps_audit.specs.Placed.{PlacedValue, is_from}
-use Rattle.rtps_audit.proofs.Offered.{both}
-use Rattle.rtps_audit.proofs.PlacedLemmas.{bytes_eq-sym}
+use Rattle.rtps_audit.proofs.Offered.{both, bytes_eq-sym}
 
 pub requester_is_origin : (reader writer : Guid) (placed : PlacedValue) → is_request placed.act reader writer ≡ true → is_from reader placed ≡ true
 requester_is_origin reader writer placed e = by_body placed.act.source placed.act.dest placed.act.body e

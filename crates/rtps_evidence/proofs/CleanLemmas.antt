@@ -1,5 +1,5 @@
 -- The rule by counts is the rule by numbers.
-use Rattle.std.proofs.Common.{◌≡◌, ◌∙◌, ℕ, ◌+◌, ◌-◌, ◌<◌, ◌≤◌, ◌==◌, ◌&&◌, ◌⊎◌, Bool, true, false, cond, max, map, nat_lt, not, List, [], ◌∷◌, Option, Some, None, refl, sym, ap, arith, inl, inr}
+use Rattle.std.proofs.Common.{◌≡◌, ◌∙◌, ℕ, ◌+◌, ◌-◌, ◌<◌, ◌≤◌, ◌==◌, ◌&&◌, ◌||◌, ◌⊎◌, Bool, true, false, cond, max, map, nat_lt, not, List, [], ◌∷◌, Option, Some, None, refl, sym, ap, subst, arith, inl, inr}
 use Rattle.std.specs.Prelude.{if◌then◌else◌, is_some}
 use Rattle.std.specs.List.{find}
 use Rattle.std.proofs.lemmas.Bool.{and_parts, cases_lt, lt-ltb, ltb-true}
@@ -8,16 +8,16 @@ use Rattle.rtps_discovery.specs.declared.matching.Pair.{Pair}
 use Rattle.rtps_audit.specs.Delivery.{greatest}
 use Rattle.rtps_audit.specs.Placed.{PlacedValue}
 use Rattle.rtps_evidence.specs.Amount.{count_in}
-use Rattle.rtps_evidence.specs.Clean.{CountsSayTail, IsTail, has_all, is_open}
+use Rattle.rtps_evidence.specs.Clean.{CountsSayTail, IsBelowBase, IsPastBase, IsTail, has_all, is_open, loses_none}
 use Rattle.rtps_evidence.specs.Locations.{base_said, greatest_base}
 use Rattle.rtps_evidence.specs.Missed.{is_wanting}
 use Rattle.rtps_evidence.specs.Outcomes.{AreOutcomes, count_of, is_brought, is_outcome, is_unanswered, outcome_of}
 use Rattle.rtps_evidence.specs.Received.{first_claiming, is_certain_by, is_received}
 use Rattle.rtps_evidence.specs.declared.location.Location.{Location}
 use Rattle.rtps_evidence.specs.declared.outcome.Outcome.{Outcome}
-use Rattle.rtps_evidence.specs.declared.outcome.Outcome.TheVariants.{Received, Missed, Unsent, Unanswered, Likely, Unconfirmed}
+use Rattle.rtps_evidence.specs.declared.outcome.Outcome.TheVariants.{Received, Arrived, Missed, Unsent, Unanswered, Likely, Unconfirmed}
 use Rattle.rtps_evidence.specs.declared.outcome.Outcomes.{Outcomes}
-use Rattle.rtps_evidence.proofs.CountLemmas.{count_all, count_none, count_split}
+use Rattle.rtps_evidence.proofs.CountLemmas.{count_all, count_none, count_same, count_split}
 
 -- where no number has it, each has not
 none_has : (has : ℕ → Bool) (lo hi n : ℕ) → count_in has lo hi ≡ 0 → lo ≤ n → n < hi → has n ≡ false
@@ -50,26 +50,57 @@ none_where said n (x ∷ xs) le =
     ap (λ b. cond b (Some x) (find (λ (at : PlacedValue). nat_lt n (said at)) xs)) no ∙ none_where said n xs (omega arith)
 
 -- the first that fits
-abbrev pub first_of : Bool → Bool → Bool → Bool → Bool → Outcome
-first_of r w b u c = if r then Received else if w then Missed else if not b then Unsent else if u then Unanswered else if c then Likely else Unconfirmed
+abbrev pub first_of : Bool → Bool → Bool → Bool → Bool → Bool → Outcome
+first_of r t w b u c = if r then Received else if t then Arrived else if w then Missed else if not b then Unsent else if u then Unanswered else if c then Likely else Unconfirmed
 
-below_base : (r w b u c : Bool) → is_outcome Missed (first_of r w b u c) ≡ false → is_outcome Unsent (first_of r w b u c) ≡ false → is_outcome Unanswered (first_of r w b u c) ≡ false → c ≡ true
-    → (first_of r w b u c ≡ Received) ⊎ (first_of r w b u c ≡ Likely)
-below_base true w b u c m s a e = inl refl
-below_base false true b u c m s a e = cc
-below_base false false false u c m s a e = cc
-below_base false false true true c m s a e = cc
-below_base false false true false true m s a e = inr refl
-below_base false false true false false m s a e = cc
+-- a number is none of what is lost; of a pair that is held, it is not likely, and of another one it is not there
+record IsKept (held t : Bool) (outcome : Outcome) : Type 0 where
+  pub missed : is_outcome Missed outcome ≡ false
+  pub unsent : is_outcome Unsent outcome ≡ false
+  pub unanswered : is_outcome Unanswered outcome ≡ false
+  pub likely : held ≡ true → is_outcome Likely outcome ≡ false
+  pub nowhere : held ≡ false → t ≡ false
 
-past_base : (r w b u c : Bool) → is_outcome Missed (first_of r w b u c) ≡ false → is_outcome Unsent (first_of r w b u c) ≡ false → is_outcome Unanswered (first_of r w b u c) ≡ false → r ≡ false → c ≡ false
-    → first_of r w b u c ≡ Unconfirmed
-past_base true w b u c m s a e f = cc
-past_base false true b u c m s a e f = cc
-past_base false false false u c m s a e f = cc
-past_base false false true true c m s a e f = cc
-past_base false false true false true m s a e f = cc
-past_base false false true false false m s a e f = refl
+below_base : (held r t w b u c : Bool) → IsKept held t (first_of r t w b u c) → c ≡ true → IsBelowBase held (first_of r t w b u c)
+below_base true true t w b u c k e = inl refl
+below_base true false true w b u c k e = inr refl
+below_base true false false true b u c k e = let no = k.missed in cc
+below_base true false false false false u c k e = let no = k.unsent in cc
+below_base true false false false true true c k e = let no = k.unanswered in cc
+below_base true false false false true false true k e = let no = k.likely refl in cc
+below_base true false false false true false false k e = cc
+below_base false true t w b u c k e = inl refl
+below_base false false true w b u c k e = let no = k.nowhere refl in cc
+below_base false false false true b u c k e = let no = k.missed in cc
+below_base false false false false false u c k e = let no = k.unsent in cc
+below_base false false false false true true c k e = let no = k.unanswered in cc
+below_base false false false false true false true k e = inr refl
+below_base false false false false true false false k e = cc
+
+past_base : (held r t w b u c : Bool) → IsKept held t (first_of r t w b u c) → r ≡ false → c ≡ false → IsPastBase held (first_of r t w b u c)
+past_base held true t w b u c k e f = cc
+past_base true false true w b u c k e f = inl refl
+past_base true false false true b u c k e f = let no = k.missed in cc
+past_base true false false false false u c k e f = let no = k.unsent in cc
+past_base true false false false true true c k e f = let no = k.unanswered in cc
+past_base true false false false true false true k e f = cc
+past_base true false false false true false false k e f = inr refl
+past_base false false true w b u c k e f = let no = k.nowhere refl in cc
+past_base false false false true b u c k e f = let no = k.missed in cc
+past_base false false false false false u c k e f = let no = k.unsent in cc
+past_base false false false false true true c k e f = let no = k.unanswered in cc
+past_base false false false false true false true k e f = cc
+past_base false false false false true false false k e f = refl
+
+-- what is not lost, not likely and not unconfirmed came
+came : (r t w b u c : Bool) → IsKept true t (first_of r t w b u c) → is_outcome Unconfirmed (first_of r t w b u c) ≡ false → IsBelowBase true (first_of r t w b u c)
+came true t w b u c k e = inl refl
+came false true w b u c k e = inr refl
+came false false true b u c k e = let no = k.missed in cc
+came false false false false u c k e = let no = k.unsent in cc
+came false false false true true c k e = let no = k.unanswered in cc
+came false false false true false true k e = let no = k.likely refl in cc
+came false false false true false false k e = cc
 
 zero_of : (n : ℕ) → (n == 0) ≡ true → n ≡ 0
 zero_of n is = grind (arith, nat_tests, is)
@@ -81,92 +112,189 @@ all_zero a b c is =
     let rest = and_parts (b == 0) (c == 0) first.1 in
     (zero_of a first.0, zero_of b rest.0, zero_of c rest.1)
 
-tail_said : (from last : ℕ) (since : Option Location) (pair : Pair) (acts : List PlacedValue) (outcomes : Outcomes) → AreOutcomes from last since pair acts outcomes → has_all outcomes ≡ true
-    → 1 < greatest_base pair.writer pair.reader acts → IsTail from last since pair acts
-unfolding outcome_of
-tail_said from last since pair acts outcomes are none above =
-    let outcome = outcome_of since pair acts in
-    let said = base_said pair.writer pair.reader in
-    let zeros = all_zero outcomes.missed outcomes.unsent outcomes.unanswered none in
-    let missed : (n : ℕ) → from ≤ n → n < last + 1 → is_outcome Missed (outcome n) ≡ false = λ n a b. none_has (λ m. is_outcome Missed (outcome m)) from (last + 1) n (sym are.missed ∙ zeros.0) a b in
-    let unsent : (n : ℕ) → from ≤ n → n < last + 1 → is_outcome Unsent (outcome n) ≡ false = λ n a b. none_has (λ m. is_outcome Unsent (outcome m)) from (last + 1) n (sym are.unsent ∙ zeros.1) a b in
-    let unanswered : (n : ℕ) → from ≤ n → n < last + 1 → is_outcome Unanswered (outcome n) ≡ false = λ n a b. none_has (λ m. is_outcome Unanswered (outcome m)) from (last + 1) n (sym are.unanswered ∙ zeros.2) a b in
-    record {
-      acknowledged = above;
-      below = λ n a b lt. below_base (is_received pair.writer pair.reader acts n) (is_wanting since pair.writer pair.reader acts n) (is_brought since pair acts n) (is_unanswered since pair acts n) (is_some (first_claiming pair.writer pair.reader n acts))
-          (missed n a (omega arith)) (unsent n a (omega arith)) (unanswered n a (omega arith)) (found_where said n acts lt);
-      others = λ n a b le.
-          let unclaimed = none_where said n acts le in
-          past_base (is_received pair.writer pair.reader acts n) (is_wanting since pair.writer pair.reader acts n) (is_brought since pair acts n) (is_unanswered since pair acts n) (is_some (first_claiming pair.writer pair.reader n acts))
-          (missed n a (omega arith)) (unsent n a (omega arith)) (unanswered n a (omega arith)) (ap (is_certain_by pair.writer pair.reader n acts) unclaimed) (ap is_some unclaimed);
-    }
+-- of a pair that is held, a number that is tested so is not above 0
+zero_where : (held : Bool) (n : ℕ) → (not held || (n == 0)) ≡ true → held ≡ true → n ≡ 0
+zero_where true n is held_is = zero_of n is
+zero_where false n is held_is = cc
+
+-- ---- the counts of a row that loses nothing, and its numbers
+
+module _ (held : Bool) (there : ℕ → Bool) (from last : ℕ) (since : Option Location) (pair : Pair) (acts : List PlacedValue) (outcomes : Outcomes) (nowhere : held ≡ false → (n : ℕ) → there n ≡ false) (are : AreOutcomes there from last since pair acts outcomes) where
+  abbrev outcome : ℕ → Outcome
+  outcome n = outcome_of there since pair acts n
+
+  none_counted : (kind : Outcome) (count n : ℕ) → count ≡ count_of kind (outcome_of there since pair acts) from (last + 1) → count ≡ 0 → from ≤ n → n ≤ last → is_outcome kind (outcome n) ≡ false
+  none_counted kind count n is none low high = none_has (λ m. is_outcome kind (outcome_of there since pair acts m)) from (last + 1) n (sym is ∙ none) low (omega arith)
+
+  is_kept : loses_none held outcomes ≡ true → (n : ℕ) → from ≤ n → n ≤ last → IsKept held (there n) (outcome n)
+  is_kept none n low high =
+      let parts = and_parts (has_all outcomes) (not held || (outcomes.likely == 0)) none in
+      let zeros = all_zero outcomes.missed outcomes.unsent outcomes.unanswered parts.0 in
+      record {
+        missed = none_counted Missed outcomes.missed n are.missed zeros.0 low high;
+        unsent = none_counted Unsent outcomes.unsent n are.unsent zeros.1 low high;
+        unanswered = none_counted Unanswered outcomes.unanswered n are.unanswered zeros.2 low high;
+        likely = λ held_is. none_counted Likely outcomes.likely n are.likely (zero_where held outcomes.likely parts.1 held_is) low high;
+        nowhere = λ alone. nowhere alone n;
+      }
+
+  tail_said : loses_none held outcomes ≡ true → 1 < greatest_base pair.writer pair.reader acts → IsTail held there from last since pair acts
+  unfolding outcome_of
+  tail_said none above =
+      let said = base_said pair.writer pair.reader in
+      record {
+        acknowledged = above;
+        below = λ n a b lt. below_base held (is_received pair.writer pair.reader acts n) (there n) (is_wanting since pair.writer pair.reader acts n) (is_brought since pair acts n) (is_unanswered since pair acts n)
+            (is_some (first_claiming pair.writer pair.reader n acts)) (is_kept none n a b) (found_where said n acts lt);
+        others = λ n a b le.
+            let unclaimed = none_where said n acts le in
+            past_base held (is_received pair.writer pair.reader acts n) (there n) (is_wanting since pair.writer pair.reader acts n) (is_brought since pair acts n) (is_unanswered since pair acts n)
+            (is_some (first_claiming pair.writer pair.reader n acts)) (is_kept none n a b) (ap (is_certain_by pair.writer pair.reader n acts) unclaimed) (ap is_some unclaimed);
+      }
+
+  whole_said : held ≡ true → loses_none held outcomes ≡ true → outcomes.unconfirmed ≡ 0 → (n : ℕ) → from ≤ n → n ≤ last → IsBelowBase true (outcome n)
+  unfolding outcome_of
+  whole_said held_is none all n low high =
+      came (is_received pair.writer pair.reader acts n) (there n) (is_wanting since pair.writer pair.reader acts n) (is_brought since pair acts n) (is_unanswered since pair acts n)
+      (is_some (first_claiming pair.writer pair.reader n acts)) (subst (λ h. IsKept h (there n) (outcome n)) held_is (is_kept none n low high)) (none_counted Unconfirmed outcomes.unconfirmed n are.unconfirmed all low high)
 
 -- ---- the other way round
 
 -- what a number of a tail is
-abbrev IsAsTail : Outcome → Type 0
-IsAsTail outcome = (outcome ≡ Received) ⊎ (outcome ≡ Likely) ⊎ (outcome ≡ Unconfirmed)
+abbrev IsAsTail : Bool → Outcome → Type 0
+IsAsTail held outcome = IsBelowBase held outcome ⊎ IsPastBase held outcome
 
-is_other : (kind outcome : Outcome) → is_outcome kind Received ≡ false → is_outcome kind Likely ≡ false → is_outcome kind Unconfirmed ≡ false → IsAsTail outcome → is_outcome kind outcome ≡ false
-is_other kind outcome r l u (inl is) = ap (is_outcome kind) is ∙ r
-is_other kind outcome r l u (inr (inl is)) = ap (is_outcome kind) is ∙ l
-is_other kind outcome r l u (inr (inr is)) = ap (is_outcome kind) is ∙ u
+-- what such a number is beside received and unconfirmed
+abbrev also_came : Bool → Outcome
+also_came true = Arrived
+also_came false = Likely
 
-as_tail : (from last : ℕ) (since : Option Location) (pair : Pair) (acts : List PlacedValue) → IsTail from last since pair acts → (n : ℕ) → from ≤ n → n < last + 1 → IsAsTail (outcome_of since pair acts n)
-as_tail from last since pair acts tail n low high = elim (cases_lt n (greatest_base pair.writer pair.reader acts)) [
-  | inl lt ↦ elim (tail.below n low (omega arith) lt) [ inl is ↦ inl is | inr is ↦ inr (inl is) ]
-  | inr ge ↦ inr (inr (tail.others n low (omega arith) ge))
-]
-
-none_of : (kind : Outcome) (from last : ℕ) (since : Option Location) (pair : Pair) (acts : List PlacedValue) → is_outcome kind Received ≡ false → is_outcome kind Likely ≡ false → is_outcome kind Unconfirmed ≡ false → IsTail from last since pair acts
-    → count_of kind (outcome_of since pair acts) from (last + 1) ≡ 0
-none_of kind from last since pair acts r l u tail =
-    count_none (λ n. is_outcome kind (outcome_of since pair acts n)) from (last + 1) (λ n low high. is_other kind (outcome_of since pair acts n) r l u (as_tail from last since pair acts tail n low high))
+is_other : (held : Bool) (kind outcome : Outcome) → is_outcome kind Received ≡ false → is_outcome kind (also_came held) ≡ false → is_outcome kind Unconfirmed ≡ false → IsAsTail held outcome → is_outcome kind outcome ≡ false
+is_other true kind outcome r l u (inl (inl is)) = ap (is_outcome kind) is ∙ r
+is_other true kind outcome r l u (inl (inr is)) = ap (is_outcome kind) is ∙ l
+is_other true kind outcome r l u (inr (inl is)) = ap (is_outcome kind) is ∙ l
+is_other true kind outcome r l u (inr (inr is)) = ap (is_outcome kind) is ∙ u
+is_other false kind outcome r l u (inl (inl is)) = ap (is_outcome kind) is ∙ r
+is_other false kind outcome r l u (inl (inr is)) = ap (is_outcome kind) is ∙ l
+is_other false kind outcome r l u (inr is) = ap (is_outcome kind) is ∙ u
 
 is_zero : (n : ℕ) → n ≡ 0 → (n == 0) ≡ true
 is_zero n is = grind (arith, nat_tests, is)
 
-tail_meant : (from last : ℕ) (since : Option Location) (pair : Pair) (acts : List PlacedValue) (outcomes : Outcomes) → AreOutcomes from last since pair acts outcomes → IsTail from last since pair acts → has_all outcomes ≡ true
-tail_meant from last since pair acts outcomes are tail =
-    let missed = is_zero outcomes.missed (are.missed ∙ none_of Missed from last since pair acts refl refl refl tail) in
-    let unsent = is_zero outcomes.unsent (are.unsent ∙ none_of Unsent from last since pair acts refl refl refl tail) in
-    let unanswered = is_zero outcomes.unanswered (are.unanswered ∙ none_of Unanswered from last since pair acts refl refl refl tail) in
+as_tail : (held : Bool) (there : ℕ → Bool) (from last : ℕ) (since : Option Location) (pair : Pair) (acts : List PlacedValue) → IsTail held there from last since pair acts
+    → (n : ℕ) → from ≤ n → n < last + 1 → IsAsTail held (outcome_of there since pair acts n)
+as_tail held there from last since pair acts tail n low high = elim (cases_lt n (greatest_base pair.writer pair.reader acts)) [
+  | inl lt ↦ inl (tail.below n low (omega arith) lt)
+  | inr ge ↦ inr (tail.others n low (omega arith) ge)
+]
+
+none_of : (held : Bool) (there : ℕ → Bool) (kind : Outcome) (from last : ℕ) (since : Option Location) (pair : Pair) (acts : List PlacedValue) → is_outcome kind Received ≡ false → is_outcome kind (also_came held) ≡ false → is_outcome kind Unconfirmed ≡ false
+    → ((n : ℕ) → from ≤ n → n < last + 1 → IsAsTail held (outcome_of there since pair acts n)) → count_of kind (outcome_of there since pair acts) from (last + 1) ≡ 0
+none_of held there kind from last since pair acts r l u tail =
+    count_none (λ n. is_outcome kind (outcome_of there since pair acts n)) from (last + 1) (λ n low high. is_other held kind (outcome_of there since pair acts n) r l u (tail n low high))
+
+tail_meant : (held : Bool) (there : ℕ → Bool) (from last : ℕ) (since : Option Location) (pair : Pair) (acts : List PlacedValue) (outcomes : Outcomes) → AreOutcomes there from last since pair acts outcomes
+    → ((n : ℕ) → from ≤ n → n < last + 1 → IsAsTail held (outcome_of there since pair acts n)) → loses_none held outcomes ≡ true
+tail_meant true there from last since pair acts outcomes are tail =
+    let missed = is_zero outcomes.missed (are.missed ∙ none_of true there Missed from last since pair acts refl refl refl tail) in
+    let unsent = is_zero outcomes.unsent (are.unsent ∙ none_of true there Unsent from last since pair acts refl refl refl tail) in
+    let unanswered = is_zero outcomes.unanswered (are.unanswered ∙ none_of true there Unanswered from last since pair acts refl refl refl tail) in
+    let likely = is_zero outcomes.likely (are.likely ∙ none_of true there Likely from last since pair acts refl refl refl tail) in
+    rw (missed, unsent, unanswered, likely) refl
+tail_meant false there from last since pair acts outcomes are tail =
+    let missed = is_zero outcomes.missed (are.missed ∙ none_of false there Missed from last since pair acts refl refl refl tail) in
+    let unsent = is_zero outcomes.unsent (are.unsent ∙ none_of false there Unsent from last since pair acts refl refl refl tail) in
+    let unanswered = is_zero outcomes.unanswered (are.unanswered ∙ none_of false there Unanswered from last since pair acts refl refl refl tail) in
     rw (missed, unsent, unanswered) refl
 
--- of a tail, the numbers from the greatest base on are those that are unconfirmed
-unconfirmed_past : (from last base : ℕ) (outcome : ℕ → Outcome) → ((n : ℕ) → from ≤ n → n ≤ last → n < base → is_outcome Unconfirmed (outcome n) ≡ false) → ((n : ℕ) → from ≤ n → n ≤ last → base ≤ n → is_outcome Unconfirmed (outcome n) ≡ true)
-    → count_of Unconfirmed outcome from (last + 1) ≡ last + 1 - max from base
-unconfirmed_past from last base outcome below others = elim (cases_lt (last + 1) (max from base)) [
+-- where each number came, none is unconfirmed
+whole_meant : (there : ℕ → Bool) (from last : ℕ) (since : Option Location) (pair : Pair) (acts : List PlacedValue) (outcomes : Outcomes) → AreOutcomes there from last since pair acts outcomes
+    → ((n : ℕ) → from ≤ n → n ≤ last → IsBelowBase true (outcome_of there since pair acts n)) → outcomes.unconfirmed ≡ 0
+whole_meant there from last since pair acts outcomes are all =
+    are.unconfirmed
+    ∙ count_none (λ n. is_outcome Unconfirmed (outcome_of there since pair acts n)) from (last + 1) (λ n low high. elim (all n low (omega arith)) [ inl is ↦ ap (is_outcome Unconfirmed) is | inr is ↦ ap (is_outcome Unconfirmed) is ])
+
+-- of a tail, the unconfirmed numbers are those from the greatest base on that have this
+unconfirmed_past : (from last base : ℕ) (outcome : ℕ → Outcome) (has : ℕ → Bool) → ((n : ℕ) → from ≤ n → n ≤ last → n < base → is_outcome Unconfirmed (outcome n) ≡ false)
+    → ((n : ℕ) → from ≤ n → n ≤ last → base ≤ n → is_outcome Unconfirmed (outcome n) ≡ has n) → count_of Unconfirmed outcome from (last + 1) ≡ count_in has (max from base) (last + 1)
+unconfirmed_past from last base outcome has below others = elim (cases_lt (last + 1) (max from base)) [
   | inl past ↦
       let none = count_none (λ n. is_outcome Unconfirmed (outcome n)) from (last + 1) (λ n low high. below n low (omega arith) (omega arith)) in
-      omega (arith, none)
+      let no_more = count_none has (max from base) (last + 1) (λ n low high. absurd (omega arith)) in
+      none ∙ sym no_more
   | inr within ↦
       let split = count_split (λ n. is_outcome Unconfirmed (outcome n)) from (max from base) (last + 1) (omega arith) within in
       let none = count_none (λ n. is_outcome Unconfirmed (outcome n)) from (max from base) (λ n low high. below n low (omega arith) (omega arith)) in
-      let all = count_all (λ n. is_outcome Unconfirmed (outcome n)) (max from base) (last + 1) (λ n low high. others n (omega arith) (omega arith) (omega arith)) in
-      omega (arith, split, none, all)
+      let rest = count_same (λ n. is_outcome Unconfirmed (outcome n)) has (max from base) (last + 1) (λ n low high. others n (omega arith) (omega arith) (omega arith)) in
+      omega (arith, split, none, rest)
 ]
 
-tail_counted : (from last : ℕ) (since : Option Location) (pair : Pair) (acts : List PlacedValue) (outcomes : Outcomes) → AreOutcomes from last since pair acts outcomes → IsTail from last since pair acts
+tail_counted : (there : ℕ → Bool) (from last : ℕ) (since : Option Location) (pair : Pair) (acts : List PlacedValue) (outcomes : Outcomes) → AreOutcomes there from last since pair acts outcomes → IsTail false there from last since pair acts
     → outcomes.unconfirmed ≡ last + 1 - max from (greatest_base pair.writer pair.reader acts)
-tail_counted from last since pair acts outcomes are tail =
+tail_counted there from last since pair acts outcomes are tail =
     are.unconfirmed
-    ∙ unconfirmed_past from last (greatest_base pair.writer pair.reader acts) (outcome_of since pair acts)
-    (λ n low high lt. elim (tail.below n low high lt) [ inl is ↦ ap (is_outcome Unconfirmed) is | inr is ↦ ap (is_outcome Unconfirmed) is ])
+    ∙ unconfirmed_past from last (greatest_base pair.writer pair.reader acts) (outcome_of there since pair acts) (λ n. true) (λ n low high lt. never (outcome_of there since pair acts n) (tail.below n low high lt))
     (λ n low high ge. ap (is_outcome Unconfirmed) (tail.others n low high ge))
+    ∙ count_all (λ n. true) (max from (greatest_base pair.writer pair.reader acts)) (last + 1) (λ n low high. refl)
+  where
+    never : (outcome : Outcome) → IsBelowBase false outcome → is_outcome Unconfirmed outcome ≡ false
+    never outcome (inl is) = ap (is_outcome Unconfirmed) is
+    never outcome (inr is) = ap (is_outcome Unconfirmed) is
+
+-- of a pair that is held, a number of a tail from the greatest base on is unconfirmed where it is not there
+not_there : (r t w b u c : Bool) → IsPastBase true (first_of r t w b u c) → is_outcome Unconfirmed (first_of r t w b u c) ≡ not t
+not_there true t w b u c (inl is) = cc
+not_there true t w b u c (inr is) = cc
+not_there false true w b u c is = refl
+not_there false false true b u c (inl is) = cc
+not_there false false true b u c (inr is) = cc
+not_there false false false false u c (inl is) = cc
+not_there false false false false u c (inr is) = cc
+not_there false false false true true c (inl is) = cc
+not_there false false false true true c (inr is) = cc
+not_there false false false true false true (inl is) = cc
+not_there false false false true false true (inr is) = cc
+not_there false false false true false false is = refl
+
+held_tail_counted : (there : ℕ → Bool) (from last : ℕ) (since : Option Location) (pair : Pair) (acts : List PlacedValue) (outcomes : Outcomes) → AreOutcomes there from last since pair acts outcomes → IsTail true there from last since pair acts
+    → outcomes.unconfirmed ≡ count_in (λ n. not (there n)) (max from (greatest_base pair.writer pair.reader acts)) (last + 1)
+unfolding outcome_of
+held_tail_counted there from last since pair acts outcomes are tail =
+    are.unconfirmed
+    ∙ unconfirmed_past from last (greatest_base pair.writer pair.reader acts) (outcome_of there since pair acts) (λ n. not (there n)) (λ n low high lt. never (outcome_of there since pair acts n) (tail.below n low high lt))
+    (λ n low high ge. not_there (is_received pair.writer pair.reader acts n) (there n) (is_wanting since pair.writer pair.reader acts n) (is_brought since pair acts n) (is_unanswered since pair acts n)
+    (is_some (first_claiming pair.writer pair.reader n acts)) (tail.others n low high ge))
+  where
+    never : (outcome : Outcome) → IsBelowBase true outcome → is_outcome Unconfirmed outcome ≡ false
+    never outcome (inl is) = ap (is_outcome Unconfirmed) is
+    never outcome (inr is) = ap (is_outcome Unconfirmed) is
+
+and_four : (a b c d : Bool) → a ≡ true → b ≡ true → c ≡ true → d ≡ true → (a && (b && (c && d))) ≡ true
+and_four a b c d is_a is_b is_c is_d = rw (is_a, is_b, is_c, is_d) refl
 
 pub counts_say_tail : CountsSayTail
-counts_say_tail = λ from last since pair acts outcomes are.
+counts_say_tail = λ held there from last since pair acts outcomes nowhere are.
     let base = greatest_base pair.writer pair.reader acts in
     record {
       tail = λ verdict open_it. (
         λ is.
-            let parts = and_parts (nat_lt 1 base) (has_all outcomes) (and_parts (is_open verdict) (nat_lt 1 base && has_all outcomes) is).1 in
-            tail_said from last since pair acts outcomes are parts.1 (ltb-true 1 base parts.0),
+            let parts = and_parts (nat_lt 1 base) (loses_none held outcomes) (and_parts (is_open verdict) (nat_lt 1 base && loses_none held outcomes) is).1 in
+            tail_said held there from last since pair acts outcomes nowhere are parts.1 (ltb-true 1 base parts.0),
         λ tail.
             let above = lt-ltb 1 base tail.acknowledged in
-            let all = tail_meant from last since pair acts outcomes are tail in
+            let all = tail_meant held there from last since pair acts outcomes are (as_tail held there from last since pair acts tail) in
             rw (open_it, above, all) refl,
       );
-      unconfirmed = λ tail. tail_counted from last since pair acts outcomes are tail;
+      unconfirmed = λ alone tail. tail_counted there from last since pair acts outcomes are (subst (λ h. IsTail h there from last since pair acts) alone tail);
+      not_there = λ held_is tail. held_tail_counted there from last since pair acts outcomes are (subst (λ h. IsTail h there from last since pair acts) held_is tail);
+      whole = λ verdict held_is open_it. (
+        λ is.
+            let parts = and_parts (is_open verdict) (loses_none held outcomes && (outcomes.unconfirmed == 0)) (and_parts held (is_open verdict && (loses_none held outcomes && (outcomes.unconfirmed == 0))) is).1 in
+            let none = and_parts (loses_none held outcomes) (outcomes.unconfirmed == 0) parts.1 in
+            whole_said held there from last since pair acts outcomes nowhere are held_is none.0 (zero_of outcomes.unconfirmed none.1),
+        λ all.
+            let none = subst (λ h. loses_none h outcomes ≡ true) (sym held_is) (tail_meant true there from last since pair acts outcomes are (λ n low high. inl (all n low (omega arith)))) in
+            let unconfirmed = is_zero outcomes.unconfirmed (whole_meant there from last since pair acts outcomes are all) in
+            and_four held (is_open verdict) (loses_none held outcomes) (outcomes.unconfirmed == 0) held_is open_it none unconfirmed,
+      );
     }

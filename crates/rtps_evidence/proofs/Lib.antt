@@ -1,4 +1,5 @@
 pub mod CountLemmas
+pub mod FirstNumbersLemmas
 pub mod FindLemmas
 pub mod MadeLemmas
 pub mod OriginLemmas
@@ -24,6 +25,10 @@ pub mod SpanLemmas
 pub mod OutcomeLemmas
 pub mod CleanLemmas
 pub mod OutcomeCounts
+pub mod AloneLemmas
 pub mod ActOrder
 pub mod UnansweredLemmas
 pub mod RecordedLemmas
+pub mod TimeLemmas
+pub mod WaitLemmas
+pub mod Offered

@@ -1,20 +1,21 @@
 -- Outcomes one after another: how many numbers each has more than those before.
 use Rattle.std.proofs.Common.{◌≡◌, ◌∙◌, ℕ, ◌+◌, ◌-◌, ◌<◌, ◌≤◌, ◌&&◌, ◌||◌, Bool, true, false, not, List, Option, nat_lt, refl, sym, ap, arith, inl, inr}
 use Rattle.std.specs.Prelude.{is_some}
-use Rattle.std.proofs.lemmas.Bool.{cases_lt}
+use Rattle.std.proofs.lemmas.Bool.{and_parts, cases_lt}
 use Rattle.std.proofs.lemmas.Bool.Decides.{nat_tests}
 use Rattle.rtps_discovery.specs.declared.matching.Pair.{Pair}
 use Rattle.rtps_audit.specs.Placed.{PlacedValue}
 use Rattle.rtps_evidence.specs.Amount.{count_in}
 use Rattle.rtps_evidence.specs.Locations.{base_said, greatest_base}
 use Rattle.rtps_evidence.specs.Missed.{is_wanting}
-use Rattle.rtps_evidence.specs.Outcomes.{AreOutcomes, is_brought, is_outcome, is_unanswered, outcome_of}
+use Rattle.rtps_evidence.specs.Outcomes.{AreOutcomes, ArrivedIsAllThatChanges, IsChangedAlone, is_brought, is_outcome, is_unanswered, outcome_of}
 use Rattle.rtps_evidence.specs.Received.{first_claiming, is_received}
 use Rattle.rtps_evidence.specs.declared.location.Location.{Location}
 use Rattle.rtps_evidence.specs.declared.outcome.Outcome.{Outcome}
-use Rattle.rtps_evidence.specs.declared.outcome.Outcome.TheVariants.{Received, Missed, Unsent, Unanswered, Likely, Unconfirmed}
+use Rattle.rtps_evidence.specs.declared.outcome.Outcome.TheVariants.{Received, Arrived, Missed, Unsent, Unanswered, Likely, Unconfirmed}
+use Rattle.rtps_evidence.specs.declared.outcome.Outcomes.{Outcomes}
 use Rattle.rtps_evidence.proofs.CleanLemmas.{first_of, found_where, none_where}
-use Rattle.rtps_evidence.proofs.CountLemmas.{count_others, count_rest, count_same}
+use Rattle.rtps_evidence.proofs.CountLemmas.{count_none, count_others, count_rest, count_same}
 
 -- an answer claims n where the greatest base is above it
 pub claimed_below : (pair : Pair) (acts : List PlacedValue) (n : ℕ) → nat_lt n (greatest_base pair.writer pair.reader acts) ≡ is_some (first_claiming pair.writer pair.reader n acts)
@@ -40,133 +41,227 @@ count_one_more before behind kind lo hi is apart =
 
 -- ---- what each outcome adds
 
-abbrev pub with_missed : Bool → Bool → Bool
-with_missed r w = r || w
+abbrev pub with_arrived : Bool → Bool → Bool
+with_arrived r t = r || t
 
-abbrev pub with_unsent : Bool → Bool → Bool → Bool
-with_unsent r w b = with_missed r w || not b
+abbrev pub with_missed : Bool → Bool → Bool → Bool
+with_missed r t w = with_arrived r t || w
 
-abbrev pub with_unanswered : Bool → Bool → Bool → Bool → Bool
-with_unanswered r w b u = with_unsent r w b || u
+abbrev pub with_unsent : Bool → Bool → Bool → Bool → Bool
+with_unsent r t w b = with_missed r t w || not b
 
-abbrev pub with_likely : Bool → Bool → Bool → Bool → Bool → Bool
-with_likely r w b u c = with_unanswered r w b u || c
+abbrev pub with_unanswered : Bool → Bool → Bool → Bool → Bool → Bool
+with_unanswered r t w b u = with_unsent r t w b || u
 
-is_first : (r w b u c : Bool) → is_outcome Received (first_of r w b u c) ≡ r
-is_first true w b u c = refl
-is_first false true b u c = refl
-is_first false false false u c = refl
-is_first false false true true c = refl
-is_first false false true false true = refl
-is_first false false true false false = refl
+abbrev pub with_likely : Bool → Bool → Bool → Bool → Bool → Bool → Bool
+with_likely r t w b u c = with_unanswered r t w b u || c
+
+is_first : (r t w b u c : Bool) → is_outcome Received (first_of r t w b u c) ≡ r
+is_first true t w b u c = refl
+is_first false true w b u c = refl
+is_first false false true b u c = refl
+is_first false false false false u c = refl
+is_first false false false true true c = refl
+is_first false false false true false true = refl
+is_first false false false true false false = refl
 
 record Adds (before behind kind : Bool) : Type 0 where
   pub more : behind ≡ (before || kind)
   pub apart : (before && kind) ≡ false
 
-adds_missed : (r w b u c : Bool) → Adds r (with_missed r w) (is_outcome Missed (first_of r w b u c))
-adds_missed true w b u c = record { more = refl; apart = refl }
-adds_missed false true b u c = record { more = refl; apart = refl }
-adds_missed false false false u c = record { more = refl; apart = refl }
-adds_missed false false true true c = record { more = refl; apart = refl }
-adds_missed false false true false true = record { more = refl; apart = refl }
-adds_missed false false true false false = record { more = refl; apart = refl }
+adds_arrived : (r t w b u c : Bool) → Adds r (with_arrived r t) (is_outcome Arrived (first_of r t w b u c))
+adds_arrived true t w b u c = record { more = refl; apart = refl }
+adds_arrived false true w b u c = record { more = refl; apart = refl }
+adds_arrived false false true b u c = record { more = refl; apart = refl }
+adds_arrived false false false false u c = record { more = refl; apart = refl }
+adds_arrived false false false true true c = record { more = refl; apart = refl }
+adds_arrived false false false true false true = record { more = refl; apart = refl }
+adds_arrived false false false true false false = record { more = refl; apart = refl }
 
-adds_unsent : (r w b u c : Bool) → Adds (with_missed r w) (with_unsent r w b) (is_outcome Unsent (first_of r w b u c))
-adds_unsent true w b u c = record { more = refl; apart = refl }
-adds_unsent false true b u c = record { more = refl; apart = refl }
-adds_unsent false false false u c = record { more = refl; apart = refl }
-adds_unsent false false true true c = record { more = refl; apart = refl }
-adds_unsent false false true false true = record { more = refl; apart = refl }
-adds_unsent false false true false false = record { more = refl; apart = refl }
+adds_missed : (r t w b u c : Bool) → Adds (with_arrived r t) (with_missed r t w) (is_outcome Missed (first_of r t w b u c))
+adds_missed true t w b u c = record { more = refl; apart = refl }
+adds_missed false true w b u c = record { more = refl; apart = refl }
+adds_missed false false true b u c = record { more = refl; apart = refl }
+adds_missed false false false false u c = record { more = refl; apart = refl }
+adds_missed false false false true true c = record { more = refl; apart = refl }
+adds_missed false false false true false true = record { more = refl; apart = refl }
+adds_missed false false false true false false = record { more = refl; apart = refl }
 
-adds_unanswered : (r w b u c : Bool) → Adds (with_unsent r w b) (with_unanswered r w b u) (is_outcome Unanswered (first_of r w b u c))
-adds_unanswered true w b u c = record { more = refl; apart = refl }
-adds_unanswered false true b u c = record { more = refl; apart = refl }
-adds_unanswered false false false u c = record { more = refl; apart = refl }
-adds_unanswered false false true true c = record { more = refl; apart = refl }
-adds_unanswered false false true false true = record { more = refl; apart = refl }
-adds_unanswered false false true false false = record { more = refl; apart = refl }
+adds_unsent : (r t w b u c : Bool) → Adds (with_missed r t w) (with_unsent r t w b) (is_outcome Unsent (first_of r t w b u c))
+adds_unsent true t w b u c = record { more = refl; apart = refl }
+adds_unsent false true w b u c = record { more = refl; apart = refl }
+adds_unsent false false true b u c = record { more = refl; apart = refl }
+adds_unsent false false false false u c = record { more = refl; apart = refl }
+adds_unsent false false false true true c = record { more = refl; apart = refl }
+adds_unsent false false false true false true = record { more = refl; apart = refl }
+adds_unsent false false false true false false = record { more = refl; apart = refl }
 
-adds_likely : (r w b u c : Bool) → Adds (with_unanswered r w b u) (with_likely r w b u c) (is_outcome Likely (first_of r w b u c))
-adds_likely true w b u c = record { more = refl; apart = refl }
-adds_likely false true b u c = record { more = refl; apart = refl }
-adds_likely false false false u c = record { more = refl; apart = refl }
-adds_likely false false true true c = record { more = refl; apart = refl }
-adds_likely false false true false true = record { more = refl; apart = refl }
-adds_likely false false true false false = record { more = refl; apart = refl }
+adds_unanswered : (r t w b u c : Bool) → Adds (with_unsent r t w b) (with_unanswered r t w b u) (is_outcome Unanswered (first_of r t w b u c))
+adds_unanswered true t w b u c = record { more = refl; apart = refl }
+adds_unanswered false true w b u c = record { more = refl; apart = refl }
+adds_unanswered false false true b u c = record { more = refl; apart = refl }
+adds_unanswered false false false false u c = record { more = refl; apart = refl }
+adds_unanswered false false false true true c = record { more = refl; apart = refl }
+adds_unanswered false false false true false true = record { more = refl; apart = refl }
+adds_unanswered false false false true false false = record { more = refl; apart = refl }
 
-is_last : (r w b u c : Bool) → is_outcome Unconfirmed (first_of r w b u c) ≡ not (with_likely r w b u c)
-is_last true w b u c = refl
-is_last false true b u c = refl
-is_last false false false u c = refl
-is_last false false true true c = refl
-is_last false false true false true = refl
-is_last false false true false false = refl
+adds_likely : (r t w b u c : Bool) → Adds (with_unanswered r t w b u) (with_likely r t w b u c) (is_outcome Likely (first_of r t w b u c))
+adds_likely true t w b u c = record { more = refl; apart = refl }
+adds_likely false true w b u c = record { more = refl; apart = refl }
+adds_likely false false true b u c = record { more = refl; apart = refl }
+adds_likely false false false false u c = record { more = refl; apart = refl }
+adds_likely false false false true true c = record { more = refl; apart = refl }
+adds_likely false false false true false true = record { more = refl; apart = refl }
+adds_likely false false false true false false = record { more = refl; apart = refl }
+
+is_last : (r t w b u c : Bool) → is_outcome Unconfirmed (first_of r t w b u c) ≡ not (with_likely r t w b u c)
+is_last true t w b u c = refl
+is_last false true w b u c = refl
+is_last false false true b u c = refl
+is_last false false false false u c = refl
+is_last false false false true true c = refl
+is_last false false false true false true = refl
+is_last false false false true false false = refl
 
 -- ---- all together
 
 -- these sets of numbers are those of each outcome and the ones before it, from lo on and below hi
-pub record AreCumulated (lo hi : ℕ) (since : Option Location) (pair : Pair) (acts : List PlacedValue) (received missed unsent unanswered likely : ℕ → Bool) : Type 0 where
+pub record AreCumulated (there : ℕ → Bool) (lo hi : ℕ) (since : Option Location) (pair : Pair) (acts : List PlacedValue) (received arrived missed unsent unanswered likely : ℕ → Bool) : Type 0 where
   pub of_received : (n : ℕ) → lo ≤ n → n < hi → received n ≡ is_received pair.writer pair.reader acts n
-  pub of_missed : (n : ℕ) → lo ≤ n → n < hi → missed n ≡ with_missed (is_received pair.writer pair.reader acts n) (is_wanting since pair.writer pair.reader acts n)
-  pub of_unsent : (n : ℕ) → lo ≤ n → n < hi → unsent n ≡ with_unsent (is_received pair.writer pair.reader acts n) (is_wanting since pair.writer pair.reader acts n) (is_brought since pair acts n)
+  pub of_arrived : (n : ℕ) → lo ≤ n → n < hi → arrived n ≡ with_arrived (is_received pair.writer pair.reader acts n) (there n)
+  pub of_missed : (n : ℕ) → lo ≤ n → n < hi → missed n ≡ with_missed (is_received pair.writer pair.reader acts n) (there n) (is_wanting since pair.writer pair.reader acts n)
+  pub of_unsent : (n : ℕ) → lo ≤ n → n < hi → unsent n ≡ with_unsent (is_received pair.writer pair.reader acts n) (there n) (is_wanting since pair.writer pair.reader acts n) (is_brought since pair acts n)
   pub of_unanswered : (n : ℕ) → lo ≤ n → n < hi → unanswered n
-      ≡ with_unanswered (is_received pair.writer pair.reader acts n) (is_wanting since pair.writer pair.reader acts n) (is_brought since pair acts n) (is_unanswered since pair acts n)
+      ≡ with_unanswered (is_received pair.writer pair.reader acts n) (there n) (is_wanting since pair.writer pair.reader acts n) (is_brought since pair acts n) (is_unanswered since pair acts n)
   pub of_likely : (n : ℕ) → lo ≤ n → n < hi → likely n
-      ≡ with_likely (is_received pair.writer pair.reader acts n) (is_wanting since pair.writer pair.reader acts n) (is_brought since pair acts n) (is_unanswered since pair acts n) (is_some (first_claiming pair.writer pair.reader n acts))
+      ≡ with_likely (is_received pair.writer pair.reader acts n) (there n) (is_wanting since pair.writer pair.reader acts n) (is_brought since pair acts n) (is_unanswered since pair acts n) (is_some (first_claiming pair.writer pair.reader n acts))
 
-pub outcomes_counted : (from last : ℕ) (since : Option Location) (pair : Pair) (acts : List PlacedValue) (received missed unsent unanswered likely : ℕ → Bool) → AreCumulated from (last + 1) since pair acts received missed unsent unanswered likely
-    → AreOutcomes from last since pair acts (record {
+pub outcomes_counted : (there : ℕ → Bool) (from last : ℕ) (since : Option Location) (pair : Pair) (acts : List PlacedValue) (received arrived missed unsent unanswered likely : ℕ → Bool)
+    → AreCumulated there from (last + 1) since pair acts received arrived missed unsent unanswered likely
+    → AreOutcomes there from last since pair acts (record {
       received = count_in received from (last + 1);
-      missed = count_in missed from (last + 1) - count_in received from (last + 1);
+      arrived = count_in arrived from (last + 1) - count_in received from (last + 1);
+      missed = count_in missed from (last + 1) - count_in arrived from (last + 1);
       unsent = count_in unsent from (last + 1) - count_in missed from (last + 1);
       unanswered = count_in unanswered from (last + 1) - count_in unsent from (last + 1);
       likely = count_in likely from (last + 1) - count_in unanswered from (last + 1);
       unconfirmed = last + 1 - from - count_in likely from (last + 1);
     })
 unfolding outcome_of
-outcomes_counted from last since pair acts received missed unsent unanswered likely are =
+outcomes_counted there from last since pair acts received arrived missed unsent unanswered likely are =
     let r = is_received pair.writer pair.reader acts in
     let w = is_wanting since pair.writer pair.reader acts in
     let b = is_brought since pair acts in
     let u = is_unanswered since pair acts in
     let c : ℕ → Bool = λ n. is_some (first_claiming pair.writer pair.reader n acts) in
-    let outcome : ℕ → Outcome = λ n. first_of (r n) (w n) (b n) (u n) (c n) in
-    let one = count_same received (λ n. is_outcome Received (outcome n)) from (last + 1) (λ n low high. are.of_received n low high ∙ sym (is_first (r n) (w n) (b n) (u n) (c n))) in
-    let two = count_one_more received missed (λ n. is_outcome Missed (outcome n)) from (last + 1)
-    (λ n low high. are.of_missed n low high ∙ (adds_missed (r n) (w n) (b n) (u n) (c n)).more ∙ ap (λ x. x || is_outcome Missed (outcome n)) (sym (are.of_received n low high)))
-    (λ n low high. ap (λ x. x && is_outcome Missed (outcome n)) (are.of_received n low high) ∙ (adds_missed (r n) (w n) (b n) (u n) (c n)).apart) in
-    let three = count_one_more missed unsent (λ n. is_outcome Unsent (outcome n)) from (last + 1)
-    (λ n low high. are.of_unsent n low high ∙ (adds_unsent (r n) (w n) (b n) (u n) (c n)).more ∙ ap (λ x. x || is_outcome Unsent (outcome n)) (sym (are.of_missed n low high)))
-    (λ n low high. ap (λ x. x && is_outcome Unsent (outcome n)) (are.of_missed n low high) ∙ (adds_unsent (r n) (w n) (b n) (u n) (c n)).apart) in
-    let four = count_one_more unsent unanswered (λ n. is_outcome Unanswered (outcome n)) from (last + 1)
-    (λ n low high. are.of_unanswered n low high ∙ (adds_unanswered (r n) (w n) (b n) (u n) (c n)).more ∙ ap (λ x. x || is_outcome Unanswered (outcome n)) (sym (are.of_unsent n low high)))
-    (λ n low high. ap (λ x. x && is_outcome Unanswered (outcome n)) (are.of_unsent n low high) ∙ (adds_unanswered (r n) (w n) (b n) (u n) (c n)).apart) in
-    let five = count_one_more unanswered likely (λ n. is_outcome Likely (outcome n)) from (last + 1)
-    (λ n low high. are.of_likely n low high ∙ (adds_likely (r n) (w n) (b n) (u n) (c n)).more ∙ ap (λ x. x || is_outcome Likely (outcome n)) (sym (are.of_unanswered n low high)))
-    (λ n low high. ap (λ x. x && is_outcome Likely (outcome n)) (are.of_unanswered n low high) ∙ (adds_likely (r n) (w n) (b n) (u n) (c n)).apart) in
-    let six = count_same (λ n. not (likely n)) (λ n. is_outcome Unconfirmed (outcome n)) from (last + 1) (λ n low high. ap not (are.of_likely n low high) ∙ sym (is_last (r n) (w n) (b n) (u n) (c n))) in
+    let outcome : ℕ → Outcome = λ n. first_of (r n) (there n) (w n) (b n) (u n) (c n) in
+    let one = count_same received (λ n. is_outcome Received (outcome n)) from (last + 1) (λ n low high. are.of_received n low high ∙ sym (is_first (r n) (there n) (w n) (b n) (u n) (c n))) in
+    let two = count_one_more received arrived (λ n. is_outcome Arrived (outcome n)) from (last + 1)
+    (λ n low high. are.of_arrived n low high ∙ (adds_arrived (r n) (there n) (w n) (b n) (u n) (c n)).more ∙ ap (λ x. x || is_outcome Arrived (outcome n)) (sym (are.of_received n low high)))
+    (λ n low high. ap (λ x. x && is_outcome Arrived (outcome n)) (are.of_received n low high) ∙ (adds_arrived (r n) (there n) (w n) (b n) (u n) (c n)).apart) in
+    let three = count_one_more arrived missed (λ n. is_outcome Missed (outcome n)) from (last + 1)
+    (λ n low high. are.of_missed n low high ∙ (adds_missed (r n) (there n) (w n) (b n) (u n) (c n)).more ∙ ap (λ x. x || is_outcome Missed (outcome n)) (sym (are.of_arrived n low high)))
+    (λ n low high. ap (λ x. x && is_outcome Missed (outcome n)) (are.of_arrived n low high) ∙ (adds_missed (r n) (there n) (w n) (b n) (u n) (c n)).apart) in
+    let four = count_one_more missed unsent (λ n. is_outcome Unsent (outcome n)) from (last + 1)
+    (λ n low high. are.of_unsent n low high ∙ (adds_unsent (r n) (there n) (w n) (b n) (u n) (c n)).more ∙ ap (λ x. x || is_outcome Unsent (outcome n)) (sym (are.of_missed n low high)))
+    (λ n low high. ap (λ x. x && is_outcome Unsent (outcome n)) (are.of_missed n low high) ∙ (adds_unsent (r n) (there n) (w n) (b n) (u n) (c n)).apart) in
+    let five = count_one_more unsent unanswered (λ n. is_outcome Unanswered (outcome n)) from (last + 1)
+    (λ n low high. are.of_unanswered n low high ∙ (adds_unanswered (r n) (there n) (w n) (b n) (u n) (c n)).more ∙ ap (λ x. x || is_outcome Unanswered (outcome n)) (sym (are.of_unsent n low high)))
+    (λ n low high. ap (λ x. x && is_outcome Unanswered (outcome n)) (are.of_unsent n low high) ∙ (adds_unanswered (r n) (there n) (w n) (b n) (u n) (c n)).apart) in
+    let six = count_one_more unanswered likely (λ n. is_outcome Likely (outcome n)) from (last + 1)
+    (λ n low high. are.of_likely n low high ∙ (adds_likely (r n) (there n) (w n) (b n) (u n) (c n)).more ∙ ap (λ x. x || is_outcome Likely (outcome n)) (sym (are.of_unanswered n low high)))
+    (λ n low high. ap (λ x. x && is_outcome Likely (outcome n)) (are.of_unanswered n low high) ∙ (adds_likely (r n) (there n) (w n) (b n) (u n) (c n)).apart) in
+    let seven = count_same (λ n. not (likely n)) (λ n. is_outcome Unconfirmed (outcome n)) from (last + 1) (λ n low high. ap not (are.of_likely n low high) ∙ sym (is_last (r n) (there n) (w n) (b n) (u n) (c n))) in
     let all = count_others likely from (last + 1) in
     record {
       received = one;
-      missed = omega (arith, two);
-      unsent = omega (arith, three);
-      unanswered = omega (arith, four);
-      likely = omega (arith, five);
-      unconfirmed = omega (arith, all, six);
+      arrived = omega (arith, two);
+      missed = omega (arith, three);
+      unsent = omega (arith, four);
+      unanswered = omega (arith, five);
+      likely = omega (arith, six);
+      unconfirmed = omega (arith, all, seven);
     }
 
 -- ---- each set with the numbers that are put to it
 
-pub missed_put : (before r w m x : Bool) → before ≡ r → m ≡ (not r && w) → x ≡ (before || m) → x ≡ with_missed r w
-missed_put before true w m x is of_m put = put ∙ ap (λ b. b || m) is
-missed_put before false w m x is of_m put = put ∙ ap (λ b. b || m) is ∙ of_m
+pub missed_put : (before r t w m x : Bool) → before ≡ with_arrived r t → m ≡ (not r && w) → x ≡ (before || m) → x ≡ with_missed r t w
+missed_put before true t w m x is of_m put = put ∙ ap (λ b. b || m) is
+missed_put before false t w m x is of_m put = put ∙ ap (λ b. b || m) is ∙ ap (λ c. t || c) of_m
 
-pub unsent_put : (before r w b u x : Bool) → before ≡ with_missed r w → (r ≡ false → u ≡ not b) → x ≡ (before || u) → x ≡ with_unsent r w b
-unsent_put before true w b u x is of_u put = put ∙ ap (λ c. c || u) is
-unsent_put before false w b u x is of_u put = put ∙ ap (λ c. c || u) is ∙ ap (λ c. w || c) (of_u refl)
+pub unsent_put : (before r t w b u x : Bool) → before ≡ with_missed r t w → (r ≡ false → u ≡ not b) → x ≡ (before || u) → x ≡ with_unsent r t w b
+unsent_put before true t w b u x is of_u put = put ∙ ap (λ c. c || u) is
+unsent_put before false t w b u x is of_u put = put ∙ ap (λ c. c || u) is ∙ ap (λ c. (t || w) || c) (of_u refl)
 
-pub unanswered_put : (before r w b s u x : Bool) → before ≡ with_unsent r w b → (r ≡ false → s ≡ u) → x ≡ (before || s) → x ≡ with_unanswered r w b u
-unanswered_put before true w b s u x is of_s put = put ∙ ap (λ c. c || s) is
-unanswered_put before false w b s u x is of_s put = put ∙ ap (λ c. c || s) is ∙ ap (λ c. (w || not b) || c) (of_s refl)
+pub unanswered_put : (before r t w b s u x : Bool) → before ≡ with_unsent r t w b → (r ≡ false → s ≡ u) → x ≡ (before || s) → x ≡ with_unanswered r t w b u
+unanswered_put before true t w b s u x is of_s put = put ∙ ap (λ c. c || s) is
+unanswered_put before false t w b s u x is of_s put = put ∙ ap (λ c. c || s) is ∙ ap (λ c. ((t || w) || not b) || c) (of_s refl)
+
+-- ---- what another recording changes
+
+changed : (there : ℕ → Bool) (since : Option Location) (pair : Pair) (acts : List PlacedValue) (n : ℕ) → IsChangedAlone there since pair acts n
+unfolding outcome_of
+changed there since pair acts n =
+    let r = is_received pair.writer pair.reader acts n in
+    let first : Bool → Bool → Outcome = λ one t. first_of one t (is_wanting since pair.writer pair.reader acts n) (is_brought since pair acts n) (is_unanswered since pair acts n) (is_some (first_claiming pair.writer pair.reader n acts)) in
+    record {
+      elsewhere = λ no. ap (first r) no;
+      received = λ yes. ap (λ one. first one (there n)) yes ∙ sym (ap (λ one. first one false) yes);
+      arrived = λ yes no. ap (λ one. first one (there n)) no ∙ ap (first false) yes;
+    }
+
+-- a number that is not there did not arrive
+not_arrived : (r t w b u c : Bool) → t ≡ false → is_outcome Arrived (first_of r t w b u c) ≡ false
+not_arrived true t w b u c out = refl
+not_arrived false true w b u c out = cc
+not_arrived false false true b u c out = refl
+not_arrived false false false false u c out = refl
+not_arrived false false false true true c out = refl
+not_arrived false false false true false true out = refl
+not_arrived false false false true false false out = refl
+
+none_arrived : (there : ℕ → Bool) (from last : ℕ) (since : Option Location) (pair : Pair) (acts : List PlacedValue) (outcomes : Outcomes) → ((n : ℕ) → there n ≡ false) → AreOutcomes there from last since pair acts outcomes → outcomes.arrived ≡ 0
+unfolding outcome_of
+none_arrived there from last since pair acts outcomes none are =
+    are.arrived
+    ∙ count_none (λ n. is_outcome Arrived (outcome_of there since pair acts n)) from (last + 1) (λ n low high.
+    not_arrived (is_received pair.writer pair.reader acts n) (there n) (is_wanting since pair.writer pair.reader acts n) (is_brought since pair acts n) (is_unanswered since pair acts n) (is_some (first_claiming pair.writer pair.reader n acts)) (none n))
+
+pub arrived_is_all_that_changes : ArrivedIsAllThatChanges
+arrived_is_all_that_changes = (changed, none_arrived)
+
+-- received numbers that are not there: those that are received, without those that are there and did not arrive
+pub absent_counted : (there has : ℕ → Bool) (from last : ℕ) (since : Option Location) (pair : Pair) (acts : List PlacedValue) (outcomes : Outcomes) (count : ℕ) → AreOutcomes there from last since pair acts outcomes
+    → ((n : ℕ) → has n ≡ there n) → count ≡ count_in has from (last + 1)
+    → outcomes.received - (count - outcomes.arrived) ≡ count_in (λ n. is_received pair.writer pair.reader acts n && not (there n)) from (last + 1)
+unfolding outcome_of
+absent_counted there has from last since pair acts outcomes count are same counted =
+    let r = is_received pair.writer pair.reader acts in
+    let w = is_wanting since pair.writer pair.reader acts in
+    let b = is_brought since pair acts in
+    let u = is_unanswered since pair acts in
+    let c : ℕ → Bool = λ n. is_some (first_claiming pair.writer pair.reader n acts) in
+    let both : ℕ → Bool = λ n. r n && there n in
+    let here = count_same has there from (last + 1) (λ n low high. same n) in
+    let received = count_same (λ n. is_outcome Received (outcome_of there since pair acts n)) r from (last + 1) (λ n low high. is_first (r n) (there n) (w n) (b n) (u n) (c n)) in
+    let arrived = count_same (λ n. is_outcome Arrived (outcome_of there since pair acts n)) (λ n. there n && not (both n)) from (last + 1) (λ n low high. is_arrived (r n) (there n) (w n) (b n) (u n) (c n)) in
+    let of_there = count_rest both there from (last + 1) (λ n is. (and_parts (r n) (there n) is).1) in
+    let of_received = count_rest both r from (last + 1) (λ n is. (and_parts (r n) (there n) is).0) in
+    let absent = count_same (λ n. r n && not (both n)) (λ n. r n && not (there n)) from (last + 1) (λ n low high. is_absent (r n) (there n)) in
+    let one = are.received in
+    let other = are.arrived in
+    omega (arith, here, received, arrived, of_there, of_received, absent, one, other, counted)
+  where
+    is_absent : (r t : Bool) → (r && not (r && t)) ≡ (r && not t)
+    is_absent true t = refl
+    is_absent false t = refl
+
+    is_arrived : (r t w b u c : Bool) → is_outcome Arrived (first_of r t w b u c) ≡ (t && not (r && t))
+    is_arrived true true w b u c = refl
+    is_arrived true false w b u c = refl
+    is_arrived false true w b u c = refl
+    is_arrived false false true b u c = refl
+    is_arrived false false false false u c = refl
+    is_arrived false false false true true c = refl
+    is_arrived false false false true false true = refl
+    is_arrived false false false true false false = refl

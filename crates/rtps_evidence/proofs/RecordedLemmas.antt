@@ -1,5 +1,5 @@
 -- What a recording has of a writer and a reader of best effort, by the acts of the writer alone.
-use Rattle.std.proofs.Common.{◌≡◌, ◌∙◌, ◌+◌, ◌-◌, ℕ, Bool, true, false, List, filter, length, max, refl, sym, ap, arith}
+use Rattle.std.proofs.Common.{◌≡◌, ◌∙◌, ◌+◌, ◌-◌, ℕ, Bool, true, false, ◌≤◌, List, filter, length, max, not, take, refl, sym, ap, arith}
 use Rattle.std.specs.Prelude.{if◌then◌else◌}
 use Rattle.std.specs.List.{range_with_len}
 use Rattle.rtps_ids.specs.declared.identity.Guid.{Guid}
@@ -8,11 +8,14 @@ use Rattle.rtps_receiver.specs.Speech.{is_spoken_by}
 use Rattle.rtps_audit.specs.Placed.{PlacedValue, is_from}
 use Rattle.rtps_audit.proofs.Offered.{speaker_is_origin}
 use Rattle.rtps_evidence.specs.Amount.{count_in, is_sent, stretches_have}
-use Rattle.rtps_evidence.specs.Recorded.{AreRecordedIn, greatest_sent, number_of_payload, number_sent}
+use Rattle.rtps_evidence.specs.FirstNumbers.{first_ten, kept}
+use Rattle.rtps_evidence.specs.Recorded.{AreRecordedIn, IsArrivedAmong, greatest_sent, number_of_payload, number_sent}
 use Rattle.rtps_evidence.specs.declared.amount.Stretch.{Stretch}
+use Rattle.rtps_evidence.specs.declared.recorded.ArrivedNumbers.{ArrivedNumbers}
 use Rattle.rtps_evidence.specs.declared.recorded.Recorded.{Recorded}
 use Rattle.rtps_evidence.specs.declared.span.Span.{Span}
 use Rattle.rtps_evidence.proofs.CountLemmas.{count_same}
+use Rattle.rtps_evidence.proofs.FirstNumbersLemmas.{first_same}
 use Rattle.rtps_evidence.proofs.OriginLemmas.{sent_same}
 use Rattle.rtps_evidence.proofs.SpanLemmas.{greatest_filter}
 
@@ -29,18 +32,59 @@ count_ends has from behind =
     let same : max behind from - from ≡ behind - from = omega arith in
     ap (λ n. length (filter has (range_with_len from n))) same
 
+greatest_is : (writer : Guid) (acts own : List PlacedValue) (behind : ℕ) → own ≡ filter (is_from writer) acts → behind ≡ greatest_sent writer own + 1 → behind ≡ greatest_sent writer acts + 1
+greatest_is writer acts own behind own_is is = is ∙ ap (λ l. greatest_sent writer l + 1) own_is ∙ ap (λ n. n + 1) (greatest_same writer acts)
+
+-- stretches counted up to the greatest number that the writer sent
+pub counted_in : (writer : Guid) (acts own : List PlacedValue) (stretches : List Stretch) (has : ℕ → Bool) (first from behind count : ℕ) → own ≡ filter (is_from writer) acts → from ≡ first → behind ≡ greatest_sent writer own + 1
+    → ((n : ℕ) → stretches_have stretches n ≡ has n) → count ≡ count_in (stretches_have stretches) from (max behind from) → count ≡ count_in has first (greatest_sent writer acts + 1)
+counted_in writer acts own stretches has first from behind count own_is from_is behind_is same counted =
+    counted
+    ∙ count_ends (stretches_have stretches) from behind
+    ∙ count_same (stretches_have stretches) has from behind (λ n a b. same n)
+    ∙ ap (λ n. count_in has n behind) from_is
+    ∙ ap (λ n. count_in has first n) (greatest_is writer acts own behind own_is behind_is)
+
 -- what is counted among the writer's acts
 pub recorded_in : (span : Span) (pair : Pair) (acts own : List PlacedValue) (sent : List Stretch) (from behind : ℕ) (found : Recorded)
     → own ≡ filter (is_from pair.writer) acts → from ≡ span.from → behind ≡ greatest_sent pair.writer own + 1
     → ((n : ℕ) → stretches_have sent n ≡ is_sent pair.writer pair.reader own n)
     → found.numbers ≡ behind - from → found.recorded ≡ count_in (stretches_have sent) from (max behind from) → AreRecordedIn span pair acts found
-recorded_in span pair acts own sent from behind found own_is from_is behind_is sent_is numbers recorded =
-    let greatest : behind ≡ greatest_sent pair.writer acts + 1 = behind_is ∙ ap (λ l. greatest_sent pair.writer l + 1) own_is ∙ ap (λ n. n + 1) (greatest_same pair.writer acts) in
+recorded_in span pair acts own sent from behind found own_is from_is behind_is sent_is numbers recorded = record {
+  numbers = numbers ∙ ap (λ n. n - from) (greatest_is pair.writer acts own behind own_is behind_is) ∙ ap (λ n. greatest_sent pair.writer acts + 1 - n) from_is;
+  recorded = counted_in pair.writer acts own sent (is_sent pair.writer pair.reader acts) span.from from behind found.recorded own_is from_is behind_is
+      (λ n. sent_is n ∙ ap (λ l. is_sent pair.writer pair.reader l n) own_is ∙ sent_same pair.writer pair.reader n acts) recorded;
+}
+
+-- the greatest number that the writer sent, or the one before the first
+ends_behind : (greatest from last : ℕ) → 1 ≤ from → last ≡ max greatest (from - 1) → last + 1 ≡ max (greatest + 1) from
+ends_behind greatest from last low is = omega arith
+
+-- the first ones end where the first number stands behind them all
+first_ends : (has : ℕ → Bool) (from behind : ℕ) → first_ten has from (max behind from) ≡ first_ten has from behind
+first_ends has from behind =
+    let same : max behind from - from ≡ behind - from = omega arith in
+    ap (λ n. take 10 (filter has (range_with_len from n))) same
+
+-- of the numbers that are there, what is counted and named up to the greatest that the writer sent
+pub arrived_among : (writer : Guid) (acts own : List PlacedValue) (stretches : List Stretch) (there : ℕ → Bool) (first from last : ℕ)
+    (found : ArrivedNumbers) → own ≡ filter (is_from writer) acts → from ≡ first → 1 ≤ from
+    → last ≡ max (greatest_sent writer own) (from - 1) → ((n : ℕ) → stretches_have stretches n ≡ there n)
+    → found.arrived ≡ count_in (stretches_have stretches) from (last + 1)
+    → found.lacking ≡ kept (first_ten (λ n. not (stretches_have stretches n)) from (last + 1))
+    → IsArrivedAmong there first (greatest_sent writer acts + 1) found
+arrived_among writer acts own stretches there first from last found own_is from_is low last_is same arrived lacking =
+    let behind = greatest_sent writer own + 1 in
+    let end : last + 1 ≡ max behind from = ends_behind (greatest_sent writer own) from last low last_is in
+    let others : ℕ → Bool = λ n. not (there n) in
     record {
-      numbers = numbers ∙ ap (λ n. n - from) greatest ∙ ap (λ n. greatest_sent pair.writer acts + 1 - n) from_is;
-      recorded = recorded
-          ∙ count_ends (stretches_have sent) from behind
-          ∙ count_same (stretches_have sent) (is_sent pair.writer pair.reader acts) from behind (λ n a b. sent_is n ∙ ap (λ l. is_sent pair.writer pair.reader l n) own_is ∙ sent_same pair.writer pair.reader n acts)
-          ∙ ap (λ n. count_in (is_sent pair.writer pair.reader acts) n behind) from_is
-          ∙ ap (λ n. count_in (is_sent pair.writer pair.reader acts) span.from n) greatest;
+      arrived = counted_in writer acts own stretches there first from behind found.arrived own_is from_is refl same
+          (arrived ∙ ap (count_in (stretches_have stretches) from) end);
+      lacking = lacking
+          ∙ ap kept (
+          ap (first_ten (λ n. not (stretches_have stretches n)) from) end
+          ∙ first_same (λ n. not (stretches_have stretches n)) others from (max behind from) (λ n a b. ap not (same n))
+          ∙ first_ends others from behind ∙ ap (λ n. first_ten others n behind) from_is
+          ∙ ap (first_ten others first) (greatest_is writer acts own behind own_is refl)
+          );
     }

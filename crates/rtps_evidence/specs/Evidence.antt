@@ -1,5 +1,5 @@
 -- Why a pair has its verdict. own: each verdict can be checked by hand at the places that are named.
-use Rattle.std.specs.Prelude.{ℕ, Bool, true, false, ◌≡◌, List, Option, None, Some}
+use Rattle.std.specs.Prelude.{ℕ, Bool, true, false, ◌≡◌, List, [], Option, None, Some}
 use Rattle.rtps_discovery.specs.declared.matching.Pair.{Pair}
 use Rattle.rtps_receiver.specs.Values.{ActValue}
 use Rattle.rtps_audit.specs.Delivery.{last_announced_from}
@@ -11,11 +11,14 @@ use Rattle.rtps_audit.specs.Speech.{speech_by}
 use Rattle.rtps_audit.specs.declared.verdict.Verdict.{Verdict}
 use Rattle.rtps_evidence.specs.Locations.{acknowledgement_of, announcement_of, greatest_base}
 use Rattle.rtps_evidence.specs.Amount.{AreAmounts}
+use Rattle.rtps_evidence.specs.FirstNumbers.{kept}
 use Rattle.rtps_evidence.specs.Grounds.{grounds_by, grounds_value}
 use Rattle.rtps_evidence.specs.Missed.{AreMissed}
-use Rattle.rtps_evidence.specs.Outcomes.{AreOutcomes}
+use Rattle.rtps_evidence.specs.OtherSide.{Beside, alone, is_held, is_there, without_other}
+use Rattle.rtps_evidence.specs.Outcomes.{AreOutcomes, absent_of, lacking_of}
 use Rattle.rtps_evidence.specs.Received.{AreReceived}
 use Rattle.rtps_evidence.specs.Spans.{IsExtent, since_of}
+use Rattle.rtps_evidence.specs.Waits.{told_wait}
 use Rattle.rtps_evidence.specs.declared.evidence.Evidence.{Evidence}
 use Rattle.rtps_evidence.specs.declared.in_span.InSpan.{InSpan}
 use Rattle.rtps_evidence.specs.declared.location.Location.{Location}
@@ -36,32 +39,57 @@ pub record IsShown (from : ℕ) (since : Option Location) (pair : Pair) (recordi
   pub missed : AreMissed from (last_announced_from from (speech_by pair.writer pair.reader recording)) since pair.writer pair.reader (placed_in recording) (record { count = evidence.missed; first = evidence.first_missed })
   pub grounds : grounds_value evidence.grounds ≡ grounds_by evidence.verdict pair (placed_in recording)
 
--- what a row in a span has beside: the span, what became of its numbers, and the greatest base of the reader's answers
-pub record IsInSpan (own : Span) (pair : Pair) (recording : List (List ActValue)) (in_span : InSpan) : Type 0 where
+-- what a row in a span has beside: the span, what became of its numbers, the greatest base of the reader's answers, what another
+-- recording, if there is one, has of the pair, and the longest that the reader let the writer wait for an answer
+pub record IsInSpan (own : Span) (beside : Beside) (pair : Pair) (recording : List (List ActValue)) (in_span : InSpan) : Type 0 where
   pub joined : in_span.joined ≡ own.joined
   pub here : in_span.is_joined_here ≡ own.is_joined_here
   pub first : in_span.from ≡ own.from
   pub until : in_span.until ≡ own.until
-  pub outcomes : AreOutcomes own.from (last_announced_from own.from (speech_by pair.writer pair.reader recording)) (since_of own) pair (placed_in recording) in_span.outcomes
+  pub outcomes : AreOutcomes (is_there beside.other pair) own.from (last_announced_from own.from (speech_by pair.writer pair.reader recording)) (since_of own) pair (placed_in recording) in_span.outcomes
   pub base : in_span.base ≡ greatest_base pair.writer pair.reader (placed_in recording)
+  pub held : in_span.is_held ≡ is_held beside.other pair
+  pub absent : in_span.absent
+      ≡ absent_of (is_held beside.other pair) (is_there beside.other pair) own.from (last_announced_from own.from (speech_by pair.writer pair.reader recording)) pair (placed_in recording)
+  pub lacking : in_span.lacking
+      ≡ kept (lacking_of (is_held beside.other pair) (is_there beside.other pair) own.from
+      (last_announced_from own.from (speech_by pair.writer pair.reader recording)) pair (placed_in recording))
+  pub wait : in_span.wait ≡ told_wait own pair beside.times recording
 
 -- it has that, where rows are in spans
-abbrev pub IsBeside : Bool → Span → Pair → List (List ActValue) → Option InSpan → Type 0
-IsBeside true span pair recording beside = (in_span : InSpan) × (beside ≡ Some in_span) × IsInSpan span pair recording in_span
-IsBeside false span pair recording beside = beside ≡ None
+abbrev pub IsBeside : Bool → Beside → Span → Pair → List (List ActValue) → Option InSpan → Type 0
+IsBeside true beside span pair recording found = (in_span : InSpan) × (found ≡ Some in_span) × IsInSpan span beside pair recording in_span
+IsBeside false beside span pair recording found = found ≡ None
 
 -- It is the evidence of what is taken in for a writer and a reader, by the numbers from `from` on: where rows are in spans, that of the
--- datagrams of the span, by the span's numbers, as of a recording that ends there; else that of all datagrams.
-pub record IsEvidenceBy (spans : Bool) (from : ℕ) (pair : Pair) (intake : Intake) (evidence : Evidence) : Type 0 where
+-- datagrams of the span, by the span's numbers, as of a recording that ends there; else that of all datagrams. Another recording and
+-- times may stand beside.
+pub record IsEvidenceBy (spans : Bool) (from : ℕ) (beside : Beside) (pair : Pair) (intake : Intake) (evidence : Evidence) : Type 0 where
   pub span : Span
   pub extent : IsExtent spans from pair intake span
   pub shown : IsShown span.from (since_of span) pair (datagrams_until span.until intake.acts) evidence
-  pub beside : IsBeside spans span pair (datagrams_until span.until intake.acts) evidence.in_span
+  pub in_span : IsBeside spans beside span pair (datagrams_until span.until intake.acts) evidence.in_span
 
 -- that of all datagrams
 abbrev pub IsEvidenceFrom : ℕ → Pair → Intake → Evidence → Type 0
-IsEvidenceFrom from pair intake evidence = IsEvidenceBy false from pair intake evidence
+IsEvidenceFrom from pair intake evidence = IsEvidenceBy false from alone pair intake evidence
 
 -- by all numbers
 abbrev pub IsEvidence : Pair → Intake → Evidence → Type 0
 IsEvidence pair intake evidence = IsEvidenceFrom 1 pair intake evidence
+
+-- ---- laws
+
+-- what a pair has beside that is held against no other recording: what it has without one, so nothing arrived, nothing is absent,
+-- no number is named that lacks, and the wait is the same
+pub record IsAlone (own : Span) (beside : Beside) (pair : Pair) (recording : List (List ActValue)) (in_span : InSpan) : Type 0 where
+  pub without : IsInSpan own (without_other beside) pair recording in_span
+  pub arrived : in_span.outcomes.arrived ≡ 0
+  pub absent : in_span.absent ≡ 0
+  pub lacking : in_span.lacking ≡ kept []
+
+-- another recording changes nothing of a pair that is not held against it
+abbrev pub NotHeldIsAlone : Type 0
+NotHeldIsAlone =
+    (own : Span) (beside : Beside) (pair : Pair) (recording : List (List ActValue)) (in_span : InSpan)
+    → is_held beside.other pair ≡ false → IsInSpan own beside pair recording in_span → IsAlone own beside pair recording in_span

@@ -11,6 +11,7 @@ use Rattle.rtps_audit.specs.declared.report.Row.{Row}
 use Rattle.rtps_audit.specs.declared.verdict.Verdict.{Verdict}
 use Rattle.rtps_evidence.specs.Evidence.{IsEvidenceBy}
 use Rattle.rtps_evidence.specs.Grounds.{GroundsValue, grounds_value}
+use Rattle.rtps_evidence.specs.OtherSide.{Beside, alone}
 use Rattle.rtps_evidence.specs.declared.last_announcement.Announcement.{Announcement}
 use Rattle.rtps_evidence.specs.declared.acknowledgement.Claim.{Claim}
 use Rattle.rtps_evidence.specs.declared.explanation.Explained.{Explained}
@@ -90,8 +91,8 @@ abbrev pub row_of : Explanation → Row
 row_of explanation = record { pair = explanation.pair; verdict = explanation.evidence.verdict }
 
 -- The rows are of the report's pairs by the numbers from `from` on, each with its names and its evidence, and the counts are
--- the report's. Where rows are not in spans, they are the report's.
-pub record IsExplainedBy (spans : Bool) (from : ℕ) (intake : Intake) (explained : Explained) : Type 0 where
+-- the report's. Where rows are not in spans, they are the report's. Another recording and times may stand beside.
+pub record IsExplainedBy (spans : Bool) (from : ℕ) (beside : Beside) (intake : Intake) (explained : Explained) : Type 0 where
   pub report : Report
   pub reports : IsReportBy from intake report
   pub pairs : map (λ row. row.pair) explained.rows.items ≡ map (λ row. row.pair) report.rows.items
@@ -100,14 +101,15 @@ pub record IsExplainedBy (spans : Bool) (from : ℕ) (intake : Intake) (explaine
   pub directory : DirectoryValue
   pub is_map : IsMapOf (acts_together intake.announcing) directory
   pub named : All (IsNamed directory.endpoints) explained.rows.items
-  pub shown : All (λ row. IsEvidenceBy spans from row.pair intake row.evidence) explained.rows.items
+  pub shown : All (λ row. IsEvidenceBy spans from beside row.pair intake row.evidence) explained.rows.items
 
--- that of a recording, which is the octets of its datagrams in the order of sending
+-- that of a recording alone, which is the octets of its datagrams in the order of sending
 abbrev pub IsExplainedFrom : Bool → ℕ → List (List ℕ) → Explained → Type 0
-IsExplainedFrom spans from recording explained = IsExplainedBy spans from (intake_of recording) explained
+IsExplainedFrom spans from recording explained = IsExplainedBy spans from alone (intake_of recording) explained
 
--- what is taken in is explained in one way: the same rows, and the same counts. So is a recording
+-- what is taken in is explained in one way, beside the same other recording and the same times: the same rows, and the same counts. So is a recording
 abbrev pub HasOneExplanation : Type 0
 HasOneExplanation =
-    (spans : Bool) (from : ℕ) (intake : Intake) (one other : Explained) → IsExplainedBy spans from intake one → IsExplainedBy spans from intake other
+    (spans : Bool) (from : ℕ) (beside : Beside) (intake : Intake) (one other : Explained)
+    → IsExplainedBy spans from beside intake one → IsExplainedBy spans from beside intake other
     → (map explanation_value one.rows.items ≡ map explanation_value other.rows.items) × (one.counts ≡ other.counts)

@@ -1,7 +1,9 @@
 pub mod Locations
 pub mod Amount
+pub mod FirstNumbers
 pub mod Rising
 pub mod Received
+pub mod OtherSide
 pub mod Recorded
 pub mod Claimed
 pub mod Missed
@@ -17,3 +19,5 @@ pub mod Evidence
 pub mod Certificates
 pub mod Explanation
 pub mod WriterSummary
+pub mod Times
+pub mod Waits

@@ -1,7 +1,8 @@
 -- What became of each number that is asked about. DDSI-RTPS 2.5, 8.3.8.1 "AckNack": the set of an ACKNACK names the numbers that the
 -- reader lacks; 8.3.8.6 "Heartbeat": one without the final flag asks for an answer. own: of a number that is not received for certain,
--- what the two said tells mostly whether it came. Acts are those of the datagrams that a row is by; `since` is the place behind which
--- the reader is there (None: everywhere).
+-- what the two said tells mostly whether it came, and a recording made at the reader's host tells what came to that host. Acts are those
+-- of the datagrams that a row is by; `since` is the place behind which the reader is there (None: everywhere); `there` says which numbers
+-- the other recording has a payload of that the reader hears (none, where the pair is not held against one).
 use Rattle.std.specs.Prelude.{ℕ, Bool, true, false, ◌+◌, ◌-◌, ◌≡◌, ◌==◌, ◌&&◌, ◌||◌, nat_le, nat_lt, not, if◌then◌else◌, filter, is_some, List, [], ◌∷◌, Option}
 use Rattle.std.specs.List.{list_any}
 use Rattle.rtps_discovery.specs.declared.matching.Pair.{Pair}
@@ -12,13 +13,14 @@ use Rattle.rtps_audit.specs.Placed.{PlacedValue, answers_among, is_from, placed_
 use Rattle.rtps_audit.specs.Speech.{natural, speech_by}
 use Rattle.rtps_audit.specs.declared.answer.Answer.{Answer}
 use Rattle.rtps_evidence.specs.Amount.{count_in, is_sent}
+use Rattle.rtps_evidence.specs.FirstNumbers.{first_ten}
 use Rattle.rtps_evidence.specs.Locations.{location_of}
 use Rattle.rtps_evidence.specs.Missed.{brings_behind, is_wanting}
 use Rattle.rtps_evidence.specs.Questions.{questions_behind}
 use Rattle.rtps_evidence.specs.Received.{HoldsPayload, first_claiming, is_received, withdraws}
 use Rattle.rtps_evidence.specs.declared.location.Location.{Location}
 use Rattle.rtps_evidence.specs.declared.outcome.Outcome.{Outcome}
-use Rattle.rtps_evidence.specs.declared.outcome.Outcome.TheVariants.{Received, Missed, Unsent, Unanswered, Likely, Unconfirmed}
+use Rattle.rtps_evidence.specs.declared.outcome.Outcome.TheVariants.{Received, Arrived, Missed, Unsent, Unanswered, Likely, Unconfirmed}
 use Rattle.rtps_evidence.specs.declared.outcome.Outcomes.{Outcomes}
 
 -- ---- unsent
@@ -136,9 +138,10 @@ is_unanswered since pair acts n =
 -- ---- each number has one outcome
 
 -- what became of a number: the first that fits
-unfoldable pub outcome_of : Option Location → Pair → List PlacedValue → ℕ → Outcome
-outcome_of since pair acts n =
+unfoldable pub outcome_of : (ℕ → Bool) → Option Location → Pair → List PlacedValue → ℕ → Outcome
+outcome_of there since pair acts n =
     if is_received pair.writer pair.reader acts n then Received
+    else if there n then Arrived
     else if is_wanting since pair.writer pair.reader acts n then Missed
     else if not (is_brought since pair acts n) then Unsent
     else if is_unanswered since pair acts n then Unanswered
@@ -148,6 +151,7 @@ outcome_of since pair acts n =
 -- two outcomes are the same
 abbrev pub is_outcome : Outcome → Outcome → Bool
 is_outcome Received Received = true
+is_outcome Arrived Arrived = true
 is_outcome Missed Missed = true
 is_outcome Unsent Unsent = true
 is_outcome Unanswered Unanswered = true
@@ -160,25 +164,53 @@ abbrev pub count_of : Outcome → (ℕ → Outcome) → ℕ → ℕ → ℕ
 count_of outcome outcomes lo hi = count_in (λ n. is_outcome outcome (outcomes n)) lo hi
 
 -- of the numbers from `from` on, up to the last one: how many have each outcome
-pub record AreOutcomes (from last : ℕ) (since : Option Location) (pair : Pair) (acts : List PlacedValue) (outcomes : Outcomes) : Type 0 where
-  pub received : outcomes.received ≡ count_of Received (outcome_of since pair acts) from (last + 1)
-  pub missed : outcomes.missed ≡ count_of Missed (outcome_of since pair acts) from (last + 1)
-  pub unsent : outcomes.unsent ≡ count_of Unsent (outcome_of since pair acts) from (last + 1)
-  pub unanswered : outcomes.unanswered ≡ count_of Unanswered (outcome_of since pair acts) from (last + 1)
-  pub likely : outcomes.likely ≡ count_of Likely (outcome_of since pair acts) from (last + 1)
-  pub unconfirmed : outcomes.unconfirmed ≡ count_of Unconfirmed (outcome_of since pair acts) from (last + 1)
+pub record AreOutcomes (there : ℕ → Bool) (from last : ℕ) (since : Option Location) (pair : Pair) (acts : List PlacedValue) (outcomes : Outcomes) : Type 0 where
+  pub received : outcomes.received ≡ count_of Received (outcome_of there since pair acts) from (last + 1)
+  pub arrived : outcomes.arrived ≡ count_of Arrived (outcome_of there since pair acts) from (last + 1)
+  pub missed : outcomes.missed ≡ count_of Missed (outcome_of there since pair acts) from (last + 1)
+  pub unsent : outcomes.unsent ≡ count_of Unsent (outcome_of there since pair acts) from (last + 1)
+  pub unanswered : outcomes.unanswered ≡ count_of Unanswered (outcome_of there since pair acts) from (last + 1)
+  pub likely : outcomes.likely ≡ count_of Likely (outcome_of there since pair acts) from (last + 1)
+  pub unconfirmed : outcomes.unconfirmed ≡ count_of Unconfirmed (outcome_of there since pair acts) from (last + 1)
 
 -- how many they are together
 abbrev pub all_of : Outcomes → ℕ
-all_of outcomes = outcomes.received + outcomes.missed + outcomes.unsent + outcomes.unanswered + outcomes.likely + outcomes.unconfirmed
+all_of outcomes = outcomes.received + outcomes.arrived + outcomes.missed + outcomes.unsent + outcomes.unanswered + outcomes.likely + outcomes.unconfirmed
+
+-- of a pair that is held against another recording: how many of these numbers are received though they are not there
+abbrev pub absent_of : Bool → (ℕ → Bool) → ℕ → ℕ → Pair → List PlacedValue → ℕ
+absent_of held there from last pair acts =
+    if held then count_in (λ n. is_received pair.writer pair.reader acts n && not (there n)) from (last + 1) else 0
+
+-- of a pair that is held against another recording: the first ten of these numbers that are neither received nor there
+abbrev pub lacking_of : Bool → (ℕ → Bool) → ℕ → ℕ → Pair → List PlacedValue → List ℕ
+lacking_of held there from last pair acts =
+    if held then first_ten (λ n. not (is_received pair.writer pair.reader acts n) && not (there n)) from (last + 1) else []
+
+-- no number is there: there is no other recording, or the pair is not held against it
+abbrev pub nowhere : ℕ → Bool
+nowhere n = false
 
 -- ---- laws
 
 -- they add up to the numbers that are asked about
 abbrev pub OutcomesAddUp : Type 0
 OutcomesAddUp =
-    (from last : ℕ) (since : Option Location) (pair : Pair) (acts : List PlacedValue) (outcomes : Outcomes)
-    → AreOutcomes from last since pair acts outcomes → all_of outcomes ≡ last + 1 - from
+    (there : ℕ → Bool) (from last : ℕ) (since : Option Location) (pair : Pair) (acts : List PlacedValue) (outcomes : Outcomes)
+    → AreOutcomes there from last since pair acts outcomes → all_of outcomes ≡ last + 1 - from
+
+-- what another recording changes of a number: nothing, where it is not there, or is received; else it arrived
+pub record IsChangedAlone (there : ℕ → Bool) (since : Option Location) (pair : Pair) (acts : List PlacedValue) (n : ℕ) : Type 0 where
+  pub elsewhere : there n ≡ false → outcome_of there since pair acts n ≡ outcome_of nowhere since pair acts n
+  pub received : is_received pair.writer pair.reader acts n ≡ true → outcome_of there since pair acts n ≡ outcome_of nowhere since pair acts n
+  pub arrived : there n ≡ true → is_received pair.writer pair.reader acts n ≡ false → outcome_of there since pair acts n ≡ Arrived
+
+-- it changes no more; and where no number is there, none arrived
+abbrev pub ArrivedIsAllThatChanges : Type 0
+ArrivedIsAllThatChanges =
+    ((there : ℕ → Bool) (since : Option Location) (pair : Pair) (acts : List PlacedValue) (n : ℕ) → IsChangedAlone there since pair acts n)
+    × ((there : ℕ → Bool) (from last : ℕ) (since : Option Location) (pair : Pair) (acts : List PlacedValue) (outcomes : Outcomes)
+    → ((n : ℕ) → there n ≡ false) → AreOutcomes there from last since pair acts outcomes → outcomes.arrived ≡ 0)
 
 -- where no payload of a number is told to the reader, no run ends with one
 abbrev pub UnsentIsNotHeld : Type 0

@@ -1,7 +1,7 @@
 -- What a recording has of a writer and a reader of best effort. DDSI-RTPS 2.5, 8.4.2.3 "Required RTPS Reader Behavior": such a reader sends
 -- nothing, so nobody asks for what it lacks.
 -- own: how much of what the writer sent is here for the reader is all that a recording tells of the two.
-use Rattle.std.specs.Prelude.{ℕ, Bool, ◌≡◌, ◌+◌, ◌-◌, if◌then◌else◌, List, map}
+use Rattle.std.specs.Prelude.{ℕ, Bool, true, false, ◌≡◌, ◌+◌, ◌-◌, not, if◌then◌else◌, List, map, Option, MatchOption}
 use Rattle.rtps_ids.specs.declared.identity.Guid.{Guid}
 use Rattle.rtps_discovery.specs.declared.matching.Pair.{Pair}
 use Rattle.rtps_receiver.specs.Speech.{is_spoken_by}
@@ -12,7 +12,10 @@ use Rattle.rtps_audit.specs.Intake.{Intake}
 use Rattle.rtps_audit.specs.Placed.{PlacedValue, placed_in}
 use Rattle.rtps_audit.specs.Said.{datagrams_until}
 use Rattle.rtps_evidence.specs.Amount.{count_in, is_sent}
+use Rattle.rtps_evidence.specs.FirstNumbers.{first_ten, kept}
+use Rattle.rtps_evidence.specs.OtherSide.{OtherRecording, is_held, is_there}
 use Rattle.rtps_evidence.specs.Spans.{IsExtent}
+use Rattle.rtps_evidence.specs.declared.recorded.ArrivedNumbers.{ArrivedNumbers}
 use Rattle.rtps_evidence.specs.declared.recorded.Recorded.{Recorded}
 use Rattle.rtps_evidence.specs.declared.span.Span.{Span}
 
@@ -44,3 +47,18 @@ pub record IsRecordedBy (spans : Bool) (from : ℕ) (pair : Pair) (intake : Inta
   pub span : Span
   pub is_extent : IsExtent spans from pair intake span
   pub are_recorded : AreRecordedIn span pair (placed_in (datagrams_until span.until intake.acts)) found
+
+-- of the numbers from lo on and below hi: how many are there, and the first ten that are not
+pub record IsArrivedAmong (there : ℕ → Bool) (lo hi : ℕ) (found : ArrivedNumbers) : Type 0 where
+  pub arrived : found.arrived ≡ count_in there lo hi
+  pub lacking : found.lacking ≡ kept (first_ten (λ n. not (there n)) lo hi)
+
+-- the same numbers, of a pair that is held against another recording: how many are there, and the first ten that are not
+pub record IsArrivedBy (spans : Bool) (from : ℕ) (other : Option OtherRecording) (pair : Pair) (intake : Intake)
+    (found : Option ArrivedNumbers) : Type 0 where
+  pub span : Span
+  pub is_extent : IsExtent spans from pair intake span
+  pub arrived : MatchOption found (is_held other pair ≡ false)
+      (λ numbers. (is_held other pair ≡ true)
+      × IsArrivedAmong (is_there other pair) span.from
+      (greatest_sent pair.writer (placed_in (datagrams_until span.until intake.acts)) + 1) numbers)

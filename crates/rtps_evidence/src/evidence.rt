@@ -16,9 +16,11 @@ use crate::last_announcement::Announcement;
 use crate::missed::count_missed;
 use crate::missed_numbers::find_missed;
 use crate::not_received::NotReceived;
+use crate::other_side::{Arrivals, Sides};
 use crate::outcome::Unreceived;
 use crate::received::count_received;
 use crate::rising::rising;
+use crate::times::Times;
 use crate::writer_summary::WriterSummary;
 use rtps_audit::{Index, Row, Said, Verdict};
 use rtps_discovery::Pair;
@@ -58,6 +60,7 @@ pub struct Evidence<'a> {
 
 impl<'a> Evidence<'a> {
     ghost use Rattle.rtps_evidence.specs.Evidence.{IsBeside, IsEvidence, IsEvidenceFrom, IsShown, IsVerdictIn};
+    ghost use Rattle.rtps_evidence.specs.OtherSide.{AreSides, AreThere, Beside};
     ghost use Rattle.rtps_evidence.specs.Spans.{since_of};
     ghost use Rattle.rtps_evidence.specs.WriterSummary.{IsSummary, IsSummaryOf};
 
@@ -74,14 +77,20 @@ impl<'a> Evidence<'a> {
         let verdict = index.judge_from(pair, from)?;
         let judgement = Judgement::of(index, Row { pair, verdict }, from, false)?;
         let summary = WriterSummary::turned_to(alloc, index, None, &judgement)?;
-        let evidence = Evidence::of_judged(alloc, index, &summary, &judgement)?;
+        let times = Times::none(alloc);
+        let sides = Sides {
+            index,
+            other: None,
+            times: &times,
+        };
+        let evidence = Evidence::of_judged(alloc, &sides, &summary, &judgement)?;
         Ok(evidence)
     }
 
     /// The evidence for a judgement, where this is what the pair's writer says. `Memory` as of [`Evidence::of_from`].
     pub(crate) fn of_judged(
         alloc: Global,
-        index: &Index<'a>,
+        sides: &Sides<'_, 'a, '_, '_>,
         summary: &WriterSummary,
         judgement: &Judgement,
     ) -> Result<Evidence<'a>, Memory>
@@ -89,18 +98,22 @@ impl<'a> Evidence<'a> {
         requires from { summary.now.asked.from ≡ judgement.now.span.from }
         requires until { summary.now.until ≡ judgement.now.span.until }
         ensures judged { IfOk result (λ evidence. evidence.verdict ≡ judgement.now.verdict) }
-        ensures shown { (intake : Intake) → IsIndexBy intake index.now → IsSummaryOf intake.acts summary.now
+        ensures shown { (intake : Intake) → IsIndexBy intake sides.now.index.now → IsSummaryOf intake.acts summary.now
             → IsVerdictIn judgement.now.span judgement.now.pair intake.acts judgement.now.verdict
             → IfOk result (IsShown judgement.now.span.from (since_of judgement.now.span) judgement.now.pair (datagrams_until judgement.now.span.until intake.acts)) }
-        ensures beside { (intake : Intake) → IsIndexBy intake index.now → IsSummaryOf intake.acts summary.now
+        ensures beside { (intake : Intake) (beside : Beside) → AreSides intake beside sides.now → IsSummaryOf intake.acts summary.now
             → IsVerdictIn judgement.now.span judgement.now.pair intake.acts judgement.now.verdict
-            → IfOk result (λ evidence. IsBeside judgement.now.in_spans judgement.now.span judgement.now.pair (datagrams_until judgement.now.span.until intake.acts) evidence.in_span) }
+            → IfOk result (λ evidence. IsBeside judgement.now.in_spans beside judgement.now.span judgement.now.pair (datagrams_until judgement.now.span.until intake.acts) evidence.in_span) }
     {
+        let arrivals = Arrivals::of(alloc, sides, judgement.pair)?;
         let exchange = Exchange {
             pair: judgement.pair,
             span: judgement.span,
             in_spans: judgement.in_spans,
-            said: Said::until(index, judgement.pair, judgement.span.until),
+            said: Said::until(sides.index, judgement.pair, judgement.span.until),
+            is_held: arrivals.is_held,
+            there: &arrivals.numbers,
+            times: sides.times,
         };
         let evidence = Evidence::of_exchange(alloc, &exchange, summary, judgement.verdict)?;
         Ok(evidence)
@@ -119,9 +132,11 @@ impl<'a> Evidence<'a> {
         ensures shown { (recording : List (List ActValue)) → IsSaid exchange.now.pair recording exchange.now.said → IsSummary recording summary.now
             → IsVerdictFrom exchange.now.span.from (speech_by exchange.now.pair.writer exchange.now.pair.reader recording) verdict
             → IfOk result (IsShown exchange.now.span.from (since_of exchange.now.span) exchange.now.pair recording) }
-        ensures beside { (recording : List (List ActValue)) → IsSaid exchange.now.pair recording exchange.now.said → IsSummary recording summary.now
+        ensures beside { (recording : List (List ActValue)) (beside : Beside) → IsSaid exchange.now.pair recording exchange.now.said
+            → IsSummary recording summary.now
             → IsVerdictFrom exchange.now.span.from (speech_by exchange.now.pair.writer exchange.now.pair.reader recording) verdict
-            → IfOk result (λ evidence. IsBeside exchange.now.in_spans exchange.now.span exchange.now.pair recording evidence.in_span) }
+            → AreThere beside.other exchange.now.pair exchange.now.is_held exchange.now.there.now → exchange.now.times.now.of_datagrams ≡ beside.times
+            → IfOk result (λ evidence. IsBeside exchange.now.in_spans beside exchange.now.span exchange.now.pair recording evidence.in_span) }
     {
         let asked = &summary.asked;
         let mut heard = summary.heard_by(alloc, exchange.said.acts, exchange.pair.reader)?;

@@ -1,8 +1,10 @@
 ghost use Rattle.std.specs.Prelude.{◌≡◌};
 ghost use Rattle.rtps_evidence.specs.Spans.{since_of as since_of_lem};
 
+use crate::amount::Stretch;
 use crate::listener::Listener;
 use crate::span::Span;
+use crate::times::Times;
 use rtps_audit::Said;
 use rtps_discovery::Pair;
 use rtps_ids::SeqNum;
@@ -17,13 +19,19 @@ pub struct Extent {
 }
 
 /// What a pair said to each other in the datagrams that its row is by.
-#[derive(Clone, Copy, Debug)]
+#[derive(Clone, Copy)]
 pub(crate) struct Exchange<'s, 'a> {
     pub(crate) pair: Pair,
     /// The span of the pair, where rows are in spans, or else the whole recording.
     pub(crate) span: Span,
     pub(crate) in_spans: bool,
     pub(crate) said: Said<'s, 'a>,
+    /// Whether the pair is held against another recording.
+    pub(crate) is_held: bool,
+    /// The numbers of which the reader hears a payload in that; none where the pair is not held.
+    pub(crate) there: &'s [Stretch],
+    /// When the datagrams of the recording came.
+    pub(crate) times: &'s Times,
 }
 
 impl<'s, 'a> Exchange<'s, 'a> {

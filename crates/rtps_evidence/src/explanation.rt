@@ -5,10 +5,13 @@ ghost use Rattle.rtps_audit.specs.Intake.{Intake};
 ghost use Rattle.rtps_audit.specs.Report.{IsJudgedFrom};
 ghost use Rattle.rtps_evidence.specs.Evidence.{IsEvidenceBy};
 ghost use Rattle.rtps_evidence.specs.Explanation.{IsExplainedBy, IsExplainedFrom, IsNamed, row_of, topic_of, type_of};
+ghost use Rattle.rtps_evidence.specs.OtherSide.{AreSides, Beside};
 
 use crate::evidence::Evidence;
 use crate::exchange::Extent;
 use crate::judgement::Judgement;
+use crate::other_side::Sides;
+use crate::times::Times;
 use crate::writer_summary::WriterSummary;
 use rtps_audit::{Counts, Index, Row, Watch};
 use rtps_discovery::{Directory, Pair};
@@ -48,18 +51,19 @@ fn names_of<'a>(directory: &Directory<'a>, guid: Guid) -> (&'a [u8], &'a [u8])
 /// Explains each of these rows of a report by the numbers of an extent.
 fn explain_rows<'a>(
     alloc: Global,
-    index: &Index<'a>,
+    sides: &Sides<'_, 'a, '_, '_>,
     directory: &Directory<'a>,
     rows: &[Row],
     extent: Extent,
 ) -> Result<Vec<Explanation<'a>>, Memory>
     ensures pairs { IfOk result (λ explained. map (λ row. row.pair) explained.items ≡ map (λ row. row.pair) rows.now) }
-    ensures rows { (intake : Intake) → IsIndexBy intake index.now → extent.in_spans ≡ false → IfOk result (λ explained. map row_of explained.items ≡ rows.now) }
+    ensures rows { (intake : Intake) → IsIndexBy intake sides.now.index.now → extent.in_spans ≡ false → IfOk result (λ explained. map row_of explained.items ≡ rows.now) }
     ensures named { IfOk result (λ explained. All (IsNamed directory.now.endpoints) explained.items) }
-    ensures shown { (intake : Intake) → IsIndexBy intake index.now
+    ensures shown { (intake : Intake) (beside : Beside) → AreSides intake beside sides.now
         → All (IsJudgedFrom extent.from intake.acts) rows.now
-        → IfOk result (λ explained. All (λ row. IsEvidenceBy extent.in_spans extent.from row.pair intake row.evidence) explained.items) }
+        → IfOk result (λ explained. All (λ row. IsEvidenceBy extent.in_spans extent.from beside row.pair intake row.evidence) explained.items) }
 {
+    let index = sides.index;
     let from = extent.from;
     let in_spans = extent.in_spans;
     let mut explained = Vec::with_capacity(alloc, rows.len())?;
@@ -68,7 +72,7 @@ fn explain_rows<'a>(
         let (topic, type_name) = names_of(directory, row.pair.writer);
         let judgement = Judgement::of(index, *row, from, in_spans)?;
         let summary = WriterSummary::turned_to(alloc, index, before, &judgement)?;
-        let evidence = Evidence::of_judged(alloc, index, &summary, &judgement)?;
+        let evidence = Evidence::of_judged(alloc, sides, &summary, &judgement)?;
         before = Some(summary);
         explained.push(Explanation {
             pair: row.pair,
@@ -81,25 +85,27 @@ fn explain_rows<'a>(
 }
 
 /// Reports on what an index took in, and says of each row why it has its verdict. The report is by the extent's numbers; where rows
-/// are in spans, the verdict of each and what it rests on are by the span of its pair. It tells how far it is. `Memory` is answered
-/// where what is kept cannot grow.
+/// are in spans, the verdict of each and what it rests on are by the span of its pair, its outcomes are held against the other recording,
+/// where there is one, and it has the longest wait. It tells how far it is. `Memory` is answered where what is kept cannot grow.
 pub fn explain_index<'a, P: Watch>(
     alloc: Global,
-    index: &Index<'a>,
+    sides: &Sides<'_, 'a, '_, '_>,
     extent: Extent,
     watch: &mut P,
 ) -> Result<Explained<'a>, Memory>
-    ensures { (intake : Intake) → IsIndexBy intake index.now → IfOk result (IsExplainedBy extent.in_spans extent.from intake) }
+    ensures { (intake : Intake) (beside : Beside) → AreSides intake beside sides.now
+        → IfOk result (IsExplainedBy extent.in_spans extent.from beside intake) }
 {
+    let index = sides.index;
     let report = index.report_from(extent.from, watch)?;
-    let rows = explain_rows(alloc, index, index.directory(), &report.rows, extent)?;
+    let rows = explain_rows(alloc, sides, index.directory(), &report.rows, extent)?;
     Ok(Explained {
         rows,
         counts: report.counts,
     })
 }
 
-/// The same of a recording, any datagrams in the order of sending.
+/// The same of a recording alone, any datagrams in the order of sending.
 pub fn explain_from<'a, P: Watch>(
     alloc: Global,
     recording: &[&'a [u8]],
@@ -109,6 +115,12 @@ pub fn explain_from<'a, P: Watch>(
     ensures { IfOk result (IsExplainedFrom extent.in_spans extent.from (map (λ datagram. datagram.now) recording.now)) }
 {
     let index = Index::build(alloc, recording)?;
-    let explained = explain_index(alloc, &index, extent, watch)?;
+    let times = Times::none(alloc);
+    let sides = Sides {
+        index: &index,
+        other: None,
+        times: &times,
+    };
+    let explained = explain_index(alloc, &sides, extent, watch)?;
     Ok(explained)
 }

@@ -6,7 +6,7 @@ ghost use Rattle.rtps_audit.specs.Said.{IsSaid};
 ghost use Rattle.rtps_audit.specs.Speech.{speech_by};
 ghost use Rattle.rtps_evidence.specs.Amount.{stretches_have};
 ghost use Rattle.rtps_evidence.specs.Claimed.{AreLacking};
-ghost use Rattle.rtps_evidence.specs.Clean.{has_all as has_all_lem, is_clean as is_clean_lem, is_complete as is_complete_lem, is_open as is_open_lem, is_tail as is_tail_lem};
+ghost use Rattle.rtps_evidence.specs.Clean.{has_all as has_all_lem, is_clean as is_clean_lem, is_complete as is_complete_lem, is_open as is_open_lem, is_tail as is_tail_lem, is_whole as is_whole_lem, loses_none as loses_none_lem};
 ghost use Rattle.rtps_evidence.specs.Missed.{is_missed};
 ghost use Rattle.rtps_evidence.specs.Rising.{AreRising};
 ghost use Rattle.rtps_evidence.specs.Spans.{since_of};
@@ -14,8 +14,10 @@ ghost use Rattle.rtps_evidence.specs.Spans.{since_of};
 use crate::acknowledgement::greatest_base;
 use crate::amount::AskedNumbers;
 use crate::exchange::Exchange;
+use crate::first_numbers::FirstNumbers;
 use crate::location::Location;
 use crate::outcome::{Outcomes, Unreceived};
+use crate::waits::{Wait, told_wait};
 use rtps_audit::Verdict;
 use rtps_ids::Memory;
 use std::alloc::Global;
@@ -34,6 +36,14 @@ pub struct InSpan {
     pub outcomes: Outcomes,
     /// The greatest base of the reader's answers to the writer, or 0.
     pub base: u64,
+    /// Whether the pair is held against another recording.
+    pub is_held: bool,
+    /// Of a pair that is held: how many of the numbers are received for certain though the other recording has none of them.
+    pub absent: u64,
+    /// Of a pair that is held: the first of the numbers that are neither received for certain nor there in the other recording.
+    pub lacking: FirstNumbers,
+    /// The longest that the reader let the writer wait for an answer, where it is more than a second; None where none is.
+    pub wait: Option<Wait>,
 }
 
 /// Whether each number that is asked about is acknowledged.
@@ -71,6 +81,7 @@ impl Outcomes {
 
 impl InSpan {
     ghost use Rattle.rtps_evidence.specs.Evidence.{IsBeside};
+    ghost use Rattle.rtps_evidence.specs.OtherSide.{AreThere, Beside};
 
     /// What a row has beside, where rows are in spans, by what its pair said.
     pub(crate) fn of(
@@ -81,17 +92,20 @@ impl InSpan {
     ) -> Result<Option<InSpan>, Memory>
         requires rising { AreRising unreceived.now.numbers.now }
         requires from { asked.now.from ≡ exchange.now.span.from }
-        ensures { (recording : List (List ActValue)) → IsSaid exchange.now.pair recording exchange.now.said
+        ensures { (recording : List (List ActValue)) (beside : Beside) → IsSaid exchange.now.pair recording exchange.now.said
+            → AreThere beside.other exchange.now.pair exchange.now.is_held exchange.now.there.now → exchange.now.times.now.of_datagrams ≡ beside.times
             → asked.now.last ≡ last_announced_from asked.now.from (speech_by exchange.now.pair.writer exchange.now.pair.reader recording)
             → AreLacking asked.now.from asked.now.last exchange.now.pair (placed_in recording) unreceived.now.numbers.now
             → ((n : ℕ) → asked.now.from ≤ n → n ≤ asked.now.last → stretches_have unreceived.now.missed.now n
             ≡ is_missed (since_of exchange.now.span) exchange.now.pair.writer exchange.now.pair.reader (placed_in recording) n)
-            → IfOk result (IsBeside exchange.now.in_spans exchange.now.span exchange.now.pair recording) }
+            → IfOk result (IsBeside exchange.now.in_spans beside exchange.now.span exchange.now.pair recording) }
     {
         if !exchange.in_spans {
             return Ok(None);
         }
         let outcomes = Outcomes::of(alloc, exchange, unreceived, asked)?;
+        let absent = outcomes.absent(alloc, exchange, asked)?;
+        let lacking = unreceived.lacking(alloc, exchange, asked)?;
         Ok(Some(InSpan {
             joined: exchange.span.joined,
             is_joined_here: exchange.span.is_joined_here,
@@ -99,25 +113,44 @@ impl InSpan {
             until: exchange.span.until,
             outcomes,
             base: greatest_base(exchange.said.answers),
+            is_held: exchange.is_held,
+            absent,
+            lacking,
+            wait: told_wait(exchange),
         }))
+    }
+
+    /// Whether no number is lost, or looks so. Of a pair that is held, a likely one is lost too: it did not arrive.
+    fn loses_none(&self) -> bool
+        ensures { result ≡ loses_none_lem self.now.is_held self.now.outcomes }
+    {
+        self.outcomes.has_all() && (!self.is_held || self.outcomes.likely == 0)
     }
 
     /// Whether what a row of this verdict lacks is a tail alone: numbers behind all that the reader acknowledged, of which nothing
     /// says that they are lost.
     pub fn is_tail(&self, verdict: &Verdict) -> bool
-        ensures { result ≡ is_tail_lem verdict.now self.now.outcomes self.now.base }
+        ensures { result ≡ is_tail_lem self.now.is_held verdict.now self.now.outcomes self.now.base }
     {
-        is_open(verdict) && 1 < self.base && self.outcomes.has_all()
+        is_open(verdict) && 1 < self.base && self.loses_none()
+    }
+
+    /// Whether a row of this verdict lacks nothing, though it is open: its pair is held, and each number is received or arrived.
+    fn is_whole(&self, verdict: &Verdict) -> bool
+        ensures { result ≡ is_whole_lem self.now.is_held verdict.now self.now.outcomes }
+    {
+        self.is_held && is_open(verdict) && self.loses_none() && self.outcomes.unconfirmed == 0
     }
 
     /// Whether a row of this verdict is clean, where a reader that did not leave may lack a tail of so many numbers.
     pub fn is_clean(&self, verdict: &Verdict, tail: u64) -> bool
-        ensures { result ≡ is_clean_lem tail (is_some self.now.until) verdict.now self.now.outcomes self.now.base }
+        ensures { result ≡ is_clean_lem tail (is_some self.now.until) self.now.is_held verdict.now self.now.outcomes self.now.base }
     {
         if is_complete(verdict) {
-            return self.outcomes.has_all();
+            return self.loses_none();
         }
         let left = self.until.is_some();
-        self.is_tail(verdict) && (left || self.outcomes.unconfirmed <= tail)
+        let few = left || self.outcomes.unconfirmed <= tail;
+        self.is_whole(verdict) || (self.is_tail(verdict) && few)
     }
 }

@@ -3,8 +3,10 @@
 
 ghost use Rattle.rtps_evidence.specs.Certificates.{CompleteIsShown, ConflictIsShown, OpenIsShown, UnfoundedIsShown};
 ghost use Rattle.rtps_evidence.specs.Clean.{CountsSayTail};
+ghost use Rattle.rtps_evidence.specs.Evidence.{NotHeldIsAlone};
 ghost use Rattle.rtps_evidence.specs.Explanation.{HasOneExplanation};
-ghost use Rattle.rtps_evidence.specs.Outcomes.{OutcomesAddUp, UnsentIsNotHeld};
+ghost use Rattle.rtps_evidence.specs.FirstNumbers.{KeptNumbersAreThere};
+ghost use Rattle.rtps_evidence.specs.Outcomes.{ArrivedIsAllThatChanges, OutcomesAddUp, UnsentIsNotHeld};
 ghost use Rattle.rtps_evidence.specs.Received.{ReceivedIsExact};
 ghost use Rattle.rtps_evidence.specs.UnansweredLaw.{RecordingsAreInOrder, UnansweredIsByItsWords};
 
@@ -45,6 +47,23 @@ pub fn outcomes_add_up()
     ensures { OutcomesAddUp }
 {}
 
+/// Another recording changes nothing of a number that is not there, or that is received: any other one that is there arrived. Where
+/// no number is there, none arrived.
+pub fn arrived_is_all_that_changes()
+    ensures { ArrivedIsAllThatChanges }
+{}
+
+/// Another recording changes nothing of a pair that is not held against it: nothing arrived, nothing is absent, and no number is
+/// named that lacks.
+pub fn not_held_is_alone()
+    ensures { NotHeldIsAlone }
+{}
+
+/// First numbers have exactly the numbers that are kept.
+pub fn kept_numbers_are_there()
+    ensures { KeptNumbersAreThere }
+{}
+
 /// Where no payload of a number is told to the reader, no run ends with one.
 pub fn unsent_is_not_held()
     ensures { UnsentIsNotHeld }
@@ -61,7 +80,8 @@ pub fn unanswered_is_by_its_words()
 }
 
 /// An open row lacks a tail by its counts exactly where each number below the greatest base of the reader's answers is received or likely, and
-/// each other one unconfirmed. These are then all that are unconfirmed.
+/// each other one unconfirmed. These are then all that are unconfirmed. Of a pair that is held against another recording, each number below is
+/// received or arrived, and each other one arrived or unconfirmed; nothing is lacking by its counts exactly where each is received or arrived.
 pub fn counts_say_tail()
     ensures { CountsSayTail }
 {}

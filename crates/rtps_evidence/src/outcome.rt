@@ -1,7 +1,7 @@
-ghost use Rattle.std.specs.Prelude.{ℕ, true, ◌≡◌, ◌≤◌, ◌+◌, ◌||◌, ◌&&◌, map, IfOk, OnOk, List};
+ghost use Rattle.std.specs.Prelude.{ℕ, Bool, true, ◌≡◌, ◌≤◌, ◌+◌, ◌||◌, ◌&&◌, map, IfOk, OnOk, List};
 ghost use Rattle.std.specs.List.{list_any};
 ghost use Rattle.rtps_receiver.specs.Values.{ActValue};
-ghost use Rattle.rtps_audit.specs.Placed.{placed_in, placed_value};
+ghost use Rattle.rtps_audit.specs.Placed.{PlacedValue, placed_in, placed_value};
 ghost use Rattle.rtps_audit.specs.Said.{IsSaid};
 ghost use Rattle.rtps_evidence.specs.Amount.{count_in, stretches_have};
 ghost use Rattle.rtps_evidence.specs.Claimed.{AreLacking};
@@ -12,6 +12,7 @@ ghost use Rattle.rtps_evidence.specs.Spans.{since_of};
 use crate::acknowledgement::greatest_base;
 use crate::amount::{AskedNumbers, Stretch, count_of, push};
 use crate::exchange::Exchange;
+use crate::first_numbers::FirstNumbers;
 use crate::lacking::{others_of, outside};
 use crate::listener::{Listener, number_behind};
 use crate::rising::end_at;
@@ -25,6 +26,8 @@ use std::alloc::Global;
 pub enum Outcome {
     /// For certain: where there is a run, every run ends with a payload for it.
     Received,
+    /// A payload of it reached the reader's host: another recording, made there, has one.
+    Arrived,
     /// The reader asked for it, and of its last request nothing came behind it, or the number was sent before it.
     Missed,
     /// Nothing of it was sent to the reader since it joined.
@@ -41,6 +44,7 @@ pub enum Outcome {
 #[derive(Clone, Copy, PartialEq, Eq, Debug)]
 pub struct Outcomes {
     pub received: u64,
+    pub arrived: u64,
     pub missed: u64,
     pub unsent: u64,
     pub unanswered: u64,
@@ -112,11 +116,40 @@ fn count_with(
     count_of(numbers, asked.from.get().cast_unsigned(), asked.last + 1)
 }
 
-impl Outcomes {
-    ghost use Rattle.rtps_evidence.specs.Outcomes.{AreOutcomes};
+impl Unreceived<'_> {
+    ghost use Rattle.rtps_evidence.specs.FirstNumbers.{kept};
+    ghost use Rattle.rtps_evidence.specs.Outcomes.{lacking_of};
 
-    /// How many of the numbers that are asked for have each outcome, by what a pair said. Numbers of one outcome after another
-    /// are put together, so that each outcome has what is then more.
+    /// Of a pair that is held against another recording: the first of the numbers that are asked for and neither received nor
+    /// there.
+    pub(crate) fn lacking(
+        &self,
+        alloc: Global,
+        exchange: &Exchange<'_, '_>,
+        asked: &AskedNumbers,
+    ) -> Result<FirstNumbers, Memory>
+        requires { AreRising self.now.numbers.now }
+        ensures { (acts : List PlacedValue) (there : ℕ → Bool) → ((n : ℕ) → stretches_have exchange.now.there.now n ≡ there n)
+            → AreLacking asked.now.from asked.now.last exchange.now.pair acts self.now.numbers.now
+            → IfOk result (λ lacking. lacking
+            ≡ kept (lacking_of exchange.now.is_held there asked.now.from asked.now.last exchange.now.pair acts)) }
+    {
+        if !exchange.is_held {
+            return Ok(FirstNumbers::none());
+        }
+        let from = asked.from.get().cast_unsigned();
+        let mut numbers = outside(alloc, self.numbers, from, asked.last + 1)?;
+        numbers.extend_from_slice(exchange.there)?;
+        let lacking = FirstNumbers::outside(alloc, &mut numbers, asked)?;
+        Ok(lacking)
+    }
+}
+
+impl Outcomes {
+    ghost use Rattle.rtps_evidence.specs.Outcomes.{AreOutcomes, absent_of};
+
+    /// How many of the numbers that are asked for have each outcome, by what a pair said, and by the numbers that are there in
+    /// another recording. Numbers of one outcome after another are put together, so that each outcome has what is then more.
     pub(crate) fn of(
         alloc: Global,
         exchange: &Exchange<'_, '_>,
@@ -124,11 +157,12 @@ impl Outcomes {
         asked: &AskedNumbers,
     ) -> Result<Outcomes, Memory>
         requires { AreRising unreceived.now.numbers.now }
-        ensures { (recording : List (List ActValue)) → IsSaid exchange.now.pair recording exchange.now.said
+        ensures { (recording : List (List ActValue)) (there : ℕ → Bool) → IsSaid exchange.now.pair recording exchange.now.said
+            → ((n : ℕ) → stretches_have exchange.now.there.now n ≡ there n)
             → AreLacking asked.now.from asked.now.last exchange.now.pair (placed_in recording) unreceived.now.numbers.now
             → ((n : ℕ) → asked.now.from ≤ n → n ≤ asked.now.last → stretches_have unreceived.now.missed.now n
             ≡ is_missed (since_of exchange.now.span) exchange.now.pair.writer exchange.now.pair.reader (placed_in recording) n)
-            → IfOk result (AreOutcomes asked.now.from asked.now.last (since_of exchange.now.span) exchange.now.pair (placed_in recording)) }
+            → IfOk result (AreOutcomes there asked.now.from asked.now.last (since_of exchange.now.span) exchange.now.pair (placed_in recording)) }
     {
         let acts = exchange.said.acts;
         let lacking = unreceived.numbers;
@@ -143,17 +177,40 @@ impl Outcomes {
         let end = asked.last + 1;
         let mut numbers = outside(alloc, lacking, from, end)?;
         let received = count_with(&mut numbers, &[], asked)?;
+        let arrived = count_with(&mut numbers, exchange.there, asked)?;
         let missed = count_with(&mut numbers, unreceived.missed, asked)?;
         let unsent = count_with(&mut numbers, &unsent, asked)?;
         let unanswered = count_with(&mut numbers, &silent, asked)?;
         let likely = count_with(&mut numbers, &claimed, asked)?;
         Ok(Outcomes {
             received,
-            missed: missed.saturating_sub(received),
+            arrived: arrived.saturating_sub(received),
+            missed: missed.saturating_sub(arrived),
             unsent: unsent.saturating_sub(missed),
             unanswered: unanswered.saturating_sub(unsent),
             likely: likely.saturating_sub(unanswered),
             unconfirmed: (end - from).saturating_sub(likely),
         })
+    }
+
+    /// Of a pair that is held against another recording: how many of the numbers that are asked for are received and not there,
+    /// where these are the outcomes.
+    pub(crate) fn absent(
+        &self,
+        alloc: Global,
+        exchange: &Exchange<'_, '_>,
+        asked: &AskedNumbers,
+    ) -> Result<u64, Memory>
+        ensures { (acts : List PlacedValue) (there : ℕ → Bool) → ((n : ℕ) → stretches_have exchange.now.there.now n ≡ there n)
+            → AreOutcomes there asked.now.from asked.now.last (since_of exchange.now.span) exchange.now.pair acts self.now
+            → IfOk result (λ absent. absent ≡ absent_of exchange.now.is_held there asked.now.from asked.now.last exchange.now.pair acts) }
+    {
+        if !exchange.is_held {
+            return Ok(0);
+        }
+        let mut numbers = Vec::new(alloc);
+        let there = count_with(&mut numbers, exchange.there, asked)?;
+        let both = there.saturating_sub(self.arrived);
+        Ok(self.received.saturating_sub(both))
     }
 }

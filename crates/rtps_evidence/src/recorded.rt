@@ -1,17 +1,20 @@
-ghost use Rattle.std.specs.Prelude.{ℕ, ◌≡◌, ◌<◌, ◌^◌, map, IfOk};
+ghost use Rattle.std.specs.Prelude.{ℕ, ◌≡◌, ◌-◌, ◌<◌, ◌^◌, map, max, IfOk};
 ghost use Rattle.rtps_audit.specs.Delivery.{greatest};
 ghost use Rattle.rtps_audit.specs.Index.{IsIndexBy};
 ghost use Rattle.rtps_audit.specs.Intake.{Intake};
 ghost use Rattle.rtps_audit.specs.Placed.{placed_value};
 ghost use Rattle.rtps_evidence.specs.Amount.{is_sent, stretches_have};
-ghost use Rattle.rtps_evidence.specs.Recorded.{IsRecordedBy, number_sent as number_sent_lem};
+ghost use Rattle.rtps_evidence.specs.OtherSide.{AreSides, Beside};
+ghost use Rattle.rtps_evidence.specs.Recorded.{IsArrivedBy, IsRecordedBy, number_sent as number_sent_lem};
 
-use crate::amount::{Stretch, count_of, push_sent};
+use crate::amount::{AskedNumbers, Stretch, count_of, push_sent};
 use crate::exchange::Extent;
+use crate::first_numbers::FirstNumbers;
 use crate::judgement::span_of;
+use crate::other_side::{Arrivals, Sides};
 use rtps_audit::{Index, Placed, Said};
 use rtps_discovery::Pair;
-use rtps_ids::{Guid, Memory};
+use rtps_ids::{Guid, Memory, SeqNum};
 use rtps_receiver::ActBody;
 use std::alloc::Global;
 
@@ -21,6 +24,15 @@ use std::alloc::Global;
 pub struct Recorded {
     pub numbers: u64,
     pub recorded: u64,
+}
+
+/// Of a pair of best effort that is held against another recording: what arrived of the same numbers.
+#[derive(Clone, Copy, PartialEq, Eq, Debug)]
+pub struct ArrivedNumbers {
+    /// Of how many of them the other recording has a payload that the reader hears.
+    pub arrived: u64,
+    /// The first of those of which it has none.
+    pub lacking: FirstNumbers,
 }
 
 /// The number of which the writer sends a payload, or a part of one, by an act, to whomever; 0 where it sends none.
@@ -51,7 +63,11 @@ fn greatest_sent(acts: &[Placed<'_>], writer: Guid) -> u64
 }
 
 /// The numbers of which the pair's reader hears a payload from its writer by these acts.
-fn sent_among(alloc: Global, acts: &[Placed<'_>], pair: Pair) -> Result<Vec<Stretch>, Memory>
+pub(crate) fn sent_among(
+    alloc: Global,
+    acts: &[Placed<'_>],
+    pair: Pair,
+) -> Result<Vec<Stretch>, Memory>
     ensures { IfOk result (λ sent. (n : ℕ) → stretches_have sent.items n ≡ is_sent pair.writer pair.reader (map placed_value acts.now) n) }
 {
     let mut sent = Vec::new(alloc);
@@ -81,4 +97,37 @@ pub fn recorded_of(
         numbers: behind.saturating_sub(from),
         recorded,
     })
+}
+
+/// The numbers from `from` on, up to the greatest that the writer sends by these acts, to whomever.
+fn sent_from(from: SeqNum, acts: &[Placed<'_>], writer: Guid) -> AskedNumbers
+    ensures from { result.from ≡ from }
+    ensures last { result.last ≡ max (greatest (map (number_sent_lem writer) (map placed_value acts.now))) (from - 1) }
+{
+    let before = from.get().cast_unsigned() - 1;
+    let last = greatest_sent(acts, writer).max(before);
+    AskedNumbers { from, last }
+}
+
+/// What arrived of the same numbers by the other recording; None where there is none, or the pair is not held against it.
+pub fn arrived_of(
+    alloc: Global,
+    sides: &Sides<'_, '_, '_, '_>,
+    pair: Pair,
+    extent: Extent,
+) -> Result<Option<ArrivedNumbers>, Memory>
+    ensures { (intake : Intake) (beside : Beside) → AreSides intake beside sides.now
+        → IfOk result (IsArrivedBy extent.in_spans extent.from beside.other pair intake) }
+{
+    let span = span_of(sides.index, pair, extent.from, extent.in_spans);
+    let mut arrivals = Arrivals::of(alloc, sides, pair)?;
+    if !arrivals.is_held {
+        return Ok(None);
+    }
+    let said = Said::until(sides.index, pair, span.until);
+    let asked = sent_from(span.from, said.acts, pair.writer);
+    let from = asked.from.get().cast_unsigned();
+    let arrived = count_of(&mut arrivals.numbers, from, asked.last + 1)?;
+    let lacking = FirstNumbers::outside(alloc, &mut arrivals.numbers, &asked)?;
+    Ok(Some(ArrivedNumbers { arrived, lacking }))
 }

@@ -10,6 +10,7 @@ use crate::amount::{AskedNumbers, HeardNumbers};
 use crate::exchange::Exchange;
 use crate::judgement::Judgement;
 use crate::last_announcement::{Announcement, find_announcement, greatest_number};
+use crate::times::Times;
 use rtps_audit::{Index, Placed, Said};
 use rtps_discovery::Pair;
 use rtps_ids::{Guid, Memory};
@@ -112,11 +113,15 @@ impl WriterSummary {
                 return Ok(summary);
             }
         }
+        let times = Times::none(alloc);
         let exchange = Exchange {
             pair: judgement.pair,
             span: judgement.span,
             in_spans: judgement.in_spans,
             said: Said::until(index, judgement.pair, judgement.span.until),
+            is_held: false,
+            there: &[],
+            times: &times,
         };
         let summary = WriterSummary::of(alloc, &exchange)?;
         Ok(summary)

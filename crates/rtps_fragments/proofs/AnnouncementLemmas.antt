@@ -1,12 +1,12 @@
 -- The acts of a recording that may announce something, with one datagram more.
-use Rattle.std.proofs.Common.{◌≡◌, ◌∙◌, ℕ, ◌+◌, List, [], ◌∷◌, ◌++◌, filter, length, map, refl, subst, sym, ap}
+use Rattle.std.proofs.Common.{◌≡◌, ◌∙◌, ℕ, ◌+◌, List, [], ◌∷◌, ◌++◌, filter, length, map, refl, sym, ap}
 use Rattle.std.proofs.lemmas.List.Elements.{filter-append}
 use Rattle.rtps_wire.specs.declared.counts.Tally.{Tally}
 use Rattle.rtps_receiver.specs.Values.{ActValue}
 use Rattle.rtps_audit.specs.Index.{IsIndexBy}
 use Rattle.rtps_audit.specs.Intake.{Intake, intake_more}
 use Rattle.rtps_audit.specs.Placed.{PlacedValue, placed_at, placed_in, placed_value}
-use Rattle.rtps_audit.proofs.PlacedActs.{placed_push}
+use Rattle.rtps_audit.proofs.Offered.{placed_push}
 use Rattle.rtps_fragments.specs.Announcements.{IsIndexedBy, announcements_in, is_announcement}
 use Rattle.rtps_fragments.specs.declared.announcements.Indexed.{Indexed}
 

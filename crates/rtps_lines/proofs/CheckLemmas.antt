@@ -3,25 +3,22 @@ use Rattle.std.proofs.Common.{◌≤◌, ◌++◌, arith}
 use Rattle.json.specs.Json.{max_depth}
 use Rattle.json.specs.Tree.{depth, members_depth}
 use Rattle.rtps_report.specs.FullReport.{AskedValue, RecordingValue, ReportValue, rows_of}
-use Rattle.rtps_report.specs.NoteFacts.{scope_of}
-use Rattle.rtps_lines.specs.CheckMembers.{check_members, notes_members, report_causes, report_notes, status_members}
+use Rattle.rtps_lines.specs.CheckMembers.{check_members, check_telling, notes_members, report_causes, report_notes, status_members}
 use Rattle.rtps_lines.specs.JsonText.{members_of, object_of, rows_members}
 use Rattle.rtps_lines.specs.TalkMembers.{talk_members}
-use Rattle.rtps_lines.specs.declared.json_object.Advised.TheVariants.{All}
-use Rattle.rtps_lines.specs.declared.json_object.Telling.{Telling}
-use Rattle.rtps_lines.proofs.JsonLemmas.{joined, rows_depth}
-use Rattle.rtps_lines.proofs.TalkLemmas.{strings_within, talk_depth}
+use Rattle.rtps_lines.proofs.JsonLemmas.{joined, rows_depth, strings_within}
+use Rattle.rtps_lines.proofs.TalkLemmas.{talk_depth}
 
 pub check_depth : (asked : AskedValue) (recording : RecordingValue) (report : ReportValue) → members_depth (members_of (check_members asked recording report)) ≤ 4
 check_depth asked recording report =
     let causes = report_causes asked recording report in
     let notes = report_notes asked recording report in
-    let telling : Telling = record { scope = scope_of asked recording report; advised = All } in
+    let telling = check_telling asked recording report in
     let rows = rows_members telling (rows_of report) report.explained.counts recording in
     let few = strings_within causes in
     let last = strings_within notes in
-    let talk = talk_members report in
-    let end = joined 4 talk (notes_members notes) (omega (arith, talk_depth report)) (omega (arith, last)) in
+    let talk = talk_members recording.times report in
+    let end = joined 4 talk (notes_members notes) (omega (arith, talk_depth recording.times report)) (omega (arith, last)) in
     let behind = joined 4 rows (talk ++ notes_members notes) (rows_depth telling (rows_of report) report.explained.counts recording) end in
     joined 4 (status_members report.ending causes) (rows ++ (talk ++ notes_members notes)) (omega (arith, few)) behind
 

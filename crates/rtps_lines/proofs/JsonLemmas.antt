@@ -9,20 +9,25 @@ use Rattle.std.proofs.lemmas.Str.Parse.{digit_at}
 use Rattle.std.specs.Char.{is_ascii_digit}
 use Rattle.std.specs.List.{flat_map, prefix_len}
 use Rattle.json.proofs.Printed.Trees.{value-json_tokens}
-use Rattle.json.specs.Json.{Json, document, if_last, max_depth, null, string, value}
+use Rattle.json.specs.Json.{Json, boolean, document, if_last, max_depth, null, string, value}
 use Rattle.json.specs.Lex.{tokens}
 use Rattle.json.specs.Print.{IsNumber, print}
-use Rattle.json.specs.Token.{begin_array, begin_object, end_array, end_object, key}
+use Rattle.json.specs.Token.{Token, begin_array, begin_object, end_array, end_object, key}
 use Rattle.json.specs.Tree.{depth, items_depth, items_tokens, json_tokens, members_depth, members_tokens}
 use Rattle.json.specs.Word.{after_exponent, after_fraction, after_number, after_whole, head}
+use Rattle.rtps_evidence.specs.FirstNumbers.{numbers_of}
+use Rattle.rtps_evidence.specs.Times.{TimesValue, are_there, seconds_of}
+use Rattle.rtps_evidence.specs.declared.times.Seconds.{Seconds}
+use Rattle.rtps_evidence.specs.declared.waits.Wait.{Wait}
 use Rattle.rtps_report.specs.Vocabulary.{Absent, Announcement, Claim, Complete, CompleteGrounds, Conflict, ConflictGrounds, Counts, EvidenceValue, Explanation, ExplanationValue, FirstMissed, GroundsValue, InSpan, Key, Location, NotReceived, Open, OpenGrounds, PayloadValue, SentValue, Teller, Unfounded, UnfoundedGrounds, Verdict, Whole, explanation_value}
 use Rattle.rtps_report.specs.declared.recording.Reasons.{Reasons}
-use Rattle.rtps_report.specs.declared.advice.Scope.{Scope}
 use Rattle.rtps_report.specs.Advice.{advice_of, sentence_of}
 use Rattle.rtps_report.specs.RowFacts.{is_clean}
 use Rattle.rtps_report.specs.Recording.{RecordingValue}
-use Rattle.rtps_lines.specs.JsonText.{Member, advice_json, advice_members, announcement_json, array_of, audit_telling, claim_json, counts_members, delivery_members, evidence_members, first_missed_members, ignored_members, is_advised, items_of, members_of, not_received_json, object_of, pair_members, payload_members, place_json, place_members, reasons_members, report_json, row_json, rows_members, sent_json, shown_members, span_by, span_members, spanned_members, teller_json, tokens_of, tokens_of_member, until_json, verdict_members}
-use Rattle.rtps_lines.specs.declared.json_object.Telling.{Telling}
+use Rattle.rtps_report.specs.Talk.{TalkValue}
+use Rattle.rtps_lines.specs.Lines.{silence_lines}
+use Rattle.rtps_lines.specs.JsonText.{Member, TellingValue, advice_json, advice_members, announcement_json, array_of, audit_telling, claim_json, count_json, counts_members, delivery_members, evidence_members, first_missed_members, ignored_members, is_advised, items_of, lacking_members, members_of, not_received_json, numbers_json, object_of, outcomes_json, pair_members, payload_members, place_json, place_members, reasons_members, report_json, row_json, rows_members, second_at, second_json, sent_json, shown_members, silence_member, silence_members, span_by, span_members, spanned_members, teller_json, tells_silence, timed_members, told_silences, tokens_of, tokens_of_member, until_json, until_members, verdict_members, wait_json, wait_member, wait_members}
+use Rattle.rtps_lines.proofs.PartLemmas.{four_parts}
 
 -- ---- tokens
 
@@ -51,9 +56,29 @@ audit_tokens a b c d =
     ap (λ rest. tokens_of_member a ++ rest)
     (flat_map-append tokens_of_member b (c ++ d) ∙ ap (λ rest. tokens_of b ++ rest) (flat_map-append tokens_of_member c d))
 
+-- three lists of members
+pub tokens_of_three : (a b c : List Member) → tokens_of (a ++ (b ++ c)) ≡ tokens_of a ++ (tokens_of b ++ tokens_of c)
+tokens_of_three a b c = flat_map-append tokens_of_member a (b ++ c) ∙ ap (λ rest. tokens_of a ++ rest) (flat_map-append tokens_of_member b c)
+
+-- three members, and a list of members behind each
+pub span_tokens : (a c e : Member) (b d f : List Member)
+    → tokens_of (a ∷ (b ++ (c ∷ (d ++ (e ∷ f)))))
+    ≡ tokens_of_member a ++ (tokens_of b ++ (tokens_of_member c ++ (tokens_of d ++ (tokens_of_member e ++ tokens_of f))))
+span_tokens a c e b d f =
+    ap (λ rest. tokens_of_member a ++ rest)
+    (flat_map-append tokens_of_member b (c ∷ (d ++ (e ∷ f)))
+    ∙ ap (λ rest. tokens_of b ++ (tokens_of_member c ++ rest)) (flat_map-append tokens_of_member d (e ∷ f)))
+
 -- an object
 pub object_tokens : (members : List Member) → json_tokens (object_of members) ≡ begin_object ∷ (tokens_of members ++ end_object ∷ [])
 object_tokens members = ap (λ rest. begin_object ∷ rest) (whole members)
+
+-- an object that is written in two parts
+pub object_written : {one two three four : List Token} (start : List Token) (a b : List Member)
+    → one ≡ start ++ begin_object ∷ [] → two ≡ one ++ tokens_of a → three ≡ two ++ tokens_of b → four ≡ three ++ end_object ∷ [] → four ≡ start ++ json_tokens (object_of (a ++ b))
+object_written start a b first second third fourth =
+    four_parts start (begin_object ∷ []) (tokens_of a) (tokens_of b) (end_object ∷ []) first second third fourth
+    ∙ ap (λ tokens. start ++ begin_object ∷ tokens) (ap (λ rest. tokens_of a ++ rest) (sym (whole b)) ∙ sym (front a b))
 
 list_tokens : (values : List Json) → items_tokens (items_of values) ≡ flat_map json_tokens values ++ end_array ∷ []
 list_tokens [] = refl
@@ -65,12 +90,12 @@ pub mapped_tokens : {X : Type 0} (f : X → Json) (xs : List X) → json_tokens 
 mapped_tokens f xs = ap (λ rest. begin_array ∷ rest) (list_tokens (map f xs) ∙ ap (λ rest. rest ++ end_array ∷ []) (flat_map-map json_tokens f xs))
 
 -- the array of rows
-pub rows_tokens : (telling : Telling) (rows : List Explanation)
-    → flat_map (λ row. json_tokens (row_json telling (explanation_value row))) rows ++ end_array ∷ [] ≡ items_tokens (items_of (map (row_json telling) (map explanation_value rows)))
-rows_tokens telling [] = refl
-rows_tokens telling (row ∷ rows) =
-    let first = json_tokens (row_json telling (explanation_value row)) in
-    append_assoc first (flat_map (λ each. json_tokens (row_json telling (explanation_value each))) rows) (end_array ∷ []) ∙ ap (λ rest. first ++ rest) (rows_tokens telling rows)
+pub rows_tokens : (telling : TellingValue) (times : TimesValue) (rows : List Explanation)
+    → flat_map (λ row. json_tokens (row_json telling times (explanation_value row))) rows ++ end_array ∷ [] ≡ items_tokens (items_of (map (row_json telling times) (map explanation_value rows)))
+rows_tokens telling times [] = refl
+rows_tokens telling times (row ∷ rows) =
+    let first = json_tokens (row_json telling times (explanation_value row)) in
+    append_assoc first (flat_map (λ each. json_tokens (row_json telling times (explanation_value each))) rows) (end_array ∷ []) ∙ ap (λ rest. first ++ rest) (rows_tokens telling times rows)
 
 -- ---- depth
 
@@ -78,17 +103,42 @@ pub joined : (most : ℕ) (one other : List Member) → members_depth (members_o
 joined most [] other h k = k
 joined most ((name, json) ∷ one) other h k = let rest = joined most one other (omega (arith, h)) k in omega (arith, h, rest)
 
-announcement_within : (announcement : Option Announcement) → depth (announcement_json announcement) ≤ 1
-announcement_within None = omega arith
-announcement_within (Some announcement) = omega arith
+pub second_within : (second : Option Seconds) → depth (second_json second) ≤ 0
+second_within None = omega arith
+second_within (Some second) = omega arith
 
-claim_within : (claim : Option Claim) → depth (claim_json claim) ≤ 1
-claim_within None = omega arith
-claim_within (Some claim) = omega arith
+if_within : (most : ℕ) (told : Bool) (members : List Member) → members_depth (members_of members) ≤ most → members_depth (members_of (if told then members else [])) ≤ most
+if_within most true members h = h
+if_within most false members h = omega arith
 
-teller_within : (teller : Option Teller) → depth (teller_json teller) ≤ 1
-teller_within None = omega arith
-teller_within (Some teller) = omega arith
+pub timed_within : (most : ℕ) (times : TimesValue) (members : List Member) → members_depth (members_of members) ≤ most → members_depth (members_of (timed_members times members)) ≤ most
+timed_within most times members h = if_within most (are_there times.of_datagrams) members h
+
+pub items_within : {X : Type 0} (f : X → Json) (most : ℕ) (xs : List X) → ((x : X) → depth (f x) ≤ most) → items_depth (items_of (map f xs)) ≤ most
+items_within f most [] each = omega arith
+items_within f most (x ∷ xs) each = omega (arith, each x, items_within f most xs each)
+
+pub strings_within : (texts : List (List ℕ)) → items_depth (items_of (map string texts)) ≤ 0
+strings_within texts = items_within string 0 texts (λ text. omega arith)
+
+pub numbers_within : (numbers : List ℕ) → depth (numbers_json numbers) ≤ 1
+numbers_within numbers = omega (arith, items_within count_json 0 numbers (λ n. omega arith))
+
+places_within : (times : TimesValue) (place : Location) → members_depth (members_of (place_members times place)) ≤ 0
+places_within times place =
+    omega (arith, timed_within 0 times ((codes "time", second_json (second_at times (Some place.datagram))) ∷ []) (omega (arith, second_within (second_at times (Some place.datagram)))))
+
+announcement_within : (times : TimesValue) (announcement : Option Announcement) → depth (announcement_json times announcement) ≤ 1
+announcement_within times None = omega arith
+announcement_within times (Some announcement) = omega (arith, places_within times announcement.place)
+
+claim_within : (times : TimesValue) (claim : Option Claim) → depth (claim_json times claim) ≤ 1
+claim_within times None = omega arith
+claim_within times (Some claim) = omega (arith, places_within times claim.place)
+
+teller_within : (times : TimesValue) (teller : Option Teller) → depth (teller_json times teller) ≤ 1
+teller_within times None = omega arith
+teller_within times (Some teller) = omega (arith, places_within times teller.place)
 
 payload_within : (payload : Option PayloadValue) → members_depth (members_of (payload_members payload)) ≤ 0
 payload_within None = omega arith
@@ -96,10 +146,10 @@ payload_within (Some Absent) = omega arith
 payload_within (Some (Whole octets)) = omega arith
 payload_within (Some (Key octets)) = omega arith
 
-sent_within : (sent : Option SentValue) → depth (sent_json sent) ≤ 1
-sent_within None = omega arith
-sent_within (Some sent) =
-    let members = joined 0 (payload_members sent.payload) (place_members sent.place) (payload_within sent.payload) (omega arith) in
+sent_within : (times : TimesValue) (sent : Option SentValue) → depth (sent_json times sent) ≤ 1
+sent_within times None = omega arith
+sent_within times (Some sent) =
+    let members = joined 0 (payload_members sent.payload) (place_members times sent.place) (payload_within sent.payload) (places_within times sent.place) in
     omega (arith, members)
 
 verdict_within : (verdict : Verdict) → members_depth (members_of (verdict_members verdict)) ≤ 2
@@ -108,29 +158,29 @@ verdict_within (Open n) = omega arith
 verdict_within (Conflict n) = omega arith
 verdict_within (Unfounded datagram n) = omega arith
 
-evidence_within : (evidence : EvidenceValue) → members_depth (members_of (evidence_members evidence)) ≤ 2
-evidence_within evidence = omega (arith, announcement_within evidence.announcement, claim_within evidence.acknowledgement)
+evidence_within : (times : TimesValue) (evidence : EvidenceValue) → members_depth (members_of (evidence_members times evidence)) ≤ 2
+evidence_within times evidence = omega (arith, announcement_within times evidence.announcement, claim_within times evidence.acknowledgement)
 
-place_within : (place : Option Location) → depth (place_json place) ≤ 1
-place_within None = omega arith
-place_within (Some place) = omega arith
+place_within : (times : TimesValue) (place : Option Location) → depth (place_json times place) ≤ 1
+place_within times None = omega arith
+place_within times (Some place) = omega (arith, places_within times place)
 
-not_received_within : (kept : Option NotReceived) → depth (not_received_json kept) ≤ 2
-not_received_within None = omega arith
-not_received_within (Some kept) = omega (arith, teller_within kept.gone, place_within kept.acknowledged)
+not_received_within : (times : TimesValue) (kept : Option NotReceived) → depth (not_received_json times kept) ≤ 2
+not_received_within times None = omega arith
+not_received_within times (Some kept) = omega (arith, teller_within times kept.gone, place_within times kept.acknowledged)
 
-first_missed_within : (first : Option FirstMissed) → members_depth (members_of (first_missed_members first)) ≤ 2
-first_missed_within None = omega arith
-first_missed_within (Some first) = omega (arith, place_within first.again, teller_within first.gone)
+first_missed_within : (times : TimesValue) (first : Option FirstMissed) → members_depth (members_of (first_missed_members times first)) ≤ 2
+first_missed_within times None = omega arith
+first_missed_within times (Some first) = omega (arith, places_within times first.asked, place_within times first.again, teller_within times first.gone)
 
-delivery_within : (evidence : EvidenceValue) → members_depth (members_of (delivery_members evidence)) ≤ 2
-delivery_within evidence = omega (arith, not_received_within evidence.not_received, first_missed_within evidence.first_missed)
+delivery_within : (times : TimesValue) (evidence : EvidenceValue) → members_depth (members_of (delivery_members times evidence)) ≤ 2
+delivery_within times evidence = omega (arith, not_received_within times evidence.not_received, first_missed_within times evidence.first_missed)
 
-shown_within : (grounds : GroundsValue) → members_depth (members_of (shown_members grounds)) ≤ 2
-shown_within CompleteGrounds = omega arith
-shown_within (OpenGrounds teller count last) = omega (arith, teller_within teller, place_within last)
-shown_within (ConflictGrounds first other) = omega (arith, sent_within first, sent_within other)
-shown_within (UnfoundedGrounds teller claim) = omega (arith, claim_within claim, teller_within teller)
+shown_within : (times : TimesValue) (grounds : GroundsValue) → members_depth (members_of (shown_members times grounds)) ≤ 2
+shown_within times CompleteGrounds = omega arith
+shown_within times (OpenGrounds teller count last) = omega (arith, teller_within times teller, place_within times last)
+shown_within times (ConflictGrounds first other) = omega (arith, sent_within times first, sent_within times other)
+shown_within times (UnfoundedGrounds teller claim) = omega (arith, claim_within times claim, teller_within times teller)
 
 sentence_within : (clean : Bool) (sentence : List ℕ) → depth (if clean then null else string sentence) ≤ 0
 sentence_within true sentence = omega arith
@@ -140,34 +190,80 @@ until_within : (until : Option ℕ) → depth (until_json until) ≤ 0
 until_within None = omega arith
 until_within (Some datagram) = omega arith
 
-span_by_within : (scope : Scope) (evidence : EvidenceValue) (in_span : Option InSpan) → members_depth (members_of (span_by scope evidence in_span)) ≤ 1
-span_by_within scope evidence None = omega arith
-span_by_within scope evidence (Some in_span) = omega (arith, until_within in_span.until)
+untils_within : (times : TimesValue) (until : Option ℕ) → members_depth (members_of (until_members times until)) ≤ 1
+untils_within times until =
+    omega (
+      arith,
+      until_within until,
+      timed_within 0 times ((codes "until_time", second_json (second_at times until)) ∷ []) (omega (arith, second_within (second_at times until))),
+    )
 
-told_within : (told : Bool) (scope : Scope) (evidence : EvidenceValue) → members_depth (members_of (if told then (codes "advice", advice_json scope evidence) ∷ [] else [])) ≤ 1
-told_within true scope evidence = omega (arith, sentence_within (is_clean scope.tail evidence) (sentence_of (advice_of scope evidence)))
-told_within false scope evidence = omega arith
+held_within : (most : ℕ) (is_held : Bool) (json : Json) → depth json ≤ most → depth (if is_held then json else null) ≤ most
+held_within most true json h = h
+held_within most false json h = omega arith
 
-spanned_within : (telling : Telling) (evidence : EvidenceValue) → members_depth (members_of (spanned_members telling evidence)) ≤ 2
-spanned_within telling evidence =
-    let members = joined 1 (span_members telling.scope evidence) (advice_members telling evidence) (span_by_within telling.scope evidence evidence.in_span)
-    (told_within (is_advised telling.advised evidence.in_span) telling.scope evidence) in
+outcomes_within : (has_other : Bool) (in_span : InSpan) → depth (outcomes_json has_other in_span) ≤ 1
+outcomes_within true in_span = omega (arith, held_within 0 in_span.is_held (count_json in_span.outcomes.arrived) (omega arith))
+outcomes_within false in_span = omega arith
+
+lacking_within : (has_other : Bool) (in_span : InSpan) → members_depth (members_of (lacking_members has_other in_span)) ≤ 1
+lacking_within true in_span =
+    omega (arith, held_within 1 in_span.is_held (numbers_json (numbers_of in_span.lacking)) (numbers_within (numbers_of in_span.lacking)))
+lacking_within false in_span = omega arith
+
+wait_within : (times : TimesValue) (wait : Option Wait) → depth (wait_json times wait) ≤ 2
+wait_within times None = omega arith
+wait_within times (Some wait) =
+    omega (arith, second_within (Some (seconds_of wait.nanoseconds)), place_within times (Some wait.asked), place_within times wait.answered)
+
+waits_within : (times : TimesValue) (wait : Option Wait) → members_depth (members_of (wait_members times wait)) ≤ 2
+waits_within times wait = timed_within 2 times (wait_member times wait ∷ []) (omega (arith, wait_within times wait))
+
+span_by_within : (telling : TellingValue) (times : TimesValue) (evidence : EvidenceValue) (in_span : Option InSpan) → members_depth (members_of (span_by telling times evidence in_span)) ≤ 2
+span_by_within telling times evidence None = omega arith
+span_by_within telling times evidence (Some in_span) =
+    let lacking = lacking_members telling.has_other in_span in
+    let last : List Member = (codes "clean", boolean (is_clean telling.scope.tail evidence)) ∷ wait_members times in_span.wait in
+    let behind : List Member = (codes "outcomes", outcomes_json telling.has_other in_span) ∷ (lacking ++ last) in
+    let end = joined 2 lacking last (omega (arith, lacking_within telling.has_other in_span)) (omega (arith, waits_within times in_span.wait)) in
+    let members = joined 2 (until_members times in_span.until) behind (omega (arith, untils_within times in_span.until))
+    (omega (arith, outcomes_within telling.has_other in_span, end)) in
     omega (arith, members)
 
-row_within : (telling : Telling) (row : ExplanationValue) → depth (row_json telling row) ≤ 3
-row_within telling row =
+silences_within : (talk : Option TalkValue) (times : TimesValue) (row : ExplanationValue) → members_depth (members_of (silence_members talk times row)) ≤ 1
+silences_within talk times row =
+    if_within 1 (tells_silence talk times row.evidence.in_span) (silence_member talk times row ∷ [])
+    (omega (arith, strings_within (silence_lines times (told_silences talk row.pair))))
+
+told_within : (told : Bool) (telling : TellingValue) (row : ExplanationValue) → members_depth (members_of (if told then (codes "advice", advice_json telling row) ∷ [] else [])) ≤ 1
+told_within true telling row =
+    omega (arith, sentence_within (is_clean telling.scope.tail row.evidence) (sentence_of (advice_of (told_silences telling.talk row.pair) telling.scope row.evidence)))
+told_within false telling row = omega arith
+
+spanned_within : (telling : TellingValue) (times : TimesValue) (row : ExplanationValue) → members_depth (members_of (spanned_members telling times row)) ≤ 2
+spanned_within telling times row =
+    let silence = silence_members telling.talk times row in
+    let advice = advice_members telling row in
+    let end = joined 1 silence advice (silences_within telling.talk times row) (told_within (is_advised telling.talk row.evidence.in_span) telling row) in
+    joined 2 (span_members telling times row.evidence) (silence ++ advice) (span_by_within telling times row.evidence row.evidence.in_span) (omega (arith, end))
+
+row_within : (telling : TellingValue) (times : TimesValue) (row : ExplanationValue) → depth (row_json telling times row) ≤ 3
+row_within telling times row =
     let evidence = row.evidence in
-    let spanned = spanned_members telling evidence in
-    let shown = joined 2 (shown_members evidence.grounds) spanned (shown_within evidence.grounds) (spanned_within telling evidence) in
-    let last = joined 2 (delivery_members evidence) (shown_members evidence.grounds ++ spanned) (delivery_within evidence) shown in
-    let late = joined 2 (evidence_members evidence) (delivery_members evidence ++ (shown_members evidence.grounds ++ spanned)) (evidence_within evidence) last in
-    let later = joined 2 (verdict_members evidence.verdict) (evidence_members evidence ++ (delivery_members evidence ++ (shown_members evidence.grounds ++ spanned))) (verdict_within evidence.verdict) late in
-    let all = joined 2 (pair_members row) (verdict_members evidence.verdict ++ (evidence_members evidence ++ (delivery_members evidence ++ (shown_members evidence.grounds ++ spanned)))) (omega arith) later in
+    let told = evidence_members times evidence in
+    let delivered = delivery_members times evidence in
+    let grounds = shown_members times evidence.grounds in
+    let spanned = spanned_members telling times row in
+    let shown = joined 2 grounds spanned (shown_within times evidence.grounds) (spanned_within telling times row) in
+    let last = joined 2 delivered (grounds ++ spanned) (delivery_within times evidence) shown in
+    let late = joined 2 told (delivered ++ (grounds ++ spanned)) (evidence_within times evidence) last in
+    let later = joined 2 (verdict_members evidence.verdict) (told ++ (delivered ++ (grounds ++ spanned))) (verdict_within evidence.verdict) late in
+    let all = joined 2 (pair_members row) (verdict_members evidence.verdict ++ (told ++ (delivered ++ (grounds ++ spanned)))) (omega arith) later in
     omega (arith, all)
 
-rows_within : (telling : Telling) (rows : List ExplanationValue) → items_depth (items_of (map (row_json telling) rows)) ≤ 3
-rows_within telling [] = omega arith
-rows_within telling (row ∷ rows) = omega (arith, row_within telling row, rows_within telling rows)
+rows_within : (telling : TellingValue) (times : TimesValue) (rows : List ExplanationValue) → items_depth (items_of (map (row_json telling times) rows)) ≤ 3
+rows_within telling times [] = omega arith
+rows_within telling times (row ∷ rows) = omega (arith, row_within telling times row, rows_within telling times rows)
 
 ignored_within : (ignored : Option ℕ) → members_depth (members_of (ignored_members ignored)) ≤ 0
 ignored_within None = omega arith
@@ -177,11 +273,11 @@ reasons_within : (reasons : Option Reasons) → members_depth (members_of (reaso
 reasons_within None = omega arith
 reasons_within (Some reasons) = omega arith
 
-pub rows_depth : (telling : Telling) (rows : List ExplanationValue) (counts : Counts) (recording : RecordingValue) → members_depth (members_of (rows_members telling rows counts recording)) ≤ 4
+pub rows_depth : (telling : TellingValue) (rows : List ExplanationValue) (counts : Counts) (recording : RecordingValue) → members_depth (members_of (rows_members telling rows counts recording)) ≤ 4
 rows_depth telling rows counts recording =
     let frames = joined 0 (ignored_members recording.ignored) (reasons_members recording.reasons) (ignored_within recording.ignored) (reasons_within recording.reasons) in
     let last = joined 0 (counts_members counts) (ignored_members recording.ignored ++ reasons_members recording.reasons) (omega arith) frames in
-    omega (arith, rows_within telling rows, last)
+    omega (arith, rows_within telling recording.times rows, last)
 
 pub report_depth : (rows : List ExplanationValue) (counts : Counts) (recording : RecordingValue) → depth (report_json rows counts recording) ≤ 5
 report_depth rows counts recording = omega (arith, rows_depth (audit_telling counts recording.reasons) rows counts recording)
@@ -211,7 +307,7 @@ whole_digits (digit ∷ digits) first all = (
 )
 
 -- no number but 0 begins with the digit 0
-first_digit : (n : ℕ) → 0 < n → n < 10 ^ 64 → 48 < get_or (decimal n) 0 0
+pub first_digit : (n : ℕ) → 0 < n → n < 10 ^ 64 → 48 < get_or (decimal n) 0 0
 first_digit n some small =
     (decimal_by_steps_wide (λ m digits. (0 < length digits) × (0 < m → 48 < get_or digits 0 0)) (λ m l. (omega arith, λ a. omega arith))
     (λ m digits l h. (omega (arith, length-append digits ((48 + m % 10) ∷ [])), λ a. omega (arith, get_or_append_left digits ((48 + m % 10) ∷ []) 0 0 h.0, h.1 (omega arith)))) n small).1 some

@@ -3,5 +3,6 @@ mod JsonLemmas
 pub mod Offered
 mod PartLemmas
 mod TalkLemmas
+mod SecondLemmas
 mod JoinLemmas
 mod NoteLemmas

@@ -1,5 +1,5 @@
 -- Notes on rows that are silent for one reason, and on pairs of best effort.
-use Rattle.std.proofs.Common.{◌≡◌, ◌++◌, ◌∷◌, [], ◌∙◌, ◌==◌, ℕ, Bool, List, ap, append-nil, arith, codes, false, get_or, if◌then◌else◌, length, map, refl, sym, true}
+use Rattle.std.proofs.Common.{◌≡◌, ◌++◌, ◌∷◌, [], ◌∙◌, ◌==◌, ℕ, Bool, List, ap, append-nil, append_assoc, arith, codes, false, get_or, if◌then◌else◌, length, map, refl, sym, true}
 use Rattle.std.proofs.lemmas.Bool.Decides.{nat_tests}
 use Rattle.std.proofs.lemmas.Bool.{ne_eqb}
 use Rattle.std.proofs.lemmas.List.{length-map}
@@ -8,29 +8,28 @@ use Rattle.rtps_parts.specs.Parts.{WordsValue, amount, part_text, share, words_f
 use Rattle.rtps_parts.specs.declared.part.Part.{Part}
 use Rattle.rtps_policies.specs.declared.silence.Silence.{Silence}
 use Rattle.rtps_report.specs.BestEfforts.{BestEffortValue}
-use Rattle.rtps_report.specs.ByTopic.{topics_of}
 use Rattle.rtps_report.specs.Vocabulary.{Explanation, explanation_value}
-use Rattle.rtps_lines.specs.Notes.{best_effort_note, best_effort_remedy, joined_names, left_out_by, short_silent_by, silent_by}
+use Rattle.rtps_lines.specs.Notes.{best_effort_note, best_effort_remedy, left_out_by, names_if, silent_by}
+
+-- a note is told where there is some of it
+pub some_note : (n : ℕ) (text : List ℕ) → (n ≡ 0 → ⊥) → text ∷ [] ≡ (if n == 0 then [] else text ∷ [])
+some_note n text some = sym (ap (λ (none : Bool). if none then [] else text ∷ []) (ne_eqb n 0 some))
+
+-- notes that are told one behind the other
+pub behind : (before after last part rest : List (List ℕ)) → after ≡ before ++ part → last ≡ after ++ rest → last ≡ before ++ (part ++ rest)
+behind before after last part rest this those = those ∙ ap (λ all. all ++ rest) this ∙ append_assoc before part rest
 
 -- ---- rows that are silent
 
-pub some_silent : (reason : Silence) (rows : List Explanation) → (length rows == 0) ≡ false
-    → left_out_by reason (length rows) (joined_names (topics_of (map explanation_value rows))) ∷ [] ≡ silent_by reason (map explanation_value rows)
-some_silent reason [] some = absurd (let bad = some in cc)
-some_silent reason (row ∷ rows) some =
-    ap (λ n. left_out_by reason n (joined_names (topics_of (map explanation_value (row ∷ rows)))) ∷ []) (sym (length-map (row ∷ rows) explanation_value))
+pub some_silent : (named : Bool) (reason : Silence) (rows : List Explanation) → (length rows == 0) ≡ false
+    → left_out_by reason (length rows) (names_if named (map explanation_value rows)) ∷ [] ≡ silent_by named reason (map explanation_value rows)
+some_silent named reason [] some = absurd (let bad = some in cc)
+some_silent named reason (row ∷ rows) some =
+    ap (λ n. left_out_by reason n (names_if named (map explanation_value (row ∷ rows))) ∷ []) (sym (length-map (row ∷ rows) explanation_value))
 
-pub none_silent : (reason : Silence) (rows : List Explanation) → (length rows == 0) ≡ true → [] ≡ silent_by reason (map explanation_value rows)
-none_silent reason [] none = refl
-none_silent reason (row ∷ rows) none = absurd (grind (arith, nat_tests))
-
-pub some_short : (reason : Silence) (rows : List Explanation) → (length rows == 0) ≡ false → left_out_by reason (length rows) [] ∷ [] ≡ short_silent_by reason (map explanation_value rows)
-some_short reason [] some = absurd (let bad = some in cc)
-some_short reason (row ∷ rows) some = ap (λ n. left_out_by reason n [] ∷ []) (sym (length-map (row ∷ rows) explanation_value))
-
-pub none_short : (reason : Silence) (rows : List Explanation) → (length rows == 0) ≡ true → [] ≡ short_silent_by reason (map explanation_value rows)
-none_short reason [] none = refl
-none_short reason (row ∷ rows) none = absurd (grind (arith, nat_tests))
+pub none_silent : (named : Bool) (reason : Silence) (rows : List Explanation) → (length rows == 0) ≡ true → [] ≡ silent_by named reason (map explanation_value rows)
+none_silent named reason [] none = refl
+none_silent named reason (row ∷ rows) none = absurd (grind (arith, nat_tests))
 
 -- ---- pairs of best effort
 

@@ -1,25 +1,27 @@
 -- Tokens of arrays of what is made alike, and how deep the members nest that say who does not talk.
-use Rattle.std.proofs.Common.{◌≡◌, ◌≤◌, ◌++◌, ◌∷◌, [], ◌∙◌, ℕ, List, Option, None, Some, ap, append-nil, arith, map, sym}
+use Rattle.std.proofs.Common.{◌≡◌, ◌≤◌, ◌++◌, ◌∷◌, [], ◌∙◌, ℕ, Bool, true, false, if◌then◌else◌, is_some, List, Option, None, Some, ap, append-nil, arith, codes, map, refl, sym}
 use Rattle.std.proofs.lemmas.List.Concat.{flat_map-append}
 use Rattle.std.proofs.lemmas.List.Folds.{flat_map-map}
 use Rattle.std.specs.List.{flat_map}
-use Rattle.std.specs.Option.{option_map}
-use Rattle.json.specs.Json.{Json, string}
+use Rattle.json.specs.Json.{Json, boolean, string}
 use Rattle.json.specs.Token.{Token, begin_array, end_array}
 use Rattle.json.specs.Tree.{depth, items_depth, json_tokens, members_depth}
 use Rattle.rtps_evidence.specs.Explanation.{ExplanationValue, explanation_value}
+use Rattle.rtps_evidence.specs.Times.{TimesValue, are_there}
 use Rattle.rtps_policies.specs.Fitting.{ProfileValue}
 use Rattle.rtps_policies.specs.PolicyText.{policy_name}
 use Rattle.rtps_policies.specs.Unmatched.{UnmatchedValue}
 use Rattle.rtps_policies.specs.declared.fitting.Policy.{Policy}
 use Rattle.rtps_policies.specs.declared.host.Address.{Address}
+use Rattle.rtps_evidence.specs.FirstNumbers.{numbers_of}
+use Rattle.rtps_report.specs.BestEfforts.{HeldValue}
 use Rattle.rtps_report.specs.FullReport.{ReportValue}
 use Rattle.rtps_report.specs.declared.participant.Participant.{Participant}
-use Rattle.rtps_lines.specs.JsonText.{Member, array_of, items_of, members_of, tokens_of, tokens_of_member, until_json}
+use Rattle.rtps_lines.specs.JsonText.{Member, array_of, items_of, members_of, second_at, second_json, timed_members, tokens_of, tokens_of_member, until_json}
 use Rattle.rtps_lines.specs.PolicyValues.{value_text}
-use Rattle.rtps_lines.specs.TalkMembers.{address_json, best_effort_json, one_way_json, participant_json, reasons_json, talk_members, unmatched_json, unobserved_json, values_json}
+use Rattle.rtps_lines.specs.TalkMembers.{address_json, best_effort_json, first_of, held_json, held_members, last_of, one_way_json, participant_json, participants_member, reasons_json, stay_times, talk_members, unmatched_json, unobserved_json, values_json}
 use Rattle.rtps_lines.specs.declared.policy_values.Naming.TheVariants.{Dds}
-use Rattle.rtps_lines.proofs.JsonLemmas.{mapped_tokens}
+use Rattle.rtps_lines.proofs.JsonLemmas.{items_within, joined, mapped_tokens, numbers_within, second_within, strings_within, timed_within}
 use Rattle.rtps_lines.proofs.PartLemmas.{four_parts}
 
 -- ---- tokens
@@ -41,11 +43,44 @@ views_written {X} {Y} {one} {two} f g xs taken start name all first second third
     array_written f (map g xs) (map g taken) start name (ap (map g) all) first second
     (third ∙ ap (λ tokens. two ++ tokens) (sym (flat_map-map (λ y. json_tokens (f y)) g taken))) fourth
 
--- five members
-pub five_tokens : (a b c d e : Member)
-    → tokens_of_member a ++ (tokens_of_member b ++ (tokens_of_member c ++ (tokens_of_member d ++ tokens_of_member e))) ≡ tokens_of (a ∷ b ∷ c ∷ d ∷ e ∷ [])
-five_tokens a b c d e =
-    ap (λ last. tokens_of_member a ++ (tokens_of_member b ++ (tokens_of_member c ++ (tokens_of_member d ++ last)))) (sym (append-nil (tokens_of_member e)))
+-- three members
+pub three_tokens : (a b c : Member) → tokens_of_member a ++ (tokens_of_member b ++ tokens_of_member c) ≡ tokens_of (a ∷ b ∷ c ∷ [])
+three_tokens a b c = ap (λ last. tokens_of_member a ++ (tokens_of_member b ++ last)) (sym (append-nil (tokens_of_member c)))
+
+-- four members that stand only where there are times, each by itself
+pub timed_tokens : (times : TimesValue) (a b c d : Member)
+    → tokens_of (timed_members times (a ∷ [])) ++ (tokens_of (timed_members times (b ∷ [])) ++ (tokens_of (timed_members times (c ∷ [])) ++ tokens_of (timed_members times (d ∷ []))))
+    ≡ tokens_of (timed_members times (a ∷ b ∷ c ∷ d ∷ []))
+timed_tokens times a b c d = go (are_there times.of_datagrams)
+  where
+    one : List Token
+    one = tokens_of_member a
+
+    two : List Token
+    two = tokens_of_member b
+
+    three : List Token
+    three = tokens_of_member c
+
+    four : List Token
+    four = tokens_of_member d
+
+    go : (timed : Bool)
+        → tokens_of (if timed then a ∷ [] else [])
+        ++ (tokens_of (if timed then b ∷ [] else []) ++ (tokens_of (if timed then c ∷ [] else []) ++ tokens_of (if timed then d ∷ [] else [])))
+        ≡ tokens_of (if timed then a ∷ b ∷ c ∷ d ∷ [] else [])
+    go true =
+        ap (λ first. first ++ ((two ++ []) ++ ((three ++ []) ++ (four ++ [])))) (append-nil one) ∙ ap (λ next. one ++ (next ++ ((three ++ []) ++ (four ++ [])))) (append-nil two)
+        ∙ ap (λ next. one ++ (two ++ (next ++ (four ++ [])))) (append-nil three)
+    go false = refl
+
+-- four members, some others, and a last one
+pub six_tokens : (a b c d : Member) (others : List Member) (last : Member)
+    → tokens_of_member a ++ (tokens_of_member b ++ (tokens_of_member c ++ (tokens_of_member d ++ (tokens_of others ++ tokens_of_member last))))
+    ≡ tokens_of (a ∷ b ∷ c ∷ d ∷ (others ++ last ∷ []))
+six_tokens a b c d others last =
+    ap (λ (rest : List Token). tokens_of_member a ++ (tokens_of_member b ++ (tokens_of_member c ++ (tokens_of_member d ++ rest))))
+    (ap (λ (end : List Token). tokens_of others ++ end) (sym (append-nil (tokens_of_member last))) ∙ sym (flat_map-append tokens_of_member others (last ∷ [])))
 
 -- four lists of members
 pub tokens_of_four : (a b c d : List Member) → tokens_of a ++ (tokens_of b ++ (tokens_of c ++ tokens_of d)) ≡ tokens_of (a ++ (b ++ (c ++ d)))
@@ -55,13 +90,6 @@ tokens_of_four a b c d =
     ∙ sym (flat_map-append tokens_of_member a (b ++ (c ++ d)))
 
 -- ---- depth
-
-items_within : {X : Type 0} (f : X → Json) (most : ℕ) (xs : List X) → ((x : X) → depth (f x) ≤ most) → items_depth (items_of (map f xs)) ≤ most
-items_within f most [] each = omega arith
-items_within f most (x ∷ xs) each = omega (arith, each x, items_within f most xs each)
-
-pub strings_within : (texts : List (List ℕ)) → items_depth (items_of (map string texts)) ≤ 0
-strings_within texts = items_within string 0 texts (λ text. omega arith)
 
 reasons_within : (policies : List Policy) → depth (reasons_json policies) ≤ 1
 reasons_within policies = omega (arith, items_within (λ policy. string (policy_name policy)) 0 policies (λ policy. omega arith))
@@ -80,22 +108,38 @@ until_within : (until : Option ℕ) → depth (until_json until) ≤ 0
 until_within None = omega arith
 until_within (Some datagram) = omega arith
 
-participant_within : (participant : Participant) → depth (participant_json participant) ≤ 1
-participant_within participant =
+stay_times_within : (times : TimesValue) (participant : Participant) → members_depth (members_of (stay_times times participant)) ≤ 0
+stay_times_within times participant =
+    let first = second_at times (first_of participant) in
+    let last = second_at times (last_of participant) in
+    let left = second_at times participant.left in
+    timed_within 0 times ((codes "first_time", second_json first) ∷ (codes "last_time", second_json last) ∷ (codes "left_time", second_json left)
+    ∷ (codes "silent", boolean participant.silent) ∷ [])
+    (omega (arith, second_within first, second_within last, second_within left))
+
+participant_within : (times : TimesValue) (participant : Participant) → depth (participant_json times participant) ≤ 1
+participant_within times participant =
     omega (
       arith,
       address_within participant.host.address,
       until_within participant.host.domain,
-      until_within (option_map (λ stay. stay.first) participant.stay),
-      until_within (option_map (λ stay. stay.last) participant.stay),
+      until_within (first_of participant),
+      until_within (last_of participant),
       until_within participant.left,
+      stay_times_within times participant,
     )
 
-pub talk_depth : (report : ReportValue) → members_depth (members_of (talk_members report)) ≤ 3
-talk_depth report =
+held_within : (has_other : Bool) (held : List HeldValue) → members_depth (members_of (held_members has_other held)) ≤ 3
+held_within true held = omega (arith, items_within held_json 2 held (λ one. omega (arith, numbers_within (numbers_of one.arrived.lacking))))
+held_within false held = omega arith
+
+pub talk_depth : (times : TimesValue) (report : ReportValue) → members_depth (members_of (talk_members times report)) ≤ 3
+talk_depth times report =
     let unmatched = items_within unmatched_json 2 report.talk.unmatched unmatched_within in
     let left_out = items_within (λ (row : ExplanationValue). unobserved_json (report.talk.silence row.pair) row) 1 (map explanation_value report.left_out) (λ row. omega arith) in
     let one_way = items_within one_way_json 1 report.talk.one_way (λ one. omega arith) in
     let sums = items_within best_effort_json 1 report.talk.best_effort (λ sum. omega arith) in
-    let participants = items_within participant_json 1 report.talk.participants participant_within in
-    omega (arith, unmatched, left_out, one_way, sums, participants)
+    let participants = items_within (participant_json times) 1 report.talk.participants (participant_within times) in
+    let held = held_members (is_some report.arrived) report.talk.held in
+    let end = joined 3 held (participants_member times report.talk.participants ∷ []) (held_within (is_some report.arrived) report.talk.held) (omega (arith, participants)) in
+    omega (arith, unmatched, left_out, one_way, sums, end)

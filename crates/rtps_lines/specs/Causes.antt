@@ -40,6 +40,10 @@ unsent_words = record { one = codes "number was unsent in"; many = codes "number
 abbrev pub unanswered_words : WordsValue
 unanswered_words = record { one = codes "number was unanswered in"; many = codes "numbers were unanswered in" }
 
+-- that did not arrive
+abbrev pub lost_words : WordsValue
+lost_words = record { one = codes "likely number did not arrive in"; many = codes "likely numbers did not arrive in" }
+
 -- that are not certain
 abbrev pub uncertain_words : WordsValue
 uncertain_words = record { one = codes "number is not received for certain in"; many = codes "numbers are not received for certain in" }
@@ -85,7 +89,8 @@ unclean_causes totals certain =
     ++ (lost_cause (record { numbers = totals.missed; pairs = totals.missed_pairs }) missed_words
     ++ (lost_cause (record { numbers = totals.unsent; pairs = totals.unsent_pairs }) unsent_words
     ++ (lost_cause (record { numbers = totals.unanswered; pairs = totals.unanswered_pairs }) unanswered_words
-    ++ lost_cause (uncertain_of totals certain) uncertain_words)))
+    ++ (lost_cause (record { numbers = totals.lost; pairs = totals.lost_pairs }) lost_words
+    ++ lost_cause (uncertain_of totals certain) uncertain_words))))
 
 -- rows that are not what they have to be
 abbrev pub row_causes : Standard → Totals → Findings → List (List ℕ)

@@ -1,13 +1,21 @@
 -- A report as an object of JSON. RFC 8259 "The JavaScript Object Notation (JSON) Data Interchange Format".
 -- own: other programs read the rows, what each rests on, and the counts. Members stand in this order, no space stands between tokens,
--- and numbers are integers in decimal. Names are strings of what `list` writes between the quotes, and places are as `why` writes them.
-use Rattle.std.specs.Prelude.{ℕ, ℤ, ◌≡◌, ◌++◌, Bool, true, if◌then◌else◌, is_some, List, [], ◌∷◌, codes, length, map, Option, None, Some}
+-- and numbers are integers in decimal, but seconds have three places. Names are strings of what `list` writes between the quotes, and places
+-- are as `why` writes them. Where some datagram of the recording has a time, each place has a second, and so has each datagram that stands
+-- alone.
+use Rattle.std.specs.Prelude.{ℕ, ℤ, ◌≡◌, ◌++◌, ◌&&◌, Bool, true, false, if◌then◌else◌, is_some, List, [], ◌∷◌, codes, length, map, Option, None, Some}
 use Rattle.std.specs.Fmt.{decimal, signed_decimal}
 use Rattle.std.specs.List.{flat_map}
+use Rattle.std.specs.Option.{option_map}
 use Rattle.json.specs.Json.{Json, null, boolean, number, string, array, object, Items, no_items, item, Members, no_members, member, document}
 use Rattle.json.specs.Print.{print}
 use Rattle.json.specs.Token.{Token, key}
 use Rattle.json.specs.Tree.{json_tokens}
+use Rattle.rtps_discovery.specs.declared.matching.Pair.{Pair}
+use Rattle.rtps_evidence.specs.FirstNumbers.{numbers_of}
+use Rattle.rtps_evidence.specs.Times.{TimesValue, are_there, seconds_of}
+use Rattle.rtps_evidence.specs.declared.times.Seconds.{Seconds}
+use Rattle.rtps_evidence.specs.declared.waits.Wait.{Wait}
 use Rattle.rtps_report.specs.Vocabulary.{Absent, Announcement, Claim, Complete, CompleteGrounds, Conflict, ConflictGrounds, Counts, EvidenceValue, ExplanationValue, FirstMissed, GroundsValue, InSpan, Key, Location, NotReceived, Open, OpenGrounds, Outcomes, PayloadValue, SentValue, Teller, Unfounded, UnfoundedGrounds, Verdict, Whole}
 use Rattle.rtps_report.specs.declared.recording.Reasons.{Reasons}
 use Rattle.rtps_report.specs.declared.advice.Scope.{Scope}
@@ -15,9 +23,10 @@ use Rattle.rtps_report.specs.Advice.{advice_of, sentence_of}
 use Rattle.rtps_report.specs.NoteFacts.{is_unread}
 use Rattle.rtps_report.specs.RowFacts.{is_clean, row_from}
 use Rattle.rtps_report.specs.Recording.{RecordingValue}
-use Rattle.rtps_lines.specs.Lines.{kind_text}
-use Rattle.rtps_lines.specs.declared.json_object.Advised.{Advised}
-use Rattle.rtps_lines.specs.declared.json_object.Advised.TheVariants.{InSpans, All}
+use Rattle.rtps_report.specs.Silences.{no_silences, silences_of}
+use Rattle.rtps_report.specs.Talk.{TalkValue, talk_value}
+use Rattle.rtps_report.specs.declared.silences.Silences.{Silences}
+use Rattle.rtps_lines.specs.Lines.{kind_text, second_in, seconds_text, silence_lines}
 use Rattle.rtps_lines.specs.declared.json_object.Telling.{Telling}
 use Rattle.rtps_parts.specs.Names.{guid_text, octet_text}
 
@@ -51,43 +60,62 @@ count_json n = number (decimal n)
 abbrev pub number_json : ℤ → Json
 number_json n = number (signed_decimal n)
 
--- where a submessage stands
-abbrev pub place_members : Location → List Member
-place_members place = (codes "datagram", count_json place.datagram) ∷ (codes "at", count_json place.at) ∷ []
+-- a time in seconds, with three places; null where there is none
+abbrev pub second_json : Option Seconds → Json
+second_json None = null
+second_json (Some second) = number (seconds_text second)
+
+-- the second of a datagram, if there is one
+abbrev pub second_at : TimesValue → Option ℕ → Option Seconds
+second_at times None = None
+second_at times (Some datagram) = second_in times datagram
+
+-- members that stand only where some datagram of the recording has a time
+abbrev pub timed_members : TimesValue → List Member → List Member
+timed_members times members = if are_there times.of_datagrams then members else []
+
+-- the second of a datagram, under a name
+abbrev pub second_member : List ℕ → TimesValue → Option ℕ → Member
+second_member name times datagram = (name, second_json (second_at times datagram))
+
+-- where a submessage stands, and when its datagram came
+abbrev pub place_members : TimesValue → Location → List Member
+place_members times place = (codes "datagram", count_json place.datagram) ∷ (codes "at", count_json place.at)
+    ∷ timed_members times (second_member (codes "time") times (Some place.datagram) ∷ [])
 
 -- the last number that the writer announced, and the submessage that did so first; null where there is none
-abbrev pub announcement_json : Option Announcement → Json
-announcement_json None = null
-announcement_json (Some announcement) =
-    object_of ((codes "number", number_json announcement.number) ∷ (codes "by", string (kind_text announcement.kind)) ∷ place_members announcement.place)
+abbrev pub announcement_json : TimesValue → Option Announcement → Json
+announcement_json times None = null
+announcement_json times (Some announcement) =
+    object_of ((codes "number", number_json announcement.number) ∷ (codes "by", string (kind_text announcement.kind)) ∷ place_members times announcement.place)
 
 -- an answer of the reader, or null where there is none
-abbrev pub claim_json : Option Claim → Json
-claim_json None = null
-claim_json (Some claim) = object_of ((codes "below", number_json claim.below) ∷ place_members claim.place)
+abbrev pub claim_json : TimesValue → Option Claim → Json
+claim_json times None = null
+claim_json times (Some claim) = object_of ((codes "below", number_json claim.below) ∷ place_members times claim.place)
 
 -- the submessage that told a number first, or null where none did
-abbrev pub teller_json : Option Teller → Json
-teller_json None = null
-teller_json (Some teller) = object_of ((codes "by", string (kind_text teller.kind)) ∷ place_members teller.place)
+abbrev pub teller_json : TimesValue → Option Teller → Json
+teller_json times None = null
+teller_json times (Some teller) = object_of ((codes "by", string (kind_text teller.kind)) ∷ place_members times teller.place)
 
 -- where a submessage stands, or null where there is none
-abbrev pub place_json : Option Location → Json
-place_json None = null
-place_json (Some place) = object_of (place_members place)
+abbrev pub place_json : TimesValue → Option Location → Json
+place_json times None = null
+place_json times (Some place) = object_of (place_members times place)
 
 -- the least number that is not received, and what keeps it; null where all are received
-abbrev pub not_received_json : Option NotReceived → Json
-not_received_json None = null
-not_received_json (Some kept) = object_of ((codes "number", count_json kept.number) ∷ (codes "gone", teller_json kept.gone) ∷ (codes "acknowledged", place_json kept.acknowledged) ∷ [])
+abbrev pub not_received_json : TimesValue → Option NotReceived → Json
+not_received_json times None = null
+not_received_json times (Some kept) = object_of ((codes "number", count_json kept.number) ∷ (codes "gone", teller_json times kept.gone) ∷ (codes "acknowledged", place_json times kept.acknowledged) ∷ [])
 
 -- the least number that is missed, what asks for it last, where it was sent again since, and what told it gone; no member where none is
-abbrev pub first_missed_members : Option FirstMissed → List Member
-first_missed_members None = []
-first_missed_members (Some first) = (
+abbrev pub first_missed_members : TimesValue → Option FirstMissed → List Member
+first_missed_members times None = []
+first_missed_members times (Some first) = (
   codes "first_missed",
-  object_of ((codes "number", count_json first.number) ∷ (codes "asked", place_json (Some first.asked)) ∷ (codes "again", place_json first.again)
-      ∷ (codes "gone", teller_json first.gone) ∷ []),
+  object_of ((codes "number", count_json first.number) ∷ (codes "asked", place_json times (Some first.asked)) ∷ (codes "again", place_json times first.again)
+      ∷ (codes "gone", teller_json times first.gone) ∷ []),
 ) ∷ []
 
 -- the name of a kind of payload, and so many octets
@@ -102,9 +130,9 @@ payload_members (Some (Whole octets)) = carried_members (codes "whole") (length 
 payload_members (Some (Key octets)) = carried_members (codes "key") (length octets)
 
 -- what was sent for a number, or null where nothing was
-abbrev pub sent_json : Option SentValue → Json
-sent_json None = null
-sent_json (Some sent) = object_of (payload_members sent.payload ++ place_members sent.place)
+abbrev pub sent_json : TimesValue → Option SentValue → Json
+sent_json times None = null
+sent_json times (Some sent) = object_of (payload_members sent.payload ++ place_members times sent.place)
 
 -- the name of a topic or a type: a string of what `list` writes between the quotes
 abbrev pub name_json : List ℕ → Json
@@ -124,71 +152,164 @@ verdict_members (Unfounded datagram n) =
     (codes "verdict", string (codes "unfounded")) ∷ (codes "number", number_json n) ∷ (codes "datagram", count_json datagram) ∷ []
 
 -- what is said of each pair, whatever its verdict is
-abbrev pub evidence_members : EvidenceValue → List Member
-evidence_members evidence = (codes "announced", announcement_json evidence.announcement) ∷ (codes "acknowledged", claim_json evidence.acknowledgement)
+abbrev pub evidence_members : TimesValue → EvidenceValue → List Member
+evidence_members times evidence = (codes "announced", announcement_json times evidence.announcement) ∷ (codes "acknowledged", claim_json times evidence.acknowledgement)
     ∷ (codes "payloads", count_json evidence.payloads) ∷ (codes "gone", count_json evidence.gone) ∷ (codes "untold", count_json evidence.untold) ∷ []
 
 -- which numbers are received, and which are missed
-abbrev pub delivery_members : EvidenceValue → List Member
-delivery_members evidence = (codes "received", count_json evidence.received) ∷ (codes "not_received", not_received_json evidence.not_received)
-    ∷ (codes "missed", count_json evidence.missed) ∷ first_missed_members evidence.first_missed
+abbrev pub delivery_members : TimesValue → EvidenceValue → List Member
+delivery_members times evidence = (codes "received", count_json evidence.received) ∷ (codes "not_received", not_received_json times evidence.not_received)
+    ∷ (codes "missed", count_json evidence.missed) ∷ first_missed_members times evidence.first_missed
+
+-- how often an answer is asked for since the last one, and where last
+abbrev pub asked_members : TimesValue → ℕ → Option Location → List Member
+asked_members times count last = (codes "asked_since", count_json count) ∷ (codes "last_asked", place_json times last) ∷ []
 
 -- what the verdict rests on
-abbrev pub shown_members : GroundsValue → List Member
-shown_members CompleteGrounds = []
-shown_members (OpenGrounds teller count last) = (codes "told", teller_json teller) ∷ (codes "asked_since", count_json count) ∷ (codes "last_asked", place_json last) ∷ []
-shown_members (ConflictGrounds first other) = (codes "sent", array_of (sent_json first ∷ sent_json other ∷ [])) ∷ []
-shown_members (UnfoundedGrounds teller claim) = (codes "claimed", claim_json claim) ∷ (codes "told", teller_json teller) ∷ []
+abbrev pub shown_members : TimesValue → GroundsValue → List Member
+shown_members times CompleteGrounds = []
+shown_members times (OpenGrounds teller count last) = (codes "told", teller_json times teller) ∷ asked_members times count last
+shown_members times (ConflictGrounds first other) = (codes "sent", array_of (sent_json times first ∷ sent_json times other ∷ [])) ∷ []
+shown_members times (UnfoundedGrounds teller claim) = (codes "claimed", claim_json times claim) ∷ (codes "told", teller_json times teller) ∷ []
 
--- how many numbers have each outcome
-abbrev pub outcome_members : Outcomes → List Member
-outcome_members outcomes = (codes "received", count_json outcomes.received) ∷ (codes "missed", count_json outcomes.missed) ∷ (codes "unsent", count_json outcomes.unsent)
+-- numbers
+abbrev pub numbers_json : List ℕ → Json
+numbers_json numbers = array_of (map count_json numbers)
+
+-- how many numbers of a row arrived by another recording; null where it is not held against that
+abbrev pub arrived_json : InSpan → Json
+arrived_json in_span = if in_span.is_held then count_json in_span.outcomes.arrived else null
+
+-- that as a member
+abbrev pub arrived_member : InSpan → Member
+arrived_member in_span = (codes "arrived", arrived_json in_span)
+
+-- the same, where there is another recording
+abbrev pub arrived_members : Bool → InSpan → List Member
+arrived_members has_other in_span = if has_other then arrived_member in_span ∷ [] else []
+
+-- the first numbers of a row that did not arrive; null where it is not held against another recording
+abbrev pub lacking_json : InSpan → Json
+lacking_json in_span = if in_span.is_held then numbers_json (numbers_of in_span.lacking) else null
+
+-- that as a member
+abbrev pub lacking_member : InSpan → Member
+lacking_member in_span = (codes "not_arrived", lacking_json in_span)
+
+-- the same, where there is another recording
+abbrev pub lacking_members : Bool → InSpan → List Member
+lacking_members has_other in_span = if has_other then lacking_member in_span ∷ [] else []
+
+-- how many numbers have each outcome but the first
+abbrev pub lost_members : Outcomes → List Member
+lost_members outcomes = (codes "missed", count_json outcomes.missed) ∷ (codes "unsent", count_json outcomes.unsent)
     ∷ (codes "unanswered", count_json outcomes.unanswered) ∷ (codes "likely", count_json outcomes.likely) ∷ (codes "unconfirmed", count_json outcomes.unconfirmed) ∷ []
 
+-- how many numbers have each outcome
+abbrev pub outcome_members : Bool → InSpan → List Member
+outcome_members has_other in_span =
+    (codes "received", count_json in_span.outcomes.received) ∷ (arrived_members has_other in_span ++ lost_members in_span.outcomes)
+
 -- an object of these
-abbrev pub outcomes_json : Outcomes → Json
-outcomes_json outcomes = object_of (outcome_members outcomes)
+abbrev pub outcomes_json : Bool → InSpan → Json
+outcomes_json has_other in_span = object_of (outcome_members has_other in_span)
 
 -- the datagram in which a reader leaves; null where it does not
 abbrev pub until_json : Option ℕ → Json
 until_json None = null
 until_json (Some datagram) = count_json datagram
 
--- of a row in a span: its first number, the datagram in which its reader leaves, what became of its numbers, and whether it is clean
-abbrev pub span_by : Scope → EvidenceValue → Option InSpan → List Member
-span_by scope evidence None = []
-span_by scope evidence (Some in_span) = (codes "from", count_json (row_from scope.from evidence.in_span)) ∷ (codes "until", until_json in_span.until)
-    ∷ (codes "outcomes", outcomes_json in_span.outcomes) ∷ (codes "clean", boolean (is_clean scope.tail evidence)) ∷ []
+-- the same as a member, and when that datagram came
+abbrev pub until_members : TimesValue → Option ℕ → List Member
+until_members times until = (codes "until", until_json until) ∷ timed_members times (second_member (codes "until_time") times until ∷ [])
+
+-- for how long the reader let the writer wait, where the writer asked, and where the reader answered
+abbrev pub waited_json : TimesValue → Wait → Json
+waited_json times wait = object_of ((codes "seconds", second_json (Some (seconds_of wait.nanoseconds))) ∷ (codes "asked", place_json times (Some wait.asked))
+    ∷ (codes "answered", place_json times wait.answered) ∷ [])
+
+-- the same of the longest wait that is told; null where there is none
+abbrev pub wait_json : TimesValue → Option Wait → Json
+wait_json times None = null
+wait_json times (Some wait) = waited_json times wait
+
+-- that as a member
+abbrev pub wait_member : TimesValue → Option Wait → Member
+wait_member times wait = (codes "wait", wait_json times wait)
+
+-- the same, where there are times
+abbrev pub wait_members : TimesValue → Option Wait → List Member
+wait_members times wait = timed_members times (wait_member times wait ∷ [])
+
+-- by what the objects of rows are told: their scope, who does not talk, where it is told of all rows what to do, and whether there is
+-- another recording. Without who does not talk it is told of rows in spans alone
+pub record TellingValue : Type 0 where
+  pub scope : Scope
+  pub talk : Option TalkValue
+  pub has_other : Bool
+
+-- that of the code, as a value
+abbrev pub telling_value : Telling → TellingValue
+telling_value telling =
+    record { scope = telling.scope; talk = option_map (λ talk. talk_value talk.now) telling.talk; has_other = telling.has_other }
+
+-- of a row in a span: its first number, the datagram in which its reader leaves, what became of its numbers, the first that did not
+-- arrive, whether it is clean, and the longest wait
+abbrev pub span_by : TellingValue → TimesValue → EvidenceValue → Option InSpan → List Member
+span_by telling times evidence None = []
+span_by telling times evidence (Some in_span) = (codes "from", count_json (row_from telling.scope.from evidence.in_span)) ∷ (until_members times in_span.until
+    ++ (codes "outcomes", outcomes_json telling.has_other in_span) ∷ (lacking_members telling.has_other in_span
+    ++ (codes "clean", boolean (is_clean telling.scope.tail evidence)) ∷ wait_members times in_span.wait))
 
 -- what is told of a row in a span; nothing of others
-abbrev pub span_members : Scope → EvidenceValue → List Member
-span_members scope evidence = span_by scope evidence evidence.in_span
+abbrev pub span_members : TellingValue → TimesValue → EvidenceValue → List Member
+span_members telling times evidence = span_by telling times evidence evidence.in_span
+
+-- who is silent of the two of a pair, where it is told who does not talk
+abbrev pub told_silences : Option TalkValue → Pair → Silences
+told_silences None pair = no_silences
+told_silences (Some talk) pair = silences_of talk pair
+
+-- the sentences on who is silent of the two of a row
+abbrev pub silence_member : Option TalkValue → TimesValue → ExplanationValue → Member
+silence_member talk times row = (codes "silence", array_of (map string (silence_lines times (told_silences talk row.pair))))
+
+-- it is told who is silent: of rows in spans, where it is told who does not talk, and where there are times
+abbrev pub tells_silence : Option TalkValue → TimesValue → Option InSpan → Bool
+tells_silence talk times in_span = is_some talk && (is_some in_span && are_there times.of_datagrams)
+
+-- these sentences, where they are told
+abbrev pub silence_members : Option TalkValue → TimesValue → ExplanationValue → List Member
+silence_members talk times row = if tells_silence talk times row.evidence.in_span then silence_member talk times row ∷ [] else []
 
 -- what to do for a row; null for a clean one
-abbrev pub advice_json : Scope → EvidenceValue → Json
-advice_json scope evidence = if is_clean scope.tail evidence then null else string (sentence_of (advice_of scope evidence))
+abbrev pub advice_json : TellingValue → ExplanationValue → Json
+advice_json telling row =
+    if is_clean telling.scope.tail row.evidence then null
+    else string (sentence_of (advice_of (told_silences telling.talk row.pair) telling.scope row.evidence))
 
 -- it is told what to do for a row
-abbrev pub is_advised : Advised → Option InSpan → Bool
-is_advised InSpans in_span = is_some in_span
-is_advised All in_span = true
+abbrev pub is_advised : Option TalkValue → Option InSpan → Bool
+is_advised None in_span = is_some in_span
+is_advised (Some talk) in_span = true
 
 -- the advice, where it is told
-abbrev pub advice_members : Telling → EvidenceValue → List Member
-advice_members telling evidence = if is_advised telling.advised evidence.in_span then (codes "advice", advice_json telling.scope evidence) ∷ [] else []
+abbrev pub advice_members : TellingValue → ExplanationValue → List Member
+advice_members telling row = if is_advised telling.talk row.evidence.in_span then (codes "advice", advice_json telling row) ∷ [] else []
 
 -- what is told of a row beside its evidence
-abbrev pub spanned_members : Telling → EvidenceValue → List Member
-spanned_members telling evidence = span_members telling.scope evidence ++ advice_members telling evidence
+abbrev pub spanned_members : TellingValue → TimesValue → ExplanationValue → List Member
+spanned_members telling times row =
+    span_members telling times row.evidence ++ (silence_members telling.talk times row ++ advice_members telling row)
 
 -- a row of the report with its evidence
-abbrev pub row_json : Telling → ExplanationValue → Json
-row_json telling row =
+abbrev pub row_json : TellingValue → TimesValue → ExplanationValue → Json
+row_json telling times row =
     object_of (pair_members row
     ++ (verdict_members row.evidence.verdict
-    ++ (evidence_members row.evidence
-    ++ (delivery_members row.evidence
-    ++ (shown_members row.evidence.grounds ++ spanned_members telling row.evidence)))))
+    ++ (evidence_members times row.evidence
+    ++ (delivery_members times row.evidence
+    ++ (shown_members times row.evidence.grounds ++ spanned_members telling times row)))))
 
 -- how many frames of a capture gave no datagram; a text has none
 abbrev pub ignored_members : Option ℕ → List Member
@@ -207,18 +328,19 @@ counts_members counts = (codes "datagrams", count_json counts.datagrams) ∷ (co
     ∷ (codes "fragments", count_json counts.fragments) ∷ (codes "undirected", count_json counts.undirected) ∷ (codes "unsettled", count_json counts.unsettled) ∷ []
 
 -- the rows, under their name
-abbrev pub pairs_member : Telling → List ExplanationValue → Member
-pairs_member telling rows = (codes "pairs", array_of (map (row_json telling) rows))
+abbrev pub pairs_member : TellingValue → TimesValue → List ExplanationValue → Member
+pairs_member telling times rows = (codes "pairs", array_of (map (row_json telling times) rows))
 
 -- what is told of these rows and counts, and of the frames of this recording
-abbrev pub rows_members : Telling → List ExplanationValue → Counts → RecordingValue → List Member
+abbrev pub rows_members : TellingValue → List ExplanationValue → Counts → RecordingValue → List Member
 rows_members telling rows counts recording =
-    pairs_member telling rows ∷ (counts_members counts ++ (ignored_members recording.ignored ++ reasons_members recording.reasons))
+    pairs_member telling recording.times rows ∷ (counts_members counts ++ (ignored_members recording.ignored ++ reasons_members recording.reasons))
 
--- by what the rows of an audit are told: with what to do, where they are in spans. No tail is allowed. A row in a span has its own first
--- number
-abbrev pub audit_telling : Counts → Option Reasons → Telling
-audit_telling counts reasons = record { scope = record { from = 1; tail = 0; unread = is_unread counts reasons }; advised = InSpans }
+-- by what the rows of an audit are told: with what to do, where they are in spans. No tail is allowed, and there is no other recording. A
+-- row in a span has its own first number
+abbrev pub audit_telling : Counts → Option Reasons → TellingValue
+audit_telling counts reasons =
+    record { scope = record { from = 1; tail = 0; unread = is_unread counts reasons }; talk = None; has_other = false }
 
 -- the whole report, as an object of `audit --json`
 abbrev pub report_json : List ExplanationValue → Counts → RecordingValue → Json

@@ -1,6 +1,7 @@
 -- The lines that `why` and `check` print alike of a row. own: one space stands between fields, so that common tools can take a line
--- apart. A place is the number of a datagram, from 1, and that of a submessage's first octet in it, from 0, as `show` writes them.
-use Rattle.std.specs.Prelude.{ℕ, ℤ, ◌++◌, List, [], ◌∷◌, codes, length, Option, None, Some}
+-- apart. A place is the number of a datagram, from 1, and that of a submessage's first octet in it, from 0, as `show` writes them. Behind it
+-- stands the second of its datagram, where that has a time: it is counted from the start of the capture.
+use Rattle.std.specs.Prelude.{ℕ, ℤ, ◌++◌, ◌/◌, ◌%◌, if◌then◌else◌, List, [], ◌∷◌, codes, length, Option, None, Some}
 use Rattle.std.specs.Fmt.{decimal, signed_decimal}
 use Rattle.rtps_report.specs.Vocabulary.{Absent, Announcement, Claim, Complete, Conflict, FirstMissed, Key, Location, Open, PayloadValue, SentValue, Teller, Unfounded, Verdict, Whole}
 use Rattle.rtps_ids.specs.declared.identity.Guid.{Guid}
@@ -9,6 +10,13 @@ use Rattle.rtps_policies.specs.AddressText.{address_text}
 use Rattle.rtps_policies.specs.declared.host.Address.{Address}
 use Rattle.rtps_evidence.specs.declared.location.Kind.{Kind}
 use Rattle.rtps_evidence.specs.declared.location.Kind.TheVariants.{Data, Heartbeat, AckNack, Gap, DataFrag, NackFrag}
+use Rattle.rtps_evidence.specs.declared.times.Seconds.{Seconds}
+use Rattle.rtps_evidence.specs.declared.waits.Wait.{Wait}
+use Rattle.rtps_evidence.specs.Times.{TimesValue, second_of, seconds_of, time_of}
+use Rattle.rtps_report.specs.declared.silences.Silences.{Silences}
+use Rattle.rtps_discovery.specs.declared.endpoint.Side.{Side}
+use Rattle.rtps_discovery.specs.declared.endpoint.Side.TheVariants.{Writer, Reader}
+use Rattle.rtps_lines.specs.QosNames.{side_text}
 
 -- a line of fields: a space (32) after each, but a line feed (10) after the last
 abbrev pub line_of : List (List ℕ) → List ℕ
@@ -42,31 +50,54 @@ kind_text Gap = codes "gap"
 kind_text DataFrag = codes "data_frag"
 kind_text NackFrag = codes "nack_frag"
 
--- where an act stands in the recording
-unfoldable pub place_text : Location → List ℕ
-place_text place = codes "in datagram " ++ (decimal place.datagram ++ (codes " at " ++ decimal place.at))
+-- the last three digits of a number
+abbrev pub three_places : ℕ → List ℕ
+three_places n = decimal (n / 100 % 10) ++ (decimal (n / 10 % 10) ++ decimal (n % 10))
+
+-- a time in seconds, with three places
+unfoldable pub seconds_text : Seconds → List ℕ
+seconds_text time =
+    (if time.negative then codes "-" else []) ++ (decimal (time.milliseconds / 1000) ++ (codes "." ++ three_places time.milliseconds))
+
+-- when a datagram came, in seconds since the start; None where it has no time
+abbrev pub second_in : TimesValue → ℕ → Option Seconds
+second_in times datagram = second_of times.start (time_of times.of_datagrams datagram)
+
+-- a second behind what it is of; nothing where there is none
+unfoldable pub second_behind : Option Seconds → List ℕ
+second_behind None = []
+second_behind (Some second) = codes ", " ++ (seconds_text second ++ codes " s")
+
+-- what is said behind a datagram: its second, where it has a time
+abbrev pub second_text : TimesValue → ℕ → List ℕ
+second_text times datagram = second_behind (second_in times datagram)
+
+-- where an act stands in the recording, and when its datagram came
+unfoldable pub place_text : TimesValue → Location → List ℕ
+place_text times place =
+    codes "in datagram " ++ (decimal place.datagram ++ (codes " at " ++ (decimal place.at ++ second_text times place.datagram)))
 
 -- the line of the last number that the writer announced, and of the submessage that did so first
-abbrev pub announced_line : Option Announcement → List ℕ
-announced_line None = inner_line (codes "announced nothing" ∷ [])
-announced_line (Some announcement) =
-    inner_line (codes "announced" ∷ signed_decimal announcement.number ∷ codes "by" ∷ kind_text announcement.kind ∷ place_text announcement.place ∷ [])
+abbrev pub announced_line : TimesValue → Option Announcement → List ℕ
+announced_line times None = inner_line (codes "announced nothing" ∷ [])
+announced_line times (Some announcement) =
+    inner_line (codes "announced" ∷ signed_decimal announcement.number ∷ codes "by" ∷ kind_text announcement.kind ∷ place_text times announcement.place ∷ [])
 
 -- the line of the greatest base of the reader's answers, and of the answer that had it first
-abbrev pub acknowledged_line : Option Claim → List ℕ
-acknowledged_line None = inner_line (codes "acknowledged nothing" ∷ [])
-acknowledged_line (Some claim) = inner_line (codes "acknowledged below" ∷ signed_decimal claim.below ∷ place_text claim.place ∷ [])
+abbrev pub acknowledged_line : TimesValue → Option Claim → List ℕ
+acknowledged_line times None = inner_line (codes "acknowledged nothing" ∷ [])
+acknowledged_line times (Some claim) = inner_line (codes "acknowledged below" ∷ signed_decimal claim.below ∷ place_text times claim.place ∷ [])
 
 -- the line of a number and of the submessage that told it first, if one did
-abbrev pub told_line : ℤ → Option Teller → List ℕ
-told_line number None = inner_line (codes "number" ∷ signed_decimal number ∷ codes "told nowhere" ∷ [])
-told_line number (Some teller) =
-    inner_line (codes "number" ∷ signed_decimal number ∷ codes "told by" ∷ kind_text teller.kind ∷ place_text teller.place ∷ [])
+abbrev pub told_line : TimesValue → ℤ → Option Teller → List ℕ
+told_line times number None = inner_line (codes "number" ∷ signed_decimal number ∷ codes "told nowhere" ∷ [])
+told_line times number (Some teller) =
+    inner_line (codes "number" ∷ signed_decimal number ∷ codes "told by" ∷ kind_text teller.kind ∷ place_text times teller.place ∷ [])
 
 -- the line of the answer that claimed a number too early, if there is one
-abbrev pub claimed_line : Option Claim → List ℕ
-claimed_line None = []
-claimed_line (Some claim) = inner_line (codes "claimed below" ∷ signed_decimal claim.below ∷ place_text claim.place ∷ [])
+abbrev pub claimed_line : TimesValue → Option Claim → List ℕ
+claimed_line times None = []
+claimed_line times (Some claim) = inner_line (codes "claimed below" ∷ signed_decimal claim.below ∷ place_text times claim.place ∷ [])
 
 -- a payload, if there is one
 abbrev pub carried_text : Option PayloadValue → List ℕ
@@ -74,35 +105,63 @@ carried_text None = []
 carried_text (Some payload) = payload_text payload
 
 -- the line of a payload that was sent for a number, if one was
-abbrev pub sent_line : ℤ → Option SentValue → List ℕ
-sent_line number None = []
-sent_line number (Some sent) =
-    inner_line (codes "number" ∷ signed_decimal number ∷ codes "payload" ∷ carried_text sent.payload ∷ place_text sent.place ∷ [])
+abbrev pub sent_line : TimesValue → ℤ → Option SentValue → List ℕ
+sent_line times number None = []
+sent_line times number (Some sent) =
+    inner_line (codes "number" ∷ signed_decimal number ∷ codes "payload" ∷ carried_text sent.payload ∷ place_text times sent.place ∷ [])
 
 -- a place, and a comma behind it
-abbrev pub place_comma : Location → List ℕ
-place_comma place = place_text place ++ codes ","
+abbrev pub place_comma : TimesValue → Location → List ℕ
+place_comma times place = place_text times place ++ codes ","
 
 -- what told a number gone since it was asked for
-unfoldable pub since_text : Option Teller → List ℕ
-since_text None = codes "not told gone since"
-since_text (Some teller) = codes "told gone by " ++ (kind_text teller.kind ++ 32 ∷ place_text teller.place)
+unfoldable pub since_text : TimesValue → Option Teller → List ℕ
+since_text times None = codes "not told gone since"
+since_text times (Some teller) = codes "told gone by " ++ (kind_text teller.kind ++ 32 ∷ place_text times teller.place)
 
 -- where a number was sent again since it was asked for, and a comma; nothing where it was not
-unfoldable pub again_text : Option Location → List ℕ
-again_text None = []
-again_text (Some place) = codes "sent again " ++ (place_comma place ++ codes " ")
+unfoldable pub again_text : TimesValue → Option Location → List ℕ
+again_text times None = []
+again_text times (Some place) = codes "sent again " ++ (place_comma times place ++ codes " ")
 
 -- the line of a number that is missed, behind four spaces: what asks for it last, where it was sent again since, and what told it gone
-abbrev pub asked_line : FirstMissed → List ℕ
-asked_line first = 32 ∷ 32 ∷ inner_line (codes "number" ∷ decimal first.number ∷ codes "asked for" ∷ place_comma first.asked ∷ (again_text first.again ++ since_text first.gone) ∷ [])
+abbrev pub asked_line : TimesValue → FirstMissed → List ℕ
+asked_line times first = 32 ∷ 32 ∷ inner_line (codes "number" ∷ decimal first.number ∷ codes "asked for" ∷ place_comma times first.asked ∷ (again_text times first.again ++ since_text times first.gone) ∷ [])
 
 -- how often the writer asked for an answer since the last one
-abbrev pub questions_line : ℕ → Option Location → List ℕ
-questions_line count None = inner_line (codes "not asked since its last answer" ∷ [])
-questions_line count (Some place) = inner_line (codes "asked" ∷ decimal count ∷ codes "times since its last answer, last" ∷ place_text place ∷ [])
+abbrev pub questions_line : TimesValue → ℕ → Option Location → List ℕ
+questions_line times count None = inner_line (codes "not asked since its last answer" ∷ [])
+questions_line times count (Some place) = inner_line (codes "asked" ∷ decimal count ∷ codes "times since its last answer, last" ∷ place_text times place ∷ [])
 
 -- a GUID, and where its participant is, if that is known
 abbrev pub hosted_text : Guid → Option Address → List ℕ
 hosted_text guid None = guid_text guid
 hosted_text guid (Some address) = guid_text guid ++ (codes " at " ++ address_text address)
+
+-- ---- who keeps others waiting
+
+-- where the reader answered; it may not have
+unfoldable pub answered_text : TimesValue → Option Location → List ℕ
+answered_text times None = codes "not answered"
+answered_text times (Some place) = codes "answered " ++ place_text times place
+
+-- how long a reader let its writer wait, where the writer asked, and where the reader answered
+abbrev pub wait_text : TimesValue → Wait → List ℕ
+wait_text times wait =
+    codes "let the writer wait " ++ (seconds_text (seconds_of wait.nanoseconds)
+    ++ (codes " s: asked " ++ (place_comma times wait.asked ++ (codes " " ++ answered_text times wait.answered))))
+
+-- the participant of a writer or a reader says nothing since this datagram, and does not leave
+abbrev pub silence_line : TimesValue → Side → ℕ → List ℕ
+silence_line times side last =
+    codes "the " ++ (side_text side ++ (codes "'s participant is silent since datagram " ++ (decimal last
+    ++ (second_text times last ++ codes ", and did not leave: it was killed, or cut off"))))
+
+-- the same, where it is silent
+abbrev pub silent_side : TimesValue → Side → Option ℕ → List (List ℕ)
+silent_side times side None = []
+silent_side times side (Some last) = silence_line times side last ∷ []
+
+-- who is silent of the two of a pair: the writer's participant, and then the reader's
+abbrev pub silence_lines : TimesValue → Silences → List (List ℕ)
+silence_lines times silences = silent_side times Writer silences.writer ++ silent_side times Reader silences.reader

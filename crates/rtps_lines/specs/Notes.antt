@@ -1,18 +1,24 @@
 -- What weakens a report, each with what to do. own: what was not read, and which pairs were not seen, is told beside the rows.
-use Rattle.std.specs.Prelude.{ℕ, ◌++◌, ◌==◌, Bool, true, false, if◌then◌else◌, nat_lt, List, [], ◌∷◌, codes, filter, length, Some}
+use Rattle.std.specs.Prelude.{ℕ, ◌++◌, ◌==◌, Bool, true, false, if◌then◌else◌, nat_lt, not, List, [], ◌∷◌, codes, filter, length, map, Option, Some, None}
 use Rattle.std.specs.List.{concat, flat_map, join_by}
-use Rattle.rtps_evidence.specs.Explanation.{ExplanationValue}
-use Rattle.rtps_parts.specs.Parts.{WordsValue, amount, grouped, share, words_for}
+use Rattle.rtps_evidence.specs.Explanation.{ExplanationValue, explanation_value}
+use Rattle.rtps_evidence.specs.Times.{seconds_of}
+use Rattle.rtps_parts.specs.Parts.{WordsValue, amount, grouped, share, words_for, words_value}
 use Rattle.rtps_parts.specs.RosNames.{topic_text}
 use Rattle.rtps_discovery.specs.declared.matching.Pair.{Pair}
 use Rattle.rtps_policies.specs.declared.silence.Silence.{Silence}
 use Rattle.rtps_policies.specs.declared.silence.Silence.TheVariants.{OneParticipant, TwoDomains, OneWay, Silent}
 use Rattle.rtps_report.specs.BestEfforts.{BestEffortValue}
 use Rattle.rtps_report.specs.Participants.{are_on_one_host}
-use Rattle.rtps_report.specs.Talk.{TalkValue}
+use Rattle.rtps_report.specs.RowFacts.{absent_in, is_held_in}
+use Rattle.rtps_report.specs.Talk.{TalkValue, talk_value}
 use Rattle.rtps_report.specs.declared.participant.Participant.{Participant}
 use Rattle.rtps_report.specs.ByTopic.{topics_of}
 use Rattle.rtps_report.specs.declared.note_facts.NoteFacts.{NoteFacts}
+use Rattle.rtps_report.specs.declared.side_facts.SideFacts.{SideFacts}
+use Rattle.rtps_lines.specs.Lines.{seconds_text}
+use Rattle.rtps_lines.specs.declared.notes.NotedRows.{NotedRows}
+use Rattle.rtps_lines.specs.declared.notes.Unread.{Unread}
 use Rattle.rtps_lines.specs.declared.notes.Weakness.{Weakness}
 use Rattle.rtps_lines.specs.declared.notes.Weakness.TheVariants.{Likely, Pieces, Cut, Links, Other, Fragments, Unsettled, Refused}
 
@@ -71,6 +77,10 @@ abbrev pub joined_names : List (List ExplanationValue) → List ℕ
 joined_names [] = []
 joined_names (topic ∷ topics) = codes ": " ++ join_by topic_name (codes ", ") (topic ∷ topics)
 
+-- the names of the topics of rows, where topics are named
+abbrev pub names_if : Bool → List ExplanationValue → List ℕ
+names_if named rows = if named then joined_names (topics_of rows) else []
+
 -- why pairs are silent, and what that says of them
 unfoldable pub silence_words : Silence → List ℕ
 silence_words OneParticipant = codes "of one participant (it needs no network)"
@@ -96,34 +106,31 @@ abbrev pub silent_in : (Pair → Silence) → Silence → List ExplanationValue 
 silent_in silence_of silence rows = filter (λ row. is_silence (silence_of row.pair) silence) rows
 
 -- the note on rows that are silent for a reason, by topic; none where there is no such row
-abbrev pub silent_by : Silence → List ExplanationValue → List (List ℕ)
-silent_by reason [] = []
-silent_by reason (row ∷ rows) = left_out_by reason (length (row ∷ rows)) (joined_names (topics_of (row ∷ rows))) ∷ []
+abbrev pub silent_by : Bool → Silence → List ExplanationValue → List (List ℕ)
+silent_by named reason [] = []
+silent_by named reason (row ∷ rows) = left_out_by reason (length (row ∷ rows)) (names_if named (row ∷ rows)) ∷ []
 
 -- the note on those of these rows that are silent for a reason
-abbrev pub silent_note : (Pair → Silence) → List ExplanationValue → Silence → List (List ℕ)
-silent_note silence_of rows silence = silent_by silence (silent_in silence_of silence rows)
-
--- the same without the topics
-abbrev pub short_silent_by : Silence → List ExplanationValue → List (List ℕ)
-short_silent_by reason [] = []
-short_silent_by reason (row ∷ rows) = left_out_by reason (length (row ∷ rows)) [] ∷ []
-
--- that note without the topics
-abbrev pub short_silent_note : (Pair → Silence) → List ExplanationValue → Silence → List (List ℕ)
-short_silent_note silence_of rows silence = short_silent_by silence (silent_in silence_of silence rows)
+abbrev pub silent_note : Bool → (Pair → Silence) → List ExplanationValue → Silence → List (List ℕ)
+silent_note named silence_of rows silence = silent_by named silence (silent_in silence_of silence rows)
 
 -- the reasons, in the order in which they are told
 abbrev pub silences : List Silence
 silences = OneParticipant ∷ TwoDomains ∷ OneWay ∷ Silent ∷ []
 
 -- the notes on rows that are left out
-abbrev pub left_out_notes : (Pair → Silence) → List ExplanationValue → List (List ℕ)
-left_out_notes silence_of rows = flat_map (silent_note silence_of rows) silences
+abbrev pub left_out_notes : Bool → (Pair → Silence) → List ExplanationValue → List (List ℕ)
+left_out_notes named silence_of rows = flat_map (silent_note named silence_of rows) silences
 
--- the notes on rows that are left out, without the topics
-abbrev pub short_left_out_notes : (Pair → Silence) → List ExplanationValue → List (List ℕ)
-short_left_out_notes silence_of rows = flat_map (short_silent_note silence_of rows) silences
+-- that times go back by so many seconds, and behind an arrow what to do
+abbrev pub back_by : List ℕ → List ℕ → List ℕ
+back_by seconds arrow =
+    concat (codes "times go back by up to " ∷ seconds ∷ codes " s" ∷ arrow
+    ∷ codes "the datagrams are out of order: reordercap FILE OUT sorts them by time, and OUT can be checked" ∷ [])
+
+-- the note on times that go back by so many nanoseconds; none where they do not
+abbrev pub order_note : List ℕ → ℕ → List (List ℕ)
+order_note arrow back = if back == 0 then [] else back_by (seconds_text (seconds_of back)) arrow ∷ []
 
 -- that all participants are on one host, if it is so
 abbrev pub host_note : List ℕ → List Participant → List (List ℕ)
@@ -140,6 +147,10 @@ share_text separator sum = concat (separator ∷ topic_text sum.topic ∷ codes 
 abbrev pub shares_text : List BestEffortValue → List ℕ
 shares_text [] = []
 shares_text (sum ∷ sums) = share_text (codes ": ") sum ++ flat_map (share_text (codes ", ")) sums
+
+-- the same, where topics are named
+abbrev pub shares_if : Bool → List BestEffortValue → List ℕ
+shares_if named sums = if named then shares_text sums else []
 
 -- what is to be done where not all numbers are recorded, behind an arrow
 abbrev pub best_effort_remedy : List ℕ → BestEffortValue → List ℕ
@@ -163,14 +174,9 @@ late_by pairs names arrow =
     concat (codes "the writer wrote nothing since the reader joined: " ∷ amount pairs pair_words ∷ names ∷ arrow
     ∷ codes "if earlier numbers were for it, it was discovered too late: wait for it, or use transient local" ∷ [])
 
--- the note on these rows; none where there is no such row
-abbrev pub late_note : List ℕ → List ExplanationValue → List (List ℕ)
-late_note arrow [] = []
-late_note arrow (row ∷ rows) = late_by (length (row ∷ rows)) (joined_names (topics_of (row ∷ rows))) arrow ∷ []
-
--- the note on so many such pairs, without the names of their topics; none where there is no such pair
-abbrev pub short_late_note : ℕ → List (List ℕ)
-short_late_note pairs = if pairs == 0 then [] else late_by pairs [] (codes " -> ") ∷ []
+-- the note on so many pairs; none where there is no such pair
+abbrev pub late_note : List ℕ → ℕ → List ℕ → List (List ℕ)
+late_note arrow pairs names = if pairs == 0 then [] else late_by pairs names arrow ∷ []
 
 -- the note on rows that are clean with a tail, and on the longest; none where there is no such row
 abbrev pub tail_note : NoteFacts → List (List ℕ)
@@ -179,19 +185,115 @@ tail_note facts =
     else concat (amount facts.tails (record { one = codes "pair is"; many = codes "pairs are" }) ∷ codes " clean with a tail, of at most "
     ∷ amount facts.longest number_words ∷ []) ∷ []
 
--- all notes, in one line each, without the names of topics
-unfoldable pub short_notes : NoteFacts → TalkValue → List ExplanationValue → List (List ℕ)
-short_notes facts talk left_out =
-    host_note (codes " -> ") talk.participants
-    ++ (short_left_out_notes talk.silence left_out
-    ++ (best_effort_note (codes " -> ") talk.best_effort_total []
-    ++ (short_late_note facts.late ++ (tail_note facts ++ flat_map (note (codes " -> ")) (weaknesses facts)))))
+-- ---- what another recording shows, made at the reader's host
 
--- all notes, with the names of topics: of pairs that are left out and of those whose writer wrote nothing since their reader joined, each by
--- topic
-abbrev pub notes : List ℕ → NoteFacts → TalkValue → List ExplanationValue → List ExplanationValue → List (List ℕ)
-notes arrow facts talk left_out late =
-    host_note arrow talk.participants
-    ++ (left_out_notes talk.silence left_out
-    ++ (best_effort_note arrow talk.best_effort_total (shares_text talk.best_effort)
-    ++ (late_note arrow late ++ (tail_note facts ++ flat_map (note arrow) (weaknesses facts)))))
+-- how many numbers of all pairs of best effort arrived, and then this of their topics; none where no such pair is held
+abbrev pub held_note : BestEffortValue → List ℕ → List (List ℕ)
+held_note total shares =
+    if total.pairs == 0 then []
+    else concat (amount total.pairs (record { one = codes "best-effort pair has "; many = codes "best-effort pairs have " })
+    ∷ share total.recorded total.numbers
+    ∷ words_for total.numbers (record { one = codes " number at the reader's host"; many = codes " numbers at the reader's host" })
+    ∷ shares ∷ []) ∷ []
+
+-- the rows that are not held
+abbrev pub alone_in : List ExplanationValue → List ExplanationValue
+alone_in rows = filter (λ row. not (is_held_in row.evidence.in_span)) rows
+
+-- so many rows are not held, the names of their topics, and behind an arrow what to do; none where all are held
+abbrev pub alone_note : List ℕ → ℕ → List ℕ → List (List ℕ)
+alone_note arrow alone names =
+    if alone == 0 then []
+    else concat (amount alone (record { one = codes "pair is judged by this recording alone"; many = codes "pairs are judged by this recording alone" })
+    ∷ names ∷ arrow
+    ∷ codes "the recording at the reader's host has nothing of the reader to the writer: it was not made at that host" ∷ []) ∷ []
+
+-- the rows of which numbers are received for certain though the other recording has none of them
+abbrev pub absent_rows : List ExplanationValue → List ExplanationValue
+absent_rows rows = filter (λ row. nat_lt 0 (absent_in row.evidence.in_span)) rows
+
+-- how many such numbers there are, in how many rows, the names of their topics, and behind an arrow what to do; none where there is none
+abbrev pub absent_note : List ℕ → SideFacts → List ℕ → List (List ℕ)
+absent_note arrow side names =
+    if side.absent_pairs == 0 then []
+    else concat (amount side.absent (record { one = codes "number is received for certain in"; many = codes "numbers are received for certain in" })
+    ∷ codes " " ∷ amount side.absent_pairs pair_words
+    ∷ codes " and not in the recording at the reader's host"
+    ∷ names ∷ arrow ∷ codes "it lacks something: see that it ran all the time, and that tcpdump dropped nothing" ∷ []) ∷ []
+
+-- what of the other recording was not read: how much, the words for it, and what to do
+pub record UnreadValue : Type 0 where
+  pub number : ℕ
+  pub words : WordsValue
+  pub remedy : List ℕ
+
+-- that of the code, as a value
+abbrev pub unread_value : Unread → UnreadValue
+unread_value unread = record { number = unread.number; words = words_value unread.words; remedy = unread.remedy.now }
+
+-- the note on it; none where there is nothing
+abbrev pub unread_note : List ℕ → UnreadValue → List (List ℕ)
+unread_note arrow unread =
+    if unread.number == 0 then []
+    else concat (codes "at the reader's host: " ∷ amount unread.number unread.words ∷ arrow ∷ unread.remedy ∷ []) ∷ []
+
+-- frames of it that gave no datagram
+abbrev pub unread_there : SideFacts → List UnreadValue
+unread_there side =
+    record { number = side.pieces; words = words_of Pieces; remedy = codes "the other parts were lost on the way: what such packets carry did not arrive" }
+    ∷ record {
+      number = side.cut;
+      words = words_of Cut;
+      remedy = codes "record whole frames, without a snap length (tcpdump -s), and end tcpdump with Ctrl-C: what is cut is told as not arrived";
+    }
+    ∷ record {
+      number = side.links.number;
+      words = words_of (Links side.links.first);
+      remedy = codes "record on an Ethernet, loopback or raw IP interface, or with tcpdump -i any: what is not read is told as not arrived";
+    } ∷ []
+
+-- ---- all of them
+
+-- of what notes tell: who does not talk, the rows that are left out, those whose writer wrote nothing since their reader joined, and all
+-- rows, each by topic; what another recording shows, if there is one; and whether topics are named
+pub record NotedValue : Type 0 where
+  pub talk : TalkValue
+  pub left_out : List ExplanationValue
+  pub late : List ExplanationValue
+  pub rows : List ExplanationValue
+  pub side : Option SideFacts
+  pub named : Bool
+
+-- that of the code, as a value
+abbrev pub noted_value : NotedRows → NotedValue
+noted_value rows =
+    record {
+      talk = talk_value rows.talk.now;
+      left_out = map explanation_value rows.left_out.now;
+      late = map explanation_value rows.late.now;
+      rows = map explanation_value rows.rows.now;
+      side = rows.side;
+      named = rows.named;
+    }
+
+-- the notes on the other recording, by what it shows
+abbrev pub notes_beside : List ℕ → NotedValue → SideFacts → List (List ℕ)
+notes_beside arrow noted side =
+    held_note noted.talk.held_total (shares_if noted.named noted.talk.held_sums)
+    ++ (alone_note arrow side.alone (names_if noted.named (alone_in noted.rows))
+    ++ (absent_note arrow side (names_if noted.named (absent_rows noted.rows)) ++ flat_map (unread_note arrow) (unread_there side)))
+
+-- the same, where there is another recording
+abbrev pub side_notes : List ℕ → NotedValue → Option SideFacts → List (List ℕ)
+side_notes arrow noted None = []
+side_notes arrow noted (Some side) = notes_beside arrow noted side
+
+-- all notes, with an arrow before what is to be done
+abbrev pub notes : List ℕ → NoteFacts → NotedValue → List (List ℕ)
+notes arrow facts noted =
+    order_note arrow facts.back
+    ++ (host_note arrow noted.talk.participants
+    ++ (left_out_notes noted.named noted.talk.silence noted.left_out
+    ++ (best_effort_note arrow noted.talk.best_effort_total (shares_if noted.named noted.talk.best_effort)
+    ++ (side_notes arrow noted noted.side
+    ++ (late_note arrow facts.late (names_if noted.named noted.late) ++ (tail_note facts ++ flat_map (note arrow) (weaknesses facts)))))))

@@ -1,10 +1,12 @@
 -- The members of the object of a report that say who does not talk. own: other programs get the names of DDS, which `list` prints; words for
 -- values are those of the text.
-use Rattle.std.specs.Prelude.{ℕ, ◌++◌, List, [], ◌∷◌, codes, map, Option, None, Some}
+use Rattle.std.specs.Prelude.{ℕ, ◌++◌, Bool, if◌then◌else◌, is_some, List, [], ◌∷◌, codes, map, Option, None, Some}
 use Rattle.std.specs.Option.{option_map}
-use Rattle.json.specs.Json.{Json, null, string}
+use Rattle.json.specs.Json.{Json, boolean, null, string}
 use Rattle.rtps_discovery.specs.declared.matching.Pair.{Pair}
 use Rattle.rtps_evidence.specs.Explanation.{ExplanationValue, explanation_value}
+use Rattle.rtps_evidence.specs.FirstNumbers.{numbers_of}
+use Rattle.rtps_evidence.specs.Times.{TimesValue}
 use Rattle.rtps_parts.specs.Names.{guid_text}
 use Rattle.rtps_policies.specs.AddressText.{address_text}
 use Rattle.rtps_policies.specs.Announcing.{participant_of}
@@ -16,10 +18,10 @@ use Rattle.rtps_policies.specs.declared.host.Address.{Address}
 use Rattle.rtps_policies.specs.declared.one_way.OneWay.{OneWay}
 use Rattle.rtps_policies.specs.declared.silence.Silence.{Silence}
 use Rattle.rtps_policies.specs.declared.silence.Silence.TheVariants as silence
-use Rattle.rtps_report.specs.BestEfforts.{BestEffortValue}
+use Rattle.rtps_report.specs.BestEfforts.{BestEffortValue, HeldValue}
 use Rattle.rtps_report.specs.FullReport.{ReportValue}
 use Rattle.rtps_report.specs.declared.participant.Participant.{Participant}
-use Rattle.rtps_lines.specs.JsonText.{Member, array_of, count_json, name_json, object_of, until_json}
+use Rattle.rtps_lines.specs.JsonText.{Member, array_of, count_json, name_json, numbers_json, object_of, second_member, timed_members, until_json}
 use Rattle.rtps_lines.specs.PolicyValues.{value_text}
 use Rattle.rtps_lines.specs.declared.policy_values.Naming.TheVariants.{Dds}
 
@@ -79,24 +81,57 @@ best_effort_json sum =
 abbrev pub best_effort_member : List BestEffortValue → Member
 best_effort_member sums = (codes "best_effort", array_of (map best_effort_json sums))
 
+-- a pair of best effort that is held against another recording: how many numbers it has, how many of them arrived, and the first that did not
+abbrev pub held_json : HeldValue → Json
+held_json one =
+    object_of ((codes "topic", name_json one.topic) ∷ (codes "writer", string (guid_text one.pair.writer)) ∷ (codes "reader", string (guid_text one.pair.reader))
+    ∷ (codes "numbers", count_json one.numbers) ∷ (codes "arrived", count_json one.arrived.arrived) ∷ (codes "not_arrived", numbers_json (numbers_of one.arrived.lacking)) ∷ [])
+
+-- the member of all such pairs
+abbrev pub held_member : List HeldValue → Member
+held_member held = (codes "arrived", array_of (map held_json held))
+
+-- the same, where there is another recording
+abbrev pub held_members : Bool → List HeldValue → List Member
+held_members has_other held = if has_other then held_member held ∷ [] else []
+
 -- an address, or null
 abbrev pub address_json : Option Address → Json
 address_json None = null
 address_json (Some address) = string (address_text address)
 
--- a participant: where it is, from when to when there is something of it, and where it leaves
-abbrev pub participant_json : Participant → Json
-participant_json participant =
+-- from which datagram on there is something of a participant
+abbrev pub first_of : Participant → Option ℕ
+first_of participant = option_map (λ stay. stay.first) participant.stay
+
+-- up to which there is
+abbrev pub last_of : Participant → Option ℕ
+last_of participant = option_map (λ stay. stay.last) participant.stay
+
+-- when these datagrams came, and the one in which it leaves; and whether it is silent
+abbrev pub stay_times : TimesValue → Participant → List Member
+stay_times times participant =
+    timed_members times (second_member (codes "first_time") times (first_of participant) ∷ second_member (codes "last_time") times (last_of participant)
+    ∷ second_member (codes "left_time") times participant.left ∷ (codes "silent", boolean participant.silent) ∷ [])
+
+-- from when to when there is something of a participant, and where it leaves
+abbrev pub stay_members : TimesValue → Participant → List Member
+stay_members times participant =
+    (codes "first", until_json (first_of participant)) ∷ (codes "last", until_json (last_of participant)) ∷ (codes "left", until_json participant.left)
+    ∷ stay_times times participant
+
+-- a participant: where it is, and when there is something of it
+abbrev pub participant_json : TimesValue → Participant → Json
+participant_json times participant =
     object_of ((codes "guid", string (guid_text participant.guid)) ∷ (codes "address", address_json participant.host.address)
-    ∷ (codes "domain", until_json participant.host.domain) ∷ (codes "first", until_json (option_map (λ stay. stay.first) participant.stay))
-    ∷ (codes "last", until_json (option_map (λ stay. stay.last) participant.stay)) ∷ (codes "left", until_json participant.left) ∷ [])
+    ∷ (codes "domain", until_json participant.host.domain) ∷ stay_members times participant)
 
 -- the member of all participants
-abbrev pub participants_member : List Participant → Member
-participants_member participants = (codes "participants", array_of (map participant_json participants))
+abbrev pub participants_member : TimesValue → List Participant → Member
+participants_member times participants = (codes "participants", array_of (map (participant_json times) participants))
 
 -- all of them
-abbrev pub talk_members : ReportValue → List Member
-talk_members report =
+abbrev pub talk_members : TimesValue → ReportValue → List Member
+talk_members times report =
     unmatched_member report.talk.unmatched ∷ unobserved_member report.talk.silence (map explanation_value report.left_out) ∷ one_way_member report.talk.one_way
-    ∷ best_effort_member report.talk.best_effort ∷ participants_member report.talk.participants ∷ []
+    ∷ best_effort_member report.talk.best_effort ∷ (held_members (is_some report.arrived) report.talk.held ++ participants_member times report.talk.participants ∷ [])

@@ -1,7 +1,7 @@
 ghost use Rattle.std.specs.Prelude.{◌≡◌, ◌++◌, OnOk, IfOk, map};
 ghost use Rattle.std.specs.String.{string_bytes};
 ghost use Rattle.rtps_parts.specs.Parts.{words_value};
-ghost use Rattle.rtps_lines.specs.Causes.{cause, causes_of as causes_of_lem, empty_cause, few_cause, findings_in as findings_in_lem, incomplete_causes, incomplete_words as incomplete_words_lem, last_line, links_cause, lost_cause, missed_words as missed_words_lem, row_causes, unanswered_words as unanswered_words_lem, uncertain_of as uncertain_of_lem, uncertain_words as uncertain_words_lem, unclean_causes, unmatched_words as unmatched_words_lem, unread_causes, unsent_words as unsent_words_lem};
+ghost use Rattle.rtps_lines.specs.Causes.{cause, causes_of as causes_of_lem, empty_cause, few_cause, findings_in as findings_in_lem, incomplete_causes, incomplete_words as incomplete_words_lem, last_line, links_cause, lost_cause, lost_words as lost_words_lem, missed_words as missed_words_lem, row_causes, unanswered_words as unanswered_words_lem, uncertain_of as uncertain_of_lem, uncertain_words as uncertain_words_lem, unclean_causes, unmatched_words as unmatched_words_lem, unread_causes, unsent_words as unsent_words_lem};
 
 use crate::notes::{Weakness, pair_words};
 use rtps_parts::{Part, Words, push_joined, push_rendered};
@@ -111,6 +111,16 @@ fn unanswered_words() -> Words
     }
 }
 
+/// The words for likely numbers that did not arrive.
+fn lost_words() -> Words
+    ensures { words_value result ≡ lost_words_lem }
+{
+    Words {
+        one: "likely number did not arrive in",
+        many: "likely numbers did not arrive in",
+    }
+}
+
 fn uncertain_words() -> Words
     ensures { words_value result ≡ uncertain_words_lem }
 {
@@ -192,10 +202,15 @@ fn push_unclean(
         numbers: totals.unanswered,
         pairs: totals.unanswered_pairs,
     };
+    let lost = Lost {
+        numbers: totals.lost,
+        pairs: totals.lost_pairs,
+    };
     push_cause(alloc, causes, unclean, incomplete_words())?;
     push_lost(alloc, causes, missed, missed_words())?;
     push_lost(alloc, causes, unsent, unsent_words())?;
     push_lost(alloc, causes, unanswered, unanswered_words())?;
+    push_lost(alloc, causes, lost, lost_words())?;
     push_lost(
         alloc,
         causes,

@@ -2,16 +2,16 @@ ghost use Rattle.std.specs.Prelude.{◌≡◌, ◌++◌, IfOk, OnOk, map};
 ghost use Rattle.std.specs.String.{string_bytes};
 ghost use Rattle.rtps_report.specs.Asked.{asked_value};
 ghost use Rattle.rtps_report.specs.FullReport.{report_value};
-ghost use Rattle.rtps_lines.specs.CheckMembers.{check_members, report_causes, status_members, status_text};
-ghost use Rattle.rtps_lines.specs.JsonText.{tokens_of};
+ghost use Rattle.rtps_lines.specs.CheckMembers.{check_members, check_telling, report_causes, report_notes, status_members, status_text};
+ghost use Rattle.rtps_lines.specs.JsonText.{telling_value, tokens_of};
 
 use crate::causes::{Judged, causes_of};
 use crate::json_members::{push_text, push_texts};
-use crate::json_object::{Advised, Telling, push_report_members};
-use crate::notes::{NotedRows, short_notes};
-use crate::talk_members::push_talk_members;
+use crate::json_object::{Telling, push_report_members};
+use crate::notes::{NotedRows, notes_of};
+use crate::talk_members::{has_other, push_talk_members};
 use json::Writer;
-use rtps_report::{Ending, FullReport, notes_on, scope_of, totals_of};
+use rtps_report::{Ending, FullReport, facts_of_side, notes_on, scope_of, totals_of};
 use std::alloc::{AllocError, Global};
 
 fn status_name(ending: &Ending) -> &'static str
@@ -43,6 +43,32 @@ fn report_causes_of(alloc: Global, report: &FullReport<'_>) -> Result<Vec<String
     causes_of(alloc, judged, &report.ending)
 }
 
+/// What weakens a report, in one line each, without the names of topics.
+fn report_notes_of(alloc: Global, report: &FullReport<'_>) -> Result<Vec<String>, AllocError>
+    ensures { IfOk result (λ notes. map string_bytes notes.items ≡ report_notes (asked_value report.now.asked.now) report.now.recording.now (report_value report.now)) }
+{
+    let rows = NotedRows {
+        talk: &report.talk,
+        left_out: &report.left_out,
+        late: &[],
+        rows: &[],
+        side: facts_of_side(report),
+        named: false,
+    };
+    notes_of(alloc, &notes_on(report), rows, " -> ")
+}
+
+/// By what the objects of a report's rows are told.
+fn telling_of<'t, 'a>(report: &'t FullReport<'a>) -> Telling<'t, 'a>
+    ensures { telling_value result ≡ check_telling (asked_value report.now.asked.now) report.now.recording.now (report_value report.now) }
+{
+    Telling {
+        scope: scope_of(report),
+        talk: Some(&report.talk),
+        has_other: has_other(report),
+    }
+}
+
 /// Appends the members of the object of a report that is checked. After an `Err` what was written is of no use.
 pub fn push_check_members(
     alloc: Global,
@@ -54,18 +80,9 @@ pub fn push_check_members(
     ensures before { writer.new.before ≡ writer.old.before }
 {
     let causes = report_causes_of(alloc, report)?;
-    let rows = NotedRows {
-        talk: &report.talk,
-        left_out: &report.left_out,
-        late: &[],
-    };
-    let notes = short_notes(alloc, &notes_on(report), rows)?;
+    let notes = report_notes_of(alloc, report)?;
     push_status(writer, &report.ending, &causes)?;
-    let telling = Telling {
-        scope: scope_of(report),
-        advised: Advised::All,
-    };
-    push_report_members(alloc, writer, report, telling)?;
+    push_report_members(alloc, writer, report, telling_of(report))?;
     push_talk_members(alloc, writer, report)?;
     push_texts(writer, "notes", &notes)
 }

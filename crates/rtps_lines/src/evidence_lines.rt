@@ -2,11 +2,13 @@ ghost use Rattle.std.specs.Prelude.{◌≡◌, ◌++◌, OnOk, Some};
 ghost use Rattle.std.specs.Option.{option_map};
 ghost use Rattle.std.specs.String.{string_bytes};
 ghost use Rattle.rtps_evidence.specs.Locations.{sent_value};
-ghost use Rattle.rtps_lines.specs.Lines.{acknowledged_line, again_text, announced_line, asked_line, claimed_line, questions_line, sent_line, since_text, told_line, verdict_text};
+ghost use Rattle.rtps_lines.specs.Lines.{acknowledged_line, again_text, announced_line, answered_text, asked_line, claimed_line, questions_line, sent_line, since_text, told_line, verdict_text, wait_text};
 
-use crate::fields::{PlaceComma, PlaceText, kind_name, push_field, push_payload};
+use crate::fields::{PlaceComma, PlaceText, SecondsText, kind_name, push_field, push_payload};
 use rtps_audit::Verdict;
-use rtps_evidence::{Announcement, Claim, FirstMissed, Location, Sent, Teller};
+use rtps_evidence::{
+    Announcement, Claim, FirstMissed, Location, Seconds, Sent, Teller, Times, Wait,
+};
 use std::alloc::AllocError;
 use std::fmt;
 
@@ -29,77 +31,79 @@ impl fmt::Display for VerdictText {
 }
 
 #[derive(Drop)]
-pub struct AnnouncedLine(pub Option<Announcement>);
+pub struct AnnouncedLine<'t>(pub &'t Times, pub Option<Announcement>);
 
-impl fmt::Display for AnnouncedLine {
-    ghost output = { λ line. Some (announced_line line.0) };
+impl fmt::Display for AnnouncedLine<'_> {
+    ghost output = { λ line. Some (announced_line line.0.now line.1) };
 
     fn fmt<W: fmt::Write>(&self, f: &mut fmt::Formatter<W>) -> fmt::Result {
-        let Some(announcement) = self.0 else {
+        let Some(announcement) = self.1 else {
             return writeln!(f, "  announced nothing");
         };
-        let (kind, place) = (kind_name(announcement.kind), PlaceText(announcement.place));
+        let kind = kind_name(announcement.kind);
+        let place = PlaceText(self.0, announcement.place);
         writeln!(f, "  announced {} by {kind} {place}", announcement.number)
     }
 }
 
 #[derive(Drop)]
-pub struct AcknowledgedLine(pub Option<Claim>);
+pub struct AcknowledgedLine<'t>(pub &'t Times, pub Option<Claim>);
 
-impl fmt::Display for AcknowledgedLine {
-    ghost output = { λ line. Some (acknowledged_line line.0) };
+impl fmt::Display for AcknowledgedLine<'_> {
+    ghost output = { λ line. Some (acknowledged_line line.0.now line.1) };
 
     fn fmt<W: fmt::Write>(&self, f: &mut fmt::Formatter<W>) -> fmt::Result {
-        let Some(claim) = self.0 else {
+        let Some(claim) = self.1 else {
             return writeln!(f, "  acknowledged nothing");
         };
-        let place = PlaceText(claim.place);
+        let place = PlaceText(self.0, claim.place);
         writeln!(f, "  acknowledged below {} {place}", claim.below)
     }
 }
 
 #[derive(Drop)]
-pub struct ToldLine(pub i64, pub Option<Teller>);
+pub struct ToldLine<'t>(pub &'t Times, pub i64, pub Option<Teller>);
 
-impl fmt::Display for ToldLine {
-    ghost output = { λ line. Some (told_line line.0 line.1) };
+impl fmt::Display for ToldLine<'_> {
+    ghost output = { λ line. Some (told_line line.0.now line.1 line.2) };
 
     fn fmt<W: fmt::Write>(&self, f: &mut fmt::Formatter<W>) -> fmt::Result {
-        let number = self.0;
-        let Some(teller) = self.1 else {
+        let number = self.1;
+        let Some(teller) = self.2 else {
             return writeln!(f, "  number {number} told nowhere");
         };
-        let (kind, place) = (kind_name(teller.kind), PlaceText(teller.place));
+        let (kind, place) = (kind_name(teller.kind), PlaceText(self.0, teller.place));
         writeln!(f, "  number {number} told by {kind} {place}")
     }
 }
 
 /// The line of the answer that claimed a number too early; nothing where there is none.
 #[derive(Drop)]
-pub struct ClaimedLine(pub Option<Claim>);
+pub struct ClaimedLine<'t>(pub &'t Times, pub Option<Claim>);
 
-impl fmt::Display for ClaimedLine {
-    ghost output = { λ line. Some (claimed_line line.0) };
+impl fmt::Display for ClaimedLine<'_> {
+    ghost output = { λ line. Some (claimed_line line.0.now line.1) };
 
     fn fmt<W: fmt::Write>(&self, f: &mut fmt::Formatter<W>) -> fmt::Result {
-        let Some(claim) = self.0 else {
+        let Some(claim) = self.1 else {
             return Ok(());
         };
-        let place = PlaceText(claim.place);
+        let place = PlaceText(self.0, claim.place);
         writeln!(f, "  claimed below {} {place}", claim.below)
     }
 }
 
 #[derive(Drop)]
-pub struct AskedLine(pub FirstMissed);
+pub struct AskedLine<'t>(pub &'t Times, pub FirstMissed);
 
-impl fmt::Display for AskedLine {
-    ghost output = { λ line. Some (asked_line line.0) };
+impl fmt::Display for AskedLine<'_> {
+    ghost output = { λ line. Some (asked_line line.0.now line.1) };
 
     fn fmt<W: fmt::Write>(&self, f: &mut fmt::Formatter<W>) -> fmt::Result {
-        let first = self.0;
-        let (again, since) = (AgainText(first.again), SinceText(first.gone));
-        let asked = PlaceComma(first.asked);
+        let first = self.1;
+        let asked = PlaceComma(self.0, first.asked);
+        let again = AgainText(self.0, first.again);
+        let since = SinceText(self.0, first.gone);
         writeln!(
             f,
             "    number {} asked for {asked} {again}{since}",
@@ -109,62 +113,102 @@ impl fmt::Display for AskedLine {
 }
 
 #[derive(Drop)]
-struct AgainText(Option<Location>);
+struct AgainText<'t>(&'t Times, Option<Location>);
 
-impl fmt::Display for AgainText {
-    ghost output = { λ text. Some (again_text text.0) };
+impl fmt::Display for AgainText<'_> {
+    ghost output = { λ text. Some (again_text text.0.now text.1) };
 
     #[tactic(auto, unfolding(crate::specs::Lines::again_text))]
     fn fmt<W: fmt::Write>(&self, f: &mut fmt::Formatter<W>) -> fmt::Result {
-        match self.0 {
+        match self.1 {
             None => Ok(()),
-            Some(place) => write!(f, "sent again {} ", PlaceComma(place)),
+            Some(place) => write!(f, "sent again {} ", PlaceComma(self.0, place)),
         }
     }
 }
 
 #[derive(Drop)]
-struct SinceText(Option<Teller>);
+struct SinceText<'t>(&'t Times, Option<Teller>);
 
-impl fmt::Display for SinceText {
-    ghost output = { λ text. Some (since_text text.0) };
+impl fmt::Display for SinceText<'_> {
+    ghost output = { λ text. Some (since_text text.0.now text.1) };
 
     #[tactic(auto, unfolding(crate::specs::Lines::since_text))]
     fn fmt<W: fmt::Write>(&self, f: &mut fmt::Formatter<W>) -> fmt::Result {
-        let Some(teller) = self.0 else {
+        let Some(teller) = self.1 else {
             return write!(f, "not told gone since");
         };
-        let (kind, place) = (kind_name(teller.kind), PlaceText(teller.place));
+        let (kind, place) = (kind_name(teller.kind), PlaceText(self.0, teller.place));
         write!(f, "told gone by {kind} {place}")
     }
 }
 
 #[derive(Drop)]
-pub struct QuestionsLine(pub u64, pub Option<Location>);
+pub struct QuestionsLine<'t>(pub &'t Times, pub u64, pub Option<Location>);
 
-impl fmt::Display for QuestionsLine {
-    ghost output = { λ line. Some (questions_line line.0 line.1) };
+impl fmt::Display for QuestionsLine<'_> {
+    ghost output = { λ line. Some (questions_line line.0.now line.1 line.2) };
 
     fn fmt<W: fmt::Write>(&self, f: &mut fmt::Formatter<W>) -> fmt::Result {
-        let Some(place) = self.1 else {
+        let Some(place) = self.2 else {
             return writeln!(f, "  not asked since its last answer");
         };
-        let (times, place) = (self.0, PlaceText(place));
+        let (count, place) = (self.1, PlaceText(self.0, place));
         writeln!(
             f,
-            "  asked {times} times since its last answer, last {place}"
+            "  asked {count} times since its last answer, last {place}"
         )
     }
 }
 
+/// How long a reader let its writer wait for an answer.
+#[derive(Drop)]
+pub struct WaitText<'t>(pub &'t Times, pub Wait);
+
+impl fmt::Display for WaitText<'_> {
+    ghost output = { λ text. Some (wait_text text.0.now text.1) };
+
+    fn fmt<W: fmt::Write>(&self, f: &mut fmt::Formatter<W>) -> fmt::Result {
+        let wait = self.1;
+        let seconds = SecondsText(Seconds::of(wait.nanoseconds));
+        let asked = PlaceComma(self.0, wait.asked);
+        let answered = AnsweredText(self.0, wait.answered);
+        write!(
+            f,
+            "let the writer wait {seconds} s: asked {asked} {answered}"
+        )
+    }
+}
+
+#[derive(Drop)]
+struct AnsweredText<'t>(&'t Times, Option<Location>);
+
+impl fmt::Display for AnsweredText<'_> {
+    ghost output = { λ text. Some (answered_text text.0.now text.1) };
+
+    #[tactic(auto, unfolding(crate::specs::Lines::answered_text))]
+    fn fmt<W: fmt::Write>(&self, f: &mut fmt::Formatter<W>) -> fmt::Result {
+        match self.1 {
+            None => write!(f, "not answered"),
+            Some(place) => write!(f, "answered {}", PlaceText(self.0, place)),
+        }
+    }
+}
+
 /// Appends the line of what was sent for a number; nothing where nothing was.
-pub fn push_sent(text: &mut String, number: i64, sent: Option<Sent<'_>>) -> Result<(), AllocError>
-    ensures { OnOk result (string_bytes text.new ≡ string_bytes text.old ++ sent_line number (option_map sent_value sent.entry)) }
+pub fn push_sent(
+    text: &mut String,
+    number: i64,
+    sent: Option<Sent<'_>>,
+    times: &Times,
+) -> Result<(), AllocError>
+    ensures { OnOk result (string_bytes text.new
+        ≡ string_bytes text.old ++ sent_line times.now number (option_map sent_value sent.entry)) }
 {
     let Some(sent) = sent else {
         return Ok(());
     };
     push_field(text, "  number ", number)?;
     push_payload(text, sent.payload)?;
-    writeln!(text, " {}", PlaceText(sent.place))
+    writeln!(text, " {}", PlaceText(times, sent.place))
 }

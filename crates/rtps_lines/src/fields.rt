@@ -1,31 +1,71 @@
-//! Fields of lines: places, numbers, payloads, the words for what is announced. Nothing is formatted on the way where a part is appended: it is copied once.
+//! Fields of lines: places, seconds, numbers, payloads, the words for what is announced. Nothing is formatted on the way where a part is
+//! appended: it is copied once.
 
 ghost use Rattle.std.specs.Prelude.{◌≡◌, ◌++◌, codes, OnOk, Some};
 ghost use Rattle.std.specs.String.{string_bytes};
 ghost use Rattle.rtps_wire.specs.Values.{payload_value};
-ghost use Rattle.rtps_lines.specs.Lines.{hosted_text, kind_text, payload_text, place_comma, place_text};
+ghost use Rattle.rtps_lines.specs.Lines.{hosted_text, kind_text, payload_text, place_comma, place_text, second_text, seconds_text};
 ghost use Rattle.rtps_lines.specs.QosNames.{durability_text, reliability_text, side_text};
 
 use itoa::{Buffer, Integer};
 use rtps_discovery::{Durability, Reliability, Side};
-use rtps_evidence::{Kind, Location};
+use rtps_evidence::{Kind, Location, Seconds, Times};
 use rtps_ids::Guid;
 use rtps_policies::Address;
 use rtps_wire::Payload;
 use std::alloc::AllocError;
 use std::fmt;
 
-/// Where a submessage stands.
+/// A time in seconds, with three places.
 #[derive(Drop)]
-pub struct PlaceText(pub Location);
+pub struct SecondsText(pub Seconds);
 
-impl fmt::Display for PlaceText {
-    ghost output = { λ text. Some (place_text text.0) };
+impl fmt::Display for SecondsText {
+    ghost output = { λ text. Some (seconds_text text.0) };
+
+    #[tactic(auto, unfolding(crate::specs::Lines::seconds_text))]
+    fn fmt<W: fmt::Write>(&self, f: &mut fmt::Formatter<W>) -> fmt::Result {
+        let milliseconds = self.0.milliseconds;
+        let sign = if self.0.negative { "-" } else { "" };
+        let tenths = milliseconds / 100 % 10;
+        let hundredths = milliseconds / 10 % 10;
+        let thousandths = milliseconds % 10;
+        write!(
+            f,
+            "{sign}{}.{tenths}{hundredths}{thousandths}",
+            milliseconds / 1000
+        )
+    }
+}
+
+/// The second of a datagram, behind what is said of it; nothing where it has no time.
+#[derive(Drop)]
+pub struct SecondText<'t>(pub &'t Times, pub u64);
+
+impl fmt::Display for SecondText<'_> {
+    ghost output = { λ text. Some (second_text text.0.now text.1) };
+
+    #[tactic(auto, unfolding(crate::specs::Lines::second_behind))]
+    fn fmt<W: fmt::Write>(&self, f: &mut fmt::Formatter<W>) -> fmt::Result {
+        match self.0.second(self.1) {
+            Some(second) => write!(f, ", {} s", SecondsText(second)),
+            None => Ok(()),
+        }
+    }
+}
+
+/// Where a submessage stands, and when its datagram came.
+#[derive(Drop)]
+pub struct PlaceText<'t>(pub &'t Times, pub Location);
+
+impl fmt::Display for PlaceText<'_> {
+    ghost output = { λ text. Some (place_text text.0.now text.1) };
 
     #[tactic(auto, unfolding(crate::specs::Lines::place_text))]
     fn fmt<W: fmt::Write>(&self, f: &mut fmt::Formatter<W>) -> fmt::Result {
-        let place = self.0;
-        write!(f, "in datagram {} at {}", place.datagram, place.at)
+        let place = self.1;
+        let second = SecondText(self.0, place.datagram);
+        write!(f, "in datagram {} at {}{second}", place.datagram, place.at)
     }
 }
 
@@ -44,15 +84,15 @@ pub fn kind_name(kind: Kind) -> &'static str
     }
 }
 
-/// Where a submessage stands, and a comma.
+/// Where a submessage stands, when its datagram came, and a comma.
 #[derive(Drop)]
-pub struct PlaceComma(pub Location);
+pub struct PlaceComma<'t>(pub &'t Times, pub Location);
 
-impl fmt::Display for PlaceComma {
-    ghost output = { λ text. Some (place_comma text.0) };
+impl fmt::Display for PlaceComma<'_> {
+    ghost output = { λ text. Some (place_comma text.0.now text.1) };
 
     fn fmt<W: fmt::Write>(&self, f: &mut fmt::Formatter<W>) -> fmt::Result {
-        write!(f, "{},", PlaceText(self.0))
+        write!(f, "{},", PlaceText(self.0, self.1))
     }
 }
 

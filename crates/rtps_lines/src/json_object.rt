@@ -1,5 +1,6 @@
 ghost use Rattle.std.specs.Prelude.{◌≡◌, ◌≤◌, ◌++◌, ◌∷◌, [], IfOk, OnOk, codes, map};
 ghost use Rattle.std.specs.Fmt.{signed_decimal};
+ghost use Rattle.std.specs.Option.{option_map};
 ghost use Rattle.std.specs.String.{string_bytes};
 ghost use Rattle.json.specs.Json.{Json, max_depth};
 ghost use Rattle.json.specs.Token.{key, number as number_token, string as string_token};
@@ -7,16 +8,22 @@ ghost use Rattle.json.specs.Tree.{depth, json_tokens};
 ghost use Rattle.rtps_evidence.specs.Explanation.{evidence_value, explanation_value};
 ghost use Rattle.rtps_evidence.specs.Grounds.{grounds_value};
 ghost use Rattle.rtps_report.specs.FullReport.{report_value, rows_of};
-ghost use Rattle.rtps_lines.specs.JsonText.{IsJsonLine, advice_members, audit_telling as audit_telling_lem, counts_members, ignored_members, is_advised as is_advised_lem, outcome_members, outcomes_json, pair_members, pairs_member, reasons_members, report_json, row_json, rows_members, shown_members, span_members, spanned_members, tokens_of, tokens_of_member, until_json, verdict_members};
+ghost use Rattle.rtps_lines.specs.JsonText.{IsJsonLine, advice_members, arrived_member, arrived_members, audit_telling as audit_telling_lem, counts_members, ignored_members, is_advised as is_advised_lem, lacking_member, lacking_members, lost_members, outcome_members, outcomes_json, pair_members, pairs_member, reasons_members, report_json, row_json, rows_members, shown_members, silence_member, silence_members, span_members, spanned_members, telling_value, tells_silence as tells_silence_lem, told_silences as told_silences_lem, tokens_of, tokens_of_member, until_members, verdict_members};
+ghost use Rattle.rtps_report.specs.Talk.{talk_value};
 
 use crate::json_members::{
-    push_claim, push_count, push_delivery, push_evidence, push_guid, push_name, push_number,
-    push_open, push_sent, push_teller, push_text, push_total,
+    Clock, push_asked, push_claim, push_count, push_delivery, push_evidence, push_flag, push_guid,
+    push_name, push_number, push_numbers, push_optional, push_sent, push_teller, push_text,
+    push_texts, push_timed, push_total, push_wait,
 };
+use crate::silent_participants::silence_lines;
 use json::Writer;
 use rtps_audit::{Counts, Verdict};
-use rtps_evidence::{Evidence, Explanation, Grounds, Outcomes};
-use rtps_report::{FullReport, Reasons, Scope, advice_of, is_clean, is_unread, row_from};
+use rtps_discovery::Pair;
+use rtps_evidence::{Evidence, Explanation, Grounds, InSpan, Outcomes};
+use rtps_report::{
+    FullReport, Reasons, Scope, Silences, Talk, advice_of, is_clean, is_unread, row_from,
+};
 use std::alloc::{AllocError, Global};
 
 /// The line of the value that was written, and nothing before it.
@@ -32,22 +39,23 @@ pub fn json_line(writer: Writer) -> Result<String, AllocError>
 
 /// By what the objects of rows are told.
 #[derive(Clone, Copy)]
-pub struct Telling {
+pub struct Telling<'t, 'a> {
     pub scope: Scope,
-    pub advised: Advised,
+    /// Who does not talk, where it is told of all rows what to do. None where that is told of rows in spans alone.
+    pub talk: Option<&'t Talk<'a>>,
+    /// Whether there is another recording, against which rows are held.
+    pub has_other: bool,
 }
 
-/// Of which rows it is told what to do.
-#[derive(Clone, Copy, PartialEq, Eq, Debug)]
-pub enum Advised {
-    /// Of rows in spans.
-    InSpans,
-    /// Of all rows.
-    All,
+/// By what the members of a row are made.
+#[derive(Clone, Copy)]
+struct RowForm<'t, 'a> {
+    telling: Telling<'t, 'a>,
+    clock: Clock<'t>,
 }
 
-fn audit_telling(counts: &Counts, reasons: Option<Reasons>) -> Telling
-    ensures { result ≡ audit_telling_lem counts.now reasons }
+fn audit_telling(counts: &Counts, reasons: Option<Reasons>) -> Telling<'static, 'static>
+    ensures { telling_value result ≡ audit_telling_lem counts.now reasons }
 {
     Telling {
         scope: Scope {
@@ -55,7 +63,8 @@ fn audit_telling(counts: &Counts, reasons: Option<Reasons>) -> Telling
             tail: 0,
             unread: is_unread(counts, reasons),
         },
-        advised: Advised::InSpans,
+        talk: None,
+        has_other: false,
     }
 }
 
@@ -80,14 +89,23 @@ pub fn push_report_members(
     alloc: Global,
     writer: &mut Writer,
     report: &FullReport<'_>,
-    telling: Telling,
+    telling: Telling<'_, '_>,
 ) -> Result<(), AllocError>
     ensures tokens { OnOk result (writer.new.tokens
-        ≡ writer.old.tokens ++ tokens_of (rows_members telling (rows_of (report_value report.now)) report.now.explained.counts report.now.recording.now)) }
+        ≡ writer.old.tokens ++ tokens_of (rows_members (telling_value telling.entry) (rows_of (report_value report.now)) report.now.explained.counts report.now.recording.now)) }
     ensures before { writer.new.before ≡ writer.old.before }
 {
     let mut text = String::new(alloc);
-    push_pairs(writer, &mut text, &report.explained.rows, telling)?;
+    let clock = Clock {
+        times: report.recording.times(),
+        alloc,
+    };
+    push_pairs(
+        writer,
+        &mut text,
+        &report.explained.rows,
+        RowForm { telling, clock },
+    )?;
     push_counts(writer, report.explained.counts)?;
     push_ignored(writer, report.recording.ignored())?;
     push_reasons(writer, report.recording.reasons())
@@ -98,16 +116,16 @@ fn push_pairs(
     writer: &mut Writer,
     text: &mut String,
     rows: &[Explanation<'_>],
-    telling: Telling,
+    form: RowForm<'_, '_>,
 ) -> Result<(), AllocError>
     ensures tokens { OnOk result (writer.new.tokens
-        ≡ writer.old.tokens ++ tokens_of_member (pairs_member telling (map explanation_value rows.now))) }
+        ≡ writer.old.tokens ++ tokens_of_member (pairs_member (telling_value form.entry.telling) form.entry.clock.times.now (map explanation_value rows.now))) }
     ensures before { writer.new.before ≡ writer.old.before }
 {
     writer.key("pairs")?;
     writer.begin_array()?;
     for row in rows {
-        push_row(writer, text, row, telling)?;
+        push_row(writer, text, row, form)?;
     }
     writer.end_array()
 }
@@ -116,74 +134,98 @@ fn push_row(
     writer: &mut Writer,
     text: &mut String,
     row: &Explanation<'_>,
-    telling: Telling,
+    form: RowForm<'_, '_>,
 ) -> Result<(), AllocError>
-    ensures tokens { OnOk result (writer.new.tokens ≡ writer.old.tokens ++ json_tokens (row_json telling (explanation_value row.now))) }
+    ensures tokens { OnOk result (writer.new.tokens
+        ≡ writer.old.tokens ++ json_tokens (row_json (telling_value form.entry.telling) form.entry.clock.times.now (explanation_value row.now))) }
     ensures before { writer.new.before ≡ writer.old.before }
 {
     writer.begin_object()?;
     push_pair(writer, text, row)?;
     push_verdict(writer, row.evidence.verdict)?;
-    push_evidence(writer, &row.evidence)?;
-    push_delivery(writer, &row.evidence)?;
-    push_shown(writer, &row.evidence.grounds)?;
-    push_spanned(writer, &row.evidence, telling)?;
+    push_evidence(writer, &row.evidence, form.clock)?;
+    push_delivery(writer, &row.evidence, form.clock)?;
+    push_shown(writer, &row.evidence.grounds, form.clock)?;
+    push_spanned(writer, row, form)?;
     writer.end_object()
 }
 
 fn push_spanned(
     writer: &mut Writer,
-    evidence: &Evidence<'_>,
-    telling: Telling,
+    row: &Explanation<'_>,
+    form: RowForm<'_, '_>,
 ) -> Result<(), AllocError>
-    ensures tokens { OnOk result (writer.new.tokens ≡ writer.old.tokens ++ tokens_of (spanned_members telling (evidence_value evidence.now))) }
+    ensures tokens { OnOk result (writer.new.tokens
+        ≡ writer.old.tokens ++ tokens_of (spanned_members (telling_value form.entry.telling) form.entry.clock.times.now (explanation_value row.now))) }
     ensures before { writer.new.before ≡ writer.old.before }
 {
-    push_span(writer, evidence, telling.scope)?;
-    push_advice(writer, evidence, telling)
+    push_span(writer, &row.evidence, form)?;
+    push_silence(writer, row, form)?;
+    push_advice(writer, row, form.telling)
 }
 
-/// Appends the span of a row, what became of its numbers, and whether it is clean; nothing where it is in no span.
-fn push_span(writer: &mut Writer, evidence: &Evidence<'_>, scope: Scope) -> Result<(), AllocError>
-    ensures tokens { OnOk result (writer.new.tokens ≡ writer.old.tokens ++ tokens_of (span_members scope (evidence_value evidence.now))) }
+/// Appends the span of a row, what became of its numbers, whether it is clean, and its longest wait; nothing where it is in no span.
+fn push_span(
+    writer: &mut Writer,
+    evidence: &Evidence<'_>,
+    form: RowForm<'_, '_>,
+) -> Result<(), AllocError>
+    ensures tokens { OnOk result (writer.new.tokens
+        ≡ writer.old.tokens ++ tokens_of (span_members (telling_value form.entry.telling) form.entry.clock.times.now (evidence_value evidence.now))) }
     ensures before { writer.new.before ≡ writer.old.before }
 {
     let Some(in_span) = &evidence.in_span else {
         return Ok(());
     };
+    let Telling {
+        scope,
+        has_other,
+        ..
+    } = form.telling;
     push_count(writer, "from", row_from(scope.from, evidence))?;
-    push_until(writer, in_span.until)?;
-    push_outcomes(writer, in_span.outcomes)?;
-    writer.key("clean")?;
-    writer.boolean(is_clean(scope.tail, evidence))
+    push_until(writer, in_span.until, form.clock)?;
+    push_outcomes(writer, in_span, has_other)?;
+    push_lacking(writer, in_span, has_other)?;
+    push_flag(writer, "clean", is_clean(scope.tail, evidence))?;
+    push_wait(writer, in_span.wait, form.clock)
 }
 
-fn push_until(writer: &mut Writer, until: Option<u64>) -> Result<(), AllocError>
-    ensures tokens { OnOk result (writer.new.tokens ≡ writer.old.tokens ++ key (codes "until") ∷ json_tokens (until_json until)) }
+fn push_until(writer: &mut Writer, until: Option<u64>, clock: Clock<'_>) -> Result<(), AllocError>
+    ensures tokens { OnOk result (writer.new.tokens ≡ writer.old.tokens ++ tokens_of (until_members clock.entry.times.now until)) }
     ensures before { writer.new.before ≡ writer.old.before }
 {
-    writer.key("until")?;
-    match until {
-        Some(datagram) => writer.u64(datagram),
-        None => writer.null(),
-    }
+    push_optional(writer, "until", until)?;
+    push_timed(writer, "until_time", until, clock)
 }
 
-fn push_outcomes(writer: &mut Writer, outcomes: Outcomes) -> Result<(), AllocError>
-    ensures tokens { OnOk result (writer.new.tokens ≡ writer.old.tokens ++ key (codes "outcomes") ∷ json_tokens (outcomes_json outcomes)) }
+fn push_outcomes(writer: &mut Writer, in_span: &InSpan, has_other: bool) -> Result<(), AllocError>
+    ensures tokens { OnOk result (writer.new.tokens ≡ writer.old.tokens ++ key (codes "outcomes") ∷ json_tokens (outcomes_json has_other in_span.now)) }
     ensures before { writer.new.before ≡ writer.old.before }
 {
     writer.key("outcomes")?;
     writer.begin_object()?;
-    push_outcome_members(writer, outcomes)?;
+    push_outcome_members(writer, in_span, has_other)?;
     writer.end_object()
 }
 
-fn push_outcome_members(writer: &mut Writer, outcomes: Outcomes) -> Result<(), AllocError>
-    ensures tokens { OnOk result (writer.new.tokens ≡ writer.old.tokens ++ tokens_of (outcome_members outcomes)) }
+fn push_outcome_members(
+    writer: &mut Writer,
+    in_span: &InSpan,
+    has_other: bool,
+) -> Result<(), AllocError>
+    ensures tokens { OnOk result (writer.new.tokens ≡ writer.old.tokens ++ tokens_of (outcome_members has_other in_span.now)) }
     ensures before { writer.new.before ≡ writer.old.before }
 {
-    push_count(writer, "received", outcomes.received)?;
+    push_count(writer, "received", in_span.outcomes.received)?;
+    push_arrived(writer, in_span, has_other)?;
+    push_lost(writer, in_span.outcomes)
+}
+
+/// Appends how many numbers have each outcome but the first.
+fn push_lost(writer: &mut Writer, outcomes: Outcomes) -> Result<(), AllocError>
+    ensures tokens { OnOk result (writer.new.tokens ≡ writer.old.tokens ++ tokens_of (lost_members outcomes)) }
+    ensures before { writer.new.before ≡ writer.old.before }
+{
     push_count(writer, "missed", outcomes.missed)?;
     push_count(writer, "unsent", outcomes.unsent)?;
     push_count(writer, "unanswered", outcomes.unanswered)?;
@@ -191,32 +233,134 @@ fn push_outcome_members(writer: &mut Writer, outcomes: Outcomes) -> Result<(), A
     push_count(writer, "unconfirmed", outcomes.unconfirmed)
 }
 
-fn is_advised(evidence: &Evidence<'_>, advised: Advised) -> bool
-    ensures { result ≡ is_advised_lem advised evidence.now.in_span }
+/// Appends how many numbers of a row arrived; null where it is not held against another recording.
+fn push_arrived_number(writer: &mut Writer, in_span: &InSpan) -> Result<(), AllocError>
+    ensures tokens { OnOk result (writer.new.tokens ≡ writer.old.tokens ++ tokens_of_member (arrived_member in_span.now)) }
+    ensures before { writer.new.before ≡ writer.old.before }
 {
-    match advised {
-        Advised::InSpans => evidence.in_span.is_some(),
-        Advised::All => true,
+    writer.key("arrived")?;
+    if in_span.is_held {
+        writer.u64(in_span.outcomes.arrived)
+    } else {
+        writer.null()
+    }
+}
+
+/// Appends that, where there is another recording.
+fn push_arrived(writer: &mut Writer, in_span: &InSpan, has_other: bool) -> Result<(), AllocError>
+    ensures tokens { OnOk result (writer.new.tokens ≡ writer.old.tokens ++ tokens_of (arrived_members has_other in_span.now)) }
+    ensures before { writer.new.before ≡ writer.old.before }
+{
+    if has_other {
+        push_arrived_number(writer, in_span)
+    } else {
+        Ok(())
+    }
+}
+
+/// Appends the first numbers of a row that did not arrive; null where it is not held against another recording.
+fn push_lacking_numbers(writer: &mut Writer, in_span: &InSpan) -> Result<(), AllocError>
+    ensures tokens { OnOk result (writer.new.tokens ≡ writer.old.tokens ++ tokens_of_member (lacking_member in_span.now)) }
+    ensures before { writer.new.before ≡ writer.old.before }
+{
+    writer.key("not_arrived")?;
+    if in_span.is_held {
+        push_numbers(writer, in_span.lacking.as_slice())
+    } else {
+        writer.null()
+    }
+}
+
+/// Appends these, where there is another recording.
+fn push_lacking(writer: &mut Writer, in_span: &InSpan, has_other: bool) -> Result<(), AllocError>
+    ensures tokens { OnOk result (writer.new.tokens ≡ writer.old.tokens ++ tokens_of (lacking_members has_other in_span.now)) }
+    ensures before { writer.new.before ≡ writer.old.before }
+{
+    if has_other {
+        push_lacking_numbers(writer, in_span)
+    } else {
+        Ok(())
+    }
+}
+
+/// Who is silent of the two of a pair, where it is told who does not talk.
+fn told_silences(talk: Option<&Talk<'_>>, pair: Pair) -> Silences
+    ensures { result ≡ told_silences_lem (option_map (λ talk. talk_value talk.now) talk.entry) pair }
+{
+    match talk {
+        Some(talk) => talk.silences(pair),
+        None => Silences::none(),
+    }
+}
+
+/// Whether it is told who is silent of the two of a row.
+fn tells_silence(evidence: &Evidence<'_>, form: RowForm<'_, '_>) -> bool
+    ensures { result ≡ tells_silence_lem (telling_value form.entry.telling).talk form.entry.clock.times.now evidence.now.in_span }
+{
+    form.telling.talk.is_some() && evidence.in_span.is_some() && form.clock.times.are_there()
+}
+
+/// Appends the sentences on who is silent of the two of a row.
+fn push_silence_lines(
+    writer: &mut Writer,
+    row: &Explanation<'_>,
+    form: RowForm<'_, '_>,
+) -> Result<(), AllocError>
+    ensures tokens { OnOk result (writer.new.tokens
+        ≡ writer.old.tokens ++ tokens_of_member (silence_member (telling_value form.entry.telling).talk form.entry.clock.times.now (explanation_value row.now))) }
+    ensures before { writer.new.before ≡ writer.old.before }
+{
+    let Clock { times, alloc } = form.clock;
+    let silences = told_silences(form.telling.talk, row.pair);
+    let lines = silence_lines(alloc, times, silences)?;
+    push_texts(writer, "silence", &lines)
+}
+
+/// Appends these, where that is told.
+fn push_silence(
+    writer: &mut Writer,
+    row: &Explanation<'_>,
+    form: RowForm<'_, '_>,
+) -> Result<(), AllocError>
+    ensures tokens { OnOk result (writer.new.tokens
+        ≡ writer.old.tokens ++ tokens_of (silence_members (telling_value form.entry.telling).talk form.entry.clock.times.now (explanation_value row.now))) }
+    ensures before { writer.new.before ≡ writer.old.before }
+{
+    if tells_silence(&row.evidence, form) {
+        push_silence_lines(writer, row, form)
+    } else {
+        Ok(())
+    }
+}
+
+fn is_advised(evidence: &Evidence<'_>, talk: Option<&Talk<'_>>) -> bool
+    ensures { result ≡ is_advised_lem (option_map (λ talk. talk_value talk.now) talk.entry) evidence.now.in_span }
+{
+    match talk {
+        Some(_) => true,
+        None => evidence.in_span.is_some(),
     }
 }
 
 /// Appends what to do for a row, where that is told; null for a clean one.
 fn push_advice(
     writer: &mut Writer,
-    evidence: &Evidence<'_>,
-    telling: Telling,
+    row: &Explanation<'_>,
+    telling: Telling<'_, '_>,
 ) -> Result<(), AllocError>
-    ensures tokens { OnOk result (writer.new.tokens ≡ writer.old.tokens ++ tokens_of (advice_members telling (evidence_value evidence.now))) }
+    ensures tokens { OnOk result (writer.new.tokens ≡ writer.old.tokens ++ tokens_of (advice_members (telling_value telling.entry) (explanation_value row.now))) }
     ensures before { writer.new.before ≡ writer.old.before }
 {
-    if !is_advised(evidence, telling.advised) {
+    let evidence = &row.evidence;
+    if !is_advised(evidence, telling.talk) {
         return Ok(());
     }
     writer.key("advice")?;
     if is_clean(telling.scope.tail, evidence) {
         return writer.null();
     }
-    writer.string(advice_of(telling.scope, evidence).sentence())
+    let silences = told_silences(telling.talk, row.pair);
+    writer.string(advice_of(telling.scope, evidence, silences).sentence())
 }
 
 fn push_pair(
@@ -257,8 +401,13 @@ fn push_verdict(writer: &mut Writer, verdict: Verdict) -> Result<(), AllocError>
     }
 }
 
-fn push_shown(writer: &mut Writer, grounds: &Grounds<'_>) -> Result<(), AllocError>
-    ensures tokens { OnOk result (writer.new.tokens ≡ writer.old.tokens ++ tokens_of (shown_members (grounds_value grounds.now))) }
+fn push_shown(
+    writer: &mut Writer,
+    grounds: &Grounds<'_>,
+    clock: Clock<'_>,
+) -> Result<(), AllocError>
+    ensures tokens { OnOk result (writer.new.tokens
+        ≡ writer.old.tokens ++ tokens_of (shown_members clock.entry.times.now (grounds_value grounds.now))) }
     ensures before { writer.new.before ≡ writer.old.before }
 {
     match *grounds {
@@ -267,17 +416,20 @@ fn push_shown(writer: &mut Writer, grounds: &Grounds<'_>) -> Result<(), AllocErr
             teller,
             asked_since,
             last_asked,
-        } => push_open(writer, teller, asked_since, last_asked),
+        } => {
+            push_teller(writer, "told", teller, clock)?;
+            push_asked(writer, asked_since, last_asked, clock)
+        }
         Grounds::Conflict { first, other } => {
             writer.key("sent")?;
             writer.begin_array()?;
-            push_sent(writer, first)?;
-            push_sent(writer, other)?;
+            push_sent(writer, first, clock)?;
+            push_sent(writer, other, clock)?;
             writer.end_array()
         }
         Grounds::Unfounded { teller, claim } => {
-            push_claim(writer, "claimed", claim)?;
-            push_teller(writer, "told", teller)
+            push_claim(writer, "claimed", claim, clock)?;
+            push_teller(writer, "told", teller, clock)
         }
     }
 }

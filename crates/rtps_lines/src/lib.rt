@@ -1,5 +1,5 @@
-//! What the forms of a report say alike: places, numbers and payloads as text, the lines of what a verdict rests on, and the report as an object of
-//! JSON.
+//! What the forms of a report say alike: places, seconds, numbers and payloads as text, the lines of what a verdict rests on, and the
+//! report as an object of JSON.
 #![tactic(auto)]
 
 mod causes;
@@ -10,19 +10,23 @@ mod json_members;
 mod json_object;
 mod notes;
 mod policy_values;
+mod silent_participants;
 mod talk_members;
 
 pub use causes::{Judged, causes_of, push_last, unmatched_words};
 pub use check_members::push_check_members;
 pub use evidence_lines::{
     AcknowledgedLine, AnnouncedLine, AskedLine, ClaimedLine, QuestionsLine, ToldLine, VerdictText,
-    push_sent,
+    WaitText, push_sent,
 };
 pub use fields::{
-    HostedGuid, PlaceComma, PlaceText, durability_name, kind_name, push_decimal, push_field,
-    push_payload, reliability_name, side_name,
+    HostedGuid, PlaceComma, PlaceText, SecondText, durability_name, kind_name, push_decimal,
+    push_field, push_payload, reliability_name, side_name,
 };
-pub use json_members::{push_count, push_guid, push_name, push_number, push_text, push_texts};
-pub use json_object::{Advised, Telling, json_line, push_report, push_report_members};
+pub use json_members::{
+    Clock, push_count, push_guid, push_name, push_number, push_seconds, push_text, push_texts,
+};
+pub use json_object::{Telling, json_line, push_report, push_report_members};
 pub use notes::{NotedRows, names_of, notes_of, number_words, topic_name};
 pub use policy_values::{Naming, PolicyValue, words_of_policy};
+pub use silent_participants::silence_lines;

@@ -6,12 +6,15 @@ ghost use Rattle.rtps_parts.specs.Parts.{part_text, words_value};
 ghost use Rattle.rtps_report.specs.ByTopic.{topics_of as topics_of_lem};
 ghost use Rattle.rtps_report.specs.BestEfforts.{best_effort_value};
 ghost use Rattle.rtps_report.specs.Talk.{talk_value};
-ghost use Rattle.rtps_lines.specs.Notes.{best_effort_note, best_effort_remedy as best_effort_remedy_lem, detail_of, host_note, is_silence, joined_names as joined_names_lem, late_by as late_by_lem, late_note, left_out_by as left_out_by_lem, left_out_notes, note, notes as notes_lem, number_words as number_words_lem, pair_words as pair_words_lem, remedy_of, share_text, shares_text, short_late_note, short_left_out_notes, short_notes as short_notes_lem, short_silent_note, silence_words as silence_words_lem, silent_in, silent_note, tail_note, topic_name as topic_name_lem, weaknesses as weaknesses_lem, words_of};
+ghost use Rattle.rtps_lines.specs.Notes.{absent_note, absent_rows, alone_in, alone_note, back_by as back_by_lem, best_effort_note, best_effort_remedy as best_effort_remedy_lem, detail_of, held_note, host_note, is_silence, joined_names as joined_names_lem, late_by as late_by_lem, late_note, left_out_by as left_out_by_lem, left_out_notes, names_if as names_if_lem, note, noted_value, notes as notes_lem, notes_beside, number_words as number_words_lem, order_note, pair_words as pair_words_lem, remedy_of, share_text, shares_if as shares_if_lem, shares_text, side_notes, silence_words as silence_words_lem, silent_in, silent_note, tail_note, topic_name as topic_name_lem, unread_note, unread_there as unread_there_lem, unread_value, weaknesses as weaknesses_lem, words_of};
 
-use rtps_evidence::Explanation;
+use crate::fields::SecondsText;
+use rtps_evidence::{Explanation, Seconds};
 use rtps_parts::{Part, Words, push_rendered, render, words_for};
 use rtps_policies::Silence;
-use rtps_report::{BestEffort, NoteFacts, Talk, are_on_one_host, topics_of};
+use rtps_report::{
+    BestEffort, NoteFacts, SideFacts, Talk, absent_of, are_on_one_host, is_held, topics_of,
+};
 use std::alloc::{AllocError, Global};
 
 /// What weakens a report.
@@ -201,6 +204,17 @@ pub fn names_of(alloc: Global, rows: &[Explanation<'_>]) -> Result<String, Alloc
     joined_names(alloc, &topics)
 }
 
+/// The same where topics are named; empty where they are not.
+fn names_if(alloc: Global, named: bool, rows: &[Explanation<'_>]) -> Result<String, AllocError>
+    ensures { IfOk result (λ names. string_bytes names ≡ names_if_lem named (map explanation_value rows.now)) }
+{
+    if named {
+        names_of(alloc, rows)
+    } else {
+        Ok(String::new(alloc))
+    }
+}
+
 /// Why pairs are silent, and what that says of them.
 #[tactic(auto, unfolding(crate::specs::Notes::silence_words))]
 fn silence_words(silence: Silence) -> &'static str
@@ -262,13 +276,13 @@ fn push_silent(
     silence: Silence,
 ) -> Result<(), AllocError>
     ensures { OnOk result (map string_bytes notes.new.items ≡ map string_bytes notes.old.items
-        ++ silent_note (talk_value told.entry.talk.now).silence (map explanation_value told.entry.left_out.now) silence) }
+        ++ silent_note told.entry.named (talk_value told.entry.talk.now).silence (map explanation_value told.entry.left_out.now) silence) }
 {
     let rows = silent_among(alloc, told.left_out, told.talk, silence)?;
     if rows.is_empty() {
         return Ok(());
     }
-    let names = names_of(alloc, &rows)?;
+    let names = names_if(alloc, told.named, &rows)?;
     push_rendered(alloc, notes, &left_out_by(silence, rows.len(), &names))
 }
 
@@ -286,7 +300,7 @@ fn push_left_out(
     told: NotedRows<'_, '_>,
 ) -> Result<(), AllocError>
     ensures { OnOk result (map string_bytes notes.new.items ≡ map string_bytes notes.old.items
-        ++ left_out_notes (talk_value told.entry.talk.now).silence (map explanation_value told.entry.left_out.now)) }
+        ++ left_out_notes told.entry.named (talk_value told.entry.talk.now).silence (map explanation_value told.entry.left_out.now)) }
 {
     for silence in &SILENCES {
         push_silent(alloc, notes, told, *silence)?;
@@ -294,35 +308,35 @@ fn push_left_out(
     Ok(())
 }
 
-/// Appends how many pairs are silent for this reason.
-fn push_short_silent(
-    alloc: Global,
-    notes: &mut Vec<String>,
-    told: NotedRows<'_, '_>,
-    silence: Silence,
-) -> Result<(), AllocError>
-    ensures { OnOk result (map string_bytes notes.new.items ≡ map string_bytes notes.old.items
-        ++ short_silent_note (talk_value told.entry.talk.now).silence (map explanation_value told.entry.left_out.now) silence) }
+fn back_by<'t>(seconds: &'t str, arrow: &'t str) -> [Part<'t>; 5]
+    ensures { flat_map part_text result ≡ back_by_lem seconds.now arrow.now }
 {
-    let rows = silent_among(alloc, told.left_out, told.talk, silence)?;
-    if rows.is_empty() {
-        return Ok(());
-    }
-    push_rendered(alloc, notes, &left_out_by(silence, rows.len(), ""))
+    [
+        Part::Text("times go back by up to "),
+        Part::Text(seconds),
+        Part::Text(" s"),
+        Part::Text(arrow),
+        Part::Text(
+            "the datagrams are out of order: reordercap FILE OUT sorts them by time, and OUT can be checked",
+        ),
+    ]
 }
 
-fn push_short_left_out(
+/// Appends by how many nanoseconds times go back, and what to do.
+fn push_order(
     alloc: Global,
     notes: &mut Vec<String>,
-    told: NotedRows<'_, '_>,
+    back: u64,
+    arrow: &str,
 ) -> Result<(), AllocError>
-    ensures { OnOk result (map string_bytes notes.new.items ≡ map string_bytes notes.old.items
-        ++ short_left_out_notes (talk_value told.entry.talk.now).silence (map explanation_value told.entry.left_out.now)) }
+    ensures { OnOk result (map string_bytes notes.new.items ≡ map string_bytes notes.old.items ++ order_note arrow.now back) }
 {
-    for silence in &SILENCES {
-        push_short_silent(alloc, notes, told, *silence)?;
+    if back == 0 {
+        return Ok(());
     }
-    Ok(())
+    let mut seconds = String::new(alloc);
+    write!(seconds, "{}", SecondsText(Seconds::of(back)))?;
+    push_rendered(alloc, notes, &back_by(&seconds, arrow))
 }
 
 fn push_hosts(
@@ -357,6 +371,17 @@ fn shares_of(alloc: Global, sums: &[BestEffort<'_>]) -> Result<String, AllocErro
         render(&mut shares, &share_parts(", ", other))?;
     }
     Ok(shares)
+}
+
+/// The same where topics are named; empty where they are not.
+fn shares_if(alloc: Global, named: bool, sums: &[BestEffort<'_>]) -> Result<String, AllocError>
+    ensures { IfOk result (λ shares. string_bytes shares ≡ shares_if_lem named (map best_effort_value sums.now)) }
+{
+    if named {
+        shares_of(alloc, sums)
+    } else {
+        Ok(String::new(alloc))
+    }
 }
 
 fn share_parts<'a>(separator: &'static str, sum: &BestEffort<'a>) -> [Part<'a>; 4]
@@ -449,29 +474,20 @@ fn late_by<'t>(pairs: u64, names: &'t str, arrow: &'t str) -> [Part<'t>; 5]
     ]
 }
 
-fn push_late(
+/// Appends for how many pairs the writer wrote nothing since the reader joined, and behind that the names of their topics.
+fn push_late<'t>(
     alloc: Global,
     notes: &mut Vec<String>,
-    rows: &[Explanation<'_>],
-    arrow: &str,
+    told: (u64, &'t str),
+    arrow: &'t str,
 ) -> Result<(), AllocError>
-    ensures { OnOk result (map string_bytes notes.new.items ≡ map string_bytes notes.old.items ++ late_note arrow.now (map explanation_value rows.now)) }
+    ensures { OnOk result (map string_bytes notes.new.items ≡ map string_bytes notes.old.items ++ late_note arrow.now told.entry.0 told.entry.1.now) }
 {
-    if rows.is_empty() {
-        return Ok(());
-    }
-    let names = names_of(alloc, rows)?;
-    push_rendered(alloc, notes, &late_by(rows.len() as u64, &names, arrow))
-}
-
-/// Appends for how many pairs the writer wrote nothing since the reader joined.
-fn push_short_late(alloc: Global, notes: &mut Vec<String>, pairs: u64) -> Result<(), AllocError>
-    ensures { OnOk result (map string_bytes notes.new.items ≡ map string_bytes notes.old.items ++ short_late_note pairs) }
-{
+    let (pairs, names) = told;
     if pairs == 0 {
         return Ok(());
     }
-    push_rendered(alloc, notes, &late_by(pairs, "", " -> "))
+    push_rendered(alloc, notes, &late_by(pairs, names, arrow))
 }
 
 fn push_tails(alloc: Global, notes: &mut Vec<String>, facts: &NoteFacts) -> Result<(), AllocError>
@@ -492,15 +508,244 @@ fn push_tails(alloc: Global, notes: &mut Vec<String>, facts: &NoteFacts) -> Resu
     push_rendered(alloc, notes, &parts)
 }
 
-/// Rows of which notes tell, each by topic.
+/// Appends how many numbers of all pairs of best effort arrived, and behind that the text on their topics.
+fn push_held(
+    alloc: Global,
+    notes: &mut Vec<String>,
+    total: &BestEffort<'_>,
+    shares: &str,
+) -> Result<(), AllocError>
+    ensures { OnOk result (map string_bytes notes.new.items ≡ map string_bytes notes.old.items ++ held_note (best_effort_value total.now) shares.now) }
+{
+    if total.pairs == 0 {
+        return Ok(());
+    }
+    let pairs = Words {
+        one: "best-effort pair has ",
+        many: "best-effort pairs have ",
+    };
+    let numbers = Words {
+        one: " number at the reader's host",
+        many: " numbers at the reader's host",
+    };
+    let parts = [
+        Part::Amount(u128::from(total.pairs), pairs),
+        Part::Share(total.recorded, total.numbers),
+        Part::Text(words_for(total.numbers, numbers)),
+        Part::Text(shares),
+    ];
+    push_rendered(alloc, notes, &parts)
+}
+
+/// Those of rows that are not held.
+fn alone_among<'a>(
+    alloc: Global,
+    rows: &[Explanation<'a>],
+) -> Result<Vec<Explanation<'a>>, AllocError>
+    ensures { IfOk result (λ alone. map explanation_value alone.items ≡ alone_in (map explanation_value rows.now)) }
+{
+    let mut alone = Vec::new(alloc);
+    for row in rows {
+        if !is_held(&row.evidence) {
+            alone.push(*row)?;
+        }
+    }
+    Ok(alone)
+}
+
+/// Those of rows of which numbers are received for certain though the other recording has none of them.
+fn absent_among<'a>(
+    alloc: Global,
+    rows: &[Explanation<'a>],
+) -> Result<Vec<Explanation<'a>>, AllocError>
+    ensures { IfOk result (λ absent. map explanation_value absent.items ≡ absent_rows (map explanation_value rows.now)) }
+{
+    let mut absent = Vec::new(alloc);
+    for row in rows {
+        if absent_of(&row.evidence) > 0 {
+            absent.push(*row)?;
+        }
+    }
+    Ok(absent)
+}
+
+/// Appends how many rows are not held, and behind that the names of their topics.
+fn push_alone<'t>(
+    alloc: Global,
+    notes: &mut Vec<String>,
+    told: (u64, &'t str),
+    arrow: &'t str,
+) -> Result<(), AllocError>
+    ensures { OnOk result (map string_bytes notes.new.items ≡ map string_bytes notes.old.items ++ alone_note arrow.now told.entry.0 told.entry.1.now) }
+{
+    let (alone, names) = told;
+    if alone == 0 {
+        return Ok(());
+    }
+    let pairs = Words {
+        one: "pair is judged by this recording alone",
+        many: "pairs are judged by this recording alone",
+    };
+    let parts = [
+        Part::Amount(u128::from(alone), pairs),
+        Part::Text(names),
+        Part::Text(arrow),
+        Part::Text(
+            "the recording at the reader's host has nothing of the reader to the writer: it was not made at that host",
+        ),
+    ];
+    push_rendered(alloc, notes, &parts)
+}
+
+/// Appends how many numbers are received for certain though the other recording has none of them, and behind that the names of their
+/// topics.
+fn push_absent<'t>(
+    alloc: Global,
+    notes: &mut Vec<String>,
+    told: (&SideFacts, &'t str),
+    arrow: &'t str,
+) -> Result<(), AllocError>
+    ensures { OnOk result (map string_bytes notes.new.items ≡ map string_bytes notes.old.items ++ absent_note arrow.now told.entry.0.now told.entry.1.now) }
+{
+    let (side, names) = told;
+    if side.absent_pairs == 0 {
+        return Ok(());
+    }
+    let numbers = Words {
+        one: "number is received for certain in",
+        many: "numbers are received for certain in",
+    };
+    let parts = [
+        Part::Amount(side.absent, numbers),
+        Part::Text(" "),
+        Part::Amount(u128::from(side.absent_pairs), pair_words()),
+        Part::Text(" and not in the recording at the reader's host"),
+        Part::Text(names),
+        Part::Text(arrow),
+        Part::Text(
+            "it lacks something: see that it ran all the time, and that tcpdump dropped nothing",
+        ),
+    ];
+    push_rendered(alloc, notes, &parts)
+}
+
+/// What of the other recording was not read: how much, the words for it, and what to do.
+#[derive(Clone, Copy)]
+struct Unread {
+    number: u64,
+    words: Words,
+    remedy: &'static str,
+}
+
+/// Frames of the other recording that gave no datagram.
+fn unread_there(side: &SideFacts) -> [Unread; 3]
+    ensures { map unread_value result ≡ unread_there_lem side.now }
+{
+    [
+        Unread {
+            number: side.pieces,
+            words: Weakness::Pieces.words(),
+            remedy: "the other parts were lost on the way: what such packets carry did not arrive",
+        },
+        Unread {
+            number: side.cut,
+            words: Weakness::Cut.words(),
+            remedy: "record whole frames, without a snap length (tcpdump -s), and end tcpdump with Ctrl-C: what is cut is told as not arrived",
+        },
+        Unread {
+            number: side.links.number,
+            words: Weakness::Links(side.links.first).words(),
+            remedy: "record on an Ethernet, loopback or raw IP interface, or with tcpdump -i any: what is not read is told as not arrived",
+        },
+    ]
+}
+
+fn push_unread(
+    alloc: Global,
+    notes: &mut Vec<String>,
+    unread: Unread,
+    arrow: &str,
+) -> Result<(), AllocError>
+    ensures { OnOk result (map string_bytes notes.new.items ≡ map string_bytes notes.old.items ++ unread_note arrow.now (unread_value unread)) }
+{
+    if unread.number == 0 {
+        return Ok(());
+    }
+    let parts = [
+        Part::Text("at the reader's host: "),
+        Part::Amount(u128::from(unread.number), unread.words),
+        Part::Text(arrow),
+        Part::Text(unread.remedy),
+    ];
+    push_rendered(alloc, notes, &parts)
+}
+
+fn push_all_unread(
+    alloc: Global,
+    notes: &mut Vec<String>,
+    side: &SideFacts,
+    arrow: &str,
+) -> Result<(), AllocError>
+    ensures { OnOk result (map string_bytes notes.new.items ≡ map string_bytes notes.old.items ++ flat_map (unread_note arrow.now) (unread_there_lem side.now)) }
+{
+    for unread in &unread_there(side) {
+        push_unread(alloc, notes, *unread, arrow)?;
+    }
+    Ok(())
+}
+
+/// Of what notes tell. Rows stand by topic.
 #[derive(Clone, Copy)]
 pub struct NotedRows<'r, 'a> {
     /// Who does not talk.
     pub talk: &'r Talk<'a>,
-    /// Those that are left out.
+    /// The rows that are left out.
     pub left_out: &'r [Explanation<'a>],
-    /// Those whose writer wrote nothing since their reader joined.
+    /// Those whose writer wrote nothing since their reader joined. They are only read where topics are named.
     pub late: &'r [Explanation<'a>],
+    /// All that are not left out. They are only read where topics are named.
+    pub rows: &'r [Explanation<'a>],
+    /// What another recording shows; None where there is none.
+    pub side: Option<SideFacts>,
+    /// Whether the topics are named.
+    pub named: bool,
+}
+
+/// The names of the topics of rows that are not held, where topics are named.
+fn alone_names(alloc: Global, told: NotedRows<'_, '_>) -> Result<String, AllocError>
+    ensures { IfOk result (λ names. string_bytes names ≡ names_if_lem told.entry.named (alone_in (map explanation_value told.entry.rows.now))) }
+{
+    let alone = alone_among(alloc, told.rows)?;
+    names_if(alloc, told.named, &alone)
+}
+
+/// The names of the topics of rows of which numbers are received for certain though the other recording has none of them.
+fn absent_names(alloc: Global, told: NotedRows<'_, '_>) -> Result<String, AllocError>
+    ensures { IfOk result (λ names. string_bytes names ≡ names_if_lem told.entry.named (absent_rows (map explanation_value told.entry.rows.now))) }
+{
+    let absent = absent_among(alloc, told.rows)?;
+    names_if(alloc, told.named, &absent)
+}
+
+/// Appends what another recording shows.
+fn push_beside(
+    alloc: Global,
+    notes: &mut Vec<String>,
+    told: NotedRows<'_, '_>,
+    arrow: &str,
+) -> Result<(), AllocError>
+    ensures { OnOk result (map string_bytes notes.new.items ≡ map string_bytes notes.old.items ++ side_notes arrow.now (noted_value told.entry) told.entry.side) }
+{
+    let Some(side) = told.side else {
+        return Ok(());
+    };
+    let alone = alone_names(alloc, told)?;
+    let absent = absent_names(alloc, told)?;
+    let shares = shares_if(alloc, told.named, &told.talk.held_sums)?;
+    push_held(alloc, notes, &told.talk.held_total, &shares)?;
+    push_alone(alloc, notes, (side.alone, &alone), arrow)?;
+    push_absent(alloc, notes, (&side, &absent), arrow)?;
+    push_all_unread(alloc, notes, &side, arrow)
 }
 
 /// What weakens a report, and before what is to be done this arrow.
@@ -510,38 +755,19 @@ pub fn notes_of(
     rows: NotedRows<'_, '_>,
     arrow: &str,
 ) -> Result<Vec<String>, AllocError>
-    ensures { IfOk result (λ notes. map string_bytes notes.items
-        ≡ notes_lem arrow.now facts.now (talk_value rows.entry.talk.now) (map explanation_value rows.entry.left_out.now) (map explanation_value rows.entry.late.now)) }
+    ensures { IfOk result (λ notes. map string_bytes notes.items ≡ notes_lem arrow.now facts.now (noted_value rows.entry)) }
 {
     let talk = rows.talk;
-    let shares = shares_of(alloc, &talk.best_effort)?;
+    let shares = shares_if(alloc, rows.named, &talk.best_effort)?;
+    let late = names_if(alloc, rows.named, rows.late)?;
     let mut notes = Vec::new(alloc);
+    push_order(alloc, &mut notes, facts.back, arrow)?;
     push_hosts(alloc, &mut notes, talk, arrow)?;
     push_left_out(alloc, &mut notes, rows)?;
     push_best_effort(alloc, &mut notes, (&talk.best_effort_total, &shares), arrow)?;
-    push_late(alloc, &mut notes, rows.late, arrow)?;
+    push_beside(alloc, &mut notes, rows, arrow)?;
+    push_late(alloc, &mut notes, (facts.late, &late), arrow)?;
     push_tails(alloc, &mut notes, facts)?;
     push_weaknesses(alloc, &mut notes, facts, arrow)?;
-    Ok(notes)
-}
-
-/// What weakens a report, in one line each, without the names of topics.
-#[tactic(auto, unfolding(crate::specs::Notes::short_notes))]
-pub(crate) fn short_notes(
-    alloc: Global,
-    facts: &NoteFacts,
-    rows: NotedRows<'_, '_>,
-) -> Result<Vec<String>, AllocError>
-    ensures { IfOk result (λ notes. map string_bytes notes.items
-        ≡ short_notes_lem facts.now (talk_value rows.entry.talk.now) (map explanation_value rows.entry.left_out.now)) }
-{
-    let talk = rows.talk;
-    let mut notes = Vec::new(alloc);
-    push_hosts(alloc, &mut notes, talk, " -> ")?;
-    push_short_left_out(alloc, &mut notes, rows)?;
-    push_best_effort(alloc, &mut notes, (&talk.best_effort_total, ""), " -> ")?;
-    push_short_late(alloc, &mut notes, facts.late)?;
-    push_tails(alloc, &mut notes, facts)?;
-    push_weaknesses(alloc, &mut notes, facts, " -> ")?;
     Ok(notes)
 }

@@ -1,22 +1,26 @@
-ghost use Rattle.std.specs.Prelude.{◌≡◌, ◌++◌, ◌∷◌, OnOk, codes, map};
+ghost use Rattle.std.specs.Prelude.{◌≡◌, ◌++◌, ◌∷◌, [], OnOk, codes, is_some, map};
 ghost use Rattle.std.specs.Option.{option_map};
+ghost use Rattle.json.specs.Json.{boolean};
 ghost use Rattle.json.specs.Token.{key};
 ghost use Rattle.json.specs.Tree.{json_tokens};
 ghost use Rattle.rtps_evidence.specs.Explanation.{explanation_value};
 ghost use Rattle.rtps_policies.specs.Fitting.{profile_value};
 ghost use Rattle.rtps_policies.specs.Unmatched.{unmatched_value};
-ghost use Rattle.rtps_report.specs.BestEfforts.{best_effort_value};
+ghost use Rattle.rtps_report.specs.BestEfforts.{best_effort_value, held_value};
 ghost use Rattle.rtps_report.specs.FullReport.{report_value};
 ghost use Rattle.rtps_report.specs.Talk.{talk_value};
-ghost use Rattle.rtps_lines.specs.JsonText.{array_of, tokens_of, tokens_of_member, until_json};
-ghost use Rattle.rtps_lines.specs.TalkMembers.{address_json, best_effort_json, best_effort_member, one_way_json, one_way_member, participant_json, participants_member, reasons_json, silence_name as silence_name_lem, talk_members, unmatched_json, unmatched_member, unobserved_json, unobserved_member, values_json};
+ghost use Rattle.rtps_lines.specs.JsonText.{array_of, timed_members, tokens_of, tokens_of_member};
+ghost use Rattle.rtps_lines.specs.TalkMembers.{address_json, best_effort_json, best_effort_member, held_json, held_member, held_members, one_way_json, one_way_member, participant_json, participants_member, reasons_json, silence_name as silence_name_lem, stay_members, stay_times, talk_members, unmatched_json, unmatched_member, unobserved_json, unobserved_member, values_json};
 
-use crate::json_members::{push_count, push_guid, push_name, push_text, push_total};
+use crate::json_members::{
+    Clock, push_count, push_flag, push_guid, push_name, push_numbers, push_optional, push_text,
+    push_timed, push_total,
+};
 use crate::policy_values::{Naming, PolicyValue};
 use json::Writer;
-use rtps_evidence::Explanation;
+use rtps_evidence::{Explanation, Times};
 use rtps_policies::{Address, OneWay, Policy, Profile, Silence, Unmatched, participant_of};
-use rtps_report::{BestEffort, FullReport, Participant, Stay, Talk};
+use rtps_report::{BestEffort, FullReport, HeldPair, Participant, Stay, Talk};
 use std::alloc::{AllocError, Global};
 
 /// The endpoint of which it is told what it has of these policies.
@@ -220,6 +224,54 @@ fn push_all_best_effort(
     writer.end_array()
 }
 
+fn push_held(writer: &mut Writer, text: &mut String, one: &HeldPair<'_>) -> Result<(), AllocError>
+    ensures tokens { OnOk result (writer.new.tokens ≡ writer.old.tokens ++ json_tokens (held_json (held_value one.now))) }
+    ensures before { writer.new.before ≡ writer.old.before }
+{
+    writer.begin_object()?;
+    push_name(writer, text, "topic", one.topic)?;
+    push_guid(writer, text, "writer", one.pair.writer)?;
+    push_guid(writer, text, "reader", one.pair.reader)?;
+    push_count(writer, "numbers", one.numbers)?;
+    push_count(writer, "arrived", one.arrived.arrived)?;
+    writer.key("not_arrived")?;
+    push_numbers(writer, one.arrived.lacking.as_slice())?;
+    writer.end_object()
+}
+
+fn push_all_held(
+    writer: &mut Writer,
+    text: &mut String,
+    held: &[HeldPair<'_>],
+) -> Result<(), AllocError>
+    ensures tokens { OnOk result (writer.new.tokens ≡ writer.old.tokens ++ tokens_of_member (held_member (map held_value held.now))) }
+    ensures before { writer.new.before ≡ writer.old.before }
+{
+    writer.key("arrived")?;
+    writer.begin_array()?;
+    for one in held {
+        push_held(writer, text, one)?;
+    }
+    writer.end_array()
+}
+
+/// Appends what arrived of pairs of best effort, where there is another recording.
+fn push_arrived(
+    writer: &mut Writer,
+    text: &mut String,
+    held: &[HeldPair<'_>],
+    has_other: bool,
+) -> Result<(), AllocError>
+    ensures tokens { OnOk result (writer.new.tokens ≡ writer.old.tokens ++ tokens_of (held_members has_other (map held_value held.now))) }
+    ensures before { writer.new.before ≡ writer.old.before }
+{
+    if has_other {
+        push_all_held(writer, text, held)
+    } else {
+        Ok(())
+    }
+}
+
 fn push_address(
     writer: &mut Writer,
     text: &mut String,
@@ -235,17 +287,6 @@ fn push_address(
     text.clear();
     write!(text, "{address}")?;
     writer.string(text)
-}
-
-fn push_number(writer: &mut Writer, name: &str, number: Option<u64>) -> Result<(), AllocError>
-    ensures tokens { OnOk result (writer.new.tokens ≡ writer.old.tokens ++ key name.now ∷ json_tokens (until_json number)) }
-    ensures before { writer.new.before ≡ writer.old.before }
-{
-    writer.key(name)?;
-    match number {
-        Some(number) => writer.u64(number),
-        None => writer.null(),
-    }
 }
 
 /// The number of a domain.
@@ -278,24 +319,64 @@ fn last_of(stay: Option<Stay>) -> Option<u64>
     }
 }
 
+/// Appends whether a participant is silent; nothing where the recording has no times.
+fn push_silent(writer: &mut Writer, silent: bool, times: &Times) -> Result<(), AllocError>
+    ensures tokens { OnOk result (writer.new.tokens
+        ≡ writer.old.tokens ++ tokens_of (timed_members times.now ((codes "silent", boolean silent) ∷ []))) }
+    ensures before { writer.new.before ≡ writer.old.before }
+{
+    if !times.are_there() {
+        return Ok(());
+    }
+    push_flag(writer, "silent", silent)
+}
+
+/// Appends when the datagrams came of which it is told, and whether the participant is silent; nothing where the recording has no times.
+fn push_stay_times(
+    writer: &mut Writer,
+    participant: &Participant,
+    clock: Clock<'_>,
+) -> Result<(), AllocError>
+    ensures tokens { OnOk result (writer.new.tokens ≡ writer.old.tokens ++ tokens_of (stay_times clock.entry.times.now participant.now)) }
+    ensures before { writer.new.before ≡ writer.old.before }
+{
+    push_timed(writer, "first_time", first_of(participant.stay), clock)?;
+    push_timed(writer, "last_time", last_of(participant.stay), clock)?;
+    push_timed(writer, "left_time", participant.left, clock)?;
+    push_silent(writer, participant.silent, clock.times)
+}
+
+/// Appends from when to when there is something of a participant, and where it leaves.
+fn push_stay(
+    writer: &mut Writer,
+    participant: &Participant,
+    clock: Clock<'_>,
+) -> Result<(), AllocError>
+    ensures tokens { OnOk result (writer.new.tokens ≡ writer.old.tokens ++ tokens_of (stay_members clock.entry.times.now participant.now)) }
+    ensures before { writer.new.before ≡ writer.old.before }
+{
+    push_optional(writer, "first", first_of(participant.stay))?;
+    push_optional(writer, "last", last_of(participant.stay))?;
+    push_optional(writer, "left", participant.left)?;
+    push_stay_times(writer, participant, clock)
+}
+
 fn push_participant(
     writer: &mut Writer,
     text: &mut String,
     participant: &Participant,
+    clock: Clock<'_>,
 ) -> Result<(), AllocError>
-    ensures tokens { OnOk result (writer.new.tokens ≡ writer.old.tokens ++ json_tokens (participant_json participant.now)) }
+    ensures tokens { OnOk result (writer.new.tokens
+        ≡ writer.old.tokens ++ json_tokens (participant_json clock.entry.times.now participant.now)) }
     ensures before { writer.new.before ≡ writer.old.before }
 {
     let domain = domain_number(participant.host.domain);
-    let first = first_of(participant.stay);
-    let last = last_of(participant.stay);
     writer.begin_object()?;
     push_guid(writer, text, "guid", participant.guid)?;
     push_address(writer, text, participant.host.address)?;
-    push_number(writer, "domain", domain)?;
-    push_number(writer, "first", first)?;
-    push_number(writer, "last", last)?;
-    push_number(writer, "left", participant.left)?;
+    push_optional(writer, "domain", domain)?;
+    push_stay(writer, participant, clock)?;
     writer.end_object()
 }
 
@@ -303,16 +384,25 @@ fn push_all_participants(
     writer: &mut Writer,
     text: &mut String,
     participants: &[Participant],
+    clock: Clock<'_>,
 ) -> Result<(), AllocError>
-    ensures tokens { OnOk result (writer.new.tokens ≡ writer.old.tokens ++ tokens_of_member (participants_member participants.now)) }
+    ensures tokens { OnOk result (writer.new.tokens
+        ≡ writer.old.tokens ++ tokens_of_member (participants_member clock.entry.times.now participants.now)) }
     ensures before { writer.new.before ≡ writer.old.before }
 {
     writer.key("participants")?;
     writer.begin_array()?;
     for participant in participants {
-        push_participant(writer, text, participant)?;
+        push_participant(writer, text, participant, clock)?;
     }
     writer.end_array()
+}
+
+/// Whether there is another recording.
+pub(crate) fn has_other(report: &FullReport<'_>) -> bool
+    ensures { result ≡ is_some (report_value report.now).arrived }
+{
+    report.arrived.is_some()
 }
 
 /// Appends who does not talk.
@@ -321,14 +411,19 @@ pub(crate) fn push_talk_members(
     writer: &mut Writer,
     report: &FullReport<'_>,
 ) -> Result<(), AllocError>
-    ensures tokens { OnOk result (writer.new.tokens ≡ writer.old.tokens ++ tokens_of (talk_members (report_value report.now))) }
+    ensures tokens { OnOk result (writer.new.tokens ≡ writer.old.tokens ++ tokens_of (talk_members report.now.recording.now.times (report_value report.now))) }
     ensures before { writer.new.before ≡ writer.old.before }
 {
     let mut text = String::new(alloc);
     let talk = &report.talk;
+    let clock = Clock {
+        times: report.recording.times(),
+        alloc,
+    };
     push_all_unmatched(writer, &mut text, &talk.unmatched)?;
     push_all_unobserved(writer, &mut text, &report.left_out, talk)?;
     push_all_one_way(writer, &mut text, &talk.one_way)?;
     push_all_best_effort(writer, &mut text, &talk.best_effort)?;
-    push_all_participants(writer, &mut text, &talk.participants)
+    push_arrived(writer, &mut text, &talk.held, has_other(report))?;
+    push_all_participants(writer, &mut text, &talk.participants, clock)
 }

@@ -1,101 +1,23 @@
 //! The program `rtps-audit`: opens the file that the command line names, runs the command, and ends with its status.
 #![tactic(auto)]
 
+mod inputs;
 mod progress;
 
+use inputs::{Remembering, Seen};
 use progress::{Progress, Wiping};
 use rtps_tool::{
-    CAPTURE_HEADER_SIZE, Captures, Choice, Ending, RecFault, RunFault, Unwatched, WordFault,
+    BesideFault, Captures, Choice, Ending, Inputs, Options, RecFault, RunFault, WordFault,
     is_pcapng, link_type_numbered, read_words, run_choice, status, unread_link_type, write_fault,
-    write_findings,
+    write_findings, write_other_fault,
 };
 use std::alloc::AllocError;
-use std::fs::File;
-use std::io::{Read, Write};
+use std::io::Write;
 use std::process::ExitCode;
 use std::{env, io};
 
-/// How many octets are kept from the beginning of an input, to say why it is refused: as many as the header of a
-/// capture has.
-const START: usize = CAPTURE_HEADER_SIZE;
-
 /// The octets that a file begins with that `gzip` made.
 const GZIP: &[u8] = b"\x1f\x8b";
-
-/// What is known of an input: its first octets, how many octets were read, and why its last read failed.
-#[derive(Drop)]
-struct Seen {
-    start: [u8; START],
-    known: usize,
-    octets: u64,
-    failure: Option<io::Error>,
-}
-
-impl Seen {
-    /// For an input of which nothing was read yet.
-    fn nothing() -> Seen {
-        Seen {
-            start: [0; START],
-            known: 0,
-            octets: 0,
-            failure: None,
-        }
-    }
-
-    /// Notes that these octets were read.
-    fn take(&mut self, octets: &[u8]) {
-        self.known = remember(&mut self.start, self.known, octets);
-        self.octets = self.octets.saturating_add(octets.len() as u64);
-    }
-
-    /// The first octets of the input: no more than the header of a capture has.
-    fn front(&self) -> &[u8] {
-        self.start.get(..self.known).unwrap_or(&[])
-    }
-}
-
-/// An input that notes what was read of it, and shows progress.
-#[derive(Drop)]
-struct Remembering<'a, R> {
-    input: R,
-    progress: Progress<'a>,
-    seen: Seen,
-}
-
-impl<R: Read> Read for Remembering<'_, R> {
-    fn read(&mut self, buf: &mut [u8]) -> io::Result<usize> {
-        let outcome = self.input.read(buf);
-        match &outcome {
-            Ok(got) => {
-                self.seen.take(&buf[..*got]);
-                self.progress.read(self.seen.octets);
-            }
-            Err(failure) => self.seen.failure = Some(same_error(failure)),
-        }
-        outcome
-    }
-}
-
-/// Appends octets to those that are known, as many as there is room for. Returns how many are known then.
-fn remember(start: &mut [u8], known: usize, octets: &[u8]) -> usize {
-    let mut known = known;
-    for octet in octets {
-        if known >= start.len() {
-            return known;
-        }
-        start[known] = *octet;
-        known += 1;
-    }
-    known
-}
-
-/// A copy of the error, with the reason that the system gave.
-fn same_error(error: &io::Error) -> io::Error {
-    match error.raw_os_error() {
-        Some(code) => io::Error::from_raw_os_error(code),
-        None => io::Error::from(error.kind()),
-    }
-}
 
 fn main(rt: HostRuntime) -> ExitCode {
     ExitCode::from(run(&rt))
@@ -108,18 +30,18 @@ fn run(rt: &HostRuntime) -> u8 {
         Err(error) => return refuse_args(rt, &error),
     };
     let Ok(args) = args.collect::<Vec<String>>(rt.alloc()) else {
-        return finish(rt, &Err(RunFault::Memory));
+        return out_of_memory(rt);
     };
     match run_args(rt, &args) {
         Ok(status) => status,
-        Err(AllocError) => finish(rt, &Err(RunFault::Memory)),
+        Err(AllocError) => out_of_memory(rt),
     }
 }
 
 /// If the arguments cannot be read: one is not UTF-8, or there is no memory for them.
 fn refuse_args(rt: &HostRuntime, error: &io::Error) -> u8 {
     if error.kind() == io::ErrorKind::OutOfMemory {
-        return finish(rt, &Err(RunFault::Memory));
+        return out_of_memory(rt);
     }
     let _ = rt.eprintln("error: an argument is not UTF-8");
     2
@@ -139,9 +61,9 @@ fn run_args(rt: &HostRuntime, args: &[String]) -> Result<u8, AllocError> {
 fn run_words(rt: &HostRuntime, words: &[&str]) -> u8 {
     match read_words(rt.alloc(), words) {
         Ok(choice) => {
-            let outcome = run_on_file(rt, &choice);
+            let outcome = run_on_inputs(rt, &choice);
             tell_findings(rt, &choice, &outcome);
-            finish(rt, &outcome)
+            finish(rt, choice.arrived(), &outcome)
         }
         Err(fault) => refuse_words(rt, &fault),
     }
@@ -158,51 +80,25 @@ fn refuse_words(rt: &HostRuntime, fault: &WordFault) -> u8 {
             let _ = answer.print(rt);
             0
         }
-        WordFault::Memory => finish(rt, &Err(RunFault::Memory)),
-    }
-}
-
-/// Runs what was chosen on its FILE, if it has one. If the file cannot be opened or read, prints its name and the
-/// reason.
-fn run_on_file(rt: &HostRuntime, choice: &Choice) -> Result<Ending, RunFault> {
-    let Some(file) = choice.file() else {
-        let mut watch = Unwatched;
-        return run_choice(
-            rt.alloc(),
-            choice,
-            &mut io::empty(),
-            &mut rt.stdout(),
-            &mut watch,
-        );
-    };
-    if file == "-" {
-        return run_on_input(rt, choice, rt.stdin());
-    }
-    match File::open(rt, file) {
-        Ok(input) => run_on_input(rt, choice, input),
-        Err(error) => {
-            tell_reason(rt, file, &error);
-            Err(RunFault::Input)
+        WordFault::BothInput => {
+            let _ = writeln!(rt.stderr(), "{fault}");
+            2
         }
+        WordFault::Memory => out_of_memory(rt),
     }
 }
 
-/// Runs what was chosen on the content of its FILE.
-fn run_on_input<R: Read + Drop>(
-    rt: &HostRuntime,
-    choice: &Choice,
-    input: R,
-) -> Result<Ending, RunFault> {
+/// Runs what was chosen on its inputs. If one cannot be opened or read, or is refused, prints its name and the reason.
+fn run_on_inputs(rt: &HostRuntime, choice: &Choice) -> Result<Ending, BesideFault> {
     let mut progress = Progress::new(rt);
-    let mut input = Remembering {
-        input,
-        progress,
-        seen: Seen::nothing(),
+    let mut inputs = Inputs {
+        file: Remembering::open(rt, choice.file(), progress),
+        other: Remembering::open(rt, choice.arrived(), progress),
     };
     let mut output = Wiping::new(rt.stdout(), progress);
-    let outcome = run_choice(rt.alloc(), choice, &mut input, &mut output, &mut progress);
+    let outcome = run_choice(rt.alloc(), choice, &mut inputs, &mut output, &mut progress);
     output.wipe();
-    tell_of_input(rt, choice, &input.seen, &outcome);
+    tell_of_inputs(rt, choice, &inputs, &outcome);
     if outcome.is_ok() {
         tell_ignored(rt, choice, progress.ignored());
     }
@@ -211,10 +107,11 @@ fn run_on_input<R: Read + Drop>(
 
 /// On a terminal, says that `--any` may read more, if it was not given and frames were ignored.
 fn tell_ignored(rt: &HostRuntime, choice: &Choice, ignored: Option<u64>) {
-    let (Some(file), Some(ignored)) = (choice.file(), ignored) else {
+    let (Some(file), Some(options), Some(ignored)) = (choice.file(), choice.options(), ignored)
+    else {
         return;
     };
-    if captures_of(choice) == Captures::Classic {
+    if options.captures == Captures::Classic {
         let _ = writeln!(
             rt.stderr(),
             "rtps-audit: {file}: ignored {ignored}; --any may read these frames"
@@ -222,38 +119,93 @@ fn tell_ignored(rt: &HostRuntime, choice: &Choice, ignored: Option<u64>) {
     }
 }
 
-/// The captures that are read.
-fn captures_of(choice: &Choice) -> Captures {
-    match choice.options() {
-        Some(options) => options.captures,
-        None => Captures::Classic,
+/// An input as it is told of: its name, what is known of it, how it is read, and the words that read it from standard input.
+#[derive(Clone, Copy)]
+struct Told<'a> {
+    name: &'a str,
+    seen: &'a Seen,
+    options: Options<'a>,
+    words: &'a str,
+}
+
+/// An input of this name as it is told of; None where there is no name, or nothing is read.
+fn told_of<'a>(
+    choice: &'a Choice,
+    name: Option<&'a str>,
+    seen: &'a Seen,
+    words: &'a str,
+) -> Option<Told<'a>> {
+    let (Some(name), Some(options)) = (name, choice.options()) else {
+        return None;
+    };
+    Some(Told {
+        name,
+        seen,
+        options,
+        words,
+    })
+}
+
+/// The fault of FILE, if a run has one.
+fn fault_of_file(outcome: &Result<Ending, BesideFault>) -> Option<RunFault> {
+    match outcome {
+        Err(BesideFault::Run(fault)) => Some(*fault),
+        _ => None,
+    }
+}
+
+/// That of the other recording.
+fn fault_of_other(outcome: &Result<Ending, BesideFault>) -> Option<RunFault> {
+    match outcome {
+        Err(BesideFault::Other(fault)) => Some(*fault),
+        _ => None,
+    }
+}
+
+/// Prints of both inputs what the line of a fault does not say.
+fn tell_of_inputs<'a>(
+    rt: &HostRuntime,
+    choice: &'a Choice,
+    inputs: &'a Inputs<Remembering<'a>, Remembering<'a>>,
+    outcome: &Result<Ending, BesideFault>,
+) {
+    let file = told_of(choice, choice.file(), &inputs.file.seen, "audit -");
+    if let Some(told) = &file {
+        tell_of_input(rt, told, fault_of_file(outcome));
+    }
+    let words = other_words(choice);
+    let other = told_of(choice, choice.arrived(), &inputs.other.seen, words);
+    if let Some(told) = &other {
+        tell_of_input(rt, told, fault_of_other(outcome));
+    }
+}
+
+/// The words that read the other recording from standard input.
+fn other_words(choice: &Choice) -> &'static str {
+    match choice {
+        Choice::Page { .. } => "page --arrived - FILE",
+        _ => "check --arrived - FILE",
     }
 }
 
 /// Prints what the line of a fault does not say: the name of the input, and why it cannot be read or is refused.
-fn tell_of_input(
-    rt: &HostRuntime,
-    choice: &Choice,
-    seen: &Seen,
-    outcome: &Result<Ending, RunFault>,
-) {
-    let Some(file) = choice.file() else {
-        return;
-    };
-    if let Some(failure) = &seen.failure {
+fn tell_of_input(rt: &HostRuntime, told: &Told<'_>, fault: Option<RunFault>) {
+    let file = told.name;
+    if let Some(failure) = told.seen.failure() {
         tell_reason(rt, file, failure);
     }
-    let Err(RunFault::Recording(fault)) = outcome else {
+    let Some(RunFault::Recording(fault)) = fault else {
         return;
     };
-    tell_packed(rt, file, seen.front());
-    match captures_of(choice) {
-        Captures::Classic => tell_any(rt, file, seen.front(), *fault),
-        Captures::Any => tell_unread(rt, file, seen.front()),
+    let start = told.seen.front();
+    tell_packed(rt, told);
+    match told.options.captures {
+        Captures::Classic => tell_any(rt, file, start, fault),
+        Captures::Any => tell_unread(rt, file, start),
     }
     match fault {
-        RecFault::TooMany => tell_limit(rt, choice, file, seen.octets),
-        RecFault::Damaged { frame } => tell_damage(rt, file, *frame),
+        RecFault::TooMany => tell_limit(rt, told),
+        RecFault::Damaged { frame } => tell_damage(rt, file, frame),
         _ => {}
     }
 }
@@ -266,18 +218,15 @@ fn tell_damage(rt: &HostRuntime, file: &str, frame: u64) {
     );
 }
 
-/// Prints the limit that an input is above, and the option that raises it. So many octets were read; the limit of
-/// octets comes first.
-fn tell_limit(rt: &HostRuntime, choice: &Choice, file: &str, octets: u64) {
-    let Some(options) = choice.options() else {
-        return;
-    };
-    let limits = options.limits;
-    let (most, what, option) = if octets > limits.octets {
+/// Prints the limit that an input is above, and the option that raises it. The limit of octets comes first.
+fn tell_limit(rt: &HostRuntime, told: &Told<'_>) {
+    let limits = told.options.limits;
+    let (most, what, option) = if told.seen.octets() > limits.octets {
         (limits.octets, "octets", "--max-octets")
     } else {
         (limits.datagrams, "datagrams", "--max-datagrams")
     };
+    let file = told.name;
     let _ = writeln!(
         rt.stderr(),
         "rtps-audit: {file}: more than {most} {what}; {option} N raises this limit"
@@ -285,11 +234,13 @@ fn tell_limit(rt: &HostRuntime, choice: &Choice, file: &str, octets: u64) {
 }
 
 /// If an input is refused and begins as `gzip` begins a file, prints that, and a command that unpacks it.
-fn tell_packed(rt: &HostRuntime, file: &str, start: &[u8]) {
-    if start.starts_with(GZIP) {
+fn tell_packed(rt: &HostRuntime, told: &Told<'_>) {
+    if told.seen.front().starts_with(GZIP) {
+        let file = told.name;
+        let words = told.words;
         let _ = writeln!(
             rt.stderr(),
-            "rtps-audit: {file}: a gzip file; gunzip -c {file} | rtps-audit audit - reads what it holds"
+            "rtps-audit: {file}: a gzip file; gunzip -c {file} | rtps-audit {words} reads what it holds"
         );
     }
 }
@@ -346,7 +297,7 @@ fn tell_reason(rt: &HostRuntime, file: &str, error: &io::Error) {
 }
 
 /// Prints what was found beside rows that are not complete. `check` says it in its text.
-fn tell_findings(rt: &HostRuntime, choice: &Choice, outcome: &Result<Ending, RunFault>) {
+fn tell_findings(rt: &HostRuntime, choice: &Choice, outcome: &Result<Ending, BesideFault>) {
     if let Choice::Check { .. } = choice {
         return;
     }
@@ -355,10 +306,21 @@ fn tell_findings(rt: &HostRuntime, choice: &Choice, outcome: &Result<Ending, Run
     }
 }
 
-/// Prints a fault, if there is one, and returns the status to end with.
-fn finish(rt: &HostRuntime, outcome: &Result<Ending, RunFault>) -> u8 {
-    if let Err(fault) = outcome {
-        let _ = write_fault(fault, &mut rt.stderr());
+/// Prints that there was no memory, and returns the status to end with.
+fn out_of_memory(rt: &HostRuntime) -> u8 {
+    finish(rt, None, &Err(BesideFault::Run(RunFault::Memory)))
+}
+
+/// Prints a fault, if there is one, and returns the status to end with. A fault of the other recording is told with its name.
+fn finish(rt: &HostRuntime, other: Option<&str>, outcome: &Result<Ending, BesideFault>) -> u8 {
+    match outcome {
+        Ok(_) => {}
+        Err(BesideFault::Run(fault)) => {
+            let _ = write_fault(fault, &mut rt.stderr());
+        }
+        Err(BesideFault::Other(fault)) => {
+            let _ = write_other_fault(other.unwrap_or(""), fault, &mut rt.stderr());
+        }
     }
     status(outcome)
 }

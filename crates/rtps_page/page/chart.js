@@ -1,5 +1,5 @@
 'use strict';
-// The chart of a pair: datagrams to the right, numbers upwards.
+// The chart of a pair: seconds or datagrams to the right, numbers upwards.
 
 const CHART_HEIGHT = 320;
 const EDGES = { left: 64, right: 14, top: 18, bottom: 34 };
@@ -12,11 +12,11 @@ const POINT = 'Point at a dot to read it.';
 
 // What is drawn of a row: dots for DATA to its reader, bands for numbers that are told gone to it, steps for what HEARTBEATs announce
 // and for what the reader acknowledged, and marks for the numbers and the datagram that its verdict is about.
-function marksOf(report, row) {
-  const acts = report.actsOf(row).map(entryParts);
+function marksOf(report, row, axis) {
+  const acts = report.actsOf(row).map((entry) => entryParts(entry, axis));
   const to = namesOf(row.reader);
   const heard = acts.filter(({ named }) => to.includes(named));
-  const answers = report.basesOf(row).map(([x, at, base]) => ({ x, y: Number(base) - 1, at }));
+  const answers = report.basesOf(row).map(([datagram, at, base]) => ({ x: axis.at(datagram), y: Number(base) - 1, at }));
   return {
     dots: dotsOf(heard.filter(({ what }) => what === 'data')),
     bands: bandsOf(heard.filter(({ what }) => what === 'gone')),
@@ -24,14 +24,31 @@ function marksOf(report, row) {
     answers,
     acknowledged: stepsOf(answers),
     numbers: markedNumbers(row),
-    datagrams: row.verdict === 'unfounded' ? [{ x: row.datagram, label: `datagram ${row.datagram}` }] : [],
+    datagrams: row.verdict === 'unfounded' ? [{ x: axis.at(row.datagram), label: `datagram ${row.datagram}` }] : [],
+  };
+}
+
+// What stands to the right: the seconds of datagrams, where each that is drawn has one; or else their numbers. It has the word for
+// them, its ends, the smallest window, the smallest step between its marks, and the text of a mark.
+function axisOf(report, row) {
+  const drawn = [...report.actsOf(row), ...report.basesOf(row)].map(([datagram]) => datagram);
+  const seconds = drawn.map((datagram) => report.secondOf(datagram));
+  if (drawn.length === 0 || seconds.includes(undefined)) {
+    return {
+      word: 'datagram', name: 'Datagrams', at: (datagram) => datagram, low: 0, high: Math.max(2, report.data.datagrams + 1), window: 4, step: 1, text: shortNumber,
+    };
+  }
+  const [first, last] = [seconds.reduce((a, b) => Math.min(a, b)), seconds.reduce((a, b) => Math.max(a, b))];
+  const room = Math.max(0.01, (last - first) * 0.02);
+  return {
+    word: 's', name: 'Seconds', at: (datagram) => report.secondOf(datagram), low: first - room, high: last + room, window: 0.02, step: 0.001, text: shortSecond,
   };
 }
 
 // The parts of an entry: where it stands, what it says, of which numbers, and whom it names.
-function entryParts([x, at, what, ...rest]) {
+function entryParts([datagram, at, what, ...rest], axis) {
   const count = what === 'gone' ? 2 : 1;
-  return { x, at, what, numbers: rest.slice(0, count), named: rest[count] };
+  return { x: axis.at(datagram), datagram, at, what, numbers: rest.slice(0, count), named: rest[count] };
 }
 
 // The names by which an entry is for a reader: it names nobody, or the reader, its participant or its entity.
@@ -45,10 +62,10 @@ function markedNumbers({ verdict, number, first_missed: missed }) {
 // Each DATA as a dot; it is sent again where an earlier one has its number.
 function dotsOf(entries) {
   const seen = new Set();
-  return entries.map(({ x, at, numbers: [number] }) => {
+  return entries.map(({ x, datagram, at, numbers: [number] }) => {
     const again = seen.has(number);
     seen.add(number);
-    return { x, y: Number(number), number, at, again };
+    return { x, y: Number(number), number, datagram, at, again };
   });
 }
 
@@ -75,11 +92,11 @@ function stepsOf(points) {
   return steps;
 }
 
-// Round values for the marks of an axis, about so many.
-function ticks(low, high, about) {
+// Round values for the marks of an axis, about so many, and no nearer to each other than a step.
+function ticks(low, high, about, least = 1) {
   const rough = (high - low) / about;
   const power = 10 ** Math.floor(Math.log10(rough));
-  const step = Math.max(1, [1, 2, 5, 10].map((n) => n * power).find((n) => n >= rough));
+  const step = Math.max(least, [1, 2, 5, 10].map((n) => n * power).find((n) => n >= rough));
   const found = [];
   for (let at = Math.ceil(low / step) * step; at <= high && found.length < 50; at += step) found.push(at);
   return found;
@@ -87,35 +104,37 @@ function ticks(low, high, about) {
 
 // A mark of an axis, short enough for its room.
 const shortNumber = (n) => (n < 1e7 ? String(Math.round(n)) : n.toExponential(1).replace('e+', 'e'));
+const shortSecond = (s) => String(Number(s.toFixed(3)));
 
 class Chart {
   constructor(report, row) {
-    this.marks = marksOf(report, row);
-    this.all = this.extent(report.data.datagrams);
+    this.axis = axisOf(report, row);
+    this.marks = marksOf(report, row, this.axis);
+    this.all = this.extent();
     Object.assign(this, { view: this.all, at: null, drag: null, width: 0, still: document.createElement('canvas') });
     this.canvas = make('canvas', {
       tabindex: '0', role: 'application', 'aria-label': this.description(row), 'aria-describedby': 'chart-help',
     });
     this.readout = make('p', { class: 'readout', role: 'status' }, POINT);
     this.element = make('figure', { class: 'chart' }, this.canvas, this.controls(), this.readout, legend(),
-      make('figcaption', { id: 'chart-help' }, 'Datagrams to the right, numbers upwards. Drag to zoom, double-click to show all. Keys: left and '
+      make('figcaption', { id: 'chart-help' }, `${this.axis.name} to the right, numbers upwards. Drag to zoom, double-click to show all. Keys: left and `
         + 'right go from dot to dot, + and − zoom, Shift and an arrow move, 0 shows all.'));
     this.listen();
   }
 
   // Everything, with some room above.
-  extent(datagrams) {
+  extent() {
     const { dots, bands, announced, acknowledged, numbers } = this.marks;
     let top = 1;
     for (const { y, high } of [...announced, ...acknowledged, ...numbers, ...bands]) top = Math.max(top, y ?? high);
     for (const { y } of dots) top = Math.max(top, y);
-    return { x0: 0, x1: Math.max(2, datagrams + 1), y0: 0, y1: top * 1.06 + 1 };
+    return { x0: this.axis.low, x1: this.axis.high, y0: 0, y1: top * 1.06 + 1 };
   }
 
   description(row) {
     const { dots, answers } = this.marks;
     const again = dots.filter((dot) => dot.again).length;
-    return `Chart of datagrams and numbers: ${plural(dots.length, 'DATA', 'DATA')} to this reader, ${counted(again)} of them sent again, `
+    return `Chart of ${this.axis.name.toLowerCase()} and numbers: ${plural(dots.length, 'DATA', 'DATA')} to this reader, ${counted(again)} of them sent again, `
       + `${plural(answers.length, 'answer')} of the reader, and a line at ${row.verdict} ${row.number}.`;
   }
 
@@ -146,7 +165,7 @@ class Chart {
     return CHART_HEIGHT - EDGES.bottom - (y - this.view.y0) / (this.view.y1 - this.view.y0) * (CHART_HEIGHT - EDGES.top - EDGES.bottom);
   }
 
-  // the datagram and the number at a pixel
+  // the place on the axis and the number at a pixel
   valueAt(px, py) {
     const { x0, x1, y0, y1 } = this.view;
     return {
@@ -190,22 +209,27 @@ class Chart {
     this.show(this.within([x0 + dx, x1 + dx, y0 + dy, y1 + dy]));
   }
 
-  // A window of at least 4 datagrams and numbers that lies within all.
+  // A window that lies within all, of at least 4 numbers, and to the right of at least what the axis says.
   within([left, right, bottom, top]) {
-    const fit = (low, high, least, most) => {
-      const size = Math.min(Math.max(high - low, Math.min(4, most - least)), most - least);
+    const fit = (low, high, least, most, smallest) => {
+      const size = Math.min(Math.max(high - low, Math.min(smallest, most - least)), most - least);
       const start = Math.min(Math.max((low + high - size) / 2, least), most - size);
       return [start, start + size];
     };
-    const [[x0, x1], [y0, y1]] = [fit(left, right, this.all.x0, this.all.x1), fit(bottom, top, this.all.y0, this.all.y1)];
+    const [[x0, x1], [y0, y1]] = [fit(left, right, this.all.x0, this.all.x1, this.axis.window), fit(bottom, top, this.all.y0, this.all.y1, 4)];
     return { x0, x1, y0, y1 };
   }
 
   choose(dot) {
     if (dot === this.at) return;
     this.at = dot;
-    this.readout.textContent = dot ? `DATA of number ${dot.number} in datagram ${dot.x}, octet ${dot.at}${dot.again ? ', sent again' : ''}.` : POINT;
+    this.readout.textContent = dot ? this.dotText(dot) : POINT;
     this.paint();
+  }
+
+  dotText({ number, datagram, at, again, x }) {
+    const place = placeText({ datagram, at, time: this.axis.word === 's' ? x : null });
+    return `DATA of number ${number} in ${place}${again ? ', sent again' : ''}.`;
   }
 
   pointed({ offsetX, offsetY }) {
@@ -223,7 +247,7 @@ class Chart {
     this.drag = { x0: event.offsetX, y0: event.offsetY, x1: event.offsetX, y1: event.offsetY };
   }
 
-  // A drag to the side alone leaves the numbers as they are; one upwards alone the datagrams.
+  // A drag to the side alone leaves the numbers as they are; one upwards alone what stands to the right.
   released({ offsetX, offsetY }) {
     const { drag, view: { x0, x1, y0, y1 } } = this;
     this.drag = null;
@@ -331,12 +355,12 @@ class Chart {
       this.line(EDGES.left, this.pixelY(y), width - EDGES.right, this.pixelY(y));
       pen.fillText(shortNumber(y), EDGES.left - 8, this.pixelY(y));
     }
-    pen.fillText('datagram', width - EDGES.right, CHART_HEIGHT - 8);
+    pen.fillText(this.axis.word, width - EDGES.right, CHART_HEIGHT - 8);
     pen.textBaseline = 'top';
-    for (const x of ticks(view.x0, view.x1, Math.max(2, width / 110))) {
+    for (const x of ticks(view.x0, view.x1, Math.max(2, width / 110), this.axis.step)) {
       this.line(this.pixelX(x), CHART_HEIGHT - EDGES.bottom, this.pixelX(x), CHART_HEIGHT - EDGES.bottom + 4);
       pen.textAlign = this.pixelX(x) > width - 30 ? 'right' : 'center';
-      pen.fillText(shortNumber(x), Math.min(this.pixelX(x), width - 4), CHART_HEIGHT - EDGES.bottom + 6);
+      pen.fillText(this.axis.text(x), Math.min(this.pixelX(x), width - 4), CHART_HEIGHT - EDGES.bottom + 6);
     }
     Object.assign(pen, { textAlign: 'left', textBaseline: 'middle' });
     pen.fillText('number', 4, 8);

@@ -10,9 +10,10 @@ function showOverview(report) {
   const outcome = outcomeSentence(report.data);
   const at = (id) => document.getElementById(id);
   document.title = `${outcome}: rtps-audit`;
-  fill(at('asked'), 'rtps-audit, a report of ', askedText(report.data.options));
+  fill(at('asked'), 'rtps-audit, a report of ', askedText(report.data));
   fill(at('outcome'), outcome);
-  fill(at('received'), receivedSentence(report.rows));
+  fill(at('received'), receivedSentence(report));
+  at('arrived').hidden = !report.data.arrived;
   fill(at('line'), make('a', { href: '#counts' }, 'Counts'), `: ${report.counts().map(([name, n]) => `${name} ${counted(n)}`).join(', ')}`);
   showTopics(report, at('topics'));
   showTalk(report, at('talk'));
@@ -21,12 +22,13 @@ function showOverview(report) {
 }
 
 // The options that were given, as on the command line.
-function askedText(options) {
+function askedText({ options, arrived }) {
   const words = [
     options.from !== 1 && `--from ${options.from}`,
     ...['any', 'fragments', 'observed', 'strict', 'spans'].map((name) => options[name] && `--${name}`),
     ...options.topics.map((pattern) => `--topic '${pattern}'`),
     options.expect !== null && `--expect ${options.expect}`,
+    arrived && '--arrived OTHER',
   ].filter(Boolean);
   const numbers = options.from === 1 ? 'all numbers' : `the numbers from ${options.from} on`;
   return words.length === 0 ? [`${numbers}, without options`] : [`${numbers}, with `, make('code', null, words.join(' '))];

@@ -15,10 +15,18 @@ function placeColumn(name, head, member) {
   return { name, head, class: 'count', compare: byCount(numberOf), cell: (report, row) => (row[name] ? String(numberOf(row)) : '–') };
 }
 
+// Of a row that has no such count, too. A count above 0 is marked in the rows in which it is bad.
 function countColumn(name, head, isBad, numberOf = (row) => row[name]) {
-  const cell = (report, row) => (isBad && isAbove(numberOf(row), 0) ? make('b', { class: 'bad' }, counted(numberOf(row))) : counted(numberOf(row)));
-  return { name, head, class: 'count', compare: byCount(numberOf), cell };
+  const cell = (report, row) => {
+    const count = numberOf(row);
+    if (count === null) return '–';
+    return isBad(row) && isAbove(count, 0) ? make('b', { class: 'bad' }, counted(count)) : counted(count);
+  };
+  return { name, head, class: 'count', compare: byCount((row) => numberOf(row) || 0), cell };
 }
+
+const always = () => true;
+const never = () => false;
 
 // The columns: name, head, order, and what stands in a cell. Rows in spans have others in the place of the last five.
 const COLUMNS = [
@@ -27,22 +35,25 @@ const COLUMNS = [
   { name: 'reader', head: 'Reader', compare: byText('reader'), cell: (report, row) => endpointName(report, row.reader) },
   placeColumn('announced', 'Last announced', 'number'),
   placeColumn('acknowledged', 'Acknowledged below', 'below'),
-  countColumn('payloads', 'Payloads', false),
-  countColumn('gone', 'Gone', true),
-  countColumn('untold', 'Untold', true),
-  countColumn('received', 'Proved received', false),
-  countColumn('missed', 'Missed', true),
+  countColumn('payloads', 'Payloads', never),
+  countColumn('gone', 'Gone', always),
+  countColumn('untold', 'Untold', always),
+  countColumn('received', 'Proved received', never),
+  countColumn('missed', 'Missed', always),
 ];
-const OUTCOMES = { received: false, likely: false, missed: true, unsent: true, unanswered: true, unconfirmed: false };
-const SPAN_COLUMNS = [...COLUMNS.slice(0, 5), ...Object.entries(OUTCOMES).map(([name, isBad]) => (
-  countColumn(name, name[0].toUpperCase() + name.slice(1), isBad, ({ outcomes }) => outcomes[name])))];
+const OUTCOMES = ['received', 'arrived', 'likely', 'missed', 'unsent', 'unanswered', 'unconfirmed'];
+const LOST = ['missed', 'unsent', 'unanswered'];
+// Numbers of some outcomes are lost. A likely one did not arrive where the row is held against another recording.
+const isLost = (name, { outcomes: { arrived = null } }) => LOST.includes(name) || (name === 'likely' && arrived !== null);
+const SPAN_COLUMNS = [...COLUMNS.slice(0, 5), ...OUTCOMES.map((name) => (
+  countColumn(name, name[0].toUpperCase() + name.slice(1), (row) => isLost(name, row), ({ outcomes }) => outcomes[name])))];
 
 const WORST_FIRST = { name: 'worst', head: 'Worst first', compare: worse };
 const BY_TOPIC = { name: 'topic', head: 'Topic', compare: (a, b) => byText('topic')(a, b) || worse(a, b) };
 const BY_TYPE = { name: 'type', head: 'Type', compare: (a, b) => byText('type')(a, b) || worse(a, b) };
 
 function verdictCell(report, row) {
-  const bad = row.outcomes ? Object.keys(OUTCOMES).filter((name) => OUTCOMES[name] && row.outcomes[name] > 0)
+  const bad = row.outcomes ? OUTCOMES.filter((name) => isLost(name, row) && row.outcomes[name] > 0)
     : ['missed', 'gone'].filter((name) => name === row.kind);
   return make('a', { href: `#pair-${row.at + 1}`, 'aria-expanded': 'false' },
     badge(row.verdict, row.verdict), ' ', make('span', { class: 'number' }, String(row.number)),
@@ -55,7 +66,7 @@ function verdictCell(report, row) {
 class Pairs {
   constructor(report) {
     Object.assign(this, { report, words: [], kinds: new Set(), order: WORST_FIRST, isDown: false, most: FIRST_ROWS, chosen: null });
-    this.columns = report.data.options.spans ? SPAN_COLUMNS : COLUMNS;
+    this.columns = (report.data.options.spans ? SPAN_COLUMNS : COLUMNS).filter(({ name }) => name !== 'arrived' || report.data.arrived);
     this.orders = [WORST_FIRST, BY_TOPIC, BY_TYPE, ...this.columns];
     this.sort();
     this.build();

@@ -22,7 +22,8 @@ function isRounded({ number, announced, acknowledged, from = 0 }) {
 function valueOf(text) {
   const value = JSON.parse(text);
   const isShort = !isLarge(value.options.from) && !isLarge(value.options.expect) && !value.pairs.some(isRounded);
-  if (isShort && !value.best_effort.some(({ numbers }) => isLarge(numbers))) return value;
+  const largeOfBestEffort = [...value.best_effort, ...(value.arrived || [])].some(({ numbers, not_arrived: named = [] }) => [numbers, ...named].some(isLarge));
+  if (isShort && !largeOfBestEffort) return value;
   return JSON.parse(text.replace(STRING_OR_LARGE, (found) => (found[0] === '"' ? found : `"${found}"`)));
 }
 
@@ -50,6 +51,9 @@ const partOf = (n, all, noun) => (n === all ? plural(all, noun) : `${counted(n)}
 // How many numbers are asked about: those from the first one on, up to the last one that is announced.
 const askedAbout = ({ payloads, gone, untold }) => BigInt(payloads) + BigInt(gone) + BigInt(untold);
 
+// How many more numbers of a row arrived, by another recording.
+const arrivedOf = ({ outcomes }) => (outcomes && outcomes.arrived) || 0;
+
 const prefixOf = (guid) => guid.slice(0, 24);
 const entityOf = (guid) => guid.slice(24);
 
@@ -74,7 +78,13 @@ class Report {
     this.acts = new Map(data.writers.map(({ guid, acts }) => [guid, acts]));
     this.endpointOf = new Map(data.endpoints.map((endpoint) => [endpoint.guid, endpoint]));
     this.participants = participantsOf(data);
+    this.seconds = new Map(data.times || []);
     this.bases = null;
+  }
+
+  // the second of a datagram that a chart has, or undefined where it has none
+  secondOf(datagram) {
+    return this.seconds.get(datagram);
   }
 
   // the counts of the recording, as the last line of `audit` has them

@@ -3,8 +3,11 @@
 
 const KIND_OF_ACT = { data: 'a DATA', heartbeat: 'a HEARTBEAT', gap: 'a GAP', data_frag: 'a DATA_FRAG' };
 
-// A place: the datagram, and the octet of it at which the submessage begins.
-const placeText = ({ datagram, at }) => `datagram ${datagram}, octet ${at}`;
+// The second of a datagram, behind it; nothing where it has none.
+const secondText = (time) => (typeof time === 'number' ? `, ${time.toFixed(3)} s` : '');
+
+// A place: the datagram, the octet of it at which the submessage begins, and its second.
+const placeText = ({ datagram, at, time }) => `datagram ${datagram}, octet ${at}${secondText(time)}`;
 const actText = (act) => `${KIND_OF_ACT[act.by] || act.by} in ${placeText(act)}`;
 
 // The verdict of a row in a sentence.
@@ -16,12 +19,16 @@ const VERDICTS = {
   complete: completeSentence,
 };
 
-const verdictSentence = (report, row) => VERDICTS[row.verdict](row, row.from === undefined ? report.data.options.from : row.from);
+const verdictSentence = (report, row) => [
+  VERDICTS[row.verdict](row, row.from === undefined ? report.data.options.from : row.from), ...lackingSentences(row),
+].join(' ');
 
 // All numbers from that of the verdict on are not acknowledged.
-function openSentence({ number, announced }) {
-  if (number === announced.number) return `The reader may lack sample ${number}: it is announced, and the reader never acknowledged it.`;
-  return `The reader may lack samples ${number} to ${announced.number}: they are announced, and the reader never acknowledged them.`;
+function openSentence({ number, announced, not_arrived: lacking }) {
+  const [samples, are, them] = number === announced.number
+    ? [`sample ${number}`, 'it is', 'it'] : [`samples ${number} to ${announced.number}`, 'they are', 'them'];
+  if (lacking && lacking.length === 0) return `The reader never acknowledged ${samples}, but all numbers are received or arrived.`;
+  return `The reader may lack ${samples}: ${are} announced, and the reader never acknowledged ${them}.`;
 }
 
 function completeSentence({ kind, number, announced, missed, first_missed: first, gone }, from) {
@@ -32,13 +39,24 @@ function completeSentence({ kind, number, announced, missed, first_missed: first
   return `${all}.`;
 }
 
-// What a verdict rests on, a sentence for each line of `why`.
-const evidenceSentences = (row) => [...spanSentences(row), ...commonSentences(row), ...receivedSentences(row), ...OWN_SENTENCES[row.verdict](row)];
+// Some numbers, and how many more there are of so many.
+const listed = (numbers, count) => `${numbers.join(', ')}${isAbove(count, numbers.length) ? ` and ${counted(count - BigInt(numbers.length))} more` : ''}`;
 
-function spanSentences({ from, until, outcomes }) {
+// The first numbers of a row that did not arrive, where it is held against another recording.
+function lackingSentences(row) {
+  if (!row.not_arrived || row.not_arrived.length === 0) return [];
+  return [`Not arrived ${listed(row.not_arrived, askedAbout(row) - BigInt(row.outcomes.received) - BigInt(row.outcomes.arrived))}.`];
+}
+
+// What a verdict rests on, a sentence for each line of `why`.
+const evidenceSentences = (row) => [
+  ...spanSentences(row), ...commonSentences(row), ...receivedSentences(row), ...OWN_SENTENCES[row.verdict](row), ...waitSentences(row), ...silenceSentences(row),
+];
+
+function spanSentences({ from, until, until_time: time, outcomes }) {
   if (!outcomes) return [];
-  const kinds = Object.keys(OUTCOMES).filter((name) => outcomes[name] > 0).map((name) => `${counted(outcomes[name])} ${name}`);
-  const left = until === null ? '' : `, until datagram ${until}, in which the reader left`;
+  const kinds = OUTCOMES.filter((name) => outcomes[name] > 0).map((name) => `${counted(outcomes[name])} ${name}`);
+  const left = until === null ? '' : `, until datagram ${until}${secondText(time)}, in which the reader left`;
   return [`The row is about the numbers from ${from} on${left}: ${kinds.join(', ') || 'none is announced'}.`];
 }
 
@@ -80,6 +98,16 @@ const OWN_SENTENCES = {
   complete: () => [],
 };
 
+// The longest that the reader let the writer wait, where that is told.
+function waitSentences({ wait }) {
+  if (!wait) return [];
+  const answered = wait.answered ? `answered in ${placeText(wait.answered)}` : 'not answered';
+  return [`The reader let the writer wait ${wait.seconds.toFixed(3)} s: asked in ${placeText(wait.asked)}, ${answered}.`];
+}
+
+// That the writer's participant or the reader's is silent.
+const silenceSentences = ({ silence = [] }) => silence.map((text) => `${text[0].toUpperCase()}${text.slice(1)}.`);
+
 const tellerSentence = ({ number, told }) => (
   told ? `Number ${number} was first told by ${actText(told)}.` : `Nothing in the recording tells number ${number} to this reader.`);
 
@@ -97,12 +125,13 @@ function outcomeSentence({ status, because, options, pairs }) {
   return options.strict || options.spans ? 'Clean' : 'All pairs are complete';
 }
 
-// How many pairs are complete, or clean where they are in spans, and how many numbers are surely received.
-function receivedSentence(rows) {
+// How many pairs are complete, or clean where they are in spans, how many numbers are surely received, and how many more arrived.
+function receivedSentence({ rows, data }) {
   if (rows.length === 0) return '';
   const [word, isGood] = rows[0].outcomes ? ['clean', ({ clean }) => clean] : ['complete', ({ verdict }) => verdict === 'complete'];
   const good = rows.filter(isGood).length;
   const [received, asked] = [sumOf(rows, (row) => row.received), sumOf(rows, askedAbout)];
+  const more = data.arrived ? `, ${counted(sumOf(rows, arrivedOf))} more arrived` : '';
   return `${counted(good)} of ${plural(rows.length, 'pair')} ${rows.length === 1 ? 'is' : 'are'} ${word}. The recording proves `
-    + `${counted(received)} of ${plural(asked, 'number')} received.`;
+    + `${counted(received)} of ${plural(asked, 'number')} received${more}.`;
 }

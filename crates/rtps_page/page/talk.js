@@ -5,7 +5,8 @@
 const TALK_LINES = [20, 200];
 
 function showTalk(report, section) {
-  const { unmatched, one_way: oneWay, unobserved, best_effort: bestEffort } = report.data;
+  const { unmatched, one_way: oneWay, unobserved, best_effort: bestEffort, arrived = [] } = report.data;
+  const lacking = arrived.filter(({ not_arrived: named }) => named.length > 0).sort(byText('topic'));
   section.hidden = [unmatched, oneWay, unobserved, bestEffort].every((items) => items.length === 0);
   const ends = ({ topic, writer, reader }) => [topicName(topic), endpointName(report, writer), endpointName(report, reader)];
   talkTable(section, 'unmatched', 'Endpoints that do not match', ['Topic', 'Writer', 'Reader', 'What does not fit'], unmatched,
@@ -16,7 +17,13 @@ function showTalk(report, section) {
     (one) => [...ends(one), [one.because]]);
   talkTable(section, 'best-effort', 'Pairs of best effort', ['Topic', 'Pairs', 'Numbers in this recording'], bestEffort,
     ({ topic, pairs, numbers, recorded }) => [topicName(topic), [counted(pairs)], [`${counted(recorded)} of ${counted(numbers)}`]]);
+  talkTable(section, 'not-arrived', lackingHead(lacking), ['Topic', 'Writer', 'Reader', 'Numbers at the reader’s host'], lacking,
+    (one) => [...ends(one), [`arrived ${counted(one.arrived)} of ${counted(one.numbers)}, not ${listed(one.not_arrived, lackingOf(one))}`]]);
 }
+
+// How many numbers of a pair of best effort did not arrive, by another recording.
+const lackingOf = ({ numbers, arrived }) => BigInt(numbers) - BigInt(arrived);
+const lackingHead = (pairs) => `${plural(sumOf(pairs, lackingOf), 'number')} of ${plural(pairs.length, 'best-effort pair')} did not arrive`;
 
 // The policies for which a writer and a reader do not match, each with what is offered and what is asked for.
 function unfitLines({ because, offered, requested }) {

@@ -12,7 +12,8 @@ use Rattle.rtps_lines.specs.JsonText.{count_json}
 use Rattle.rtps_page.specs.ChartEntries.{entries_of}
 use Rattle.rtps_page.proofs.Written.{answers_json, array_of, base_json, begin_array, begin_object, end_array, end_object, entries_by, entry_json, guid_text, json_tokens, key, mapped_tokens, named_json, number, number_json, string, Token, writer_json}
 
-array_tokens : (values : List Json) → json_tokens (array_of values) ≡ begin_array ∷ (flat_map json_tokens values ++ end_array ∷ [])
+-- the tokens of an array
+pub array_tokens : (values : List Json) → json_tokens (array_of values) ≡ begin_array ∷ (flat_map json_tokens values ++ end_array ∷ [])
 array_tokens values = ap (λ l. json_tokens (array_of l)) (sym (map-id values)) ∙ mapped_tokens (λ value. value) values
 
 -- the tokens of an entry, part by part
@@ -50,7 +51,7 @@ is_false : (b : Bool) → (b ≡ true → false ≡ true) → b ≡ false
 is_false true h = sym (h refl)
 is_false false h = refl
 
-spoken_from : (writer : Guid) (acts : List PlacedValue)
+pub spoken_from : (writer : Guid) (acts : List PlacedValue)
     → filter (λ placed. is_spoken_by placed.act writer) (filter (is_from writer) acts) ≡ filter (λ placed. is_spoken_by placed.act writer) acts
 spoken_from writer [] = refl
 spoken_from writer (x ∷ xs) = go (is_from writer x) (speaker_is_origin writer x) (spoken_from writer xs)

@@ -4,4 +4,5 @@ pub mod ReadLemmas
 pub mod PageLemmas
 pub mod EntryLemmas
 pub mod ChartLemmas
+pub mod TimeLemmas
 pub mod Written

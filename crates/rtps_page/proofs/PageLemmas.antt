@@ -1,5 +1,6 @@
 -- The tokens of what the data of a page is made of, and how deep it nests.
 use Rattle.std.proofs.Common.{◌≤◌, ◌++◌, ◌∷◌, [], ℕ, ℤ, List, Bool, true, false, arith, codes, filter, map, pos, Option, None, Some, ◌-◌, ◌==◌, length, nat_lt, if◌then◌else◌, is_some, flat_map}
+use Rattle.std.specs.List.{range_with_len}
 use Rattle.json.specs.Json.{Json, max_depth, string}
 use Rattle.json.specs.Tree.{depth, items_depth, members_depth}
 use Rattle.rtps_report.specs.Vocabulary.{Location, Pair, PayloadValue}
@@ -10,13 +11,17 @@ use Rattle.rtps_discovery.specs.Directory.{DirectoryValue, settled_in}
 use Rattle.rtps_receiver.specs.Speech.{is_spoken_by}
 use Rattle.rtps_audit.specs.Placed.{PlacedValue, answers_among}
 use Rattle.rtps_report.specs.Asked.{AskedValue}
+use Rattle.rtps_evidence.specs.Times.{TimesValue}
+use Rattle.rtps_evidence.specs.declared.times.Seconds.{Seconds}
 use Rattle.rtps_lines.specs.JsonText.{items_of, members_of}
+use Rattle.rtps_lines.specs.Lines.{second_in}
 use Rattle.rtps_report.specs.FullReport.{ReportValue}
 use Rattle.rtps_report.specs.Recording.{RecordingValue}
-use Rattle.rtps_lines.proofs.Offered.{check_depth, joined}
+use Rattle.rtps_lines.proofs.Offered.{check_depth, joined, timed_within}
 use Rattle.rtps_page.specs.ChartEntries.{entries_of, members_of as numbers_of, piece_json}
+use Rattle.rtps_page.specs.ChartTimes.{datagrams_shown, is_among, time_json}
 use Rattle.rtps_page.specs.Page.{page_json, pairs_with_charts}
-use Rattle.rtps_page.proofs.Written.{acts_judged, answers_json, base_json, chart_members, check_members, endpoint_json, entries_at, entry_json, expect_json, gone_json, named_json, number_json, object_of, one_gone_json, option_members, own_members, writer_json, writers_behind}
+use Rattle.rtps_page.proofs.Written.{acts_judged, answers_json, base_json, chart_members, check_members, endpoint_json, entries_at, entry_json, expect_json, gone_json, named_json, number_json, object_of, one_gone_json, option_members, own_members, times_member, writer_json, writers_behind}
 
 -- ---- depth
 
@@ -89,17 +94,29 @@ options_within asked any =
 endpoints_within : (directory : DirectoryValue) → items_depth (items_of (map endpoint_json (settled_in directory.endpoints))) ≤ 1
 endpoints_within directory = mapped_within 1 endpoint_json (λ endpoint. omega arith) (settled_in directory.endpoints)
 
-chart_part : (acts : List PlacedValue) (pairs : List Pair) → members_depth (members_of (chart_members acts pairs)) ≤ 5
-chart_part acts pairs =
+time_within : (datagram : ℕ) (second : Option Seconds) → items_depth (items_of (time_json datagram second)) ≤ 1
+time_within datagram None = omega arith
+time_within datagram (Some second) = omega arith
+
+times_within : (times : TimesValue) (acts : List PlacedValue) (pairs : List Pair) → members_depth (members_of (times_member times acts pairs ∷ [])) ≤ 2
+times_within times acts pairs =
+    let shown = is_among (datagrams_shown acts pairs) in
+    let each = flat_within 1 (λ datagram. time_json datagram (second_in times datagram)) (λ datagram. time_within datagram (second_in times datagram))
+    (filter shown (range_with_len 1 (length times.of_datagrams))) in
+    omega (arith, each)
+
+chart_part : (times : TimesValue) (acts : List PlacedValue) (pairs : List Pair) → members_depth (members_of (chart_members times acts pairs)) ≤ 5
+chart_part times acts pairs =
     let writers = mapped_within 3 (writer_json acts) (writer_within acts) (writers_behind None pairs) in
     let answers = mapped_within 3 (answers_json acts) (answers_within acts) pairs in
-    omega (arith, writers, answers)
+    let seconds = timed_within 2 times (times_member times acts pairs ∷ []) (times_within times acts pairs) in
+    omega (arith, writers, answers, seconds)
 
 pub page_within : (asked : AskedValue) (recording : RecordingValue) (report : ReportValue) (directory : DirectoryValue)
     → depth (page_json asked recording report directory) ≤ max_depth
 page_within asked recording report directory =
     let pairs = pairs_with_charts asked recording report in
     let own : members_depth (members_of (own_members asked recording directory pairs)) ≤ 5 =
-    omega (arith, options_within asked (is_some recording.reasons), endpoints_within directory, chart_part (acts_judged asked recording) pairs) in
+    omega (arith, options_within asked (is_some recording.reasons), endpoints_within directory, chart_part recording.times (acts_judged asked recording) pairs) in
     let all = joined 5 (check_members asked recording report) (own_members asked recording directory pairs) (omega (arith, check_depth asked recording report)) own in
     omega (arith, all)

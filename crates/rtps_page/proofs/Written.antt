@@ -6,9 +6,9 @@ pub use Rattle.rtps_audit.specs.Placed.{answers_among, placed_in}
 pub use Rattle.rtps_report.specs.Asked.{asked_value}
 pub use Rattle.rtps_report.specs.FullReport.{report_value}
 pub use Rattle.rtps_lines.specs.CheckMembers.{check_members}
-pub use Rattle.rtps_lines.specs.JsonText.{array_of, number_json, object_of, tokens_of, tokens_of_member}
+pub use Rattle.rtps_lines.specs.JsonText.{array_of, number_json, object_of, timed_members, tokens_of, tokens_of_member}
 pub use Rattle.rtps_lines.proofs.Offered.{eight_parts, five_parts, four_parts, mapped_tokens, object_tokens, seven_parts, six_parts, three_parts, two_parts}
 pub use Rattle.rtps_parts.specs.Names.{guid_text, octet_text}
 pub use Rattle.rtps_page.specs.ChartEntries.{base_json, entries_at, entries_by, entry_json, gone_json, members_of, named_json, one_gone_json}
 pub use Rattle.rtps_page.specs.ChartRoom.{writers_behind}
-pub use Rattle.rtps_page.specs.Page.{acts_judged, answers_json, chart_members, directory_member, endpoint_json, expect_json, guid_json, intake_in, json_in, members_in, option_members, options_member, own_members, writer_json}
+pub use Rattle.rtps_page.specs.Page.{acts_judged, answers_json, chart_members, directory_member, endpoint_json, expect_json, guid_json, intake_in, json_in, members_in, option_members, options_member, own_members, times_member, writer_json}

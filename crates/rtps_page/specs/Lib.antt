@@ -1,4 +1,5 @@
 pub mod SafeText
 pub mod ChartEntries
 pub mod ChartRoom
+pub mod ChartTimes
 pub mod Page

@@ -3,7 +3,8 @@
 -- own: a page is three constant texts with two recorded ones between them: the text of `check`, which is shown where scripts do not run
 -- and is printed, and the data from which the scripts of the page make all that they show. No tag can begin in what is recorded. The
 -- data is the object of `check --json`; behind its members stand what was asked, what discovery announced as `list` prints it, and for
--- the rows that have a chart what their writers say and their readers answer, in the order given here.
+-- the rows that have a chart what their writers say and their readers answer, and when the datagrams of that came, in the order
+-- given here.
 use Rattle.std.specs.Prelude.{ℕ, ◌≡◌, Bool, is_some, ◌++◌, List, [], ◌∷◌, codes, map, Option, None, Some, IsUtf8}
 use Rattle.json.specs.Json.{Json, boolean, null, string, document}
 use Rattle.json.specs.Lex.{tokens}
@@ -14,15 +15,17 @@ use Rattle.rtps_ids.specs.declared.identity.Guid.{Guid}
 use Rattle.rtps_discovery.specs.Directory.{DirectoryValue, settled_in, IsMapOf}
 use Rattle.rtps_discovery.specs.Endpoint.{EndpointValue}
 use Rattle.rtps_audit.specs.Placed.{PlacedValue, answers_among, placed_in}
+use Rattle.rtps_evidence.specs.Times.{TimesValue}
 use Rattle.rtps_report.specs.Asked.{AskedValue, are_read, asked_value}
 use Rattle.rtps_report.specs.FullReport.{ReportValue, report_value, rows_of}
 use Rattle.rtps_report.specs.Recording.{RecordingValue}
 use Rattle.rtps_lines.specs.CheckMembers.{check_members}
-use Rattle.rtps_lines.specs.JsonText.{Member, array_of, count_json, name_json, object_of}
+use Rattle.rtps_lines.specs.JsonText.{Member, array_of, count_json, name_json, object_of, timed_members}
 use Rattle.rtps_lines.specs.QosNames.{durability_text, reliability_text, side_text}
 use Rattle.rtps_parts.specs.Names.{guid_text}
 use Rattle.rtps_page.specs.ChartEntries.{base_json, entries_by}
 use Rattle.rtps_page.specs.ChartRoom.{charted_pairs, writers_behind}
+use Rattle.rtps_page.specs.ChartTimes.{datagrams_shown, times_json}
 use Rattle.rtps_page.specs.declared.page_data.Shown.{Shown}
 use Rattle.rtps_page.specs.SafeText.{IsSafe, IsShownAs, in_html, in_json, safe_text}
 use Rattle.rtps_page.specs.declared.page_parts.TheConstants.{HEAD, MIDDLE, TAIL}
@@ -69,10 +72,14 @@ options_member asked recording = (codes "options", object_of (option_members ask
 abbrev pub directory_member : DirectoryValue → Member
 directory_member directory = (codes "endpoints", array_of (map endpoint_json (settled_in directory.endpoints)))
 
--- what the charts of these pairs show
-abbrev pub chart_members : List PlacedValue → List Pair → List Member
-chart_members acts pairs = (codes "writers", array_of (map (writer_json acts) (writers_behind None pairs)))
-    ∷ (codes "answers", array_of (map (answers_json acts) pairs)) ∷ []
+-- when the datagrams that stand in the charts of these pairs came
+abbrev pub times_member : TimesValue → List PlacedValue → List Pair → Member
+times_member times acts pairs = (codes "times", array_of (times_json times (datagrams_shown acts pairs)))
+
+-- what the charts of these pairs show; of times nothing where the recording has none
+abbrev pub chart_members : TimesValue → List PlacedValue → List Pair → List Member
+chart_members times acts pairs = (codes "writers", array_of (map (writer_json acts) (writers_behind None pairs)))
+    ∷ (codes "answers", array_of (map (answers_json acts) pairs)) ∷ timed_members times (times_member times acts pairs ∷ [])
 
 -- the acts that the verdicts are by, with their places
 abbrev pub acts_judged : AskedValue → RecordingValue → List PlacedValue
@@ -81,7 +88,7 @@ acts_judged asked recording = placed_in (intake_as asked.fragments recording.dat
 -- what a page has beside the object of `check --json`, for charts of these pairs
 abbrev pub own_members : AskedValue → RecordingValue → DirectoryValue → List Pair → List Member
 own_members asked recording directory pairs =
-    options_member asked recording ∷ directory_member directory ∷ chart_members (acts_judged asked recording) pairs
+    options_member asked recording ∷ directory_member directory ∷ chart_members recording.times (acts_judged asked recording) pairs
 
 -- which rows have a chart
 abbrev pub pairs_with_charts : AskedValue → RecordingValue → ReportValue → List Pair

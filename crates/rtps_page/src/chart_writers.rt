@@ -18,7 +18,7 @@ use rtps_lines::push_guid;
 use std::alloc::{AllocError, Global};
 
 /// The writers of these pairs that follow one another, each once.
-fn writers_of(alloc: Global, pairs: &[Pair]) -> Result<Vec<Guid>, AllocError>
+pub(crate) fn writers_of(alloc: Global, pairs: &[Pair]) -> Result<Vec<Guid>, AllocError>
     ensures { IfOk result (λ writers. writers.items ≡ writers_behind None pairs.now) }
 {
     let mut writers = Vec::new(alloc);

@@ -5,6 +5,7 @@ ghost use Rattle.rtps_wire.specs.Values.{payload_value};
 ghost use Rattle.rtps_audit.specs.Placed.{placed_value};
 ghost use Rattle.rtps_evidence.specs.declared.location.Location.{Location as LocationValue};
 ghost use Rattle.rtps_page.specs.ChartEntries.{entries_at, entries_by, gone_json, members_of, piece_json};
+ghost use Rattle.rtps_page.specs.ChartTimes.{has_entry as has_entry_lem};
 
 use rtps_audit::Placed;
 use rtps_ids::{Guid, NumberSet};
@@ -65,6 +66,13 @@ fn entries_in(body: &ActBody<'_>) -> u64
         ActBody::DataFrag(piece) => one_if_piece(piece),
         ActBody::AckNack(_) | ActBody::NackFrag(_) => 0,
     }
+}
+
+/// Whether an act has an entry.
+pub(crate) fn has_entry(placed: &Placed<'_>) -> bool
+    ensures { result ≡ has_entry_lem (placed_value placed.now) }
+{
+    entries_in(&placed.act.body) > 0
 }
 
 /// How many entries a writer has by these acts.

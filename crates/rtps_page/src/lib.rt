@@ -5,6 +5,7 @@
 mod chart_answers;
 mod chart_entries;
 mod chart_room;
+mod chart_times;
 mod chart_writers;
 mod entry_counts;
 mod page;

@@ -10,13 +10,14 @@ ghost use Rattle.rtps_page.specs.Page.{IsPrinted, chart_members, expect_json, in
 
 use crate::chart_answers::push_all_answers;
 use crate::chart_room::pairs_with_charts;
+use crate::chart_times::push_times;
 use crate::chart_writers::push_writers;
 use crate::page_directory::push_directory;
 use json::Writer;
 use rtps_audit::Index;
 use rtps_discovery::{Directory, Pair};
 use rtps_ids::Memory;
-use rtps_lines::{push_check_members, push_count, push_texts};
+use rtps_lines::{Clock, push_check_members, push_count, push_texts};
 use rtps_report::{Asked, FullReport, Recording};
 use std::alloc::{AllocError, Global};
 
@@ -77,17 +78,18 @@ fn push_options(
 }
 
 fn push_charts(
-    alloc: Global,
     writer: &mut Writer,
+    clock: Clock<'_>,
     index: &Index<'_>,
     pairs: &[Pair],
 ) -> Result<(), AllocError>
     ensures tokens { (intake : Intake) → IsIndexBy intake index.now
-        → OnOk result (writer.new.tokens ≡ writer.old.tokens ++ tokens_of (chart_members (placed_in intake.acts) pairs.now)) }
+        → OnOk result (writer.new.tokens ≡ writer.old.tokens ++ tokens_of (chart_members clock.entry.times.now (placed_in intake.acts) pairs.now)) }
     ensures before { writer.new.before ≡ writer.old.before }
 {
-    push_writers(alloc, writer, index, pairs)?;
-    push_all_answers(alloc, writer, index, pairs)
+    push_writers(clock.alloc, writer, index, pairs)?;
+    push_all_answers(clock.alloc, writer, index, pairs)?;
+    push_times(writer, clock, index, pairs)
 }
 
 fn push_members(
@@ -102,10 +104,14 @@ fn push_members(
 {
     let report = shown.report;
     let mut text = String::new(alloc);
+    let clock = Clock {
+        times: report.recording.times(),
+        alloc,
+    };
     push_check_members(alloc, writer, report)?;
     push_options(writer, report.asked, report.recording)?;
     push_directory(writer, &mut text, shown.directory)?;
-    push_charts(alloc, writer, &report.index, pairs)?;
+    push_charts(writer, clock, &report.index, pairs)?;
     Ok(())
 }
 

@@ -6,7 +6,7 @@ pub(crate) const HEAD: &str = "\
 <html lang=\"en\">\n\
 <head>\n\
 <meta charset=\"utf-8\">\n\
-<meta http-equiv=\"Content-Security-Policy\" content=\"default-src 'none'; style-src 'sha256-D7NQYoL6K5psbpM/oSyybKzUtnAMB0mzCrpSeQGJ4vo='; script-src 'sha256-hpmW3mDyoQhB9f0WRZW6RarG+nvTxqFH2yl+nJ5/Zek=' 'sha256-7RpT3IrYJB551BYio0+5hBL+a58pinUQjnu7IP6CpHw=' 'sha256-gK9uXRMqayxEKG6mFjKwZcia0MvlKZKvzSq2+HcE4mY=' 'sha256-n2EgmHhWWpnml3YTzI6c2fFT9d1c1NfLrdJeY+ysa88=' 'sha256-x80gHsw23sK6utT9UcSQmetkwNsuwBSOQzPZtigpQ0M=' 'sha256-aR+c6MmybDAK573gD0a0adnHobcEg2hk7AMzhdtu9Gs=' 'sha256-d7We5lL4dteDLFrr8UpIwIw5zKj82CL+aKdX1LPBTDM=' 'sha256-7mX1/jJqBaTbsRrKZhqN0u+b0Wx2ckFhGtp5TJHu0EQ=' 'sha256-mUTKrhY1ZfucvOGBdh1oOA04GC7XSXVnZlo1ezN51s8=' 'sha256-ncKhZ8LJHPHpxsbShdWaihXHet0HRxgWttYRDNL5HT4=' 'sha256-L5++YkTFEJl3kdO/H0jWJMkHnWI15lupByHpRLDl5VA='; base-uri 'none'; form-action 'none'\">\n\
+<meta http-equiv=\"Content-Security-Policy\" content=\"default-src 'none'; style-src 'sha256-7oMI/QMNLKelke18zD2yVkGFQJ1FWD7CLX1ECFtUq4A='; script-src 'sha256-hpmW3mDyoQhB9f0WRZW6RarG+nvTxqFH2yl+nJ5/Zek=' 'sha256-ntdKuq49JXDdCKtm7BsqPSXkKBf92YD0NGwnpfGVOLU=' 'sha256-gK9uXRMqayxEKG6mFjKwZcia0MvlKZKvzSq2+HcE4mY=' 'sha256-WLTqyeT3L3nniLdzBtrrReLocHGmE4uXvWBQCDtkvME=' 'sha256-JPTwWB7I1w9tp3wwiQ14dc5dSDaOeIVez/qpxdlW2Ow=' 'sha256-+z0lyT9TQ1chcCw5HsjiKLCjRvY11peGUhK/DVYDXOA=' 'sha256-qYVlcvDsrJla7cbqzS5xi5/MVZWOWKHBgZKG7flkdto=' 'sha256-7mX1/jJqBaTbsRrKZhqN0u+b0Wx2ckFhGtp5TJHu0EQ=' 'sha256-cUqF/qnuRSnKlRpelGl+H6dzACte1SiLcBB6oRAsukQ=' 'sha256-ncKhZ8LJHPHpxsbShdWaihXHet0HRxgWttYRDNL5HT4=' 'sha256-L5++YkTFEJl3kdO/H0jWJMkHnWI15lupByHpRLDl5VA='; base-uri 'none'; form-action 'none'\">\n\
 <meta name=\"viewport\" content=\"width=device-width, initial-scale=1\">\n\
 <meta name=\"color-scheme\" content=\"light dark\">\n\
 <meta name=\"referrer\" content=\"no-referrer\">\n\
@@ -123,7 +123,7 @@ td p:last-child { margin-bottom: 0; }\n\
 .advice::first-letter, .notes li::first-letter { text-transform: uppercase; }\n\
 .topics .advice { font-weight: 600; }\n\
 .pairs thead th { white-space: normal; min-width: 70px; }\n\
-.pairs thead th.writer, .pairs thead th.reader { min-width: 150px; }\n\
+.pairs thead th.writer, .pairs thead th.reader { min-width: 110px; }\n\
 .pairs thead button { all: unset; cursor: pointer; text-decoration: underline dotted; text-underline-offset: 3px; }\n\
 .pairs thead button:focus-visible { outline: 3px solid var(--focus); outline-offset: 2px; }\n\
 .pairs th[aria-sort='ascending'] button::after { content: ' ▲'; }\n\
@@ -299,6 +299,8 @@ number that is asked about and that the writer announced.</p>\n\
 others, in the order of sending; if a reader acknowledges only what it received or what was said to be gone; and if it\n\
 learns of numbers only by DATA, GAP and HEARTBEAT, and with --fragments by DATA_FRAG. A recording at the writer’s side lacks only those answers that the\n\
 network lost, and that can only leave a row open.</p>\n\
+<p id=\"arrived\" hidden>A number arrived if another recording, made at the reader’s host, has a whole payload of it for the reader. That is counted, and is no premise\n\
+of a verdict.</p>\n\
 </footer>\n\
 </div>\n\
 <section id=\"text\">\n\
@@ -330,7 +332,8 @@ return isLarge(number) || isLarge(from) || (announced !== null && isLarge(announ
 function valueOf(text) {\n\
 const value = JSON.parse(text);\n\
 const isShort = !isLarge(value.options.from) && !isLarge(value.options.expect) && !value.pairs.some(isRounded);\n\
-if (isShort && !value.best_effort.some(({ numbers }) => isLarge(numbers))) return value;\n\
+const largeOfBestEffort = [...value.best_effort, ...(value.arrived || [])].some(({ numbers, not_arrived: named = [] }) => [numbers, ...named].some(isLarge));\n\
+if (isShort && !largeOfBestEffort) return value;\n\
 return JSON.parse(text.replace(STRING_OR_LARGE, (found) => (found[0] === '\"' ? found : `\"${found}\"`)));\n\
 }\n\
 function compareNumbers(a, b) {\n\
@@ -344,6 +347,7 @@ const counted = (n) => String(n).replace(/\\B(?=(\\d{3})+$)/g, ',');\n\
 const plural = (n, noun, nouns = `${noun}s`) => `${counted(n)} ${String(n) === '1' ? noun : nouns}`;\n\
 const partOf = (n, all, noun) => (n === all ? plural(all, noun) : `${counted(n)} of ${plural(all, noun)}`);\n\
 const askedAbout = ({ payloads, gone, untold }) => BigInt(payloads) + BigInt(gone) + BigInt(untold);\n\
+const arrivedOf = ({ outcomes }) => (outcomes && outcomes.arrived) || 0;\n\
 const prefixOf = (guid) => guid.slice(0, 24);\n\
 const entityOf = (guid) => guid.slice(24);\n\
 function kindOf({ verdict, missed, gone, clean }) {\n\
@@ -364,7 +368,11 @@ this.groups = groupsOf(this.rows);\n\
 this.acts = new Map(data.writers.map(({ guid, acts }) => [guid, acts]));\n\
 this.endpointOf = new Map(data.endpoints.map((endpoint) => [endpoint.guid, endpoint]));\n\
 this.participants = participantsOf(data);\n\
+this.seconds = new Map(data.times || []);\n\
 this.bases = null;\n\
+}\n\
+secondOf(datagram) {\n\
+return this.seconds.get(datagram);\n\
 }\n\
 counts() {\n\
 return Object.entries(this.data).filter(([, value]) => typeof value === 'number');\n\
@@ -483,7 +491,8 @@ more(first);\n\
 </script>\n\
 <script>'use strict';\n\
 const KIND_OF_ACT = { data: 'a DATA', heartbeat: 'a HEARTBEAT', gap: 'a GAP', data_frag: 'a DATA_FRAG' };\n\
-const placeText = ({ datagram, at }) => `datagram ${datagram}, octet ${at}`;\n\
+const secondText = (time) => (typeof time === 'number' ? `, ${time.toFixed(3)} s` : '');\n\
+const placeText = ({ datagram, at, time }) => `datagram ${datagram}, octet ${at}${secondText(time)}`;\n\
 const actText = (act) => `${KIND_OF_ACT[act.by] || act.by} in ${placeText(act)}`;\n\
 const VERDICTS = {\n\
 unfounded: ({ number, datagram }) => `In datagram ${datagram} the reader acknowledged sample ${number}, but nothing before that sent it `\n\
@@ -492,10 +501,14 @@ conflict: ({ number }) => `The writer sent two different payloads for sample ${n
 open: openSentence,\n\
 complete: completeSentence,\n\
 };\n\
-const verdictSentence = (report, row) => VERDICTS[row.verdict](row, row.from === undefined ? report.data.options.from : row.from);\n\
-function openSentence({ number, announced }) {\n\
-if (number === announced.number) return `The reader may lack sample ${number}: it is announced, and the reader never acknowledged it.`;\n\
-return `The reader may lack samples ${number} to ${announced.number}: they are announced, and the reader never acknowledged them.`;\n\
+const verdictSentence = (report, row) => [\n\
+VERDICTS[row.verdict](row, row.from === undefined ? report.data.options.from : row.from), ...lackingSentences(row),\n\
+].join(' ');\n\
+function openSentence({ number, announced, not_arrived: lacking }) {\n\
+const [samples, are, them] = number === announced.number\n\
+? [`sample ${number}`, 'it is', 'it'] : [`samples ${number} to ${announced.number}`, 'they are', 'them'];\n\
+if (lacking && lacking.length === 0) return `The reader never acknowledged ${samples}, but all numbers are received or arrived.`;\n\
+return `The reader may lack ${samples}: ${are} announced, and the reader never acknowledged ${them}.`;\n\
 }\n\
 function completeSentence({ kind, number, announced, missed, first_missed: first, gone }, from) {\n\
 if (announced === null) return from === 1 ? 'The writer announced no number.' : `The writer announced no number from ${from} on.`;\n\
@@ -504,11 +517,18 @@ if (kind === 'missed') return `${all}, but it missed ${missed === 1 ? `sample ${
 if (kind === 'gone') return `${all}, but ${counted(gone)} of them ${gone === 1 ? 'was' : 'were'} only said to be gone.`;\n\
 return `${all}.`;\n\
 }\n\
-const evidenceSentences = (row) => [...spanSentences(row), ...commonSentences(row), ...receivedSentences(row), ...OWN_SENTENCES[row.verdict](row)];\n\
-function spanSentences({ from, until, outcomes }) {\n\
+const listed = (numbers, count) => `${numbers.join(', ')}${isAbove(count, numbers.length) ? ` and ${counted(count - BigInt(numbers.length))} more` : ''}`;\n\
+function lackingSentences(row) {\n\
+if (!row.not_arrived || row.not_arrived.length === 0) return [];\n\
+return [`Not arrived ${listed(row.not_arrived, askedAbout(row) - BigInt(row.outcomes.received) - BigInt(row.outcomes.arrived))}.`];\n\
+}\n\
+const evidenceSentences = (row) => [\n\
+...spanSentences(row), ...commonSentences(row), ...receivedSentences(row), ...OWN_SENTENCES[row.verdict](row), ...waitSentences(row), ...silenceSentences(row),\n\
+];\n\
+function spanSentences({ from, until, until_time: time, outcomes }) {\n\
 if (!outcomes) return [];\n\
-const kinds = Object.keys(OUTCOMES).filter((name) => outcomes[name] > 0).map((name) => `${counted(outcomes[name])} ${name}`);\n\
-const left = until === null ? '' : `, until datagram ${until}, in which the reader left`;\n\
+const kinds = OUTCOMES.filter((name) => outcomes[name] > 0).map((name) => `${counted(outcomes[name])} ${name}`);\n\
+const left = until === null ? '' : `, until datagram ${until}${secondText(time)}, in which the reader left`;\n\
 return [`The row is about the numbers from ${from} on${left}: ${kinds.join(', ') || 'none is announced'}.`];\n\
 }\n\
 function commonSentences(row) {\n\
@@ -544,6 +564,12 @@ conflict: ({ number, sent }) => sent.map((one) => `Number ${number} was sent wit
 unfounded: (row) => [`The reader acknowledged all numbers below ${row.claimed.below} in ${placeText(row.claimed)}.`, tellerSentence(row)],\n\
 complete: () => [],\n\
 };\n\
+function waitSentences({ wait }) {\n\
+if (!wait) return [];\n\
+const answered = wait.answered ? `answered in ${placeText(wait.answered)}` : 'not answered';\n\
+return [`The reader let the writer wait ${wait.seconds.toFixed(3)} s: asked in ${placeText(wait.asked)}, ${answered}.`];\n\
+}\n\
+const silenceSentences = ({ silence = [] }) => silence.map((text) => `${text[0].toUpperCase()}${text.slice(1)}.`);\n\
 const tellerSentence = ({ number, told }) => (\n\
 told ? `Number ${number} was first told by ${actText(told)}.` : `Nothing in the recording tells number ${number} to this reader.`);\n\
 function askedSentence({ asked_since: count, last_asked: last }) {\n\
@@ -556,19 +582,21 @@ if (status !== 'clean') return `Not clean: ${because.join('; ')}`;\n\
 if (pairs.length === 0) return 'No pair was audited';\n\
 return options.strict || options.spans ? 'Clean' : 'All pairs are complete';\n\
 }\n\
-function receivedSentence(rows) {\n\
+function receivedSentence({ rows, data }) {\n\
 if (rows.length === 0) return '';\n\
 const [word, isGood] = rows[0].outcomes ? ['clean', ({ clean }) => clean] : ['complete', ({ verdict }) => verdict === 'complete'];\n\
 const good = rows.filter(isGood).length;\n\
 const [received, asked] = [sumOf(rows, (row) => row.received), sumOf(rows, askedAbout)];\n\
+const more = data.arrived ? `, ${counted(sumOf(rows, arrivedOf))} more arrived` : '';\n\
 return `${counted(good)} of ${plural(rows.length, 'pair')} ${rows.length === 1 ? 'is' : 'are'} ${word}. The recording proves `\n\
-+ `${counted(received)} of ${plural(asked, 'number')} received.`;\n\
++ `${counted(received)} of ${plural(asked, 'number')} received${more}.`;\n\
 }\n\
 </script>\n\
 <script>'use strict';\n\
 const TALK_LINES = [20, 200];\n\
 function showTalk(report, section) {\n\
-const { unmatched, one_way: oneWay, unobserved, best_effort: bestEffort } = report.data;\n\
+const { unmatched, one_way: oneWay, unobserved, best_effort: bestEffort, arrived = [] } = report.data;\n\
+const lacking = arrived.filter(({ not_arrived: named }) => named.length > 0).sort(byText('topic'));\n\
 section.hidden = [unmatched, oneWay, unobserved, bestEffort].every((items) => items.length === 0);\n\
 const ends = ({ topic, writer, reader }) => [topicName(topic), endpointName(report, writer), endpointName(report, reader)];\n\
 talkTable(section, 'unmatched', 'Endpoints that do not match', ['Topic', 'Writer', 'Reader', 'What does not fit'], unmatched,\n\
@@ -579,7 +607,11 @@ talkTable(section, 'unobserved', 'Pairs that are left out', ['Topic', 'Writer', 
 (one) => [...ends(one), [one.because]]);\n\
 talkTable(section, 'best-effort', 'Pairs of best effort', ['Topic', 'Pairs', 'Numbers in this recording'], bestEffort,\n\
 ({ topic, pairs, numbers, recorded }) => [topicName(topic), [counted(pairs)], [`${counted(recorded)} of ${counted(numbers)}`]]);\n\
+talkTable(section, 'not-arrived', lackingHead(lacking), ['Topic', 'Writer', 'Reader', 'Numbers at the reader’s host'], lacking,\n\
+(one) => [...ends(one), [`arrived ${counted(one.arrived)} of ${counted(one.numbers)}, not ${listed(one.not_arrived, lackingOf(one))}`]]);\n\
 }\n\
+const lackingOf = ({ numbers, arrived }) => BigInt(numbers) - BigInt(arrived);\n\
+const lackingHead = (pairs) => `${plural(sumOf(pairs, lackingOf), 'number')} of ${plural(pairs.length, 'best-effort pair')} did not arrive`;\n\
 function unfitLines({ because, offered, requested }) {\n\
 return because.map((policy, at) => {\n\
 const [offer, request] = [offered[at], requested[at]].map((text) => (policy === 'type' && rosType(text)) || text);\n\
@@ -607,21 +639,23 @@ function showOverview(report) {\n\
 const outcome = outcomeSentence(report.data);\n\
 const at = (id) => document.getElementById(id);\n\
 document.title = `${outcome}: rtps-audit`;\n\
-fill(at('asked'), 'rtps-audit, a report of ', askedText(report.data.options));\n\
+fill(at('asked'), 'rtps-audit, a report of ', askedText(report.data));\n\
 fill(at('outcome'), outcome);\n\
-fill(at('received'), receivedSentence(report.rows));\n\
+fill(at('received'), receivedSentence(report));\n\
+at('arrived').hidden = !report.data.arrived;\n\
 fill(at('line'), make('a', { href: '#counts' }, 'Counts'), `: ${report.counts().map(([name, n]) => `${name} ${counted(n)}`).join(', ')}`);\n\
 showTopics(report, at('topics'));\n\
 showTalk(report, at('talk'));\n\
 showNotes(report.data.notes, at('notes'));\n\
 showCounts(report, at('counts'));\n\
 }\n\
-function askedText(options) {\n\
+function askedText({ options, arrived }) {\n\
 const words = [\n\
 options.from !== 1 && `--from ${options.from}`,\n\
 ...['any', 'fragments', 'observed', 'strict', 'spans'].map((name) => options[name] && `--${name}`),\n\
 ...options.topics.map((pattern) => `--topic '${pattern}'`),\n\
 options.expect !== null && `--expect ${options.expect}`,\n\
+arrived && '--arrived OTHER',\n\
 ].filter(Boolean);\n\
 const numbers = options.from === 1 ? 'all numbers' : `the numbers from ${options.from} on`;\n\
 return words.length === 0 ? [`${numbers}, without options`] : [`${numbers}, with `, make('code', null, words.join(' '))];\n\
@@ -697,11 +731,11 @@ const REACH = 12;\n\
 const MANY_DOTS = 3000;\n\
 const MANY_ANSWERS = 150;\n\
 const POINT = 'Point at a dot to read it.';\n\
-function marksOf(report, row) {\n\
-const acts = report.actsOf(row).map(entryParts);\n\
+function marksOf(report, row, axis) {\n\
+const acts = report.actsOf(row).map((entry) => entryParts(entry, axis));\n\
 const to = namesOf(row.reader);\n\
 const heard = acts.filter(({ named }) => to.includes(named));\n\
-const answers = report.basesOf(row).map(([x, at, base]) => ({ x, y: Number(base) - 1, at }));\n\
+const answers = report.basesOf(row).map(([datagram, at, base]) => ({ x: axis.at(datagram), y: Number(base) - 1, at }));\n\
 return {\n\
 dots: dotsOf(heard.filter(({ what }) => what === 'data')),\n\
 bands: bandsOf(heard.filter(({ what }) => what === 'gone')),\n\
@@ -709,12 +743,26 @@ announced: stepsOf(acts.filter(({ what }) => what === 'announced').map(({ x, num
 answers,\n\
 acknowledged: stepsOf(answers),\n\
 numbers: markedNumbers(row),\n\
-datagrams: row.verdict === 'unfounded' ? [{ x: row.datagram, label: `datagram ${row.datagram}` }] : [],\n\
+datagrams: row.verdict === 'unfounded' ? [{ x: axis.at(row.datagram), label: `datagram ${row.datagram}` }] : [],\n\
 };\n\
 }\n\
-function entryParts([x, at, what, ...rest]) {\n\
+function axisOf(report, row) {\n\
+const drawn = [...report.actsOf(row), ...report.basesOf(row)].map(([datagram]) => datagram);\n\
+const seconds = drawn.map((datagram) => report.secondOf(datagram));\n\
+if (drawn.length === 0 || seconds.includes(undefined)) {\n\
+return {\n\
+word: 'datagram', name: 'Datagrams', at: (datagram) => datagram, low: 0, high: Math.max(2, report.data.datagrams + 1), window: 4, step: 1, text: shortNumber,\n\
+};\n\
+}\n\
+const [first, last] = [seconds.reduce((a, b) => Math.min(a, b)), seconds.reduce((a, b) => Math.max(a, b))];\n\
+const room = Math.max(0.01, (last - first) * 0.02);\n\
+return {\n\
+word: 's', name: 'Seconds', at: (datagram) => report.secondOf(datagram), low: first - room, high: last + room, window: 0.02, step: 0.001, text: shortSecond,\n\
+};\n\
+}\n\
+function entryParts([datagram, at, what, ...rest], axis) {\n\
 const count = what === 'gone' ? 2 : 1;\n\
-return { x, at, what, numbers: rest.slice(0, count), named: rest[count] };\n\
+return { x: axis.at(datagram), datagram, at, what, numbers: rest.slice(0, count), named: rest[count] };\n\
 }\n\
 const namesOf = (reader) => [undefined, reader, prefixOf(reader), entityOf(reader)];\n\
 function markedNumbers({ verdict, number, first_missed: missed }) {\n\
@@ -723,10 +771,10 @@ return missed && missed.number !== number ? [...found, { y: Number(missed.number
 }\n\
 function dotsOf(entries) {\n\
 const seen = new Set();\n\
-return entries.map(({ x, at, numbers: [number] }) => {\n\
+return entries.map(({ x, datagram, at, numbers: [number] }) => {\n\
 const again = seen.has(number);\n\
 seen.add(number);\n\
-return { x, y: Number(number), number, at, again };\n\
+return { x, y: Number(number), number, datagram, at, again };\n\
 });\n\
 }\n\
 function bandsOf(entries) {\n\
@@ -748,40 +796,42 @@ if (steps.length === 0 || point.y > steps[steps.length - 1].y) steps.push(point)
 }\n\
 return steps;\n\
 }\n\
-function ticks(low, high, about) {\n\
+function ticks(low, high, about, least = 1) {\n\
 const rough = (high - low) / about;\n\
 const power = 10 ** Math.floor(Math.log10(rough));\n\
-const step = Math.max(1, [1, 2, 5, 10].map((n) => n * power).find((n) => n >= rough));\n\
+const step = Math.max(least, [1, 2, 5, 10].map((n) => n * power).find((n) => n >= rough));\n\
 const found = [];\n\
 for (let at = Math.ceil(low / step) * step; at <= high && found.length < 50; at += step) found.push(at);\n\
 return found;\n\
 }\n\
 const shortNumber = (n) => (n < 1e7 ? String(Math.round(n)) : n.toExponential(1).replace('e+', 'e'));\n\
+const shortSecond = (s) => String(Number(s.toFixed(3)));\n\
 class Chart {\n\
 constructor(report, row) {\n\
-this.marks = marksOf(report, row);\n\
-this.all = this.extent(report.data.datagrams);\n\
+this.axis = axisOf(report, row);\n\
+this.marks = marksOf(report, row, this.axis);\n\
+this.all = this.extent();\n\
 Object.assign(this, { view: this.all, at: null, drag: null, width: 0, still: document.createElement('canvas') });\n\
 this.canvas = make('canvas', {\n\
 tabindex: '0', role: 'application', 'aria-label': this.description(row), 'aria-describedby': 'chart-help',\n\
 });\n\
 this.readout = make('p', { class: 'readout', role: 'status' }, POINT);\n\
 this.element = make('figure', { class: 'chart' }, this.canvas, this.controls(), this.readout, legend(),\n\
-make('figcaption', { id: 'chart-help' }, 'Datagrams to the right, numbers upwards. Drag to zoom, double-click to show all. Keys: left and '\n\
+make('figcaption', { id: 'chart-help' }, `${this.axis.name} to the right, numbers upwards. Drag to zoom, double-click to show all. Keys: left and `\n\
 + 'right go from dot to dot, + and − zoom, Shift and an arrow move, 0 shows all.'));\n\
 this.listen();\n\
 }\n\
-extent(datagrams) {\n\
+extent() {\n\
 const { dots, bands, announced, acknowledged, numbers } = this.marks;\n\
 let top = 1;\n\
 for (const { y, high } of [...announced, ...acknowledged, ...numbers, ...bands]) top = Math.max(top, y ?? high);\n\
 for (const { y } of dots) top = Math.max(top, y);\n\
-return { x0: 0, x1: Math.max(2, datagrams + 1), y0: 0, y1: top * 1.06 + 1 };\n\
+return { x0: this.axis.low, x1: this.axis.high, y0: 0, y1: top * 1.06 + 1 };\n\
 }\n\
 description(row) {\n\
 const { dots, answers } = this.marks;\n\
 const again = dots.filter((dot) => dot.again).length;\n\
-return `Chart of datagrams and numbers: ${plural(dots.length, 'DATA', 'DATA')} to this reader, ${counted(again)} of them sent again, `\n\
+return `Chart of ${this.axis.name.toLowerCase()} and numbers: ${plural(dots.length, 'DATA', 'DATA')} to this reader, ${counted(again)} of them sent again, `\n\
 + `${plural(answers.length, 'answer')} of the reader, and a line at ${row.verdict} ${row.number}.`;\n\
 }\n\
 controls() {\n\
@@ -839,19 +889,23 @@ const [dx, dy] = [right * (x1 - x0), up * (y1 - y0)];\n\
 this.show(this.within([x0 + dx, x1 + dx, y0 + dy, y1 + dy]));\n\
 }\n\
 within([left, right, bottom, top]) {\n\
-const fit = (low, high, least, most) => {\n\
-const size = Math.min(Math.max(high - low, Math.min(4, most - least)), most - least);\n\
+const fit = (low, high, least, most, smallest) => {\n\
+const size = Math.min(Math.max(high - low, Math.min(smallest, most - least)), most - least);\n\
 const start = Math.min(Math.max((low + high - size) / 2, least), most - size);\n\
 return [start, start + size];\n\
 };\n\
-const [[x0, x1], [y0, y1]] = [fit(left, right, this.all.x0, this.all.x1), fit(bottom, top, this.all.y0, this.all.y1)];\n\
+const [[x0, x1], [y0, y1]] = [fit(left, right, this.all.x0, this.all.x1, this.axis.window), fit(bottom, top, this.all.y0, this.all.y1, 4)];\n\
 return { x0, x1, y0, y1 };\n\
 }\n\
 choose(dot) {\n\
 if (dot === this.at) return;\n\
 this.at = dot;\n\
-this.readout.textContent = dot ? `DATA of number ${dot.number} in datagram ${dot.x}, octet ${dot.at}${dot.again ? ', sent again' : ''}.` : POINT;\n\
+this.readout.textContent = dot ? this.dotText(dot) : POINT;\n\
 this.paint();\n\
+}\n\
+dotText({ number, datagram, at, again, x }) {\n\
+const place = placeText({ datagram, at, time: this.axis.word === 's' ? x : null });\n\
+return `DATA of number ${number} in ${place}${again ? ', sent again' : ''}.`;\n\
 }\n\
 pointed({ offsetX, offsetY }) {\n\
 if (!this.drag) {\n\
@@ -958,12 +1012,12 @@ for (const y of ticks(view.y0, view.y1, 6)) {\n\
 this.line(EDGES.left, this.pixelY(y), width - EDGES.right, this.pixelY(y));\n\
 pen.fillText(shortNumber(y), EDGES.left - 8, this.pixelY(y));\n\
 }\n\
-pen.fillText('datagram', width - EDGES.right, CHART_HEIGHT - 8);\n\
+pen.fillText(this.axis.word, width - EDGES.right, CHART_HEIGHT - 8);\n\
 pen.textBaseline = 'top';\n\
-for (const x of ticks(view.x0, view.x1, Math.max(2, width / 110))) {\n\
+for (const x of ticks(view.x0, view.x1, Math.max(2, width / 110), this.axis.step)) {\n\
 this.line(this.pixelX(x), CHART_HEIGHT - EDGES.bottom, this.pixelX(x), CHART_HEIGHT - EDGES.bottom + 4);\n\
 pen.textAlign = this.pixelX(x) > width - 30 ? 'right' : 'center';\n\
-pen.fillText(shortNumber(x), Math.min(this.pixelX(x), width - 4), CHART_HEIGHT - EDGES.bottom + 6);\n\
+pen.fillText(this.axis.text(x), Math.min(this.pixelX(x), width - 4), CHART_HEIGHT - EDGES.bottom + 6);\n\
 }\n\
 Object.assign(pen, { textAlign: 'left', textBaseline: 'middle' });\n\
 pen.fillText('number', 4, 8);\n\
@@ -1124,29 +1178,37 @@ const numberOf = (row) => (row[name] ? row[name][member] : 0);\n\
 return { name, head, class: 'count', compare: byCount(numberOf), cell: (report, row) => (row[name] ? String(numberOf(row)) : '–') };\n\
 }\n\
 function countColumn(name, head, isBad, numberOf = (row) => row[name]) {\n\
-const cell = (report, row) => (isBad && isAbove(numberOf(row), 0) ? make('b', { class: 'bad' }, counted(numberOf(row))) : counted(numberOf(row)));\n\
-return { name, head, class: 'count', compare: byCount(numberOf), cell };\n\
+const cell = (report, row) => {\n\
+const count = numberOf(row);\n\
+if (count === null) return '–';\n\
+return isBad(row) && isAbove(count, 0) ? make('b', { class: 'bad' }, counted(count)) : counted(count);\n\
+};\n\
+return { name, head, class: 'count', compare: byCount((row) => numberOf(row) || 0), cell };\n\
 }\n\
+const always = () => true;\n\
+const never = () => false;\n\
 const COLUMNS = [\n\
 { name: 'verdict', head: 'Verdict', compare: (a, b) => worse(a, b) || compareNumbers(a.number, b.number), cell: verdictCell },\n\
 { name: 'writer', head: 'Writer', compare: byText('writer'), cell: (report, row) => endpointName(report, row.writer) },\n\
 { name: 'reader', head: 'Reader', compare: byText('reader'), cell: (report, row) => endpointName(report, row.reader) },\n\
 placeColumn('announced', 'Last announced', 'number'),\n\
 placeColumn('acknowledged', 'Acknowledged below', 'below'),\n\
-countColumn('payloads', 'Payloads', false),\n\
-countColumn('gone', 'Gone', true),\n\
-countColumn('untold', 'Untold', true),\n\
-countColumn('received', 'Proved received', false),\n\
-countColumn('missed', 'Missed', true),\n\
+countColumn('payloads', 'Payloads', never),\n\
+countColumn('gone', 'Gone', always),\n\
+countColumn('untold', 'Untold', always),\n\
+countColumn('received', 'Proved received', never),\n\
+countColumn('missed', 'Missed', always),\n\
 ];\n\
-const OUTCOMES = { received: false, likely: false, missed: true, unsent: true, unanswered: true, unconfirmed: false };\n\
-const SPAN_COLUMNS = [...COLUMNS.slice(0, 5), ...Object.entries(OUTCOMES).map(([name, isBad]) => (\n\
-countColumn(name, name[0].toUpperCase() + name.slice(1), isBad, ({ outcomes }) => outcomes[name])))];\n\
+const OUTCOMES = ['received', 'arrived', 'likely', 'missed', 'unsent', 'unanswered', 'unconfirmed'];\n\
+const LOST = ['missed', 'unsent', 'unanswered'];\n\
+const isLost = (name, { outcomes: { arrived = null } }) => LOST.includes(name) || (name === 'likely' && arrived !== null);\n\
+const SPAN_COLUMNS = [...COLUMNS.slice(0, 5), ...OUTCOMES.map((name) => (\n\
+countColumn(name, name[0].toUpperCase() + name.slice(1), (row) => isLost(name, row), ({ outcomes }) => outcomes[name])))];\n\
 const WORST_FIRST = { name: 'worst', head: 'Worst first', compare: worse };\n\
 const BY_TOPIC = { name: 'topic', head: 'Topic', compare: (a, b) => byText('topic')(a, b) || worse(a, b) };\n\
 const BY_TYPE = { name: 'type', head: 'Type', compare: (a, b) => byText('type')(a, b) || worse(a, b) };\n\
 function verdictCell(report, row) {\n\
-const bad = row.outcomes ? Object.keys(OUTCOMES).filter((name) => OUTCOMES[name] && row.outcomes[name] > 0)\n\
+const bad = row.outcomes ? OUTCOMES.filter((name) => isLost(name, row) && row.outcomes[name] > 0)\n\
 : ['missed', 'gone'].filter((name) => name === row.kind);\n\
 return make('a', { href: `#pair-${row.at + 1}`, 'aria-expanded': 'false' },\n\
 badge(row.verdict, row.verdict), ' ', make('span', { class: 'number' }, String(row.number)),\n\
@@ -1158,7 +1220,7 @@ make('span', { class: 'hidden' }, `, pair ${row.at + 1}`));\n\
 class Pairs {\n\
 constructor(report) {\n\
 Object.assign(this, { report, words: [], kinds: new Set(), order: WORST_FIRST, isDown: false, most: FIRST_ROWS, chosen: null });\n\
-this.columns = report.data.options.spans ? SPAN_COLUMNS : COLUMNS;\n\
+this.columns = (report.data.options.spans ? SPAN_COLUMNS : COLUMNS).filter(({ name }) => name !== 'arrived' || report.data.arrived);\n\
 this.orders = [WORST_FIRST, BY_TOPIC, BY_TYPE, ...this.columns];\n\
 this.sort();\n\
 this.build();\n\

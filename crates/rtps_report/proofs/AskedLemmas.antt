@@ -4,10 +4,11 @@ use Rattle.std.proofs.lemmas.List.{length-map}
 use Rattle.std.proofs.lemmas.List.Elements.{All-filter, All-head, All-same, All-tail, All-weaker}
 use Rattle.std.proofs.lemmas.List.Sums.{length-filter}
 use Rattle.std.specs.Prelude.{count_by}
-use Rattle.rtps_report.specs.Vocabulary.{ActValue, Counts, DirectoryValue, Explained, Explanation, ExplanationValue, Fragments, Intake, IsNamed, Location, Pair, Read, Report, Row, Skipped, explanation_value, intake_as, intake_of, row_of}
+use Rattle.rtps_report.specs.Vocabulary.{ActValue, Counts, DirectoryValue, Explained, Explanation, ExplanationValue, Fragments, Intake, IsExplainedBy, IsNamed, Location, Pair, Read, Report, Row, Skipped, explanation_value, intake_as, intake_of, row_of}
 use Rattle.rtps_audit.specs.Placed.{placed_in}
 use Rattle.rtps_audit.specs.Said.{datagrams_until}
-use Rattle.rtps_evidence.specs.Evidence.{IsEvidenceBy, IsEvidenceFrom}
+use Rattle.rtps_evidence.specs.Evidence.{IsEvidenceBy}
+use Rattle.rtps_evidence.specs.OtherSide.{Beside}
 use Rattle.rtps_evidence.specs.Spans.{IsWhole, is_joined_here, since_of}
 use Rattle.rtps_evidence.specs.declared.evidence.Evidence.{Evidence}
 use Rattle.rtps_report.specs.Rows.{RowsValue, acts_read, is_kept}
@@ -102,10 +103,28 @@ rows_kept rows acts directory explained named =
     ap (map row_of) (filter_same (λ (row : Explanation). is_kept rows acts row.topic.now row.pair) (λ (row : Explanation). is_row_kept rows acts directory (row_of row)) explained by_name)
     ∙ map_filter row_of (is_row_kept rows acts directory) explained
 
+-- where rows are in no spans, what stands beside changes nothing
+pub explained_beside : (from : ℕ) (beside other : Beside) (intake : Intake) (explained : Explained) → IsExplainedBy false from beside intake explained
+    → IsExplainedBy false from other intake explained
+explained_beside from beside other intake explained is =
+    record {
+      report = is.report;
+      reports = is.reports;
+      pairs = is.pairs;
+      rows = is.rows;
+      counts = is.counts;
+      directory = is.directory;
+      is_map = is.is_map;
+      named = is.named;
+      shown = All-weaker (λ (row : Explanation). IsEvidenceBy false from beside row.pair intake row.evidence) (λ (row : Explanation). IsEvidenceBy false from other row.pair intake row.evidence)
+          (λ row shows. record { span = shows.span; extent = shows.extent; shown = shows.shown; in_span = shows.in_span }) explained.rows.items is.shown;
+    }
+
 -- a report whose rows are those of explained ones, which are by the whole recording
-pub report_of_explained : (asked : AskedValue) (recording : List (List ℕ)) (explained : Explained) (report : Report) → asked.spans ≡ false → IsExplainedAs asked recording explained
+pub report_of_explained : (asked : AskedValue) (beside : Beside) (recording : List (List ℕ)) (explained : Explained) (report : Report) → asked.spans ≡ false
+    → IsExplainedAs asked beside recording explained
     → report.rows.items ≡ map row_of explained.rows.items → report.counts ≡ explained.counts → IsReportAs asked recording report
-report_of_explained asked recording explained report spans explains rows counts =
+report_of_explained asked beside recording explained report spans explains rows counts =
     let whole = explains.explains in
     record {
       whole = whole.report;
@@ -118,8 +137,8 @@ report_of_explained asked recording explained report spans explains rows counts 
     }
 
 -- a row has as many missed numbers by its evidence as by what is taken in
-missed_by_evidence : (from : ℕ) (pair : Pair) (intake : Intake) (evidence : Evidence) → IsEvidenceFrom from pair intake evidence → evidence.missed ≡ missed_of from intake pair
-missed_by_evidence from pair intake evidence is =
+missed_by_evidence : (from : ℕ) (beside : Beside) (pair : Pair) (intake : Intake) (evidence : Evidence) → IsEvidenceBy false from beside pair intake evidence → evidence.missed ≡ missed_of from intake pair
+missed_by_evidence from beside pair intake evidence is =
     let span = is.span in
     let whole : IsWhole from pair intake span = is.extent in
     let since : since_of span ≡ since_in intake pair =
@@ -130,20 +149,21 @@ missed_by_evidence from pair intake evidence is =
     ∙ ap (λ place. missed_since from place pair intake.acts) since
 
 -- the rows with missed numbers are as many by their evidence as by the recording
-pub missed_of_explained : (asked : AskedValue) (recording : List (List ℕ)) (explained : Explained) → asked.spans ≡ false → IsExplainedAs asked recording explained
+pub missed_of_explained : (asked : AskedValue) (beside : Beside) (recording : List (List ℕ)) (explained : Explained) → asked.spans ≡ false
+    → IsExplainedAs asked beside recording explained
     → missed_in (map explanation_value explained.rows.items) ≡ missed_rows asked.from (intake_as asked.fragments recording) (map row_of explained.rows.items)
-missed_of_explained asked recording explained spans explains =
+missed_of_explained asked beside recording explained spans explains =
     let intake = intake_as asked.fragments recording in
-    let IsShownRow : Explanation → Type 0 = λ row. IsEvidenceFrom asked.from row.pair intake row.evidence in
+    let IsShownRow : Explanation → Type 0 = λ row. IsEvidenceBy false asked.from beside row.pair intake row.evidence in
     let whole : All IsShownRow explains.whole.rows.items =
-    subst (λ spans. All (λ (row : Explanation). IsEvidenceBy spans asked.from row.pair intake row.evidence) explains.whole.rows.items) spans explains.explains.shown in
+    subst (λ spans. All (λ (row : Explanation). IsEvidenceBy spans asked.from beside row.pair intake row.evidence) explains.whole.rows.items) spans explains.explains.shown in
     let shown : All IsShownRow explained.rows.items = All-same IsShownRow _ _ explains.rows (All-filter _ IsShownRow explains.whole.rows.items whole) in
     let by_evidence = λ (row : ExplanationValue). not (row.evidence.missed == 0) in
     let by_recording = λ (row : Row). not (missed_of asked.from intake row.pair == 0) in
     count_map explanation_value by_evidence explained.rows.items
     ∙ count_same (λ (row : Explanation). not (row.evidence.missed == 0)) (λ (row : Explanation). by_recording (row_of row)) explained.rows.items
     (All-weaker IsShownRow (λ (row : Explanation). not (row.evidence.missed == 0) ≡ by_recording (row_of row))
-    (λ row evidence. ap (λ (n : ℕ). not (n == 0)) (missed_by_evidence asked.from row.pair intake row.evidence evidence)) explained.rows.items shown)
+    (λ row evidence. ap (λ (n : ℕ). not (n == 0)) (missed_by_evidence asked.from beside row.pair intake row.evidence evidence)) explained.rows.items shown)
     ∙ sym (count_map row_of by_recording explained.rows.items)
 
 -- ---- endings
@@ -168,9 +188,10 @@ one_rows asked recording one other is also rows directory =
     is.rows ∙ ap (filter (is_row_kept asked.rows (acts_read asked.fragments recording) is.directory)) rows
     ∙ ap (λ found. filter (is_row_kept asked.rows (acts_read asked.fragments recording) found) also.whole.rows.items) directory ∙ sym also.rows
 
-pub one_explained : (asked : AskedValue) (recording : List (List ℕ)) (one other : Explained) (is : IsExplainedAs asked recording one) (also : IsExplainedAs asked recording other)
+pub one_explained : (asked : AskedValue) (beside : Beside) (recording : List (List ℕ)) (one other : Explained)
+    → (is : IsExplainedAs asked beside recording one) (also : IsExplainedAs asked beside recording other)
     → map explanation_value is.whole.rows.items ≡ map explanation_value also.whole.rows.items → map explanation_value one.rows.items ≡ map explanation_value other.rows.items
-one_explained asked recording one other is also rows =
+one_explained asked beside recording one other is also rows =
     let test = λ (row : ExplanationValue). is_kept asked.rows (acts_read asked.fragments recording) row.topic row.pair in
     ap (map explanation_value) is.rows ∙ map_filter explanation_value test is.whole.rows.items ∙ ap (filter test) rows
     ∙ sym (map_filter explanation_value test also.whole.rows.items) ∙ sym (ap (map explanation_value) also.rows)

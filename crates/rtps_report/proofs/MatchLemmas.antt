@@ -1,5 +1,5 @@
 -- What becomes of each match that discovery finds.
-use Rattle.std.proofs.Common.{◌≡◌, ◌↔◌, ◌∙◌, ◌&&◌, ◌||◌, ℕ, Bool, true, false, inl, inr, List, Contains, ap, ap₂, map, not, refl, subst, sym}
+use Rattle.std.proofs.Common.{◌≡◌, ◌↔◌, ◌∙◌, ◌&&◌, ◌||◌, ℕ, Bool, true, false, inl, inr, List, Contains, Option, ap, ap₂, map, not, refl, subst, sym}
 use Rattle.std.proofs.lemmas.Bool.{false≢true}
 use Rattle.std.proofs.lemmas.List.Elements.{All-contains}
 use Rattle.rtps_discovery.specs.Directory.{DirectoryValue, IsMapOf, settled_at, settled_in}
@@ -10,8 +10,8 @@ use Rattle.rtps_discovery.specs.Notice.{endpoints_among}
 use Rattle.rtps_discovery.specs.declared.endpoint.Reliability.{Reliability}
 use Rattle.rtps_discovery.specs.declared.endpoint.Reliability.TheVariants.{BestEffort, Reliable}
 use Rattle.rtps_discovery.specs.declared.matching.Match.{Match}
-use Rattle.rtps_discovery.proofs.Members.{from_filter, from_map, into_filter, into_map}
-use Rattle.rtps_evidence.proofs.OneSpan.{HasOneMap}
+use Rattle.rtps_discovery.proofs.Offered.{from_filter, from_map, into_filter, into_map}
+use Rattle.rtps_evidence.proofs.Offered.{HasOneMap}
 use Rattle.rtps_policies.specs.Unmatched.{UnmatchedValue}
 use Rattle.rtps_report.specs.Vocabulary.{ActValue, AllClean, AllComplete, Explanation, ExplanationValue, IsNamed, Pair, Standard, explanation_value, topic_of}
 use Rattle.rtps_report.specs.Asked.{AskedValue, is_of_complete}
@@ -85,7 +85,8 @@ abbrev IsFitRow : AskedValue → List (List ℕ) → List UnmatchedValue → Mat
 IsFitRow asked recording unmatched found =
     (found.reliable ≡ true) × (is_observed (acts_read asked.fragments recording) found.pair ≡ true) × (is_unfit unmatched found.pair ≡ false)
 
-module _ (listed : AreListed) (unique : HasOneMap) (asked : AskedValue) (asks : AsksWhoTalks asked) (recording : RecordingValue) (report : ReportValue) (is : IsFullReport asked recording report) where
+module _ (listed : AreListed) (unique : HasOneMap) (asked : AskedValue) (asks : AsksWhoTalks asked) (other : Option RecordingValue) (recording : RecordingValue) (report : ReportValue)
+    (is : IsFullReport asked other recording report) where
   acts : List ActValue
   acts = acts_read asked.fragments recording.datagrams
 
@@ -180,10 +181,10 @@ exactly false false false true Told fits row = record {
 }
 
 pub each_match : AreListed → HasOneMap → EachMatchIsTold
-each_match listed unique asked recording report directory found asks is is_map among topic =
+each_match listed unique asked other recording report directory found asks is is_map among topic =
     let observed = named_among asked.fragments recording.datagrams (answer_of found.pair) in
     exactly found.reliable (is_unfit report.talk.unmatched found.pair) (is_named (traffic_of asked recording.datagrams) found.pair) (fits_one asked.rows.topics (topic_of (settled_at directory.endpoints found.pair.writer)))
     (IsRowOf report found.pair) topic (
-      λ row. let fit = row_there listed unique asked asks recording report is directory found is_map among row in (fit.0, observed ∙ fit.1, fit.2),
-      λ fit. row_back listed unique asked asks recording report is directory found is_map among topic (fit.0, sym observed ∙ fit.1, fit.2),
+      λ row. let fit = row_there listed unique asked asks other recording report is directory found is_map among row in (fit.0, observed ∙ fit.1, fit.2),
+      λ fit. row_back listed unique asked asks other recording report is directory found is_map among topic (fit.0, sym observed ∙ fit.1, fit.2),
     )

@@ -1,5 +1,6 @@
 -- Of a recording it is told in one way who does not talk.
-use Rattle.std.proofs.Common.{◌≡◌, ◌∙◌, ℕ, Bool, List, [], ◌∷◌, All, Contains, ap, ap₂, filter, if◌then◌else◌, map, refl, subst, sym}
+use Rattle.std.proofs.Common.{◌≡◌, ◌∙◌, ℕ, ◌+◌, Bool, Option, Some, None, List, [], ◌∷◌, All, Contains, ap, ap₂, filter, if◌then◌else◌, map, refl, subst, sym}
+use Rattle.std.proofs.lemmas.Bool.{false≢true}
 use Rattle.std.specs.Cmp.{IsTotalOrder}
 use Rattle.std.specs.Cmp.Lexicographic.{slice_cmp}
 use Rattle.std.specs.Ordering.{nat_cmp}
@@ -10,14 +11,18 @@ use Rattle.rtps_discovery.specs.Directory.{DirectoryValue, Entries, settled_in}
 use Rattle.rtps_discovery.specs.Matching.{matches_among}
 use Rattle.rtps_discovery.specs.declared.matching.Match.{Match}
 use Rattle.rtps_discovery.specs.declared.matching.Pair.{Pair}
-use Rattle.rtps_discovery.proofs.Members.{from_map, into_map}
+use Rattle.rtps_discovery.proofs.Offered.{from_map, into_map}
 use Rattle.rtps_audit.specs.Intake.{Intake}
 use Rattle.rtps_audit.specs.Placed.{placed_in}
 use Rattle.rtps_audit.specs.Said.{datagrams_until}
-use Rattle.rtps_evidence.specs.Recorded.{AreRecordedIn, IsRecordedBy}
+use Rattle.rtps_evidence.specs.Amount.{count_in}
+use Rattle.rtps_evidence.specs.OtherSide.{OtherRecording, is_held, is_there}
+use Rattle.rtps_evidence.specs.Recorded.{AreRecordedIn, IsArrivedAmong, IsArrivedBy, IsRecordedBy, greatest_sent}
+use Rattle.rtps_evidence.specs.declared.first_numbers.FirstNumbers.{FirstNumbers}
+use Rattle.rtps_evidence.specs.declared.recorded.ArrivedNumbers.{ArrivedNumbers}
 use Rattle.rtps_evidence.specs.declared.recorded.Recorded.{Recorded}
 use Rattle.rtps_evidence.specs.declared.span.Span.{Span}
-use Rattle.rtps_evidence.proofs.OneSpan.{HasOneMap, one_extent}
+use Rattle.rtps_evidence.proofs.Offered.{HasOneMap, one_extent}
 use Rattle.rtps_fragments.specs.RecordedSamples.{intake_as}
 use Rattle.rtps_policies.specs.Namings.{named_in, naming_cmp}
 use Rattle.rtps_policies.specs.OneWays.{AreOneWayIn}
@@ -26,10 +31,11 @@ use Rattle.rtps_policies.specs.Unmatched.{UnmatchedValue, unmatched_among}
 use Rattle.rtps_policies.specs.declared.naming.Naming.{Naming}
 use Rattle.rtps_policies.specs.declared.one_way.OneWay.{OneWay}
 use Rattle.rtps_report.specs.Asked.{AskedValue}
-use Rattle.rtps_report.specs.BestEfforts.{AreSumsOf, BestEffortValue, CountedValue, sum_of, total_of}
+use Rattle.rtps_report.specs.BestEfforts.{AreSumsOf, BestEffortValue, CountedValue, arrived_among, held_among, sum_of, total_of}
 use Rattle.rtps_report.specs.Laws.{TellSame}
 use Rattle.rtps_report.specs.Participants.{participant_told}
-use Rattle.rtps_report.specs.Talk.{AreBestEffortIn, AreCounted, IsTalkAs, IsTalkOf, TalkValue, is_asked, is_counted, traffic_of}
+use Rattle.rtps_report.specs.Recording.{RecordingValue}
+use Rattle.rtps_report.specs.Talk.{AreCounted, IsTalkAs, IsTalkOf, TalkValue, is_asked, is_counted, traffic_of}
 use Rattle.rtps_report.proofs.SameLists.{same_keys, same_members}
 
 -- ---- pairs of best effort
@@ -41,17 +47,34 @@ one_recorded unique spans from pair intake one other is also =
     let made : ℕ → ℕ → Recorded = λ numbers recorded. record { numbers = numbers; recorded = recorded } in
     ap₂ made (same.numbers ∙ sym also.are_recorded.numbers) (same.recorded ∙ sym also.are_recorded.recorded)
 
-one_counted : HasOneMap → (asked : AskedValue) (intake : Intake) (entries : Entries) (matches : List Match) (one other : List CountedValue) → AreCounted asked intake entries matches one
-    → AreCounted asked intake entries matches other → one ≡ other
-one_counted unique asked intake entries [] [] [] is also = refl
-one_counted unique asked intake entries [] [] (next ∷ other) is also = absurd also
-one_counted unique asked intake entries [] (first ∷ one) other is also = absurd is
-one_counted unique asked intake entries (found ∷ matches) [] other is also = absurd is
-one_counted unique asked intake entries (found ∷ matches) (first ∷ one) [] is also = absurd also
-one_counted unique asked intake entries (found ∷ matches) (first ∷ one) (next ∷ other) is also =
-    let made : List ℕ → Recorded → CountedValue = λ topic recorded. record { topic = topic; recorded = recorded } in
-    let same : first ≡ next = ap₂ made (is.0 ∙ sym also.0) (one_recorded unique asked.spans asked.from found.pair intake first.recorded next.recorded is.1 also.1) in
-    ap (λ front. front ∷ one) same ∙ ap (λ rest. next ∷ rest) (one_counted unique asked intake entries matches one other is.2 also.2)
+one_arrived : HasOneMap → (spans : Bool) (from : ℕ) (theirs : Option OtherRecording) (pair : Pair) (intake : Intake) (one other : Option ArrivedNumbers)
+    → IsArrivedBy spans from theirs pair intake one → IsArrivedBy spans from theirs pair intake other → one ≡ other
+one_arrived unique spans from theirs pair intake None None is also = refl
+one_arrived unique spans from theirs pair intake None (Some other) is also = absurd (false≢true (sym is.arrived ∙ also.arrived.0))
+one_arrived unique spans from theirs pair intake (Some one) None is also = absurd (false≢true (sym also.arrived ∙ is.arrived.0))
+one_arrived unique spans from theirs pair intake (Some one) (Some other) is also =
+    let span : is.span ≡ also.span = one_extent unique spans from pair intake is.span also.span is.is_extent also.is_extent in
+    let among : Span → ArrivedNumbers → Type 0 = λ s numbers.
+    IsArrivedAmong (is_there theirs pair) s.from (greatest_sent pair.writer (placed_in (datagrams_until s.until intake.acts)) + 1) numbers in
+    let same : among also.span one = subst (λ (s : Span). among s one) span is.arrived.1 in
+    let made : ℕ → FirstNumbers → ArrivedNumbers = λ arrived lacking. record { arrived = arrived; lacking = lacking } in
+    ap Some (ap₂ made (same.arrived ∙ sym also.arrived.1.arrived) (same.lacking ∙ sym also.arrived.1.lacking))
+
+one_counted : HasOneMap → (asked : AskedValue) (theirs : Option OtherRecording) (intake : Intake) (entries : Entries) (matches : List Match) (one other : List CountedValue)
+    → AreCounted asked theirs intake entries matches one → AreCounted asked theirs intake entries matches other → one ≡ other
+one_counted unique asked theirs intake entries [] [] [] is also = refl
+one_counted unique asked theirs intake entries [] [] (next ∷ other) is also = absurd also
+one_counted unique asked theirs intake entries [] (first ∷ one) other is also = absurd is
+one_counted unique asked theirs intake entries (found ∷ matches) [] other is also = absurd is
+one_counted unique asked theirs intake entries (found ∷ matches) (first ∷ one) [] is also = absurd also
+one_counted unique asked theirs intake entries (found ∷ matches) (first ∷ one) (next ∷ other) is also =
+    let made : List ℕ → Pair → Recorded → Option ArrivedNumbers → CountedValue = λ topic pair recorded arrived. record { topic = topic; pair = pair; recorded = recorded; arrived = arrived } in
+    let topic = is.0 ∙ sym also.0 in
+    let pair = is.1.of_pair ∙ sym also.1.of_pair in
+    let recorded = one_recorded unique asked.spans asked.from found.pair intake first.recorded next.recorded is.1.recorded also.1.recorded in
+    let arrived = one_arrived unique asked.spans asked.from theirs found.pair intake first.arrived next.arrived is.1.arrived also.1.arrived in
+    let same : first ≡ next = λ i. made (topic i) (pair i) (recorded i) (arrived i) in
+    ap (λ front. front ∷ one) same ∙ ap (λ rest. next ∷ rest) (one_counted unique asked theirs intake entries matches one other is.2 also.2)
 
 one_sums : (counted : List CountedValue) (one other : List BestEffortValue) → AreSumsOf counted one → AreSumsOf counted other → one ≡ other
 one_sums counted one other is also =
@@ -95,28 +118,36 @@ one_way_once traffic one other is also =
 
 -- ---- all of it
 
-talk_once : HasOneMap → (asked : AskedValue) (recording : List (List ℕ)) (one other : TalkValue) → IsTalkOf asked recording one → IsTalkOf asked recording other → TellSame one other
-talk_once unique asked recording one other is also =
+talk_once : HasOneMap → (asked : AskedValue) (theirs : Option OtherRecording) (recording : List (List ℕ)) (times : List (Option ℕ)) (one other : TalkValue)
+    → IsTalkOf asked theirs recording times one → IsTalkOf asked theirs recording times other → TellSame one other
+talk_once unique asked theirs recording times one other is also =
     let traffic = traffic_of asked recording in
     let intake = intake_as asked.fragments recording in
     let same : is.directory ≡ also.directory = unique traffic.announcing is.directory also.directory is.is_map also.is_map in
     let unmatched : one.unmatched ≡ other.unmatched =
     is.unmatched ∙ ap (λ (d : DirectoryValue). filter (is_asked asked) (unmatched_among traffic.announcing (settled_in d.endpoints))) same ∙ sym also.unmatched in
-    let moved = subst (λ (d : DirectoryValue). AreBestEffortIn asked intake traffic other.unmatched d.endpoints one.best_effort one.best_effort_total) same
-    (subst (λ (those : List UnmatchedValue). AreBestEffortIn asked intake traffic those is.directory.endpoints one.best_effort one.best_effort_total) unmatched is.best_effort) in
     let entries = also.directory.endpoints in
-    let counted : moved.counted ≡ also.best_effort.counted =
-    one_counted unique asked intake entries (filter (is_counted asked traffic other.unmatched entries) (matches_among (settled_in entries))) moved.counted also.best_effort.counted moved.are_counted also.best_effort.are_counted in
+    let test = λ (those : List UnmatchedValue) (of : Entries). filter (is_counted asked traffic those of) (matches_among (settled_in of)) in
+    let moved = subst (λ (d : DirectoryValue). AreCounted asked theirs intake d.endpoints (test other.unmatched d.endpoints) is.best_effort.counted) same
+    (subst (λ (those : List UnmatchedValue). AreCounted asked theirs intake is.directory.endpoints (test those is.directory.endpoints) is.best_effort.counted) unmatched is.best_effort.are_counted) in
+    let counted : is.best_effort.counted ≡ also.best_effort.counted =
+    one_counted unique asked theirs intake entries (test other.unmatched entries) is.best_effort.counted also.best_effort.counted moved also.best_effort.are_counted in
     record {
       hosts = λ prefix. is.hosts prefix ∙ sym (also.hosts prefix);
       silence = λ pair. is.silence pair ∙ sym (also.silence pair);
       unmatched = unmatched;
       one_way = one_way_once traffic one.one_way other.one_way is.one_way also.one_way;
       best_effort = one_sums also.best_effort.counted one.best_effort other.best_effort
-          (subst (λ (those : List CountedValue). AreSumsOf those one.best_effort) counted moved.are_sums) also.best_effort.are_sums;
-      best_effort_total = moved.is_total ∙ ap total_of counted ∙ sym also.best_effort.is_total;
-      participants = is.participants ∙ ap (λ (d : DirectoryValue). map (participant_told intake traffic.datagrams) d.participants) same ∙ sym also.participants;
+          (subst (λ (those : List CountedValue). AreSumsOf those one.best_effort) counted is.best_effort.are_sums) also.best_effort.are_sums;
+      best_effort_total = is.best_effort.is_total ∙ ap total_of counted ∙ sym also.best_effort.is_total;
+      held = is.best_effort.are_held ∙ ap held_among counted ∙ sym also.best_effort.are_held;
+      held_sums = one_sums (arrived_among also.best_effort.counted) one.held_sums other.held_sums
+          (subst (λ (those : List CountedValue). AreSumsOf (arrived_among those) one.held_sums) counted is.best_effort.are_held_sums) also.best_effort.are_held_sums;
+      held_total = is.best_effort.is_held_total ∙ ap (λ those. total_of (arrived_among those)) counted ∙ sym also.best_effort.is_held_total;
+      participants = is.participants ∙ ap (λ (d : DirectoryValue). map (participant_told intake traffic.datagrams times) d.participants) same ∙ sym also.participants;
     }
 
-pub one_talk : HasOneMap → (asked : AskedValue) (recording : List (List ℕ)) (one other : TalkValue) → IsTalkAs asked recording one → IsTalkAs asked recording other → TellSame one other
-one_talk unique asked recording one other is also = talk_once unique asked (if asked.talk then recording else []) one other is also
+pub one_talk : HasOneMap → (asked : AskedValue) (theirs : Option OtherRecording) (recording : RecordingValue) (one other : TalkValue) → IsTalkAs asked theirs recording one
+    → IsTalkAs asked theirs recording other → TellSame one other
+one_talk unique asked theirs recording one other is also =
+    talk_once unique asked theirs (if asked.talk then recording.datagrams else []) recording.times.of_datagrams one other is also

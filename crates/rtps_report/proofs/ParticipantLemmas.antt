@@ -10,11 +10,10 @@ use Rattle.std.proofs.lemmas.List.Folds.{find-append}
 use Rattle.rtps_ids.specs.declared.identity.Guid.{Guid}
 use Rattle.rtps_discovery.specs.GuidOrder.{guid_cmp}
 use Rattle.rtps_discovery.specs.Notice.{announcement_of, participant_in}
-use Rattle.rtps_discovery.proofs.GuidLaws.{guids_total}
+use Rattle.rtps_discovery.proofs.Offered.{guids_total}
 use Rattle.rtps_audit.specs.Placed.{PlacedValue, placed_value}
 use Rattle.rtps_audit.specs.declared.placed.Placed.{Placed}
-use Rattle.rtps_audit.proofs.GroupLemmas.{entry_written, equal_of, found_alike}
-use Rattle.rtps_audit.proofs.PlacedLemmas.{is_eq-guid_cmp}
+use Rattle.rtps_audit.proofs.Offered.{entry_written, equal_of, found_alike, is_eq-guid_cmp}
 use Rattle.rtps_evidence.specs.Locations.{location_of}
 use Rattle.rtps_evidence.specs.declared.location.Location.{Location}
 use Rattle.rtps_policies.specs.Told.{KeepsFirst}

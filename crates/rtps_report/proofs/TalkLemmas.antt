@@ -24,16 +24,16 @@ use Rattle.rtps_discovery.specs.Matching.{matches_among}
 use Rattle.rtps_discovery.specs.Notice.{announced_by, announcement_of, notice_in, notice_with, participant_in, whole_payload}
 use Rattle.rtps_discovery.specs.declared.matching.Match.{Match}
 use Rattle.rtps_discovery.specs.declared.matching.Pair.{Pair}
-use Rattle.rtps_discovery.proofs.MapLaws.{no_acts}
-use Rattle.rtps_discovery.proofs.OtherWriters.{of_another_kind}
+use Rattle.rtps_discovery.proofs.Offered.{no_acts, of_another_kind}
 use Rattle.rtps_audit.specs.Intake.{Intake, acts_together}
 use Rattle.rtps_audit.specs.Placed.{PlacedValue, is_guid, placed_at, placed_behind, placed_in, placed_value}
 use Rattle.rtps_audit.specs.declared.placed.Placed.{Placed}
 use Rattle.rtps_audit.proofs.Offered.{contains_none}
 use Rattle.rtps_evidence.specs.Explanation.{topic_of}
 use Rattle.rtps_evidence.specs.Locations.{location_of}
-use Rattle.rtps_evidence.specs.Recorded.{IsRecordedBy}
+use Rattle.rtps_evidence.specs.OtherSide.{OtherRecording}
 use Rattle.rtps_evidence.specs.Spans.{left_in}
+use Rattle.rtps_evidence.specs.Times.{end_of}
 use Rattle.rtps_evidence.specs.declared.location.Location.{Location}
 use Rattle.rtps_fragments.specs.Announcements.{announcements_in, is_announcement, is_of_built_in}
 use Rattle.rtps_fragments.specs.Announcing.{is_built_in}
@@ -49,17 +49,17 @@ use Rattle.rtps_policies.specs.declared.naming.Naming.{Naming}
 use Rattle.rtps_policies.specs.declared.naming.Namings.{Namings}
 use Rattle.rtps_policies.specs.declared.unmatched.Unmatched.{Unmatched}
 use Rattle.rtps_report.specs.Asked.{AskedValue}
-use Rattle.rtps_report.specs.BestEfforts.{AreSumsOf, CountedValue, best_effort_value, counted_value, total_of}
-use Rattle.rtps_report.specs.Participants.{AreJoined, announces, is_that, participant_told, place_of}
+use Rattle.rtps_report.specs.BestEfforts.{AreSumsOf, CountedValue, arrived_among, best_effort_value, counted_value, held_among, held_value, total_of}
+use Rattle.rtps_report.specs.Participants.{AreJoined, announces, is_silent, is_that, left_of, participant_told, place_of}
 use Rattle.rtps_report.specs.Rows.{fits_one}
-use Rattle.rtps_report.specs.Stays.{IsTrafficOf, prefix_cmp, stay_of}
-use Rattle.rtps_report.specs.Talk.{AreCounted, AreUnfit, IsTalkOf, is_asked, is_counted, is_counted_by, is_counted_of, is_pair, is_unfit, talk_value, traffic_of}
+use Rattle.rtps_report.specs.Stays.{latest_of, stay_of}
+use Rattle.rtps_report.specs.Talk.{AreCounted, AreUnfit, IsPairCounted, IsTalkOf, is_asked, is_counted, is_counted_by, is_counted_of, is_pair, is_unfit, talk_value, traffic_of}
 use Rattle.rtps_report.specs.Vocabulary.{Fragments, Read, Skipped}
+use Rattle.rtps_report.specs.declared.best_effort.BestEffort.{BestEffort}
 use Rattle.rtps_report.specs.declared.best_effort.Counted.{Counted}
 use Rattle.rtps_report.specs.declared.participant.Participant.{Participant}
 use Rattle.rtps_report.specs.declared.talk.Talk.{Talk}
 use Rattle.rtps_report.specs.declared.traffic.Stay.{Stay}
-use Rattle.rtps_report.specs.declared.traffic.Traffic.{Traffic as TrafficKept}
 use Rattle.rtps_report.proofs.AskedLemmas.{map_filter}
 use Rattle.rtps_report.proofs.BestEffortSums.{gathered_are}
 
@@ -196,60 +196,63 @@ pub counted_by_topic : (unfit : BTreeSet Pair) (namings : Namings) (asked : Aske
 counted_by_topic unfit namings asked found topic own is same by = ap (λ t. is_counted_by unfit namings asked t found) (sym same) ∙ sym by
 
 -- one more that is counted
-counted_push : (asked : AskedValue) (intake : Intake) (entries : Entries) (matches : List Match) (counted : List CountedValue) (found : Match) (one : CountedValue)
-    → AreCounted asked intake entries matches counted → one.topic ≡ topic_of (settled_at entries found.pair.writer) → IsRecordedBy asked.spans asked.from found.pair intake one.recorded
-    → AreCounted asked intake entries (matches ++ found ∷ []) (counted ++ one ∷ [])
-counted_push asked intake entries [] [] found one are topic recorded = (topic, recorded, tt)
-counted_push asked intake entries [] (other ∷ counted) found one are topic recorded = absurd are
-counted_push asked intake entries (first ∷ matches) [] found one are topic recorded = absurd are
-counted_push asked intake entries (first ∷ matches) (other ∷ counted) found one are topic recorded =
-    (are.0, are.1, counted_push asked intake entries matches counted found one are.2 topic recorded)
+counted_push : (asked : AskedValue) (other : Option OtherRecording) (intake : Intake) (entries : Entries) (matches : List Match) (counted : List CountedValue) (found : Match) (one : CountedValue)
+    → AreCounted asked other intake entries matches counted → one.topic ≡ topic_of (settled_at entries found.pair.writer) → IsPairCounted asked other intake found.pair one
+    → AreCounted asked other intake entries (matches ++ found ∷ []) (counted ++ one ∷ [])
+counted_push asked theirs intake entries [] [] found one are topic recorded = (topic, recorded, tt)
+counted_push asked theirs intake entries [] (other ∷ counted) found one are topic recorded = absurd are
+counted_push asked theirs intake entries (first ∷ matches) [] found one are topic recorded = absurd are
+counted_push asked theirs intake entries (first ∷ matches) (other ∷ counted) found one are topic recorded =
+    (are.0, are.1, counted_push asked theirs intake entries matches counted found one are.2 topic recorded)
 
 -- a step of the loop over matches, whose next one is counted or not
-pub counted_more : (asked : AskedValue) (intake : Intake) (entries : Entries) (test : Match → Bool) (matches : List Match) (counted items : List Counted) (i : ℕ) (d : Match) (one : Counted)
+pub counted_more : (asked : AskedValue) (other : Option OtherRecording) (intake : Intake) (entries : Entries) (test : Match → Bool) (matches : List Match) (counted items : List Counted) (i : ℕ) (d : Match) (one : Counted)
     → i < length matches → test (get_or matches i d) ≡ true → items ≡ counted ++ one ∷ []
-    → one.topic.now ≡ topic_of (settled_at entries (get_or matches i d).pair.writer) → IsRecordedBy asked.spans asked.from (get_or matches i d).pair intake one.recorded
-    → AreCounted asked intake entries (filter test (take i matches)) (map counted_value counted) → AreCounted asked intake entries (filter test (take (i + 1) matches)) (map counted_value items)
-counted_more asked intake entries test matches counted items i d one within passes is topic recorded are =
+    → one.topic.now ≡ topic_of (settled_at entries (get_or matches i d).pair.writer) → IsPairCounted asked other intake (get_or matches i d).pair (counted_value one)
+    → AreCounted asked other intake entries (filter test (take i matches)) (map counted_value counted) → AreCounted asked other intake entries (filter test (take (i + 1) matches)) (map counted_value items)
+counted_more asked other intake entries test matches counted items i d one within passes is topic recorded are =
     let found = get_or matches i d in
     let more : filter test (take (i + 1) matches) ≡ filter test (take i matches) ++ found ∷ [] =
     filter_more test matches i d within ∙ ap (λ b. filter test (take i matches) ++ cond b (found ∷ []) []) passes in
     let values : map counted_value items ≡ map counted_value counted ++ counted_value one ∷ [] = ap (map counted_value) is ∙ map_push counted_value counted one in
-    subst (λ xs. AreCounted asked intake entries xs (map counted_value items)) (sym more)
-    (subst (AreCounted asked intake entries (filter test (take i matches) ++ found ∷ [])) (sym values)
-    (counted_push asked intake entries (filter test (take i matches)) (map counted_value counted) found (counted_value one) are topic recorded))
+    subst (λ xs. AreCounted asked other intake entries xs (map counted_value items)) (sym more)
+    (subst (AreCounted asked other intake entries (filter test (take i matches) ++ found ∷ [])) (sym values)
+    (counted_push asked other intake entries (filter test (take i matches)) (map counted_value counted) found (counted_value one) are topic recorded))
 
-pub counted_skip : (asked : AskedValue) (intake : Intake) (entries : Entries) (test : Match → Bool) (matches : List Match) (counted : List CountedValue) (i : ℕ) (d : Match)
+pub counted_skip : (asked : AskedValue) (other : Option OtherRecording) (intake : Intake) (entries : Entries) (test : Match → Bool) (matches : List Match) (counted : List CountedValue) (i : ℕ) (d : Match)
     → i < length matches → test (get_or matches i d) ≡ false
-    → AreCounted asked intake entries (filter test (take i matches)) counted → AreCounted asked intake entries (filter test (take (i + 1) matches)) counted
-counted_skip asked intake entries test matches counted i d within fails are =
+    → AreCounted asked other intake entries (filter test (take i matches)) counted → AreCounted asked other intake entries (filter test (take (i + 1) matches)) counted
+counted_skip asked other intake entries test matches counted i d within fails are =
     let more : filter test (take (i + 1) matches) ≡ filter test (take i matches) =
     filter_more test matches i d within ∙ ap (λ b. filter test (take i matches) ++ cond b (get_or matches i d ∷ []) []) fails ∙ append-nil (filter test (take i matches)) in
-    subst (λ xs. AreCounted asked intake entries xs counted) (sym more) are
+    subst (λ xs. AreCounted asked other intake entries xs counted) (sym more) are
 
 -- ---- participants
 
-abbrev pub participant_of_parts : Guid → Host → Option Stay → Option ℕ → Participant
-participant_of_parts guid host stay left = record { guid = guid; host = host; stay = stay; left = left }
+abbrev pub participant_of_parts : Guid → Host → Option Stay → Option ℕ → Bool → Participant
+participant_of_parts guid host stay left silent = record { guid = guid; host = host; stay = stay; left = left; silent = silent }
 
--- what is told of a participant, by what is kept
-pub participant_is : (intake : Intake) (datagrams : List (List ActValue)) (announcements : List Placed) (joined : BTreeMap Guid Location) (traffic : TrafficKept)
-    (guid : Guid) (host : Host) (stay : Option Stay) (place : Option Location) (left : Option ℕ)
-    → AreJoined (map placed_value announcements) joined → map placed_value announcements ≡ announcements_in intake.announcing → IsTrafficOf datagrams traffic
-    → host ≡ unwrap_or (host_among (acts_together intake.announcing) guid) unknown_host → stay ≡ get prefix_cmp traffic.stays guid.prefix → place ≡ get guid_cmp joined guid
-    → left ≡ left_in place guid (placed_in intake.acts) → participant_of_parts guid host stay left ≡ participant_told intake datagrams guid
-participant_is intake datagrams announcements joined traffic guid host stay place left are same is h s p l =
+-- a participant leaves when it does by what few acts announce
+pub leaves_then : (intake : Intake) (announcements : List Placed) (joined : BTreeMap Guid Location) (guid : Guid) (place : Option Location) (left : Option ℕ)
+    → AreJoined (map placed_value announcements) joined → map placed_value announcements ≡ announcements_in intake.announcing → place ≡ get guid_cmp joined guid
+    → left ≡ left_in place guid (placed_in intake.acts) → left ≡ left_of intake guid
+leaves_then intake announcements joined guid place left are same p l =
     let first : place ≡ place_of guid (placed_in intake.announcing) = p ∙ are guid ∙ ap (place_of guid) same ∙ place_alone guid intake.announcing in
-    let stays : stay ≡ stay_of datagrams guid.prefix = s ∙ is.stays guid.prefix in
-    let leaves : left ≡ left_in (place_of guid (placed_in intake.announcing)) guid (placed_in intake.acts) =
-    l ∙ ap (λ (place : Option Location). left_in place guid (placed_in intake.acts)) first in
-    λ i. participant_of_parts guid (h i) (stays i) (leaves i)
+    l ∙ ap (λ (place : Option Location). left_in place guid (placed_in intake.acts)) first
 
-pub participants_more : (intake : Intake) (datagrams : List (List ActValue)) (guids : List Guid) (participants items : List Participant) (i : ℕ) (d : Guid) (one : Participant)
-    → i < length guids → items ≡ participants ++ one ∷ [] → one ≡ participant_told intake datagrams (get_or guids i d)
-    → participants ≡ map (participant_told intake datagrams) (take i guids) → items ≡ map (participant_told intake datagrams) (take (i + 1) guids)
-participants_more intake datagrams guids participants items i d one within is told so_far =
-    is ∙ ap₂ (λ (front : List Participant) (last : Participant). front ++ last ∷ []) so_far told ∙ sym (map_more (participant_told intake datagrams) guids i d within)
+-- what is told of a participant, by what is known of it
+pub participant_is : (intake : Intake) (datagrams : List (List ActValue)) (times : List (Option ℕ)) (guid : Guid) (host : Host) (stay : Option Stay) (left latest end : Option ℕ)
+    (silent : Bool) → host ≡ unwrap_or (host_among (acts_together intake.announcing) guid) unknown_host → stay ≡ stay_of datagrams guid.prefix → left ≡ left_of intake guid
+    → latest ≡ latest_of datagrams times guid.prefix → end ≡ end_of times → silent ≡ is_silent left latest end
+    → participant_of_parts guid host stay left silent ≡ participant_told intake datagrams times guid
+participant_is intake datagrams times guid host stay left latest end silent h s l t e q =
+    let quiet : silent ≡ is_silent (left_of intake guid) (latest_of datagrams times guid.prefix) (end_of times) = q ∙ (λ i. is_silent (l i) (t i) (e i)) in
+    λ i. participant_of_parts guid (h i) (s i) (l i) (quiet i)
+
+pub participants_more : (told : Guid → Participant) (guids : List Guid) (participants items : List Participant) (i : ℕ) (d : Guid) (one : Participant)
+    → i < length guids → items ≡ participants ++ one ∷ [] → one ≡ told (get_or guids i d) → participants ≡ map told (take i guids) → items ≡ map told (take (i + 1) guids)
+participants_more told guids participants items i d one within is same so_far =
+    is ∙ ap₂ (λ (front : List Participant) (last : Participant). front ++ last ∷ []) so_far same ∙ sym (map_more told guids i d within)
 
 -- ---- no datagrams
 
@@ -261,14 +264,16 @@ unfolding IsStrictlySortedBy
 none_one_way = record { in_order = tt; each = λ one. (λ among. absurd (contains_none one among), λ said. absurd (false≢true said.0)) }
 
 -- nobody talks in no datagrams, and nobody fails to
-pub none_talk : (asked : AskedValue) (talk : Talk) → IsAnnouncedBy [] talk.announced → AreNamingsOf [] talk.namings → talk.unmatched.items ≡ [] → talk.one_way.items ≡ []
-    → talk.best_effort.items ≡ [] → best_effort_value talk.best_effort_total ≡ total_of [] → talk.participants.items ≡ [] → IsTalkOf asked [] (talk_value talk)
-none_talk asked talk is are unmatched one_way best_effort total participants = by asked.fragments
+pub none_talk : (asked : AskedValue) (other : Option OtherRecording) (times : List (Option ℕ)) (talk : Talk) → IsAnnouncedBy [] talk.announced → AreNamingsOf [] talk.namings
+    → talk.unmatched.items ≡ [] → talk.one_way.items ≡ [] → talk.best_effort.items ≡ [] → best_effort_value talk.best_effort_total ≡ total_of [] → talk.held.items ≡ []
+    → talk.held_sums.items ≡ [] → best_effort_value talk.held_total ≡ total_of []
+    → talk.participants.items ≡ [] → IsTalkOf asked other [] times (talk_value talk)
+none_talk asked other times talk is are unmatched one_way best_effort total held held_sums held_total participants = by asked.fragments
   where
-    sums : AreSumsOf [] (map best_effort_value talk.best_effort.items)
-    sums = subst (AreSumsOf []) (sym (ap (map best_effort_value) best_effort)) (gathered_are [] tt)
+    none_summed : (sums : List BestEffort) → sums ≡ [] → AreSumsOf [] (map best_effort_value sums)
+    none_summed sums none = subst (AreSumsOf []) (sym (ap (map best_effort_value) none)) (gathered_are [] tt)
 
-    by : (fragments : Fragments) → IsTalkOf (record asked { fragments = fragments }) [] (talk_value talk)
+    by : (fragments : Fragments) → IsTalkOf (record asked { fragments = fragments }) other [] times (talk_value talk)
     by Skipped = record {
       directory = record { participants = []; endpoints = [] };
       is_map = no_acts;
@@ -276,7 +281,15 @@ none_talk asked talk is are unmatched one_way best_effort total participants = b
       silence = silence_is no_traffic talk.announced talk.namings is are;
       unmatched = ap (map unmatched_value) unmatched;
       one_way = subst (AreOneWayIn no_traffic) (sym one_way) none_one_way;
-      best_effort = record { counted = []; are_counted = tt; are_sums = sums; is_total = total };
+      best_effort = record {
+        counted = [];
+        are_counted = tt;
+        are_sums = none_summed talk.best_effort.items best_effort;
+        is_total = total;
+        are_held = ap (map held_value) held;
+        are_held_sums = none_summed talk.held_sums.items held_sums;
+        is_held_total = held_total;
+      };
       participants = participants;
     }
     by Read = record {
@@ -286,7 +299,15 @@ none_talk asked talk is are unmatched one_way best_effort total participants = b
       silence = silence_is no_traffic talk.announced talk.namings is are;
       unmatched = ap (map unmatched_value) unmatched;
       one_way = subst (AreOneWayIn no_traffic) (sym one_way) none_one_way;
-      best_effort = record { counted = []; are_counted = tt; are_sums = sums; is_total = total };
+      best_effort = record {
+        counted = [];
+        are_counted = tt;
+        are_sums = none_summed talk.best_effort.items best_effort;
+        is_total = total;
+        are_held = ap (map held_value) held;
+        are_held_sums = none_summed talk.held_sums.items held_sums;
+        is_held_total = held_total;
+      };
       participants = participants;
     }
 
@@ -315,17 +336,19 @@ pub kept_unmatched : (asked : AskedValue) (found kept : List Unmatched) (all : L
 kept_unmatched asked found kept all is same =
     ap (map unmatched_value) is ∙ map_filter unmatched_value (is_asked asked) found ∙ ap (filter (is_asked asked)) same
 
-pub talk_is : (asked : AskedValue) (recording : List (List ℕ)) (directory : DirectoryValue) (talk : Talk) (counted : List CountedValue)
+pub talk_is : (asked : AskedValue) (other : Option OtherRecording) (recording : List (List ℕ)) (times : List (Option ℕ)) (directory : DirectoryValue) (talk : Talk) (counted : List CountedValue)
     → IsMapOf (traffic_of asked recording).announcing directory → IsAnnouncedBy (traffic_of asked recording).announcing talk.announced
     → AreNamingsOf (traffic_of asked recording).datagrams talk.namings
     → map unmatched_value talk.unmatched.items ≡ filter (is_asked asked) (unmatched_among (traffic_of asked recording).announcing (settled_in directory.endpoints))
     → AreUnfit (map unmatched_value talk.unmatched.items) talk.unfit → AreOneWayIn (traffic_of asked recording) talk.one_way.items
-    → AreCounted asked (intake_as asked.fragments recording) directory.endpoints
+    → AreCounted asked other (intake_as asked.fragments recording) directory.endpoints
     (filter (is_counted_of talk.unfit talk.namings asked directory.endpoints) (matches_among (settled_in directory.endpoints))) counted
     → AreSumsOf counted (map best_effort_value talk.best_effort.items) → best_effort_value talk.best_effort_total ≡ total_of counted
-    → talk.participants.items ≡ map (participant_told (intake_as asked.fragments recording) (traffic_of asked recording).datagrams) directory.participants
-    → IsTalkOf asked recording (talk_value talk)
-talk_is asked recording directory talk counted map_of announced namings unmatched unfit one_way are sums total participants =
+    → map held_value talk.held.items ≡ held_among counted
+    → AreSumsOf (arrived_among counted) (map best_effort_value talk.held_sums.items) → best_effort_value talk.held_total ≡ total_of (arrived_among counted)
+    → talk.participants.items ≡ map (participant_told (intake_as asked.fragments recording) (traffic_of asked recording).datagrams times) directory.participants
+    → IsTalkOf asked other recording times (talk_value talk)
+talk_is asked other recording times directory talk counted map_of announced namings unmatched unfit one_way are sums total held held_sums held_total participants =
     let traffic = traffic_of asked recording in
     let values = map unmatched_value talk.unmatched.items in
     let alike = counted_alike asked traffic values directory.endpoints talk.unfit talk.namings unfit namings (matches_among (settled_in directory.endpoints)) in
@@ -338,9 +361,12 @@ talk_is asked recording directory talk counted map_of announced namings unmatche
       one_way = one_way;
       best_effort = record {
         counted = counted;
-        are_counted = subst (λ matches. AreCounted asked (intake_as asked.fragments recording) directory.endpoints matches counted) alike are;
+        are_counted = subst (λ matches. AreCounted asked other (intake_as asked.fragments recording) directory.endpoints matches counted) alike are;
         are_sums = sums;
         is_total = total;
+        are_held = held;
+        are_held_sums = held_sums;
+        is_held_total = held_total;
       };
       participants = participants;
     }

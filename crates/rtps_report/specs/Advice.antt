@@ -1,38 +1,58 @@
 -- What to do for a pair that is not clean. own: it is chosen by what the recording shows of the
 -- pair, by what was not read of it, and by the first number asked for, so that one case has one advice. The guide prints the cases and their sentences.
-use Rattle.std.specs.Prelude.{ℕ, ℤ, ◌==◌, ◌&&◌, not, nat_lt, int_lt, Bool, true, false, if◌then◌else◌, List, codes, length, Option, Some, None, is_none, is_some}
+use Rattle.std.specs.Prelude.{ℕ, ℤ, ◌==◌, ◌&&◌, ◌||◌, not, nat_lt, int_lt, Bool, true, false, if◌then◌else◌, List, codes, length, Option, Some, None, is_none, is_some, unwrap_or}
 use Rattle.rtps_audit.specs.Speech.{natural}
 use Rattle.rtps_report.specs.Vocabulary.{Absent, Announcement, Claim, CompleteGrounds, ConflictGrounds, EvidenceValue, FirstMissed, GroundsValue, Key, OpenGrounds, PayloadValue, Scope, SentValue, Teller, UnfoundedGrounds, Whole}
 use Rattle.rtps_report.specs.Reported.{number_of}
-use Rattle.rtps_report.specs.RowFacts.{is_joined_in, is_tail, left_in, outcomes_of, row_from}
+use Rattle.rtps_report.specs.RowFacts.{is_held_in, is_joined_in, is_tail, left_in, outcomes_of, row_from}
 use Rattle.rtps_report.specs.declared.advice.Advice.{Advice}
-use Rattle.rtps_report.specs.declared.advice.Advice.TheVariants.{MissedUnsent, MissedAgain, MissedOnce, Unsent, Unanswered, Tail, Left, OpenUnread, OpenUntold, NotAsked, NeverAnswered, Silent, Alike, Unlike, Relayed, UnfoundedUnread, Late, Unannounced, BeganLate, Lacking}
+use Rattle.rtps_report.specs.declared.advice.Advice.TheVariants.{Lost, MissedUnsent, MissedAgain, MissedOnce, Unsent, Unanswered, Tail, Left, OpenUnread, OpenUntold, NotAsked, NeverAnswered, Silent, Alike, Unlike, Relayed, UnfoundedUnread, Late, Unannounced, BeganLate, Lacking}
+use Rattle.rtps_report.specs.declared.silences.Silences.{Silences}
 
 -- of a pair with missed numbers, by the least of them
 abbrev pub missed_advice : FirstMissed → Advice
 missed_advice first = if not first.is_sent then MissedUnsent else (if is_some first.again then MissedAgain else MissedOnce)
 
--- of a pair that has missed numbers, or else another
-abbrev pub missed_or : Option FirstMissed → Advice → Advice
-missed_or None other = other
-missed_or (Some first) other = missed_advice first
+-- the first missed number was sent
+abbrev pub is_first_sent : Option FirstMissed → Bool
+is_first_sent None = false
+is_first_sent (Some first) = first.is_sent
+
+-- of a pair that is held: numbers that were sent did not arrive, and not only a tail
+abbrev pub is_lost : EvidenceValue → Bool
+is_lost evidence =
+    let outcomes = outcomes_of evidence in
+    is_held_in evidence.in_span && (not (is_tail evidence)
+    && (nat_lt 0 outcomes.likely || (nat_lt 0 outcomes.unanswered || (nat_lt 0 outcomes.unconfirmed || (nat_lt 0 outcomes.missed && is_first_sent evidence.first_missed)))))
+
+-- of a pair with missed numbers or without, by the least of them. Where it is held, one may be missed and have arrived
+abbrev pub missed_if : Bool → Option FirstMissed → Option Advice
+missed_if false first = None
+missed_if true None = None
+missed_if true (Some first) = Some (missed_advice first)
+
+-- of a pair of which numbers are lost or missed
+abbrev pub loss_advice : EvidenceValue → Option Advice
+loss_advice evidence = if is_lost evidence then Some Lost else missed_if (nat_lt 0 (outcomes_of evidence).missed) evidence.first_missed
 
 -- of a complete pair
 abbrev pub complete_advice : EvidenceValue → Advice
-complete_advice evidence = missed_or evidence.first_missed (if nat_lt 0 (outcomes_of evidence).unsent then Unsent else Unanswered)
+complete_advice evidence = unwrap_or (loss_advice evidence) (if nat_lt 0 (outcomes_of evidence).unsent then Unsent else Unanswered)
 
 -- of an open pair whose number nothing tells
 abbrev pub untold_open_advice : Scope → Advice
 untold_open_advice scope = if scope.unread then OpenUnread else OpenUntold
 
--- of an open pair without missed numbers, by what told its number, and by how often its reader was asked since its last answer
+-- only a tail is lacking, of a reader that did not leave and whose participant is not silent
+abbrev pub is_tail_of_reader : EvidenceValue → Silences → Bool
+is_tail_of_reader evidence silences = is_tail evidence && (is_none (left_in evidence.in_span) && is_none silences.reader)
+
+-- of an open pair that lacks more, by what told its number, and by how often its reader was asked since its last answer
 abbrev pub open_advice : Scope → EvidenceValue → Option Teller → ℕ → Advice
 open_advice scope evidence teller count =
-    let left = is_some (left_in evidence.in_span) in
-    if is_tail evidence && not left then Tail
-    else (if is_none evidence.acknowledgement && left then Left
+    if is_none evidence.acknowledgement && is_some (left_in evidence.in_span) then Left
     else (if is_none teller then untold_open_advice scope
-    else (if count == 0 then NotAsked else (if is_none evidence.acknowledgement then NeverAnswered else Silent))))
+    else (if count == 0 then NotAsked else (if is_none evidence.acknowledgement then NeverAnswered else Silent)))
 
 -- two payloads are of one kind and have as many octets
 abbrev pub are_alike : PayloadValue → PayloadValue → Bool
@@ -74,18 +94,20 @@ unfounded_advice scope evidence teller claim =
     else (if (natural (number_of evidence.verdict) == row_from scope.from evidence.in_span) && not (is_joined_in evidence.in_span) then BeganLate else Lacking)) else Late))
 
 -- what to do for a pair whose verdict rests on this
-abbrev pub advice_by : Scope → EvidenceValue → GroundsValue → Advice
-advice_by scope evidence CompleteGrounds = complete_advice evidence
-advice_by scope evidence (OpenGrounds teller count last) = missed_or evidence.first_missed (open_advice scope evidence teller count)
-advice_by scope evidence (ConflictGrounds first other) = conflict_advice first other
-advice_by scope evidence (UnfoundedGrounds teller claim) = unfounded_advice scope evidence teller claim
+abbrev pub advice_by : Silences → Scope → EvidenceValue → GroundsValue → Advice
+advice_by silences scope evidence CompleteGrounds = complete_advice evidence
+advice_by silences scope evidence (OpenGrounds teller count last) =
+    unwrap_or (loss_advice evidence) (if is_tail_of_reader evidence silences then Tail else open_advice scope evidence teller count)
+advice_by silences scope evidence (ConflictGrounds first other) = conflict_advice first other
+advice_by silences scope evidence (UnfoundedGrounds teller claim) = unfounded_advice scope evidence teller claim
 
--- what to do for a pair
-abbrev pub advice_of : Scope → EvidenceValue → Advice
-advice_of scope evidence = advice_by scope evidence evidence.grounds
+-- what to do for a pair, of which this participant or that one is silent
+abbrev pub advice_of : Silences → Scope → EvidenceValue → Advice
+advice_of silences scope evidence = advice_by silences scope evidence evidence.grounds
 
 -- in one sentence
 unfoldable pub sentence_of : Advice → List ℕ
+sentence_of Lost = codes "it was sent and did not reach the reader's host: look at the network; raise the history depth, so that the writer still has what is asked for again"
 sentence_of MissedUnsent = codes "the reader asked for it and the recording has none: it was lost before this recording, or record at the writer's side"
 sentence_of MissedAgain = codes "it was sent again, and nothing shows that it arrived: look at the network; a recording at the reader's side tells"
 sentence_of MissedOnce = codes "the reader asked for it and the writer did not send it again: raise the history depth or the lifespan, and look at the network"

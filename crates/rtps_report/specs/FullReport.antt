@@ -1,12 +1,14 @@
 -- The report that is asked for, with what each row rests on, and how its run ends.
 -- own: `why`, `page`, `check` and JSON tell this one value, so no two of them can disagree.
-use Rattle.std.specs.Prelude.{ℕ, ◌≡◌, ◌==◌, ◌&&◌, ◌||◌, Bool, false, not, if◌then◌else◌, List, count_by, filter, length, map}
+use Rattle.std.specs.Prelude.{ℕ, ◌≡◌, ◌==◌, ◌&&◌, ◌||◌, Bool, false, not, if◌then◌else◌, List, Option, None, count_by, filter, length, map}
 use Rattle.std.specs.List.{list_all}
 use Rattle.rtps_audit.specs.Index.{IsIndexBy}
+use Rattle.rtps_evidence.specs.OtherSide.{Beside}
 use Rattle.rtps_report.specs.Vocabulary.{ActValue, AllClean, AllComplete, Clean, Counts, Ending, EvidenceValue, Explained, Explanation, ExplanationValue, Facts, IsExplainedBy, IsExplainedFrom, Standard, Unclean, explanation_value, intake_as}
 pub use Rattle.rtps_report.specs.Asked.{AskedValue, asked_value}
 use Rattle.rtps_report.specs.Findings.{ending_as}
 pub use Rattle.rtps_report.specs.Recording.{RecordingValue}
+use Rattle.rtps_report.specs.ReaderSide.{arrived_value, beside_of, other_by}
 use Rattle.rtps_report.specs.Reported.{is_complete}
 use Rattle.rtps_report.specs.RowFacts.{is_certain, is_clean}
 use Rattle.rtps_report.specs.Rows.{RowsValue, acts_read, is_kept}
@@ -15,10 +17,11 @@ use Rattle.rtps_policies.specs.Unmatched.{UnmatchedValue}
 use Rattle.rtps_discovery.specs.declared.matching.Pair.{Pair}
 use Rattle.rtps_report.specs.declared.full_report.FullReport.{FullReport}
 
--- The rows are those of the report that are asked for, each explained, in its order, and the counts are the report's.
-pub record IsExplainedAs (asked : AskedValue) (recording : List (List ℕ)) (explained : Explained) : Type 0 where
+-- The rows are those of the report that are asked for, each explained, in its order, and the counts are the report's. Another recording
+-- and times may stand beside.
+pub record IsExplainedAs (asked : AskedValue) (beside : Beside) (recording : List (List ℕ)) (explained : Explained) : Type 0 where
   pub whole : Explained
-  pub explains : IsExplainedBy asked.spans asked.from (intake_as asked.fragments recording) whole
+  pub explains : IsExplainedBy asked.spans asked.from beside (intake_as asked.fragments recording) whole
   pub rows : explained.rows.items ≡ filter (λ row. is_kept asked.rows (acts_read asked.fragments recording) row.topic.now row.pair) whole.rows.items
   pub counts : explained.counts ≡ whole.counts
 
@@ -31,8 +34,8 @@ abbrev pub is_left_out : RowsValue → List ActValue → Explanation → Bool
 is_left_out rows acts row = is_kept (of_all_pairs rows) acts row.topic.now row.pair && not (is_kept rows acts row.topic.now row.pair)
 
 -- the rows that are asked for, and those that are left out, in the order of the report
-pub record IsPartedAs (asked : AskedValue) (recording : List (List ℕ)) (explained : Explained) (left_out : List Explanation) : Type 0 where
-  pub explains : IsExplainedAs asked recording explained
+pub record IsPartedAs (asked : AskedValue) (beside : Beside) (recording : List (List ℕ)) (explained : Explained) (left_out : List Explanation) : Type 0 where
+  pub explains : IsExplainedAs asked beside recording explained
   pub left_out_too : left_out ≡ filter (is_left_out asked.rows (acts_read asked.fragments recording)) explains.whole.rows.items
 
 -- how many of these rows have missed numbers
@@ -73,8 +76,10 @@ is_dropped (AllClean tail certain) unmatched pair = is_unfit unmatched pair
 abbrev pub fitting : Standard → List UnmatchedValue → List Explanation → List Explanation
 fitting standard unmatched rows = filter (λ row. not (is_dropped standard unmatched row.pair)) rows
 
--- what is told of a recording: the rows that are asked for, those that are left out, who does not talk, and how the run ends
+-- what is told of a recording: the other one against which rows are held, the rows that are asked for, those that are left out, who does
+-- not talk, and how the run ends
 pub record ReportValue : Type 0 where
+  pub arrived : Option RecordingValue
   pub explained : Explained
   pub left_out : List Explanation
   pub talk : TalkValue
@@ -82,34 +87,37 @@ pub record ReportValue : Type 0 where
 
 -- what the code knows, as a value
 abbrev pub report_value : FullReport → ReportValue
-report_value report = record { explained = report.explained; left_out = report.left_out.items; talk = talk_value report.talk; ending = report.ending }
+report_value report =
+    record { arrived = arrived_value report.arrived; explained = report.explained; left_out = report.left_out.items; talk = talk_value report.talk; ending = report.ending }
 
 -- the rows of a report that are asked for, as values
 abbrev pub rows_of : ReportValue → List ExplanationValue
 rows_of report = map explanation_value report.explained.rows.items
 
--- what is told of this recording, of what is asked
-pub record IsFullReport (asked : AskedValue) (recording : RecordingValue) (report : ReportValue) : Type 0 where
+-- What is told of this recording, of what is asked. Rows are held against another recording, where there is one, and waits are by the
+-- times of its own datagrams.
+pub record IsFullReport (asked : AskedValue) (other : Option RecordingValue) (recording : RecordingValue) (report : ReportValue) : Type 0 where
+  pub beside : report.arrived ≡ other
   pub explained : Explained
   pub left_out : List Explanation
-  pub parts : IsPartedAs asked recording.datagrams explained left_out
-  pub talks : IsTalkAs asked recording.datagrams report.talk
+  pub parts : IsPartedAs asked (beside_of asked.fragments other recording) recording.datagrams explained left_out
+  pub talks : IsTalkAs asked (other_by asked.fragments other) recording report.talk
   pub rows : report.explained.rows.items ≡ fitting asked.standard report.talk.unmatched explained.rows.items
   pub counts : report.explained.counts ≡ explained.counts
   pub rest : report.left_out ≡ fitting asked.standard report.talk.unmatched left_out
   pub ends : report.ending ≡ ending_as asked (facts_with (length report.talk.unmatched) asked (rows_of report) report.explained.counts recording)
 
 -- the code has it, beside what it is of and the index that it is by
-pub record IsReportOf (asked : AskedValue) (recording : RecordingValue) (report : FullReport) : Type 0 where
+pub record IsReportOf (asked : AskedValue) (other : Option RecordingValue) (recording : RecordingValue) (report : FullReport) : Type 0 where
   pub asks : asked_value report.asked.now ≡ asked
   pub records : report.recording.now ≡ recording
   pub indexes : IsIndexBy (intake_as asked.fragments recording.datagrams) report.index
-  pub is_report : IsFullReport asked recording (report_value report)
+  pub is_report : IsFullReport asked other recording (report_value report)
 
--- A text of what is asked of a recording, and how the run ends, by what it is of a report.
-pub record IsTold (IsForm : AskedValue → RecordingValue → ReportValue → List ℕ → Type 0) (asked : AskedValue) (recording : RecordingValue) (text : List ℕ) (ending : Ending) : Type 0 where
+-- A text of what is asked of a recording, beside another one, if there is one, and how the run ends, by what it is of a report.
+pub record IsTold (IsForm : AskedValue → RecordingValue → ReportValue → List ℕ → Type 0) (asked : AskedValue) (other : Option RecordingValue) (recording : RecordingValue) (text : List ℕ) (ending : Ending) : Type 0 where
   pub report : ReportValue
-  pub is_report : IsFullReport asked recording report
+  pub is_report : IsFullReport asked other recording report
   pub is_text : IsForm asked recording report text
   pub ends : ending ≡ report.ending
 
@@ -117,9 +125,9 @@ pub record IsTold (IsForm : AskedValue → RecordingValue → ReportValue → Li
 abbrev pub RowsForm : Type 1
 RowsForm = List ExplanationValue → Counts → RecordingValue → List ℕ → Type 0
 
--- such a text of what is asked
+-- such a text of what is asked, of a recording alone
 abbrev pub AreRowsTold : RowsForm → AskedValue → RecordingValue → List ℕ → Ending → Type 0
-AreRowsTold IsForm = IsTold (λ asked recording report text. IsForm (rows_of report) report.explained.counts recording text)
+AreRowsTold IsForm asked = IsTold (λ asked recording report text. IsForm (rows_of report) report.explained.counts recording text) asked None
 
 -- the run ends clean where each verdict is complete, as after `audit`
 abbrev pub ending_of_rows : List ExplanationValue → Ending

@@ -4,6 +4,7 @@ use Rattle.rtps_audit.specs.Delivered.{IsExactVerdictFrom}
 use Rattle.rtps_audit.specs.Said.{datagrams_until}
 use Rattle.rtps_audit.specs.Speech.{acts_by_datagram, speech_of}
 use Rattle.rtps_evidence.specs.Evidence.{IsBeside, IsShown}
+use Rattle.rtps_evidence.specs.OtherSide.{Beside}
 use Rattle.rtps_evidence.specs.Spans.{IsExtent, since_of}
 use Rattle.rtps_evidence.specs.declared.span.Span.{Span}
 use Rattle.rtps_report.specs.Vocabulary.{ActValue, DirectoryValue, Ending, Explained, Explanation, Fragments, IsMapOf, Pair, Report, Verdict, explanation_value, intake_as, settled_at, topic_of}
@@ -57,25 +58,26 @@ first_acts fragments.Read until recording = first_acts_with_samples until record
 -- An explained row has the verdict of the recording that ends before the datagram in which its reader leaves, by the numbers from its first
 -- one on, and the evidence of their acts. Both are those of the span of its pair; where rows are in no span, the row is by the whole
 -- recording and all numbers that are asked about.
-pub record IsExactRow (asked : AskedValue) (recording : List (List ℕ)) (row : Explanation) : Type 0 where
+pub record IsExactRow (asked : AskedValue) (beside : Beside) (recording : List (List ℕ)) (row : Explanation) : Type 0 where
   pub verdict : IsVerdictAs asked.fragments (row_from asked.from row.evidence.in_span) row.pair (datagrams_until (left_in row.evidence.in_span) recording) row.evidence.verdict
   pub span : Span
   pub extent : IsExtent asked.spans asked.from row.pair (intake_as asked.fragments recording) span
   pub first : row_from asked.from row.evidence.in_span ≡ span.from
   pub until : left_in row.evidence.in_span ≡ span.until
   pub shown : IsShown span.from (since_of span) row.pair (first_acts asked.fragments span.until recording) row.evidence
-  pub beside : IsBeside asked.spans span row.pair (first_acts asked.fragments span.until recording) row.evidence.in_span
+  pub in_span : IsBeside asked.spans beside span row.pair (first_acts asked.fragments span.until recording) row.evidence.in_span
 
 -- each row that is explained is such a row
 abbrev pub ExplainedRowsAreExact : Type 0
 ExplainedRowsAreExact =
-    (asked : AskedValue) (recording : List (List ℕ)) (explained : Explained) → IsExplainedAs asked recording explained → All (IsExactRow asked recording) explained.rows.items
+    (asked : AskedValue) (beside : Beside) (recording : List (List ℕ)) (explained : Explained) → IsExplainedAs asked beside recording explained
+    → All (IsExactRow asked beside recording) explained.rows.items
 
 -- and so is each row that is left out
 abbrev pub LeftOutRowsAreExact : Type 0
 LeftOutRowsAreExact =
-    (asked : AskedValue) (recording : List (List ℕ)) (explained : Explained) (left_out : List Explanation) → IsPartedAs asked recording explained left_out
-    → All (IsExactRow asked recording) left_out
+    (asked : AskedValue) (beside : Beside) (recording : List (List ℕ)) (explained : Explained) (left_out : List Explanation)
+    → IsPartedAs asked beside recording explained left_out → All (IsExactRow asked beside recording) left_out
 
 -- of a recording of which no submessage belongs to fragments the texts and endings are the same, whether fragments are read or not
 abbrev pub StaysWithoutFragments : (AskedValue → RecordingValue → List ℕ → Ending → Type 0) → Type 0
@@ -91,20 +93,25 @@ pub record TellSame (one other : TalkValue) : Type 0 where
   pub one_way : one.one_way ≡ other.one_way
   pub best_effort : one.best_effort ≡ other.best_effort
   pub best_effort_total : one.best_effort_total ≡ other.best_effort_total
+  pub held : one.held ≡ other.held
+  pub held_sums : one.held_sums ≡ other.held_sums
+  pub held_total : one.held_total ≡ other.held_total
   pub participants : one.participants ≡ other.participants
 
 -- two reports tell the same
 pub record AreSame (one other : ReportValue) : Type 0 where
+  pub arrived : one.arrived ≡ other.arrived
   pub rows : rows_of one ≡ rows_of other
   pub counts : one.explained.counts ≡ other.explained.counts
   pub left_out : map explanation_value one.left_out ≡ map explanation_value other.left_out
   pub ending : one.ending ≡ other.ending
   pub talk : TellSame one.talk other.talk
 
--- of what is asked of a recording there is one report
+-- of what is asked of a recording, beside the same other recording, there is one report
 abbrev pub HasOneFullReport : Type 0
 HasOneFullReport =
-    (asked : AskedValue) (recording : RecordingValue) (one other : ReportValue) → IsFullReport asked recording one → IsFullReport asked recording other → AreSame one other
+    (asked : AskedValue) (theirs : Option RecordingValue) (recording : RecordingValue) (one other : ReportValue)
+    → IsFullReport asked theirs recording one → IsFullReport asked theirs recording other → AreSame one other
 
 -- ---- what becomes of each match
 
@@ -133,8 +140,8 @@ IsUnobserved traffic unmatched pair = (is_unfit unmatched pair ≡ false) × (is
 -- by all policies, two of which the recording cannot speak, or two of best effort that are counted.
 abbrev pub EachMatchIsTold : Type 0
 EachMatchIsTold =
-    (asked : AskedValue) (recording : RecordingValue) (report : ReportValue) (directory : DirectoryValue) (found : Match) → AsksWhoTalks asked → IsFullReport asked recording report
-    → IsMapOf (traffic_of asked recording.datagrams).announcing directory → Contains (matches_among (settled_in directory.endpoints)) found
+    (asked : AskedValue) (other : Option RecordingValue) (recording : RecordingValue) (report : ReportValue) (directory : DirectoryValue) (found : Match)
+    → AsksWhoTalks asked → IsFullReport asked other recording report → IsMapOf (traffic_of asked recording.datagrams).announcing directory → Contains (matches_among (settled_in directory.endpoints)) found
     → fits_one asked.rows.topics (topic_of (settled_at directory.endpoints found.pair.writer)) ≡ true
     → IsOneOf (IsRowOf report found.pair) (is_unfit report.talk.unmatched found.pair ≡ true) (IsUnobserved (traffic_of asked recording.datagrams) report.talk.unmatched found.pair)
     (is_counted asked (traffic_of asked recording.datagrams) report.talk.unmatched directory.endpoints found ≡ true)

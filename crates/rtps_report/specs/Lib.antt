@@ -10,10 +10,13 @@ pub mod Laws
 pub mod NoteFacts
 pub mod Participants
 pub mod Patterns
+pub mod ReaderSide
 pub mod Recording
 pub mod Reported
 pub mod RowFacts
 pub mod Rows
+pub mod SideFacts
+pub mod Silences
 pub mod Stays
 pub mod Talk
 pub mod Totals

@@ -1,5 +1,6 @@
 -- What weakens a report, in numbers. own: rows speak of what was read, so what was not read has to be told beside them.
-use Rattle.std.specs.Prelude.{ℕ, ◌-◌, ◌||◌, if◌then◌else◌, max, nat_le, nat_lt, Bool, List, count_by, fold, length, Option}
+use Rattle.std.specs.Prelude.{ℕ, ◌-◌, ◌^◌, ◌||◌, if◌then◌else◌, max, nat_le, nat_lt, Bool, List, count_by, fold, length, Option}
+use Rattle.rtps_evidence.specs.Times.{step_back}
 use Rattle.rtps_report.specs.Vocabulary.{Counts, EvidenceValue, ExplanationValue, Reasons, Scope}
 use Rattle.rtps_report.specs.Asked.{tail_of}
 use Rattle.rtps_report.specs.RowFacts.{is_clean_tail, outcomes_of}
@@ -7,6 +8,10 @@ use Rattle.rtps_report.specs.FullReport.{AskedValue, ReportValue, rows_of}
 use Rattle.rtps_report.specs.Recording.{RecordingValue, known}
 use Rattle.rtps_report.specs.Totals.{totals_of}
 use Rattle.rtps_report.specs.declared.note_facts.NoteFacts.{NoteFacts}
+
+-- by how many nanoseconds times go back, where that is more than a millisecond
+abbrev pub back_in : List (Option ℕ) → ℕ
+back_in times = if nat_lt (10 ^ 6) (step_back times) then step_back times else 0
 
 -- datagrams of one octet or none: they are refused, and no reason to look at them
 abbrev pub short_in : List (List ℕ) → ℕ
@@ -33,10 +38,11 @@ longest_clean_tail tail rows = fold (λ longest row. max longest (clean_tail_of 
 abbrev pub facts_by : List ExplanationValue → Scope → Counts → RecordingValue → NoteFacts
 facts_by rows scope counts recording =
     record {
+      back = back_in recording.times.of_datagrams;
       late = (totals_of scope rows).late_pairs;
       tails = (totals_of scope rows).tail_pairs;
       longest = longest_clean_tail scope.tail rows;
-      likely = (totals_of scope rows).likely;
+      likely = (totals_of scope rows).likely - (totals_of scope rows).lost;
       pieces = (known recording.reasons).pieces;
       cut = (known recording.reasons).cut;
       links = (known recording.reasons).links;

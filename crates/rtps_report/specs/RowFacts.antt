@@ -4,7 +4,9 @@ use Rattle.std.specs.Prelude.{ℕ, ◌+◌, ◌-◌, Bool, false, ◌&&◌, ◌=
 use Rattle.rtps_evidence.specs.Clean.{is_clean as is_clean_in, is_tail as is_tail_in}
 use Rattle.rtps_audit.specs.Speech.{natural}
 use Rattle.rtps_report.specs.Reported.{is_complete}
+use Rattle.rtps_report.specs.Silences.{are_heard}
 use Rattle.rtps_report.specs.Vocabulary.{Announcement, EvidenceValue, InSpan, Outcomes, Verdict}
+use Rattle.rtps_report.specs.declared.silences.Silences.{Silences}
 
 -- how many numbers are asked about: those from `from` on, up to the last announced one
 abbrev pub asked_about : ℕ → Option Announcement → ℕ
@@ -26,10 +28,20 @@ abbrev pub is_joined_in : Option InSpan → Bool
 is_joined_in None = false
 is_joined_in (Some in_span) = in_span.is_joined_here
 
+-- its pair is held against another recording
+abbrev pub is_held_in : Option InSpan → Bool
+is_held_in None = false
+is_held_in (Some in_span) = in_span.is_held
+
+-- how many numbers are received for certain though the other recording has none of them
+abbrev pub absent_in : Option InSpan → ℕ
+absent_in None = 0
+absent_in (Some in_span) = in_span.absent
+
 -- what became of its numbers, of which so many are received and missed
 abbrev pub outcomes_by : ℕ → ℕ → Option InSpan → Outcomes
 outcomes_by received missed None =
-    record { received = received; missed = missed; unsent = 0; unanswered = 0; likely = 0; unconfirmed = 0 }
+    record { received = received; arrived = 0; missed = missed; unsent = 0; unanswered = 0; likely = 0; unconfirmed = 0 }
 outcomes_by received missed (Some in_span) = in_span.outcomes
 
 -- those of a row
@@ -39,7 +51,7 @@ outcomes_of evidence = outcomes_by evidence.received evidence.missed evidence.in
 -- it is clean, where a tail may have so many numbers; in no span, where it is complete and nothing is missed
 abbrev pub is_clean_by : ℕ → Verdict → ℕ → Option InSpan → Bool
 is_clean_by tail verdict missed None = is_complete verdict && (missed == 0)
-is_clean_by tail verdict missed (Some in_span) = is_clean_in tail (is_some in_span.until) verdict in_span.outcomes in_span.base
+is_clean_by tail verdict missed (Some in_span) = is_clean_in tail (is_some in_span.until) in_span.is_held verdict in_span.outcomes in_span.base
 
 -- the same of a row
 abbrev pub is_clean : ℕ → EvidenceValue → Bool
@@ -48,23 +60,23 @@ is_clean tail evidence = is_clean_by tail evidence.verdict evidence.missed evide
 -- what it lacks is a tail alone
 abbrev pub is_tail_by : Verdict → Option InSpan → Bool
 is_tail_by verdict None = false
-is_tail_by verdict (Some in_span) = is_tail_in verdict in_span.outcomes in_span.base
+is_tail_by verdict (Some in_span) = is_tail_in in_span.is_held verdict in_span.outcomes in_span.base
 
 -- the same of a row
 abbrev pub is_tail : EvidenceValue → Bool
 is_tail evidence = is_tail_by evidence.verdict evidence.in_span
 
--- it is not clean for that alone
-abbrev pub is_tail_alone : ℕ → EvidenceValue → Bool
-is_tail_alone tail evidence = not (is_clean tail evidence) && is_tail evidence
+-- it is not clean for that alone, and neither the writer's participant nor the reader's is silent
+abbrev pub is_tail_alone : Silences → ℕ → EvidenceValue → Bool
+is_tail_alone silences tail evidence = not (is_clean tail evidence) && (is_tail evidence && are_heard silences)
 
 -- it is clean with a tail
 abbrev pub is_clean_tail : ℕ → EvidenceValue → Bool
 is_clean_tail tail evidence = is_clean tail evidence && is_tail evidence
 
 -- someone has to look at it
-abbrev pub is_noted : ℕ → EvidenceValue → Bool
-is_noted tail evidence = not (is_clean tail evidence) && not (is_tail evidence)
+abbrev pub is_noted : Silences → ℕ → EvidenceValue → Bool
+is_noted silences tail evidence = not (is_clean tail evidence) && not (is_tail_alone silences tail evidence)
 
 -- all numbers that the writer of a complete row announced stand before it
 abbrev pub is_late : ℕ → EvidenceValue → Bool

@@ -23,6 +23,10 @@ acts_read Read datagrams = all_acts_in datagrams
 abbrev pub AreNamedIn : List ActValue → Namings → Type 0
 AreNamedIn acts namings = (naming : Naming) → nat_lt 0 (named_by namings naming) ≡ list_any (names naming) acts
 
+-- the reader's participant names the writer's, by what is kept
+abbrev pub is_named_by : Namings → Pair → Bool
+is_named_by namings pair = nat_lt 0 (named_by namings (record { source = pair.reader.prefix; dest = pair.writer.prefix }))
+
 -- an act of the reader's participant, of whatever writer or reader of it, names the writer's as its destination
 abbrev pub is_observed : List ActValue → Pair → Bool
 is_observed acts pair = list_any (names (record { source = pair.reader.prefix; dest = pair.writer.prefix })) acts

@@ -1,14 +1,17 @@
--- From when to when a recording has something of a participant. own: by all acts that are read, since each shows that it is there.
-use Rattle.std.specs.Prelude.{ℕ, ◌≡◌, Bool, true, false, List, [], ◌∷◌, filter, map, Option, Some, None}
+-- When a recording has something of a participant. own: by all acts that are read, since each shows that it is there.
+use Rattle.std.specs.Prelude.{ℕ, ◌≡◌, Bool, true, false, if◌then◌else◌, is_some, List, [], ◌∷◌, filter, map, max, Option, Some, None}
 use Rattle.std.specs.BTreeMap.{get}
 use Rattle.std.specs.Cmp.Lexicographic.{slice_cmp}
-use Rattle.std.specs.List.{enumerate_from, list_any}
+use Rattle.std.specs.List.{enumerate_from, list_all, list_any}
+use Rattle.std.specs.Option.{option_map}
 use Rattle.std.specs.Ordering.{nat_cmp}
 use Rattle.std.specs.declared.cmp.Ordering.{Ordering}
 use Rattle.rtps_ids.specs.declared.identity.GuidPrefix.{GuidPrefix}
 use Rattle.rtps_receiver.specs.Speech.{is_prefix}
 use Rattle.rtps_receiver.specs.Values.{ActValue}
+use Rattle.rtps_evidence.specs.Times.{end_of, time_of}
 use Rattle.rtps_policies.specs.Namings.{AreNamingsOf}
+use Rattle.rtps_report.specs.declared.traffic.Presence.{Presence}
 use Rattle.rtps_report.specs.declared.traffic.Stay.{Stay}
 use Rattle.rtps_report.specs.declared.traffic.Traffic.{Traffic}
 
@@ -38,13 +41,40 @@ ends_of (number ∷ numbers) = Some (record { first = number; last = last_of num
 abbrev pub stay_of : List (List ActValue) → GuidPrefix → Option Stay
 stay_of datagrams prefix = ends_of (numbers_of prefix datagrams)
 
--- the same with one datagram more, if it has something of it
-abbrev pub stay_with : ℕ → Bool → Option Stay → Option Stay
-stay_with datagram false stay = stay
-stay_with datagram true None = Some (record { first = datagram; last = datagram })
-stay_with datagram true (Some stay) = Some (record { first = stay.first; last = datagram })
+-- ---- when its last datagram came
 
--- what is kept is that of datagrams of these acts
-pub record IsTrafficOf (datagrams : List (List ActValue)) (traffic : Traffic) : Type 0 where
+-- the greatest of these times; None where one of them is not known
+abbrev pub greatest_known : List (Option ℕ) → Option ℕ
+greatest_known times = if list_all is_some times then end_of times else None
+
+-- the greatest time of the datagrams that have something of a participant; None where there is none, or one of them has no time
+abbrev pub latest_of : List (List ActValue) → List (Option ℕ) → GuidPrefix → Option ℕ
+latest_of datagrams times prefix = greatest_known (map (time_of times) (numbers_of prefix datagrams))
+
+-- ---- the same of the code
+
+-- the later of two times; None where there are not both
+abbrev pub both_later : Option ℕ → Option ℕ → Option ℕ
+both_later None other = None
+both_later (Some one) None = None
+both_later (Some one) (Some other) = Some (max one other)
+
+-- when there is something of a participant, by the stay and the time
+abbrev pub present : Option ℕ → Stay → Presence
+present latest stay = record { stay = stay; latest = latest }
+
+-- when there is something of a participant
+abbrev pub presence_of : List (List ActValue) → List (Option ℕ) → GuidPrefix → Option Presence
+presence_of datagrams times prefix = option_map (present (latest_of datagrams times prefix)) (stay_of datagrams prefix)
+
+-- the same with one datagram more, which came at this time, if it has something of it
+abbrev pub presence_with : ℕ → Option ℕ → Bool → Option Presence → Option Presence
+presence_with datagram time false presence = presence
+presence_with datagram time true None = Some (present time (record { first = datagram; last = datagram }))
+presence_with datagram time true (Some presence) =
+    Some (present (both_later presence.latest time) (record { first = presence.stay.first; last = datagram }))
+
+-- what is kept is that of datagrams of these acts, which came then
+pub record IsTrafficOf (datagrams : List (List ActValue)) (times : List (Option ℕ)) (traffic : Traffic) : Type 0 where
   pub namings : AreNamingsOf datagrams traffic.namings
-  pub stays : (prefix : GuidPrefix) → get prefix_cmp traffic.stays prefix ≡ stay_of datagrams prefix
+  pub presences : (prefix : GuidPrefix) → get prefix_cmp traffic.presences prefix ≡ presence_of datagrams times prefix

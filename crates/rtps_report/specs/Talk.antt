@@ -1,7 +1,7 @@
 -- Who does not talk. DDS 1.4, 2.2.3 "Supported QoS"; DDSI-RTPS 2.5, 8.5 "Discovery Module" and 8.3.8.8 "InfoDestination".
 -- own: rows tell what a reader got of a writer. If the two do not match, one never answers, or neither is heard here, no participant says
 -- so: it is told beside the rows. So is how much a recording has of pairs of best effort, which no row is about.
-use Rattle.std.specs.Prelude.{ℕ, ◌≡◌, ◌&&◌, Bool, not, nat_lt, if◌then◌else◌, List, [], ◌∷◌, filter, map}
+use Rattle.std.specs.Prelude.{ℕ, ◌≡◌, ◌&&◌, Bool, not, nat_lt, if◌then◌else◌, List, [], ◌∷◌, Option, filter, map}
 use Rattle.std.specs.BTreeSet.{BTreeSet, contains}
 use Rattle.std.specs.List.{list_any}
 use Rattle.rtps_ids.specs.declared.identity.GuidPrefix.{GuidPrefix}
@@ -14,11 +14,12 @@ use Rattle.rtps_audit.specs.Index.{IsIndexBy}
 use Rattle.rtps_audit.specs.Intake.{Intake, acts_together}
 use Rattle.rtps_audit.specs.Placed.{is_guid, placed_value}
 use Rattle.rtps_evidence.specs.Explanation.{topic_of}
-use Rattle.rtps_evidence.specs.Recorded.{IsRecordedBy}
+use Rattle.rtps_evidence.specs.OtherSide.{IsOtherSide, OtherRecording}
+use Rattle.rtps_evidence.specs.Recorded.{IsArrivedBy, IsRecordedBy}
 use Rattle.rtps_fragments.specs.Announcements.{announcements_in}
 use Rattle.rtps_fragments.specs.RecordedSamples.{intake_as}
 use Rattle.rtps_policies.specs.Announcing.{host_of, hosts_in}
-use Rattle.rtps_policies.specs.Namings.{named_by, named_in}
+use Rattle.rtps_policies.specs.Namings.{named_in}
 use Rattle.rtps_policies.specs.OneWays.{AreOneWayIn}
 use Rattle.rtps_policies.specs.Silence.{Traffic, silence_by, silence_of}
 use Rattle.rtps_policies.specs.Unmatched.{UnmatchedValue, pair_of, unmatched_among, unmatched_value}
@@ -28,15 +29,16 @@ use Rattle.rtps_policies.specs.declared.one_way.OneWay.{OneWay}
 use Rattle.rtps_policies.specs.declared.silence.Silence.{Silence}
 use Rattle.rtps_report.specs.ActsRead.{datagrams_read}
 use Rattle.rtps_report.specs.Asked.{AskedValue}
-use Rattle.rtps_report.specs.BestEfforts.{AreSumsOf, BestEffortValue, CountedValue, best_effort_value, total_of}
+use Rattle.rtps_report.specs.BestEfforts.{AreSumsOf, BestEffortValue, CountedValue, HeldValue, arrived_among, best_effort_value, held_among, held_value, total_of}
 use Rattle.rtps_report.specs.Participants.{participant_told}
-use Rattle.rtps_report.specs.Rows.{fits_one}
+use Rattle.rtps_report.specs.Recording.{RecordingValue}
+use Rattle.rtps_report.specs.Rows.{fits_one, is_named_by}
 use Rattle.rtps_report.specs.declared.participant.Participant.{Participant}
 use Rattle.rtps_report.specs.declared.talk.Heard.{Heard}
 use Rattle.rtps_report.specs.declared.talk.Talk.{Talk}
 
 -- who does not talk: the host of each participant, why pairs are silent, which writers and readers do not match, who talks one way, the
--- pairs of best effort by topic, and the participants
+-- pairs of best effort by topic, those of them that are held against another recording, what arrived of these by topic, and the participants
 pub record TalkValue : Type 0 where
   pub hosts : GuidPrefix → Host
   pub silence : Pair → Silence
@@ -44,6 +46,9 @@ pub record TalkValue : Type 0 where
   pub one_way : List OneWay
   pub best_effort : List BestEffortValue
   pub best_effort_total : BestEffortValue
+  pub held : List HeldValue
+  pub held_sums : List BestEffortValue
+  pub held_total : BestEffortValue
   pub participants : List Participant
 
 -- that of the code, as a value
@@ -56,6 +61,9 @@ talk_value talk =
       one_way = talk.one_way.items;
       best_effort = map best_effort_value talk.best_effort.items;
       best_effort_total = best_effort_value talk.best_effort_total;
+      held = map held_value talk.held.items;
+      held_sums = map best_effort_value talk.held_sums.items;
+      held_total = best_effort_value talk.held_total;
       participants = talk.participants.items;
     }
 
@@ -89,27 +97,36 @@ is_counted asked traffic unmatched entries found =
 abbrev pub is_counted_by : BTreeSet Pair → Namings → AskedValue → List ℕ → Match → Bool
 is_counted_by unfit namings asked topic found =
     not found.reliable && (not (contains pair_cmp unfit found.pair)
-    && (fits_one asked.rows.topics topic && nat_lt 0 (named_by namings (record { source = found.pair.reader.prefix; dest = found.pair.writer.prefix }))))
+    && (fits_one asked.rows.topics topic && is_named_by namings found.pair))
 
 -- the same, with the topic of the match looked up
 abbrev pub is_counted_of : BTreeSet Pair → Namings → AskedValue → Entries → Match → Bool
 is_counted_of unfit namings asked entries found = is_counted_by unfit namings asked (topic_of (settled_at entries found.pair.writer)) found
 
--- what is counted of these matches, one by one
-abbrev pub AreCounted : AskedValue → Intake → Entries → List Match → List CountedValue → Type 0
-AreCounted asked intake entries [] [] = Unit {0}
-AreCounted asked intake entries [] (one ∷ counted) = ⊥
-AreCounted asked intake entries (found ∷ matches) [] = ⊥
-AreCounted asked intake entries (found ∷ matches) (one ∷ counted) =
-    (one.topic ≡ topic_of (settled_at entries found.pair.writer)) × IsRecordedBy asked.spans asked.from found.pair intake one.recorded
-    × AreCounted asked intake entries matches counted
+-- what is counted of a pair, which may be held against another recording
+pub record IsPairCounted (asked : AskedValue) (other : Option OtherRecording) (intake : Intake) (pair : Pair) (one : CountedValue) : Type 0 where
+  pub of_pair : one.pair ≡ pair
+  pub recorded : IsRecordedBy asked.spans asked.from pair intake one.recorded
+  pub arrived : IsArrivedBy asked.spans asked.from other pair intake one.arrived
 
--- the sums of those that are counted
-pub record AreBestEffortIn (asked : AskedValue) (intake : Intake) (traffic : Traffic) (unmatched : List UnmatchedValue) (entries : Entries) (sums : List BestEffortValue) (total : BestEffortValue) : Type 0 where
+-- what is counted of these matches, one by one
+abbrev pub AreCounted : AskedValue → Option OtherRecording → Intake → Entries → List Match → List CountedValue → Type 0
+AreCounted asked other intake entries [] [] = Unit {0}
+AreCounted asked other intake entries [] (one ∷ counted) = ⊥
+AreCounted asked other intake entries (found ∷ matches) [] = ⊥
+AreCounted asked other intake entries (found ∷ matches) (one ∷ counted) =
+    (one.topic ≡ topic_of (settled_at entries found.pair.writer)) × IsPairCounted asked other intake found.pair one
+    × AreCounted asked other intake entries matches counted
+
+-- the sums of those that are counted, those of them that are held, and the sums of these by what arrived
+pub record AreBestEffortIn (asked : AskedValue) (other : Option OtherRecording) (intake : Intake) (traffic : Traffic) (entries : Entries) (talk : TalkValue) : Type 0 where
   pub counted : List CountedValue
-  pub are_counted : AreCounted asked intake entries (filter (is_counted asked traffic unmatched entries) (matches_among (settled_in entries))) counted
-  pub are_sums : AreSumsOf counted sums
-  pub is_total : total ≡ total_of counted
+  pub are_counted : AreCounted asked other intake entries (filter (is_counted asked traffic talk.unmatched entries) (matches_among (settled_in entries))) counted
+  pub are_sums : AreSumsOf counted talk.best_effort
+  pub is_total : talk.best_effort_total ≡ total_of counted
+  pub are_held : talk.held ≡ held_among counted
+  pub are_held_sums : AreSumsOf (arrived_among counted) talk.held_sums
+  pub is_held_total : talk.held_total ≡ total_of (arrived_among counted)
 
 -- ---- all of it
 
@@ -122,24 +139,26 @@ traffic_of asked recording =
 abbrev pub is_asked : AskedValue → UnmatchedValue → Bool
 is_asked asked one = fits_one asked.rows.topics one.writer.endpoint.topic
 
--- who does not talk in a recording, of the topics that are asked for
-pub record IsTalkOf (asked : AskedValue) (recording : List (List ℕ)) (talk : TalkValue) : Type 0 where
+-- who does not talk in a recording, of which the datagrams came then, of the topics that are asked for. There may be another recording
+pub record IsTalkOf (asked : AskedValue) (other : Option OtherRecording) (recording : List (List ℕ)) (times : List (Option ℕ)) (talk : TalkValue) : Type 0 where
   pub directory : DirectoryValue
   pub is_map : IsMapOf (traffic_of asked recording).announcing directory
   pub hosts : (prefix : GuidPrefix) → talk.hosts prefix ≡ host_of (traffic_of asked recording).announcing prefix
   pub silence : (pair : Pair) → talk.silence pair ≡ silence_of (traffic_of asked recording) pair
   pub unmatched : talk.unmatched ≡ filter (is_asked asked) (unmatched_among (traffic_of asked recording).announcing (settled_in directory.endpoints))
   pub one_way : AreOneWayIn (traffic_of asked recording) talk.one_way
-  pub best_effort : AreBestEffortIn asked (intake_as asked.fragments recording) (traffic_of asked recording) talk.unmatched directory.endpoints talk.best_effort talk.best_effort_total
+  pub best_effort : AreBestEffortIn asked other (intake_as asked.fragments recording) (traffic_of asked recording) directory.endpoints talk
   pub participants : talk.participants
-      ≡ map (participant_told (intake_as asked.fragments recording) (traffic_of asked recording).datagrams) directory.participants
+      ≡ map (participant_told (intake_as asked.fragments recording) (traffic_of asked recording).datagrams times) directory.participants
 
 -- where it is asked; where it is not, that of no datagrams
-abbrev pub IsTalkAs : AskedValue → List (List ℕ) → TalkValue → Type 0
-IsTalkAs asked recording talk = IsTalkOf asked (if asked.talk then recording else []) talk
+abbrev pub IsTalkAs : AskedValue → Option OtherRecording → RecordingValue → TalkValue → Type 0
+IsTalkAs asked other recording talk = IsTalkOf asked other (if asked.talk then recording.datagrams else []) recording.times.of_datagrams talk
 
--- what is known of a recording to say so: its index, what it announces, and the DATA of built-in writers, which announce it
-pub record IsHeardIn (intake : Intake) (heard : Heard) : Type 0 where
+-- what is known of a recording to say so: its index, the other recording, if there is one, what it announces, and the DATA of built-in
+-- writers, which announce it
+pub record IsHeardIn (intake : Intake) (other : Option OtherRecording) (heard : Heard) : Type 0 where
   pub index : IsIndexBy intake heard.index.now
+  pub beside : IsOtherSide other heard.other
   pub directory : IsMapOf (acts_together intake.announcing) heard.directory.now
   pub announcements : map placed_value heard.announcements.now ≡ announcements_in intake.announcing

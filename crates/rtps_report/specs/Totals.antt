@@ -1,7 +1,7 @@
 -- What is counted of rows. own: a topic with thousands of samples is read at a glance only as sums.
 use Rattle.std.specs.Prelude.{ℕ, ◌+◌, ◌-◌, ◌*◌, ◌≤◌, ◌&&◌, nat_lt, not, Bool, if◌then◌else◌, List, count_by, length, sum_by}
 use Rattle.rtps_report.specs.Reported.{is_complete}
-use Rattle.rtps_report.specs.RowFacts.{asked_about, is_certain, is_clean, is_clean_tail, is_late, outcomes_of, row_from}
+use Rattle.rtps_report.specs.RowFacts.{asked_about, is_certain, is_clean, is_clean_tail, is_held_in, is_late, outcomes_of, row_from}
 use Rattle.rtps_report.specs.Vocabulary.{EvidenceValue, ExplanationValue, Scope, Totals}
 
 -- the row is neither complete nor clean
@@ -15,6 +15,10 @@ before_of from evidence = row_from from evidence.in_span - from
 -- how many numbers a row asks about
 abbrev pub numbers_of : ℕ → EvidenceValue → ℕ
 numbers_of from evidence = asked_about (row_from from evidence.in_span) evidence.announcement
+
+-- how many likely numbers of a row did not arrive: all of them, where it is held
+abbrev pub lost_of : EvidenceValue → ℕ
+lost_of evidence = if is_held_in evidence.in_span then (outcomes_of evidence).likely else 0
 
 -- what is counted of rows
 abbrev pub totals_of : Scope → List ExplanationValue → Totals
@@ -30,10 +34,13 @@ totals_of scope rows =
       unsent_pairs = count_by (λ row. nat_lt 0 (outcomes_of row.evidence).unsent) rows;
       unanswered_pairs = count_by (λ row. nat_lt 0 (outcomes_of row.evidence).unanswered) rows;
       uncertain_pairs = count_by (λ row. not (is_certain scope.from row.evidence)) rows;
+      lost_pairs = count_by (λ row. nat_lt 0 (lost_of row.evidence)) rows;
       before = sum_by (λ row. before_of scope.from row.evidence) rows;
       numbers = sum_by (λ row. numbers_of scope.from row.evidence) rows;
       received = sum_by (λ row. (outcomes_of row.evidence).received) rows;
+      arrived = sum_by (λ row. (outcomes_of row.evidence).arrived) rows;
       likely = sum_by (λ row. (outcomes_of row.evidence).likely) rows;
+      lost = sum_by (λ row. lost_of row.evidence) rows;
       missed = sum_by (λ row. (outcomes_of row.evidence).missed) rows;
       unsent = sum_by (λ row. (outcomes_of row.evidence).unsent) rows;
       unanswered = sum_by (λ row. (outcomes_of row.evidence).unanswered) rows;
@@ -54,10 +61,13 @@ with_row scope totals row =
       unsent_pairs = totals.unsent_pairs + (if nat_lt 0 (outcomes_of row.evidence).unsent then 1 else 0);
       unanswered_pairs = totals.unanswered_pairs + (if nat_lt 0 (outcomes_of row.evidence).unanswered then 1 else 0);
       uncertain_pairs = totals.uncertain_pairs + (if not (is_certain scope.from row.evidence) then 1 else 0);
+      lost_pairs = totals.lost_pairs + (if nat_lt 0 (lost_of row.evidence) then 1 else 0);
       before = totals.before + before_of scope.from row.evidence;
       numbers = totals.numbers + numbers_of scope.from row.evidence;
       received = totals.received + (outcomes_of row.evidence).received;
+      arrived = totals.arrived + (outcomes_of row.evidence).arrived;
       likely = totals.likely + (outcomes_of row.evidence).likely;
+      lost = totals.lost + lost_of row.evidence;
       missed = totals.missed + (outcomes_of row.evidence).missed;
       unsent = totals.unsent + (outcomes_of row.evidence).unsent;
       unanswered = totals.unanswered + (outcomes_of row.evidence).unanswered;
@@ -75,10 +85,13 @@ pub record AreWithin (totals : Totals) : Type 0 where
   pub unsent_pairs : totals.unsent_pairs ≤ totals.pairs
   pub unanswered_pairs : totals.unanswered_pairs ≤ totals.pairs
   pub uncertain_pairs : totals.uncertain_pairs ≤ totals.pairs
+  pub lost_pairs : totals.lost_pairs ≤ totals.pairs
   pub before : totals.before ≤ totals.pairs * 18446744073709551615
   pub numbers : totals.numbers ≤ totals.pairs * 18446744073709551615
   pub received : totals.received ≤ totals.pairs * 18446744073709551615
+  pub arrived : totals.arrived ≤ totals.pairs * 18446744073709551615
   pub likely : totals.likely ≤ totals.pairs * 18446744073709551615
+  pub lost : totals.lost ≤ totals.pairs * 18446744073709551615
   pub missed : totals.missed ≤ totals.pairs * 18446744073709551615
   pub unsent : totals.unsent ≤ totals.pairs * 18446744073709551615
   pub unanswered : totals.unanswered ≤ totals.pairs * 18446744073709551615

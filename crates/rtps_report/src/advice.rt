@@ -3,9 +3,12 @@ ghost use Rattle.std.specs.Option.{option_map};
 ghost use Rattle.rtps_evidence.specs.Explanation.{evidence_value};
 ghost use Rattle.rtps_evidence.specs.Locations.{sent_value};
 ghost use Rattle.rtps_wire.specs.Values.{payload_value};
-ghost use Rattle.rtps_report.specs.Advice.{advice_of as advice_of_lem, are_alike as are_alike_lem, complete_advice as complete_advice_lem, conflict_advice as conflict_advice_lem, is_above as is_above_lem, missed_advice as missed_advice_lem, open_advice as open_advice_lem, sentence_of, stand_together as stand_together_lem, unfounded_advice as unfounded_advice_lem, untold_open_advice as untold_open_advice_lem};
+ghost use Rattle.rtps_report.specs.Advice.{advice_of as advice_of_lem, are_alike as are_alike_lem, complete_advice as complete_advice_lem, conflict_advice as conflict_advice_lem, is_above as is_above_lem, is_first_sent as is_first_sent_lem, is_lost as is_lost_lem, is_tail_of_reader as is_tail_of_reader_lem, loss_advice as loss_advice_lem, missed_advice as missed_advice_lem, open_advice as open_advice_lem, sentence_of, stand_together as stand_together_lem, unfounded_advice as unfounded_advice_lem, untold_open_advice as untold_open_advice_lem};
 
-use crate::row_facts::{is_joined, is_tail, left_at, natural, number_of, outcomes_of, row_from};
+use crate::row_facts::{
+    is_held, is_joined, is_tail, left_at, natural, number_of, outcomes_of, row_from,
+};
+use crate::silences::Silences;
 use rtps_evidence::{Announcement, Claim, Evidence, FirstMissed, Grounds, Sent, Teller};
 use rtps_wire::Payload;
 
@@ -23,6 +26,8 @@ pub struct Scope {
 /// What to do for a pair.
 #[derive(Clone, Copy, PartialEq, Eq, Debug)]
 pub enum Advice {
+    /// Of a pair that is held: numbers that were sent did not arrive, and not only a tail.
+    Lost,
     /// Missed: nothing of the first number is sent to the reader.
     MissedUnsent,
     /// Missed: the first number was sent again.
@@ -33,7 +38,7 @@ pub enum Advice {
     Unsent,
     /// Complete: numbers are unanswered.
     Unanswered,
-    /// Open: only a tail, of a reader that did not leave.
+    /// Open: only a tail, of a reader that did not leave and whose participant is not silent.
     Tail,
     /// Open: nothing is acknowledged, and the reader left.
     Left,
@@ -77,16 +82,59 @@ fn missed_advice(first: FirstMissed) -> Advice
     }
 }
 
+/// Whether there is a first missed number that was sent.
+fn is_first_sent(first: Option<FirstMissed>) -> bool
+    ensures { result ≡ is_first_sent_lem first }
+{
+    match first {
+        Some(first) => first.is_sent,
+        None => false,
+    }
+}
+
+/// Whether a pair is held, and numbers that were sent did not arrive, and not only a tail.
+fn is_lost(evidence: &Evidence<'_>) -> bool
+    ensures { result ≡ is_lost_lem (evidence_value evidence.now) }
+{
+    let outcomes = outcomes_of(evidence);
+    is_held(evidence)
+        && !is_tail(evidence)
+        && (outcomes.likely > 0
+            || outcomes.unanswered > 0
+            || outcomes.unconfirmed > 0
+            || (outcomes.missed > 0 && is_first_sent(evidence.first_missed)))
+}
+
+/// What to do for a pair of which numbers are lost or missed. Of a pair that is held all missed ones may have arrived.
+fn loss_advice(evidence: &Evidence<'_>) -> Option<Advice>
+    ensures { result ≡ loss_advice_lem (evidence_value evidence.now) }
+{
+    if is_lost(evidence) {
+        return Some(Advice::Lost);
+    }
+    match evidence.first_missed {
+        Some(first) if outcomes_of(evidence).missed > 0 => Some(missed_advice(first)),
+        _ => None,
+    }
+}
+
 fn complete_advice(evidence: &Evidence<'_>) -> Advice
     ensures { result ≡ complete_advice_lem (evidence_value evidence.now) }
 {
-    if let Some(first) = evidence.first_missed {
-        missed_advice(first)
+    if let Some(advice) = loss_advice(evidence) {
+        advice
     } else if outcomes_of(evidence).unsent > 0 {
         Advice::Unsent
     } else {
         Advice::Unanswered
     }
+}
+
+/// Whether only a tail is lacking, of a reader that did not leave and whose participant is not silent.
+fn is_tail_of_reader(evidence: &Evidence<'_>, silences: Silences) -> bool
+    ensures { result ≡ is_tail_of_reader_lem (evidence_value evidence.now) silences }
+{
+    is_tail(evidence) && left_at(evidence).is_none() && silences.reader.is_none()
 }
 
 fn open_advice(
@@ -97,10 +145,7 @@ fn open_advice(
 ) -> Advice
     ensures { result ≡ open_advice_lem scope (evidence_value evidence.now) teller asked_since }
 {
-    let left = left_at(evidence).is_some();
-    if is_tail(evidence) && !left {
-        Advice::Tail
-    } else if evidence.acknowledgement.is_none() && left {
+    if evidence.acknowledgement.is_none() && left_at(evidence).is_some() {
         Advice::Left
     } else if teller.is_none() {
         untold_open_advice(scope)
@@ -187,9 +232,9 @@ fn unfounded_advice(
     }
 }
 
-/// What to do for a pair.
-pub fn advice_of(scope: Scope, evidence: &Evidence<'_>) -> Advice
-    ensures { result ≡ advice_of_lem scope (evidence_value evidence.now) }
+/// What to do for a pair, of which one of the two participants may be silent.
+pub fn advice_of(scope: Scope, evidence: &Evidence<'_>, silences: Silences) -> Advice
+    ensures { result ≡ advice_of_lem silences scope (evidence_value evidence.now) }
 {
     match evidence.grounds {
         Grounds::Complete => complete_advice(evidence),
@@ -197,8 +242,9 @@ pub fn advice_of(scope: Scope, evidence: &Evidence<'_>) -> Advice
             teller,
             asked_since,
             ..
-        } => match evidence.first_missed {
-            Some(first) => missed_advice(first),
+        } => match loss_advice(evidence) {
+            Some(advice) => advice,
+            None if is_tail_of_reader(evidence, silences) => Advice::Tail,
             None => open_advice(scope, evidence, teller, asked_since),
         },
         Grounds::Conflict { first, other } => conflict_advice(first, other),
@@ -213,6 +259,8 @@ impl Advice {
         ensures { result.now ≡ sentence_of self }
     {
         match self {
+            Advice::Lost =>
+                "it was sent and did not reach the reader's host: look at the network; raise the history depth, so that the writer still has what is asked for again",
             Advice::MissedUnsent =>
                 "the reader asked for it and the recording has none: it was lost before this recording, or record at the writer's side",
             Advice::MissedAgain =>

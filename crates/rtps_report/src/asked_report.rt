@@ -1,6 +1,5 @@
 ghost use Rattle.std.specs.Prelude.{◌≡◌, IfOk, List, filter, map};
-ghost use Rattle.rtps_discovery.specs.Directory.{settled_at};
-ghost use Rattle.rtps_evidence.specs.Explanation.{row_of, topic_of as topic_of_lem};
+ghost use Rattle.rtps_evidence.specs.Explanation.{row_of};
 ghost use Rattle.rtps_receiver.specs.Values.{ActValue};
 ghost use Rattle.rtps_report.specs.Rows.{IsFilterOf, RowsValue};
 ghost use Rattle.rtps_report.specs.Asked.{asked_value};
@@ -12,12 +11,13 @@ use crate::parted::parted_of;
 use crate::recording::{Recording, datagrams_of};
 use crate::row_facts::missed_among;
 use crate::rows::RowFilter;
+use crate::topics::topic_of;
 use crate::traffic::namings_for;
 use rtps_audit::{Report, Row, Watch};
 use rtps_discovery::Directory;
-use rtps_evidence::{Explanation, explain_index};
+use rtps_evidence::{Explanation, Sides, explain_index};
 use rtps_fragments::Samples;
-use rtps_ids::{Guid, Memory};
+use rtps_ids::Memory;
 use std::alloc::{AllocError, Global};
 
 /// The report that is asked for, and how many of its rows have missed numbers, where that is asked.
@@ -55,7 +55,12 @@ fn strict_report<P: Watch>(
     let mut samples = Samples::none(alloc);
     let index = index_asked(alloc, recording, asked, &mut samples)?;
     let asked = asked.by_whole();
-    let whole = explain_index(alloc, &index, asked.extent(), watch)?;
+    let sides = Sides {
+        index: &index,
+        other: None,
+        times: recording.times(),
+    };
+    let whole = explain_index(alloc, &sides, asked.extent(), watch)?;
     let parted = parted_of(alloc, whole, &asked, recording)?;
     let explained = &parted.explained;
     let rows = rows_in(alloc, &explained.rows)?;
@@ -115,14 +120,4 @@ fn is_kept(row: Row, directory: &Directory<'_>, wanted: &RowFilter<'_>) -> bool
 {
     let topic = topic_of(directory, row.pair.writer);
     wanted.keeps(topic, row.pair)
-}
-
-/// The topic of a GUID's endpoint; empty where it has none.
-fn topic_of<'a>(directory: &Directory<'a>, guid: Guid) -> &'a [u8]
-    ensures { result.now ≡ topic_of_lem (settled_at directory.now.endpoints guid) }
-{
-    match directory.endpoint(guid) {
-        Some(endpoint) => endpoint.topic,
-        None => &[],
-    }
 }

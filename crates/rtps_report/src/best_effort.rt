@@ -1,7 +1,8 @@
 ghost use Rattle.std.specs.Prelude.{◌≡◌, IfOk, OnOk, map};
-ghost use Rattle.rtps_report.specs.BestEfforts.{AreSumsOf, AreWithin, IsSmall, IsWithin, added_to, best_effort_value, counted_value, total_of as total_of_lem, with_counted as with_counted_lem};
+ghost use Rattle.rtps_report.specs.BestEfforts.{AreSumsOf, AreWithin, IsSmall, IsWithin, added_to, arrived_among as arrived_among_lem, best_effort_value, counted_value, held_among as held_among_lem, held_value, total_of as total_of_lem, with_counted as with_counted_lem};
 
-use rtps_evidence::Recorded;
+use rtps_discovery::Pair;
+use rtps_evidence::{ArrivedNumbers, Recorded};
 use rtps_ids::Memory;
 use std::alloc::Global;
 
@@ -9,16 +10,30 @@ use std::alloc::Global;
 #[derive(Clone, Copy, Debug)]
 pub(crate) struct Counted<'a> {
     pub(crate) topic: &'a [u8],
+    pub(crate) pair: Pair,
     pub(crate) recorded: Recorded,
+    /// What arrived of its numbers by another recording; None where it is not held against one.
+    pub(crate) arrived: Option<ArrivedNumbers>,
 }
 
-/// The pairs of best effort of a topic: how many numbers their writers sent, and how many of them the recording has for their
-/// readers.
+/// A pair of best effort that is held against another recording.
+#[derive(Clone, Copy, PartialEq, Eq, Debug)]
+pub struct HeldPair<'a> {
+    pub topic: &'a [u8],
+    pub pair: Pair,
+    /// How many numbers its writer sent, from the first one of the pair on.
+    pub numbers: u64,
+    /// What arrived of them by the other recording.
+    pub arrived: ArrivedNumbers,
+}
+
+/// Pairs of best effort, those of a topic or all: how many numbers their writers sent, and how many of them came to their readers.
 #[derive(Clone, Copy, Debug)]
 pub struct BestEffort<'a> {
     pub topic: &'a [u8],
     pub pairs: u64,
     pub numbers: u128,
+    /// How many of them the recording has for the readers. In sums of pairs that are held, how many arrived by the other recording.
     pub recorded: u128,
 }
 
@@ -96,4 +111,45 @@ pub(crate) fn sums_of<'a>(
         add_counted(&mut sums, one)?;
     }
     Ok(sums)
+}
+
+/// Those of these pairs that are held.
+pub(crate) fn held_among<'a>(
+    alloc: Global,
+    counted: &[Counted<'a>],
+) -> Result<Vec<HeldPair<'a>>, Memory>
+    ensures { IfOk result (λ held. map held_value held.items ≡ held_among_lem (map counted_value counted.now)) }
+{
+    let mut held = Vec::new(alloc);
+    for one in counted {
+        if let Some(arrived) = one.arrived {
+            held.push(HeldPair {
+                topic: one.topic,
+                pair: one.pair,
+                numbers: one.recorded.numbers,
+                arrived,
+            })?;
+        }
+    }
+    Ok(held)
+}
+
+/// Those of these pairs that are held, each counted by what arrived of its numbers.
+pub(crate) fn arrived_among<'a>(
+    alloc: Global,
+    counted: &[Counted<'a>],
+) -> Result<Vec<Counted<'a>>, Memory>
+    ensures { IfOk result (λ held. map counted_value held.items ≡ arrived_among_lem (map counted_value counted.now)) }
+{
+    let mut held = Vec::new(alloc);
+    for one in counted {
+        if let Some(arrived) = one.arrived {
+            let recorded = Recorded {
+                numbers: one.recorded.numbers,
+                recorded: arrived.arrived,
+            };
+            held.push(Counted { recorded, ..*one })?;
+        }
+    }
+    Ok(held)
 }

@@ -16,9 +16,12 @@ mod note_facts;
 mod parted;
 mod participant;
 mod pattern;
+mod reader_side;
 mod recording;
 mod row_facts;
 mod rows;
+mod side_facts;
+mod silences;
 mod talk;
 mod topics;
 mod totals;
@@ -27,7 +30,7 @@ mod traffic;
 pub use advice::{Advice, Scope, advice_of};
 pub use asked::{Asked, Standard};
 pub use asked_report::{AskedReport, audit_asked};
-pub use best_effort::BestEffort;
+pub use best_effort::{BestEffort, HeldPair};
 pub use datagram_list::{DatagramList, Datagrams};
 pub use datagram_span::{DatagramSpan, make_room, push_octets};
 pub use findings::{Ending, Facts, FewRows, Findings, ending_of};
@@ -37,12 +40,15 @@ pub use participant::{Participant, are_on_one_host};
 pub use pattern::fits;
 pub use recording::{Links, Reasons, Recording};
 pub use row_facts::{
-    asked_about, is_clean, is_complete, is_late, is_noted, is_tail_alone, left_at, number_of,
-    outcomes_of, row_from,
+    absent_of, asked_about, is_clean, is_complete, is_held, is_late, is_noted, is_tail_alone,
+    left_at, number_of, outcomes_of, row_from,
 };
 pub use rows::Rows;
 pub use rtps_audit::{Unwatched, Watch};
+pub use rtps_evidence::{Seconds, Times};
 pub use rtps_fragments::{Fragments, Samples};
+pub use side_facts::{SideFacts, facts_of_side};
+pub use silences::Silences;
 pub use talk::Talk;
 pub use topics::{by_topic, topics_of};
 pub use totals::{Totals, totals_of};

@@ -2,7 +2,7 @@ ghost use Rattle.std.specs.Prelude.{◌≡◌, map};
 ghost use Rattle.rtps_evidence.specs.Explanation.{evidence_value, explanation_value};
 ghost use Rattle.rtps_report.specs.Asked.{asked_value, tail_of as tail_of_lem};
 ghost use Rattle.rtps_report.specs.FullReport.{report_value};
-ghost use Rattle.rtps_report.specs.NoteFacts.{clean_tail_of as clean_tail_of_lem, facts_by as facts_by_lem, is_unread as is_unread_lem, longest_clean_tail as longest_clean_tail_lem, note_facts as note_facts_lem, scope_of as scope_of_lem, short_in as short_in_lem};
+ghost use Rattle.rtps_report.specs.NoteFacts.{back_in as back_in_lem, clean_tail_of as clean_tail_of_lem, facts_by as facts_by_lem, is_unread as is_unread_lem, longest_clean_tail as longest_clean_tail_lem, note_facts as note_facts_lem, scope_of as scope_of_lem, short_in as short_in_lem};
 
 use crate::advice::Scope;
 use crate::asked::Standard;
@@ -11,18 +11,20 @@ use crate::recording::{Links, Reasons, Recording, known};
 use crate::row_facts::{is_clean_tail, outcomes_of};
 use crate::totals::totals_of;
 use rtps_audit::Counts;
-use rtps_evidence::{Evidence, Explanation};
+use rtps_evidence::{Evidence, Explanation, Times};
 
 /// What weakens a report, in numbers.
 #[derive(Clone, Copy, PartialEq, Eq, Debug)]
 pub struct NoteFacts {
+    /// By how many nanoseconds the times of the recording go back; 0 where that is a millisecond or less.
+    pub back: u64,
     /// The complete rows before which all numbers stand that their writer announced.
     pub late: u64,
     /// The rows that are clean with a tail.
     pub tails: u64,
     /// How many numbers the longest of these tails has.
     pub longest: u64,
-    /// How many numbers are likely received.
+    /// How many numbers are likely received, of rows that are not held.
     pub likely: u128,
     // Frames of a capture, by the reasons that it knows.
     pub pieces: u64,
@@ -42,6 +44,16 @@ pub fn is_unread(counts: &Counts, reasons: Option<Reasons>) -> bool
 {
     let reasons = known(reasons);
     counts.fragments > 0 || reasons.pieces > 0 || reasons.cut > 0
+}
+
+/// By how much times may go back, and nothing is said: a millisecond, in nanoseconds.
+const MOST_BACK: u64 = 1_000_000;
+
+fn back_in(times: &Times) -> u64
+    ensures { result ≡ back_in_lem times.now.of_datagrams }
+{
+    let step = times.step_back();
+    if step > MOST_BACK { step } else { 0 }
 }
 
 fn short_in(recording: &Recording) -> u64
@@ -102,10 +114,11 @@ fn facts_by(
     let totals = totals_of(rows, scope);
     let reasons = known(recording.reasons());
     NoteFacts {
+        back: back_in(recording.times()),
         late: totals.late_pairs,
         tails: totals.tail_pairs,
         longest: longest_clean_tail(scope.tail, rows),
-        likely: totals.likely,
+        likely: totals.likely.saturating_sub(totals.lost),
         pieces: reasons.pieces,
         cut: reasons.cut,
         links: reasons.links,

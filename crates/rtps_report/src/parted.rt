@@ -1,6 +1,7 @@
 ghost use Rattle.std.specs.Prelude.{ℕ, ◌≡◌, List, IfOk, map, true};
 ghost use Rattle.rtps_receiver.specs.Values.{ActValue};
 ghost use Rattle.rtps_evidence.specs.Explanation.{IsExplainedBy};
+ghost use Rattle.rtps_evidence.specs.OtherSide.{Beside};
 ghost use Rattle.rtps_fragments.specs.RecordedSamples.{intake_as};
 ghost use Rattle.rtps_policies.specs.Namings.{AreNamingsOf};
 ghost use Rattle.rtps_report.specs.ActsRead.{datagrams_read};
@@ -63,9 +64,9 @@ pub(crate) fn parted_by<'a>(
     asked: &Asked<'_>,
     namings: &Namings,
 ) -> Result<Parted<'a>, Memory>
-    ensures { (recording : List (List ℕ)) → IsExplainedBy asked.now.spans asked.now.from (intake_as asked.now.fragments recording) whole.entry
+    ensures { (beside : Beside) (recording : List (List ℕ)) → IsExplainedBy asked.now.spans asked.now.from beside (intake_as asked.now.fragments recording) whole.entry
         → (asked.now.rows.observed ≡ true → AreNamingsOf (datagrams_read asked.now.fragments recording) namings.now)
-        → IfOk result (λ parted. IsPartedAs (asked_value asked.now) recording parted.explained parted.left_out.items) }
+        → IfOk result (λ parted. IsPartedAs (asked_value asked.now) beside recording parted.explained parted.left_out.items) }
 {
     if asked.asks_all_rows() {
         return Ok(Parted {
@@ -96,8 +97,8 @@ pub(crate) fn parted_of<'a>(
     asked: &Asked<'_>,
     recording: &Recording,
 ) -> Result<Parted<'a>, Memory>
-    ensures { IsExplainedBy asked.now.spans asked.now.from (intake_as asked.now.fragments recording.now.datagrams) whole.entry
-        → IfOk result (λ parted. IsPartedAs (asked_value asked.now) recording.now.datagrams parted.explained parted.left_out.items) }
+    ensures { (beside : Beside) → IsExplainedBy asked.now.spans asked.now.from beside (intake_as asked.now.fragments recording.now.datagrams) whole.entry
+        → IfOk result (λ parted. IsPartedAs (asked_value asked.now) beside recording.now.datagrams parted.explained parted.left_out.items) }
 {
     let namings = namings_for(alloc, asked.rows, recording, asked.fragments)?;
     parted_by(alloc, whole, asked, &namings)

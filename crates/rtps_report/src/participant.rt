@@ -4,7 +4,7 @@ ghost use Rattle.rtps_ids.specs.declared.identity.Guid.{Guid as GuidOf};
 ghost use Rattle.rtps_audit.specs.Placed.{PlacedValue, placed_value};
 ghost use Rattle.rtps_discovery.specs.GuidOrder.{guid_cmp};
 ghost use Rattle.rtps_policies.specs.Told.{KeepsFirst};
-ghost use Rattle.rtps_report.specs.Participants.{AreJoined, are_on_one_host as are_on_one_host_lem, has_address as has_address_lem};
+ghost use Rattle.rtps_report.specs.Participants.{AreJoined, are_on_one_host as are_on_one_host_lem, has_address as has_address_lem, is_silent as is_silent_lem};
 
 use crate::traffic::Stay;
 use rtps_audit::Placed;
@@ -23,6 +23,22 @@ pub struct Participant {
     pub stay: Option<Stay>,
     /// The datagram in which it leaves; None where it does not.
     pub left: Option<u64>,
+    /// Whether it is silent: it does not leave, and each datagram that has something of it has a time, which is more than ten
+    /// seconds before the end of the recording.
+    pub silent: bool,
+}
+
+/// A participant is silent of which nothing comes for longer, up to the end: ten seconds, in nanoseconds.
+const SILENCE: u64 = 10_000_000_000;
+
+/// Whether a participant is silent, by the datagram in which it leaves, the time of its last datagram and the end of the recording.
+pub(crate) fn is_silent(left: Option<u64>, latest: Option<u64>, end: Option<u64>) -> bool
+    ensures { result ≡ is_silent_lem left latest end }
+{
+    match (left, latest, end) {
+        (None, Some(latest), Some(end)) => end.saturating_sub(latest) > SILENCE,
+        _ => false,
+    }
 }
 
 /// Keeps a place of a GUID, unless there is one.

@@ -1,9 +1,11 @@
 ghost use Rattle.std.specs.Prelude.{◌≡◌, ◌<◌, ◌^◌, IfOk, length, map, Some, None};
+ghost use Rattle.rtps_evidence.specs.Times.{no_times};
 ghost use Rattle.rtps_report.specs.DatagramSpan.{AreSpans, pieces};
 ghost use Rattle.rtps_report.specs.Recording.{ignored_by, known as known_lem};
 
 use crate::datagram_list::{DatagramList, Datagrams};
 use crate::datagram_span::DatagramSpan;
+use rtps_evidence::Times;
 use std::alloc::{AllocError, Global};
 use std::marker::Model;
 
@@ -52,10 +54,11 @@ pub(crate) fn known(reasons: Option<Reasons>) -> Reasons
     }
 }
 
-/// Datagrams in the order in which they were sent, and of a capture how many of its frames were ignored.
+/// Datagrams in the order in which they were sent, and of a capture when each came and how many of its frames were ignored.
 #[derive(Drop)]
 pub struct Recording {
     list: DatagramList,
+    times: Times,
     ignored: Option<u64>,
     reasons: Option<Reasons>,
 }
@@ -65,41 +68,54 @@ impl Model for Recording {
 
     ghost Value = { RecordingValue };
 
-    ghost view = { λ recording. record { datagrams = recording.list; ignored = recording.ignored; reasons = recording.reasons } };
+    ghost view = { λ recording. record { datagrams = recording.list; times = recording.times; ignored = recording.ignored; reasons = recording.reasons } };
 }
 
 impl Recording {
     /// The recording that is these datagrams, which no frames carry.
-    pub fn of_text(list: DatagramList) -> Recording
-        ensures { result ≡ record { datagrams = list; ignored = None; reasons = None } }
+    pub fn of_text(alloc: Global, list: DatagramList) -> Recording
+        ensures { result ≡ record { datagrams = list; times = no_times; ignored = None; reasons = None } }
     {
         Recording {
             list,
+            times: Times::none(alloc),
             ignored: None,
             reasons: None,
         }
     }
 
-    /// The recording that is the datagrams that stand so in a capture, of which so many frames gave none.
-    pub fn of_capture(octets: Vec<u8>, spans: Vec<DatagramSpan>, ignored: u64) -> Recording
+    /// The recording that is the datagrams that stand so in a capture and came then, of which so many frames gave none.
+    pub fn of_capture(
+        octets: Vec<u8>,
+        spans: Vec<DatagramSpan>,
+        times: Times,
+        ignored: u64,
+    ) -> Recording
         requires { AreSpans octets.items spans.items }
-        ensures { result ≡ record { datagrams = pieces octets.items spans.items; ignored = Some ignored; reasons = None } }
+        ensures { result ≡ record { datagrams = pieces octets.items spans.items; times = times; ignored = Some ignored; reasons = None } }
     {
         Recording {
             list: DatagramList::at_spans(octets, spans),
+            times,
             ignored: Some(ignored),
             reasons: None,
         }
     }
 
-    /// The recording that is the datagrams that stand so among octets of a capture, of which so many frames gave none.
-    pub fn of_any_capture(octets: Vec<u8>, spans: Vec<DatagramSpan>, reasons: Reasons) -> Recording
+    /// The recording that is the datagrams that stand so among octets of a capture and came then, of which so many frames gave none.
+    pub fn of_any_capture(
+        octets: Vec<u8>,
+        spans: Vec<DatagramSpan>,
+        times: Times,
+        reasons: Reasons,
+    ) -> Recording
         requires spans { AreSpans octets.items spans.items }
         requires few { ignored_by reasons < 2 ^ 64 }
-        ensures { result ≡ record { datagrams = pieces octets.items spans.items; ignored = Some (ignored_by reasons); reasons = Some reasons } }
+        ensures { result ≡ record { datagrams = pieces octets.items spans.items; times = times; ignored = Some (ignored_by reasons); reasons = Some reasons } }
     {
         Recording {
             list: DatagramList::at_spans(octets, spans),
+            times,
             ignored: Some(reasons.pieces + reasons.cut + reasons.other + reasons.links.number),
             reasons: Some(reasons),
         }
@@ -111,6 +127,13 @@ impl Recording {
         ensures few { length self.now.datagrams < 2 ^ 64 }
     {
         self.list.datagrams()
+    }
+
+    /// When its datagrams came; there are no times of a text.
+    pub fn times(&self) -> &Times
+        ensures { result.now ≡ self.now.times }
+    {
+        &self.times
     }
 
     /// How many frames of a capture gave no datagram; None where it was no capture.

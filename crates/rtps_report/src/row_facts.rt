@@ -5,11 +5,12 @@ ghost use Rattle.rtps_evidence.specs.Explanation.{evidence_value, explanation_va
 ghost use Rattle.rtps_report.specs.Asked.{asked_value};
 ghost use Rattle.rtps_report.specs.FullReport.{facts_with, is_met as is_met_lem, missed_in};
 ghost use Rattle.rtps_report.specs.Reported.{is_complete as completes, number_of as number_of_lem};
-ghost use Rattle.rtps_report.specs.RowFacts.{asked_about as asked_about_lem, is_certain as is_certain_lem, is_clean as is_clean_lem, is_clean_tail as is_clean_tail_lem, is_joined_in, is_late as is_late_lem, is_noted as is_noted_lem, is_tail as is_tail_lem, is_tail_alone as is_tail_alone_lem, left_in, outcomes_of as outcomes_of_lem, row_from as row_from_lem};
+ghost use Rattle.rtps_report.specs.RowFacts.{absent_in, asked_about as asked_about_lem, is_certain as is_certain_lem, is_clean as is_clean_lem, is_clean_tail as is_clean_tail_lem, is_held_in, is_joined_in, is_late as is_late_lem, is_noted as is_noted_lem, is_tail as is_tail_lem, is_tail_alone as is_tail_alone_lem, left_in, outcomes_of as outcomes_of_lem, row_from as row_from_lem};
 
 use crate::asked::{Asked, Standard};
 use crate::findings::Facts;
 use crate::recording::Recording;
+use crate::silences::Silences;
 use rtps_audit::Verdict;
 use rtps_evidence::{Announcement, Evidence, Explained, Explanation, Outcomes};
 
@@ -79,6 +80,26 @@ pub(crate) fn is_joined(evidence: &Evidence<'_>) -> bool
     }
 }
 
+/// Whether a row is held against another recording.
+pub fn is_held(evidence: &Evidence<'_>) -> bool
+    ensures { result ≡ is_held_in evidence.now.in_span }
+{
+    match &evidence.in_span {
+        Some(in_span) => in_span.is_held,
+        None => false,
+    }
+}
+
+/// How many numbers of a row that is held are received for certain though the other recording has none of them.
+pub fn absent_of(evidence: &Evidence<'_>) -> u64
+    ensures { result ≡ absent_in evidence.now.in_span }
+{
+    match &evidence.in_span {
+        Some(in_span) => in_span.absent,
+        None => 0,
+    }
+}
+
 /// What became of the numbers of a row. Of a row that is in no span it is told what is received and what is missed, and no more.
 pub fn outcomes_of(evidence: &Evidence<'_>) -> Outcomes
     ensures { result ≡ outcomes_of_lem (evidence_value evidence.now) }
@@ -87,6 +108,7 @@ pub fn outcomes_of(evidence: &Evidence<'_>) -> Outcomes
         Some(in_span) => in_span.outcomes,
         None => Outcomes {
             received: evidence.received,
+            arrived: 0,
             missed: evidence.missed,
             unsent: 0,
             unanswered: 0,
@@ -115,18 +137,18 @@ pub(crate) fn is_tail(evidence: &Evidence<'_>) -> bool
     }
 }
 
-/// Whether a row is not clean for its tail alone.
-pub fn is_tail_alone(tail: u64, evidence: &Evidence<'_>) -> bool
-    ensures { result ≡ is_tail_alone_lem tail (evidence_value evidence.now) }
+/// Whether a row is not clean for its tail alone, and neither of its participants is silent.
+pub fn is_tail_alone(tail: u64, evidence: &Evidence<'_>, silences: Silences) -> bool
+    ensures { result ≡ is_tail_alone_lem silences tail (evidence_value evidence.now) }
 {
-    !is_clean(tail, evidence) && is_tail(evidence)
+    !is_clean(tail, evidence) && is_tail(evidence) && silences.are_heard()
 }
 
 /// Whether someone has to look at a row: it is not clean, and not for its tail alone.
-pub fn is_noted(tail: u64, evidence: &Evidence<'_>) -> bool
-    ensures { result ≡ is_noted_lem tail (evidence_value evidence.now) }
+pub fn is_noted(tail: u64, evidence: &Evidence<'_>, silences: Silences) -> bool
+    ensures { result ≡ is_noted_lem silences tail (evidence_value evidence.now) }
 {
-    !is_clean(tail, evidence) && !is_tail(evidence)
+    !is_clean(tail, evidence) && !is_tail_alone(tail, evidence, silences)
 }
 
 pub(crate) fn is_clean_tail(tail: u64, evidence: &Evidence<'_>) -> bool

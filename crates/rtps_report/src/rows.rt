@@ -1,7 +1,7 @@
 ghost use Rattle.std.specs.Prelude.{◌≡◌, List, map};
 ghost use Rattle.std.specs.String.{string_bytes};
 ghost use Rattle.rtps_receiver.specs.Values.{ActValue};
-ghost use Rattle.rtps_report.specs.Rows.{AreNamedIn, fits_one as fits_one_lem, fits_topic as fits_topic_lem, is_observed};
+ghost use Rattle.rtps_report.specs.Rows.{AreNamedIn, fits_one as fits_one_lem, fits_topic as fits_topic_lem, is_named_by, is_observed};
 
 use crate::pattern::{fits, fits_followed};
 use rtps_discovery::Pair;
@@ -59,8 +59,9 @@ impl<'a> RowFilter<'a> {
 }
 
 /// Whether the recording can speak of a pair: an act of the reader's participant names the writer's as its destination.
-fn are_observed(namings: &Namings, pair: Pair) -> bool
-    ensures { (acts : List ActValue) → AreNamedIn acts namings.now → result ≡ is_observed acts pair }
+pub(crate) fn are_observed(namings: &Namings, pair: Pair) -> bool
+    ensures named { result ≡ is_named_by namings.now pair }
+    ensures observed { (acts : List ActValue) → AreNamedIn acts namings.now → result ≡ is_observed acts pair }
 {
     let answer = Naming {
         source: pair.reader.prefix,

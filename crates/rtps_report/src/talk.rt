@@ -1,12 +1,12 @@
-ghost use Rattle.std.specs.Prelude.{◌≡◌, [], filter, IfOk, List, map};
+ghost use Rattle.std.specs.Prelude.{ℕ, ◌≡◌, [], filter, IfOk, List, Option, map};
 ghost use Rattle.std.specs.BTreeSet.{contains};
 ghost use Rattle.rtps_audit.specs.Index.{IsIndexBy};
 ghost use Rattle.rtps_audit.specs.Intake.{Intake, acts_together};
 ghost use Rattle.rtps_audit.specs.Placed.{placed_in, placed_value};
-ghost use Rattle.rtps_discovery.specs.Directory.{settled_at, settled_in};
+ghost use Rattle.rtps_discovery.specs.Directory.{settled_in};
 ghost use Rattle.rtps_discovery.specs.Listings.{pair_cmp};
 ghost use Rattle.rtps_discovery.specs.Matching.{matches_among};
-ghost use Rattle.rtps_evidence.specs.Explanation.{topic_of as topic_of_lem};
+ghost use Rattle.rtps_evidence.specs.OtherSide.{IsOtherSide, OtherRecording};
 ghost use Rattle.rtps_evidence.specs.Spans.{left_in as left_in_lem};
 ghost use Rattle.rtps_fragments.specs.Announcements.{announcements_in};
 ghost use Rattle.rtps_fragments.specs.RecordedSamples.{intake_as};
@@ -23,17 +23,20 @@ ghost use Rattle.rtps_report.specs.Stays.{IsTrafficOf};
 ghost use Rattle.rtps_report.specs.Talk.{AreCounted, AreUnfit, IsHeardIn, IsTalkOf, is_counted_by, is_counted_of, talk_value};
 
 use crate::asked::Asked;
-use crate::best_effort::{BestEffort, Counted, sums_of, total_of};
-use crate::participant::{Participant, joined_of};
-use crate::rows::fits_one;
+use crate::best_effort::{
+    BestEffort, Counted, HeldPair, arrived_among, held_among, sums_of, total_of,
+};
+use crate::participant::{Participant, is_silent, joined_of};
+use crate::rows::{are_observed, fits_one};
+use crate::topics::topic_of;
 use crate::traffic::Traffic;
 use rtps_audit::{Index, Placed};
 use rtps_discovery::{Directory, Match, Pair};
-use rtps_evidence::{Location, left_in, recorded_of};
+use rtps_evidence::{Location, OtherSide, Sides, Times, arrived_of, left_in, recorded_of};
 use rtps_ids::{Guid, GuidPrefix, Memory};
 use rtps_policies::{
-    Address, Announced, Naming, Namings, OneWay, Silence, Unmatched, one_way_namings,
-    reason_of_silence, unmatched_pairs,
+    Address, Announced, Namings, OneWay, Silence, Unmatched, one_way_namings, reason_of_silence,
+    unmatched_pairs,
 };
 use std::alloc::Global;
 use std::collections::BTreeSet;
@@ -52,16 +55,24 @@ pub struct Talk<'a> {
     pub best_effort: Vec<BestEffort<'a>>,
     /// The sums of all of them.
     pub best_effort_total: BestEffort<'a>,
+    /// Those of them that are held against another recording, by writer and then by reader.
+    pub held: Vec<HeldPair<'a>>,
+    /// What arrived of these, by topic.
+    pub held_sums: Vec<BestEffort<'a>>,
+    /// What arrived of all of them.
+    pub held_total: BestEffort<'a>,
     /// Those that are announced, by GUID.
     pub participants: Vec<Participant>,
 }
 
 /// What is known of a recording, to say who does not talk.
 #[derive(Clone, Copy)]
-pub(crate) struct Heard<'r, 'a> {
+pub(crate) struct Heard<'r, 'a, 'o, 'b> {
     pub(crate) datagrams: &'r [&'a [u8]],
+    pub(crate) times: &'r Times,
     pub(crate) asked: &'r Asked<'r>,
     pub(crate) index: &'r Index<'a>,
+    pub(crate) other: Option<OtherSide<'o, 'b>>,
     pub(crate) directory: &'r Directory<'a>,
     pub(crate) announcements: &'r [Placed<'a>],
 }
@@ -69,7 +80,7 @@ pub(crate) struct Heard<'r, 'a> {
 impl<'a> Talk<'a> {
     /// That of no datagrams. It takes no memory.
     pub(crate) fn none(alloc: Global) -> Talk<'a>
-        ensures talks { (asked : AskedValue) → IsTalkOf asked [] (talk_value result) }
+        ensures talks { (asked : AskedValue) (other : Option OtherRecording) (times : List (Option ℕ)) → IsTalkOf asked other [] times (talk_value result) }
         ensures unfit { AreUnfit (map unmatched_value result.unmatched.items) result.unfit }
     {
         Talk {
@@ -80,6 +91,9 @@ impl<'a> Talk<'a> {
             one_way: Vec::new(alloc),
             best_effort: Vec::new(alloc),
             best_effort_total: total_of(&[]),
+            held: Vec::new(alloc),
+            held_sums: Vec::new(alloc),
+            held_total: total_of(&[]),
             participants: Vec::new(alloc),
         }
     }
@@ -130,48 +144,46 @@ fn unfit_of(alloc: Global, unmatched: &[Unmatched<'_>]) -> Result<BTreeSet<Pair>
     Ok(unfit)
 }
 
-/// The topic of a GUID's endpoint; empty where it has none.
-fn topic_of<'a>(directory: &Directory<'a>, guid: Guid) -> &'a [u8]
-    ensures { result.now ≡ topic_of_lem (settled_at directory.now.endpoints guid) }
-{
-    match directory.endpoint(guid) {
-        Some(endpoint) => endpoint.topic,
-        None => &[],
-    }
-}
-
 /// Whether a match of this topic is counted as one of best effort.
 fn is_counted(talk: &Talk<'_>, asked: &Asked<'_>, found: Match, topic: &[u8]) -> bool
     ensures { result ≡ is_counted_by talk.now.unfit talk.now.namings (asked_value asked.now) topic.now found }
 {
-    let answer = Naming {
-        source: found.pair.reader.prefix,
-        dest: found.pair.writer.prefix,
-    };
     !found.reliable
         && !talk.is_unfit(found.pair)
         && fits_one(asked.rows.topics, topic)
-        && talk.namings.named(answer) > 0
+        && are_observed(&talk.namings, found.pair)
 }
 
 /// The pairs of best effort that are counted.
 fn counted_of<'a>(
     alloc: Global,
     talk: &Talk<'a>,
-    heard: &Heard<'_, 'a>,
+    heard: &Heard<'_, 'a, '_, '_>,
 ) -> Result<Vec<Counted<'a>>, Memory>
-    ensures { IfOk result (λ counted. (intake : Intake) → IsIndexBy intake heard.now.index.now
-        → AreCounted (asked_value heard.now.asked.now) intake heard.now.directory.now.endpoints
+    ensures { IfOk result (λ counted. (intake : Intake) (other : Option OtherRecording) → IsIndexBy intake heard.now.index.now
+        → IsOtherSide other heard.now.other → AreCounted (asked_value heard.now.asked.now) other intake heard.now.directory.now.endpoints
         (filter (is_counted_of talk.now.unfit talk.now.namings (asked_value heard.now.asked.now) heard.now.directory.now.endpoints)
         (matches_among (settled_in heard.now.directory.now.endpoints)))
         (map counted_value counted.items)) }
 {
+    let sides = Sides {
+        index: heard.index,
+        other: heard.other,
+        times: heard.times,
+    };
     let mut counted = Vec::new(alloc);
     for found in &heard.directory.matched()? {
         let topic = topic_of(heard.directory, found.pair.writer);
         if is_counted(talk, heard.asked, *found, topic) {
-            let recorded = recorded_of(alloc, heard.index, found.pair, heard.asked.extent())?;
-            counted.push(Counted { topic, recorded })?;
+            let pair = found.pair;
+            let recorded = recorded_of(alloc, heard.index, pair, heard.asked.extent())?;
+            let arrived = arrived_of(alloc, &sides, pair, heard.asked.extent())?;
+            counted.push(Counted {
+                topic,
+                pair,
+                recorded,
+                arrived,
+            })?;
         }
     }
     Ok(counted)
@@ -192,45 +204,54 @@ fn participants_of(
     alloc: Global,
     announced: &Announced<'_>,
     traffic: &Traffic,
-    heard: &Heard<'_, '_>,
+    heard: &Heard<'_, '_, '_, '_>,
 ) -> Result<Vec<Participant>, Memory>
     ensures { IfOk result (λ participants. (intake : Intake) (datagrams : List (List ActValue)) → IsIndexBy intake heard.now.index.now
         → map placed_value heard.now.announcements.now ≡ announcements_in intake.announcing
-        → IsAnnouncedBy (acts_together intake.announcing) announced.now → IsTrafficOf datagrams traffic.now
-        → participants.items ≡ map (participant_told intake datagrams) heard.now.directory.now.participants) }
+        → IsAnnouncedBy (acts_together intake.announcing) announced.now
+        → IsTrafficOf datagrams heard.now.times.now.of_datagrams traffic.now
+        → participants.items ≡ map (participant_told intake datagrams heard.now.times.now.of_datagrams) heard.now.directory.now.participants) }
 {
     let joined = joined_of(alloc, heard.announcements)?;
+    let end = heard.times.end_until(None);
     let mut participants = Vec::new(alloc);
     for guid in &heard.directory.participants()? {
+        let left = left_of(heard.index, *guid, joined.get(guid).copied());
         participants.push(Participant {
             guid: *guid,
             host: announced.host(*guid),
-            stay: traffic.stays.get(&guid.prefix).copied(),
-            left: left_of(heard.index, *guid, joined.get(guid).copied()),
+            stay: traffic.stay(guid.prefix),
+            left,
+            silent: is_silent(left, traffic.latest(guid.prefix), end),
         })?;
     }
     Ok(participants)
 }
 
 /// Who does not talk in a recording, of the topics that are asked for. `Memory` is answered where what is kept cannot grow.
-pub(crate) fn talk_in<'a>(alloc: Global, heard: &Heard<'_, 'a>) -> Result<Talk<'a>, Memory>
-    ensures talks { IfOk result (λ talk. IsHeardIn (intake_as heard.now.asked.now.fragments (map (λ datagram. datagram.now) heard.now.datagrams.now)) heard.now
-        → IsTalkOf (asked_value heard.now.asked.now) (map (λ datagram. datagram.now) heard.now.datagrams.now) (talk_value talk)) }
+pub(crate) fn talk_in<'a>(alloc: Global, heard: &Heard<'_, 'a, '_, '_>) -> Result<Talk<'a>, Memory>
+    ensures talks { IfOk result (λ talk. (other : Option OtherRecording)
+        → IsHeardIn (intake_as heard.now.asked.now.fragments (map (λ datagram. datagram.now) heard.now.datagrams.now)) other heard.now
+        → IsTalkOf (asked_value heard.now.asked.now) other (map (λ datagram. datagram.now) heard.now.datagrams.now)
+        heard.now.times.now.of_datagrams (talk_value talk)) }
     ensures unfit { IfOk result (λ talk. AreUnfit (map unmatched_value talk.unmatched.items) talk.unfit) }
     ensures namings { IfOk result (λ talk. AreNamingsOf (datagrams_read heard.now.asked.now.fragments (map (λ datagram. datagram.now) heard.now.datagrams.now)) talk.namings) }
 {
     let asked = heard.asked;
-    let traffic = Traffic::of(alloc, heard.datagrams, asked.fragments)?;
+    let traffic = Traffic::of(alloc, heard.datagrams, heard.times, asked.fragments)?;
     let announced = announced_in(alloc, heard.announcements)?;
     let mut unmatched = unmatched_pairs(&announced, heard.directory)?;
     unmatched.retain(|one| fits_one(asked.rows.topics, one.writer.endpoint.topic));
     let participants = participants_of(alloc, &announced, &traffic, heard)?;
-    let Traffic { namings, stays: _ } = traffic;
+    let namings = traffic.namings;
     let mut talk = Talk {
         unfit: unfit_of(alloc, &unmatched)?,
         one_way: one_way_namings(alloc, &announced, &namings)?,
         best_effort: Vec::new(alloc),
         best_effort_total: total_of(&[]),
+        held: Vec::new(alloc),
+        held_sums: Vec::new(alloc),
+        held_total: total_of(&[]),
         announced,
         namings,
         unmatched,
@@ -238,6 +259,10 @@ pub(crate) fn talk_in<'a>(alloc: Global, heard: &Heard<'_, 'a>) -> Result<Talk<'
     };
     let mut counted = counted_of(alloc, &talk, heard)?;
     talk.best_effort_total = total_of(&counted);
+    talk.held = held_among(alloc, &counted)?;
+    let mut arrived = arrived_among(alloc, &counted)?;
+    talk.held_total = total_of(&arrived);
+    talk.held_sums = sums_of(alloc, &mut arrived)?;
     talk.best_effort = sums_of(alloc, &mut counted)?;
     Ok(talk)
 }

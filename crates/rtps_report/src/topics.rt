@@ -1,10 +1,23 @@
 ghost use Rattle.std.specs.Prelude.{◌≡◌, ◌<◌, ◌≤◌, ◌∷◌, ◌-◌, IfOk, drop, length, map, slice_index_or, take};
-ghost use Rattle.rtps_evidence.specs.Explanation.{explanation_value};
+ghost use Rattle.rtps_discovery.specs.Directory.{settled_at};
+ghost use Rattle.rtps_evidence.specs.Explanation.{explanation_value, topic_of as topic_of_lem};
 ghost use Rattle.rtps_evidence.specs.declared.explanation.Explanation.{Explanation as ExplanationOf};
 ghost use Rattle.rtps_report.specs.ByTopic.{AreByTopic, have_one_topic, topics_of as topics_of_lem};
 
+use rtps_discovery::Directory;
 use rtps_evidence::Explanation;
+use rtps_ids::Guid;
 use std::alloc::{AllocError, Global};
+
+/// The topic of a GUID's endpoint; empty where it has none.
+pub(crate) fn topic_of<'a>(directory: &Directory<'a>, guid: Guid) -> &'a [u8]
+    ensures { result.now ≡ topic_of_lem (settled_at directory.now.endpoints guid) }
+{
+    match directory.endpoint(guid) {
+        Some(endpoint) => endpoint.topic,
+        None => &[],
+    }
+}
 
 /// The rows by topic and then by type. Those of one topic and one type stay in their order.
 pub fn by_topic<'a>(

@@ -1,10 +1,11 @@
 ghost use Rattle.std.specs.Prelude.{◌≡◌, ◌+◌, ◌<◌, ◌≤◌, ◌^◌, map};
 ghost use Rattle.rtps_evidence.specs.Explanation.{evidence_value, explanation_value};
-ghost use Rattle.rtps_report.specs.Totals.{before_of as before_of_lem, is_unclean as is_unclean_lem, numbers_of as numbers_of_lem, totals_of as totals_of_lem};
+ghost use Rattle.rtps_report.specs.Totals.{before_of as before_of_lem, is_unclean as is_unclean_lem, lost_of as lost_of_lem, numbers_of as numbers_of_lem, totals_of as totals_of_lem};
 
 use crate::advice::Scope;
 use crate::row_facts::{
-    asked_about, is_certain, is_clean, is_clean_tail, is_complete, is_late, outcomes_of, row_from,
+    asked_about, is_certain, is_clean, is_clean_tail, is_complete, is_held, is_late, outcomes_of,
+    row_from,
 };
 use rtps_evidence::{Evidence, Explanation};
 
@@ -31,14 +32,20 @@ pub struct Totals {
     pub unanswered_pairs: u64,
     /// Those of which not each number is received for certain.
     pub uncertain_pairs: u64,
+    /// Those that are held, with likely numbers: these did not arrive.
+    pub lost_pairs: u64,
     /// How many of the numbers that are asked for stand before the first of their row.
     pub before: u128,
     /// How many numbers are asked about.
     pub numbers: u128,
     /// How many of them are received.
     pub received: u128,
+    /// How many of them arrived, of rows that are held against another recording.
+    pub arrived: u128,
     /// How many of them are likely.
     pub likely: u128,
+    /// How many likely numbers of rows that are held: they did not arrive.
+    pub lost: u128,
     /// How many of them are missed.
     pub missed: u128,
     /// How many of them are unsent.
@@ -69,6 +76,17 @@ fn numbers_of(from: u64, evidence: &Evidence<'_>) -> u64
     asked_about(row_from(from, evidence), evidence.announcement)
 }
 
+/// How many likely numbers of a row did not arrive: all of them, where it is held.
+fn lost_of(evidence: &Evidence<'_>) -> u64
+    ensures { result ≡ lost_of_lem (evidence_value evidence.now) }
+{
+    if is_held(evidence) {
+        outcomes_of(evidence).likely
+    } else {
+        0
+    }
+}
+
 impl Totals {
     ghost use Rattle.std.specs.Prelude.{[]};
     ghost use Rattle.rtps_report.specs.Totals.{AreWithin, with_row as with_row_lem};
@@ -90,10 +108,13 @@ impl Totals {
             unsent_pairs: 0,
             unanswered_pairs: 0,
             uncertain_pairs: 0,
+            lost_pairs: 0,
             before: 0,
             numbers: 0,
             received: 0,
+            arrived: 0,
             likely: 0,
+            lost: 0,
             missed: 0,
             unsent: 0,
             unanswered: 0,
@@ -120,10 +141,13 @@ impl Totals {
             unsent_pairs: self.unsent_pairs + u64::from(outcomes.unsent > 0),
             unanswered_pairs: self.unanswered_pairs + u64::from(outcomes.unanswered > 0),
             uncertain_pairs: self.uncertain_pairs + u64::from(!is_certain(scope.from, evidence)),
+            lost_pairs: self.lost_pairs + u64::from(lost_of(evidence) > 0),
             before: self.before + u128::from(before_of(scope.from, evidence)),
             numbers: self.numbers + u128::from(numbers_of(scope.from, evidence)),
             received: self.received + u128::from(outcomes.received),
+            arrived: self.arrived + u128::from(outcomes.arrived),
             likely: self.likely + u128::from(outcomes.likely),
+            lost: self.lost + u128::from(lost_of(evidence)),
             missed: self.missed + u128::from(outcomes.missed),
             unsent: self.unsent + u128::from(outcomes.unsent),
             unanswered: self.unanswered + u128::from(outcomes.unanswered),

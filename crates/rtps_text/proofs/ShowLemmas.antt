@@ -4,7 +4,7 @@ use Rattle.std.proofs.lemmas.Bool.{cases_lt}
 use Rattle.rtps_receiver.proofs.Offered.{gathered-one}
 use Rattle.rtps_receiver.specs.Acts.{gathered, state_behind}
 use Rattle.rtps_receiver.specs.declared.state.State.{State}
-use Rattle.rtps_wire.proofs.Submessages.{whole_not_cut}
+use Rattle.rtps_wire.proofs.Offered.{whole_not_cut}
 use Rattle.rtps_wire.specs.DataFrag.{DataFragValue, data_frag_at}
 use Rattle.rtps_wire.specs.Message.{body_octets, flags_of, order_of}
 use Rattle.rtps_wire.specs.NackFrag.{nack_frag_at, nack_frag_in}

@@ -2,8 +2,8 @@
 -- Interchange Format".
 -- own: `audit` prints a line of how many pairs there are, one for each with its verdict, and one of what was counted, of fields with one
 -- space between them. `why` prints behind the line of a pair what its verdict rests on, place by place, so that it can be checked with
--- `show`; each such line begins with two spaces. Other programs read the rows as JSON. Where nothing else is asked, a run is clean where each
--- pair is complete.
+-- `show`; each such line begins with two spaces. It says of no place when its datagram came. Other programs read the rows as JSON. Where
+-- nothing else is asked, a run is clean where each pair is complete.
 use Rattle.std.specs.Prelude.{ℕ, ◌≡◌, ◌++◌, if◌then◌else◌, List, [], ◌∷◌, codes, length, Option, Some, None, ℤ, ◌+◌, decimal, flat_map}
 use Rattle.std.specs.List.{list_all}
 use Rattle.rtps_report.specs.Vocabulary.{CompleteGrounds, ConflictGrounds, Counts, EvidenceValue, ExplanationValue, FirstMissed, GroundsValue, InSpan, intake_as, IsReportFrom, Location, NotReceived, OpenGrounds, Report, Row, Teller, UnfoundedGrounds}
@@ -11,6 +11,7 @@ use Rattle.rtps_report.specs.declared.findings.Ending.{Ending}
 use Rattle.rtps_report.specs.declared.findings.Ending.TheVariants.{Clean, Unclean}
 use Rattle.rtps_report.specs.Asked.{AskedValue}
 use Rattle.rtps_report.specs.Findings.{ending_as}
+use Rattle.rtps_evidence.specs.Times.{TimesValue, no_times}
 use Rattle.rtps_report.specs.Recording.{RecordingValue}
 use Rattle.rtps_report.specs.Reported.{IsReportAs, facts_of_report, is_complete, missed_rows, number_of}
 use Rattle.rtps_lines.specs.Lines.{line_of, verdict_text, acknowledged_line, announced_line, asked_line, claimed_line, inner_line, kind_text, place_comma, place_text, questions_line, sent_line, told_line}
@@ -97,51 +98,51 @@ abbrev pub received_line : ℕ → ℕ → List ℕ
 received_line received numbers = inner_line (codes "received" ∷ decimal received ∷ codes "of" ∷ decimal numbers ∷ [])
 
 -- how many numbers are missed, and the least of them; nothing where none is
-abbrev pub missed_lines : ℕ → Option FirstMissed → List ℕ
-missed_lines missed None = []
-missed_lines missed (Some first) = inner_line (codes "missed" ∷ decimal missed ∷ []) ++ asked_line first
+abbrev pub missed_lines : TimesValue → ℕ → Option FirstMissed → List ℕ
+missed_lines times missed None = []
+missed_lines times missed (Some first) = inner_line (codes "missed" ∷ decimal missed ∷ []) ++ asked_line times first
 
 -- what keeps a number from being received: that it is not acknowledged, or what told it gone before it was
-unfoldable pub kept_text : Option Teller → Option Location → List ℕ
-kept_text teller None = codes "not acknowledged"
-kept_text None (Some claim) = codes "told nothing before datagram " ++ (decimal claim.datagram ++ (codes " at " ++ decimal claim.at))
-kept_text (Some teller) (Some claim) =
-    codes "told gone by " ++ (kind_text teller.kind ++ 32 ∷ (place_comma teller.place ++ (codes " acknowledged " ++ place_text claim)))
+unfoldable pub kept_text : TimesValue → Option Teller → Option Location → List ℕ
+kept_text times teller None = codes "not acknowledged"
+kept_text times None (Some claim) = codes "told nothing before datagram " ++ (decimal claim.datagram ++ (codes " at " ++ decimal claim.at))
+kept_text times (Some teller) (Some claim) =
+    codes "told gone by " ++ (kind_text teller.kind ++ 32 ∷ (place_comma times teller.place ++ (codes " acknowledged " ++ place_text times claim)))
 
 -- the least number that is not received, and what keeps it; nothing where all are received
-abbrev pub not_received_line : Option NotReceived → List ℕ
-not_received_line None = []
-not_received_line (Some kept) = inner_line (codes "number" ∷ decimal kept.number ∷ codes "may not be received:" ∷ kept_text kept.gone kept.acknowledged ∷ [])
+abbrev pub not_received_line : TimesValue → Option NotReceived → List ℕ
+not_received_line times None = []
+not_received_line times (Some kept) = inner_line (codes "number" ∷ decimal kept.number ∷ codes "may not be received:" ∷ kept_text times kept.gone kept.acknowledged ∷ [])
 
 -- the lines of what the verdict on a number rests on
-abbrev pub shown_by : ℤ → GroundsValue → List ℕ
-shown_by number CompleteGrounds = []
-shown_by number (OpenGrounds teller count last) = told_line number teller ++ questions_line count last
-shown_by number (ConflictGrounds first other) = sent_line number first ++ sent_line number other
-shown_by number (UnfoundedGrounds teller claim) = claimed_line claim ++ told_line number teller
+abbrev pub shown_by : TimesValue → ℤ → GroundsValue → List ℕ
+shown_by times number CompleteGrounds = []
+shown_by times number (OpenGrounds teller count last) = told_line times number teller ++ questions_line times count last
+shown_by times number (ConflictGrounds first other) = sent_line times number first ++ sent_line times number other
+shown_by times number (UnfoundedGrounds teller claim) = claimed_line times claim ++ told_line times number teller
 
 -- the lines behind the amounts
-abbrev pub rest_lines : EvidenceValue → List ℕ
-rest_lines evidence =
+abbrev pub rest_lines : TimesValue → EvidenceValue → List ℕ
+rest_lines times evidence =
     received_line evidence.received (evidence.payloads + evidence.gone + evidence.untold)
-    ++ (missed_lines evidence.missed evidence.first_missed
-    ++ (not_received_line evidence.not_received
-    ++ shown_by (number_of evidence.verdict) evidence.grounds))
+    ++ (missed_lines times evidence.missed evidence.first_missed
+    ++ (not_received_line times evidence.not_received
+    ++ shown_by times (number_of evidence.verdict) evidence.grounds))
 
 -- the lines of a pair
-abbrev pub explanation_text : ExplanationValue → List ℕ
-explanation_text row =
+abbrev pub explanation_text : TimesValue → ExplanationValue → List ℕ
+explanation_text times row =
     pair_line row
     ++ (names_line row.topic row.type_name
     ++ (span_line row.evidence.in_span
-    ++ (announced_line row.evidence.announcement
-    ++ (acknowledged_line row.evidence.acknowledgement
+    ++ (announced_line times row.evidence.announcement
+    ++ (acknowledged_line times row.evidence.acknowledgement
     ++ (amounts_line row.evidence.payloads row.evidence.gone row.evidence.untold
-    ++ rest_lines row.evidence)))))
+    ++ rest_lines times row.evidence)))))
 
--- the lines of these rows and counts
+-- the lines of these rows and counts, which say no times
 abbrev pub explained_text : List ExplanationValue → Counts → Option ℕ → List ℕ
-explained_text rows counts ignored = pairs_line (length rows) ++ (flat_map explanation_text rows ++ report_counts_line counts ignored)
+explained_text rows counts ignored = pairs_line (length rows) ++ (flat_map (explanation_text no_times) rows ++ report_counts_line counts ignored)
 
 -- they are the lines of a recording with these rows and counts
 abbrev pub IsExplainedRows : RowsForm

@@ -7,11 +7,13 @@ use Rattle.rtps_capture.specs.declared.capture.CaptureFault.{CaptureFault}
 use Rattle.rtps_capture.specs.declared.capture.CaptureFault.TheVariants as kind
 use Rattle.rtps_capture.specs.declared.captures.Captures.{Captures}
 use Rattle.rtps_capture.specs.declared.byte_range.ByteRange.{ByteRange}
+use Rattle.rtps_evidence.specs.Times.{TimesValue}
 use Rattle.rtps_report.specs.DatagramSpan.{AreSpans, end_of, pieces, start_of}
 use Rattle.rtps_report.specs.declared.datagram_span.DatagramSpan.{DatagramSpan}
-use Rattle.rtps_report.specs.Recording.{ignored_by}
+use Rattle.rtps_report.specs.Recording.{RecordingValue, ignored_by}
 use Rattle.rtps_tool.specs.Outcomes.{IsFaultOf}
 use Rattle.rtps_tool.specs.RecordingCapture.{octets_in, reasons_of, reasons_told, rec_fault_of, recording_told}
+use Rattle.rtps_tool.specs.declared.faults.RecFault.{RecFault}
 
 -- the range of a span
 abbrev pub range_of : DatagramSpan → ByteRange
@@ -45,10 +47,14 @@ capture_fault captures file is (kind.CutCapture frame) same = ap (recording_told
 capture_fault captures file is kind.TooMany same = ap (recording_told captures file) same
 capture_fault captures file is kind.Memory same = tt
 
--- what is told, once it is known which captures are read and what the datagrams are
-pub recording_told-is : (captures these : Captures) (file : List ℕ) (answer : Answer) (datagrams : List (List ℕ)) → captures ≡ these
-    → datagrams ≡ octets_in (file ++ answer.behind) answer.datagrams
+-- what is told, once it is known which captures are read, what the datagrams are, and when they came
+pub recording_told-is : (captures these : Captures) (file : List ℕ) (answer : Answer) (datagrams : List (List ℕ)) (times : TimesValue) → captures ≡ these
+    → datagrams ≡ octets_in (file ++ answer.behind) answer.datagrams → times ≡ record { start = answer.start; of_datagrams = answer.times }
     → recording_told captures file (Ok answer)
-    ≡ Ok (record { datagrams = datagrams; ignored = Some (ignored_by (reasons_of answer)); reasons = reasons_told these answer })
-recording_told-is captures these file answer datagrams is given =
-    ap₂ (λ (some : Captures) (all : List (List ℕ)). Ok (record { datagrams = all; ignored = Some (ignored_by (reasons_of answer)); reasons = reasons_told some answer })) is (sym given)
+    ≡ Ok (record { datagrams = datagrams; times = times; ignored = Some (ignored_by (reasons_of answer)); reasons = reasons_told these answer })
+recording_told-is captures these file answer datagrams times is given came =
+    let told : Captures → List (List ℕ) → TimesValue → Result RecordingValue RecFault =
+    λ some all at. Ok (record { datagrams = all; times = at; ignored = Some (ignored_by (reasons_of answer)); reasons = reasons_told some answer }) in
+    let all = sym given in
+    let at = sym came in
+    λ i. told (is i) (all i) (at i)

@@ -1,5 +1,5 @@
 -- Facts on a text that is read in pieces.
-use Rattle.std.proofs.Common.{◌≡◌, ℕ, ◌+◌, ◌<◌, ◌≤◌, List, [], ◌++◌, false, length, take, Option, None, Result, Ok, sym, ap, ◌∙◌, subst, arith}
+use Rattle.std.proofs.Common.{◌≡◌, ℕ, ◌+◌, ◌<◌, ◌≤◌, List, [], ◌++◌, false, length, take, Option, Result, Ok, sym, ap, ◌∙◌, subst, arith}
 use Rattle.std.proofs.lemmas.List.{append-nil, append_assoc, length-append, length-take-le, take-append-le, take-take}
 use Rattle.std.proofs.Math.Seq.{take-append-add}
 use Rattle.std.proofs.KnownBytes.{Consumes-trans}
@@ -9,7 +9,7 @@ use Rattle.rtps_report.specs.Recording.{RecordingValue}
 use Rattle.rtps_tool.specs.Outcomes.{IsFaultOf}
 use Rattle.rtps_tool.specs.Forms.{begins_capture, recording_within}
 use Rattle.rtps_tool.specs.Lines.{lines_of}
-use Rattle.rtps_tool.specs.RecordingText.{recording_of_lines, without_frames}
+use Rattle.rtps_tool.specs.RecordingText.{recording_of_lines, unframed, without_frames}
 use Rattle.rtps_tool.specs.RunFaults.{run_fault_of}
 use Rattle.rtps_tool.specs.Runs.{Reads, ReadsRecording, FailsReading}
 use Rattle.rtps_tool.specs.Unfinished.{ReadsOn, recording_behind}
@@ -104,7 +104,7 @@ recording_of-read limits captures a b total told h within =
     ∙ sym (recording_of-text limits captures h.text (omega (arith, h.size)) h.plain)
 
 pub ReadsRecording-read : (limits : Limits) (captures : Captures) (a b : Option (List ℕ)) (total : ℕ) (told : List ℕ → Result (List (List ℕ)) RecFault) (datagrams : List (List ℕ))
-    → HasRead limits captures a b total told → IsAtEnd b → total ≤ limits.octets → told [] ≡ Ok datagrams → ReadsRecording limits captures a b record { datagrams = datagrams; ignored = None; reasons = None }
+    → HasRead limits captures a b total told → IsAtEnd b → total ≤ limits.octets → told [] ≡ Ok datagrams → ReadsRecording limits captures a b (unframed datagrams)
 ReadsRecording-read limits captures a b total told datagrams h end within fine = record {
   text = h.text;
   taken = h.taken;
@@ -114,7 +114,7 @@ ReadsRecording-read limits captures a b total told datagrams h end within fine =
 
 pub ReadsRecording-last : (limits : Limits) (captures : Captures) (a b : Option (List ℕ)) (total lines : ℕ) (done : List (List ℕ)) (left : List ℕ) (datagrams : List (List ℕ))
     → HasRead limits captures a b total (λ later. recording_behind limits.datagrams done lines (left ++ later)) → IsAtEnd b → total ≤ limits.octets → recording_behind limits.datagrams done lines left ≡ Ok datagrams
-    → ReadsRecording limits captures a b record { datagrams = datagrams; ignored = None; reasons = None }
+    → ReadsRecording limits captures a b (unframed datagrams)
 ReadsRecording-last limits captures a b total lines done left datagrams h end within fine =
     ReadsRecording-read limits captures a b total (λ later. recording_behind limits.datagrams done lines (left ++ later)) datagrams h end within (ap (recording_behind limits.datagrams done lines) (append-nil left) ∙ fine)
 

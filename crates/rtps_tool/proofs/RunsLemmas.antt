@@ -11,7 +11,9 @@ use Rattle.rtps_tool.specs.Options.{OptionsValue}
 use Rattle.rtps_tool.specs.Laws.{AreWithin, RunsAgree, RunsAgreeWithin}
 use Rattle.rtps_tool.specs.Forms.{recording_within}
 use Rattle.rtps_tool.specs.Limits.{usual}
-use Rattle.rtps_tool.specs.Runs.{ReadsRecording, RunsWithin}
+use Rattle.rtps_tool.specs.Runs.{ReadsRecording, RunsAlone, RunsBeside, RunsWithin}
+use Rattle.clap.specs.Words.{Text}
+use Rattle.rtps_tool.specs.declared.faults.BesideFault.{BesideFault}
 use Rattle.rtps_capture.specs.declared.captures.Captures.{Captures}
 use Rattle.rtps_capture.specs.declared.captures.Captures.TheVariants.{Classic}
 use Rattle.rtps_tool.specs.declared.faults.RunFault.{RunFault}
@@ -71,12 +73,25 @@ runs_weaker IsOne IsOther weaker limits captures unread left held holds (Err Mem
 
 -- a run with these options is one with those, which are the same
 pub runs_with : (options other : OptionsValue) (unread left held holds : Option (List ℕ)) (result : Result Ending RunFault) → options ≡ other
-    → RunsWithin options.limits options.captures (IsTextOf options.command options.asked) unread left held holds result
-    → RunsWithin other.limits other.captures (IsTextOf other.command other.asked) unread left held holds result
+    → RunsWithin options.limits options.captures (IsTextOf options.command options.asked None) unread left held holds result
+    → RunsWithin other.limits other.captures (IsTextOf other.command other.asked None) unread left held holds result
 runs_with options other unread left held holds result same =
-    subst (λ (o : OptionsValue). RunsWithin o.limits o.captures (IsTextOf o.command o.asked) unread left held holds result) same
+    subst (λ (o : OptionsValue). RunsWithin o.limits o.captures (IsTextOf o.command o.asked None) unread left held holds result) same
 
--- and as the words chose it
-pub runs_by : (options : OptionsValue) (chosen : Option OptionsValue) (unread left held holds : Option (List ℕ)) (result : Result Ending RunFault) → Some options ≡ chosen
-    → RunsWithin options.limits options.captures (IsTextOf options.command options.asked) unread left held holds result → RunsBy chosen unread left held holds result
-runs_by options chosen unread left held holds result same = subst (λ found. RunsBy found unread left held holds result) same
+-- a run of FILE alone, as the words chose it
+pub runs_by : (options : OptionsValue) (chosen : Option OptionsValue) (name : Option Text) (unread left theirs rest held holds : Option (List ℕ)) (result : Result Ending BesideFault)
+    → Some options ≡ chosen → None ≡ name
+    → RunsAlone (RunsWithin options.limits options.captures (IsTextOf options.command options.asked None) unread left held holds) theirs rest result
+    → RunsBy chosen name unread left theirs rest held holds result
+runs_by options chosen name unread left theirs rest held holds result same none run =
+    subst (λ found. RunsBy found name unread left theirs rest held holds result) same
+    (subst (λ name. RunsBy (Some options) name unread left theirs rest held holds result) none run)
+
+-- and one beside another recording
+pub runs_beside_by : (options : OptionsValue) (chosen : Option OptionsValue) (given : Text) (name : Option Text) (unread left theirs rest held holds : Option (List ℕ)) (result : Result Ending BesideFault)
+    → Some options ≡ chosen → Some given ≡ name
+    → RunsBeside options.limits options.captures (IsTextOf options.command options.asked) unread left theirs rest held holds result
+    → RunsBy chosen name unread left theirs rest held holds result
+runs_beside_by options chosen given name unread left theirs rest held holds result same named run =
+    subst (λ found. RunsBy found name unread left theirs rest held holds result) same
+    (subst (λ name. RunsBy (Some options) name unread left theirs rest held holds result) named run)

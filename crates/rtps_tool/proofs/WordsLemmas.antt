@@ -1,11 +1,13 @@
 -- Facts on what `clap` found.
-use Rattle.std.proofs.Common.{◌≡◌, ◌⊎◌, inl, inr, Option, None, Some, refl, unwrap_or}
+use Rattle.std.proofs.Common.{◌≡◌, ◌⊎◌, inl, inr, Option, None, Some, Result, Ok, Err, refl, unwrap_or}
+use Rattle.std.specs.Prelude.{OnOk}
 use Rattle.std.specs.Option.{option_map}
 use Rattle.clap.specs.Words.{HasKind, IsAmong, Kinds, kind_of}
 use Rattle.clap.specs.declared.error.Error.{Error}
 use Rattle.clap.specs.declared.error.kind.ErrorKind.{ErrorKind}
 use Rattle.clap.specs.declared.error.kind.ErrorKind.TheVariants.{InvalidValue, UnknownArgument, InvalidSubcommand, NoEquals, ValueValidation, TooManyValues, TooFewValues, WrongNumberOfValues, ArgumentConflict, MissingRequiredArgument, MissingSubcommand, DisplayHelp, DisplayHelpOnMissingArgumentOrSubcommand, DisplayVersion, Io, Format, OutOfMemory}
 use Rattle.rtps_tool.specs.Words.{IsOneOf, word_fault_by, word_fault_of}
+use Rattle.rtps_tool.specs.declared.command.WordFault.TheVariants.{BothInput}
 
 -- a view of a value or its default
 pub unwrap_or-view : {A X : Type 0} (view : A → X) (found : Option A) (default : A) → view (unwrap_or found default) ≡ unwrap_or (option_map view found) (view default)
@@ -34,3 +36,28 @@ by_kind kinds error Format is has = elim has [ inl other ↦ absurd cc | inr amo
 
 pub one_of : (kinds : Kinds) (error : Error) → HasKind kinds error → IsOneOf kinds (word_fault_of error)
 one_of kinds error has = by_kind kinds error (kind_of error) refl has
+
+-- what holds is so of any result that is none
+pub on_ok : {T E : Type 0} (result : Result T E) (P : Type 0) → P → OnOk result P
+on_ok (Ok x) P holds = holds
+on_ok (Err y) P holds = tt
+
+-- no error of `clap` says that both recordings are standard input
+pub by_clap : (kind : ErrorKind) (error : Error) → word_fault_by kind error ≡ BothInput → ⊥
+by_clap InvalidValue error is = absurd cc
+by_clap UnknownArgument error is = absurd cc
+by_clap InvalidSubcommand error is = absurd cc
+by_clap NoEquals error is = absurd cc
+by_clap ValueValidation error is = absurd cc
+by_clap TooManyValues error is = absurd cc
+by_clap TooFewValues error is = absurd cc
+by_clap WrongNumberOfValues error is = absurd cc
+by_clap ArgumentConflict error is = absurd cc
+by_clap MissingRequiredArgument error is = absurd cc
+by_clap MissingSubcommand error is = absurd cc
+by_clap DisplayHelp error is = absurd cc
+by_clap DisplayHelpOnMissingArgumentOrSubcommand error is = absurd cc
+by_clap DisplayVersion error is = absurd cc
+by_clap Io error is = absurd cc
+by_clap Format error is = absurd cc
+by_clap OutOfMemory error is = absurd cc

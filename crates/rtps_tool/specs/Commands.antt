@@ -1,6 +1,6 @@
 -- What is printed of a recording.
 -- own: a text, and how the run ends. `why`, `page`, `check` and JSON are forms of one value.
-use Rattle.std.specs.Prelude.{ℕ, List}
+use Rattle.std.specs.Prelude.{ℕ, List, Option}
 use Rattle.rtps_report.specs.Asked.{AskedValue}
 use Rattle.rtps_report.specs.FullReport.{IsTold, ReportValue, rows_of}
 use Rattle.rtps_report.specs.Recording.{RecordingValue}
@@ -27,13 +27,14 @@ IsFormOf Json asked recording report text = IsReportLine (rows_of report) report
 IsFormOf Why asked recording report text = IsExplainedRows (rows_of report) report.explained.counts recording text
 IsFormOf Page asked recording report text = IsPageForm asked recording report text
 
--- by a command and what is asked of an audit: of this recording, this text and this ending
-abbrev pub IsTextOf : Command → AskedValue → RecordingValue → List ℕ → Ending → Type 0
-IsTextOf command.Check asked = IsTold (IsFormOf Check) asked
-IsTextOf command.CheckJson asked = IsTold (IsFormOf CheckJson) asked
-IsTextOf command.Show asked = IsShownWith asked.fragments
-IsTextOf command.List asked = IsListed
-IsTextOf command.Audit asked = IsAuditedAs asked
-IsTextOf command.Json asked = IsTold (IsFormOf Json) asked
-IsTextOf command.Why asked = IsTold (IsFormOf Why) asked
-IsTextOf command.Page asked = IsTold (IsFormOf Page) asked
+-- by a command and what is asked of an audit: of this recording, beside another one, if there is one, this text and this ending.
+-- `show`, `list` and `audit` tell of the recording alone
+abbrev pub IsTextOf : Command → AskedValue → Option RecordingValue → RecordingValue → List ℕ → Ending → Type 0
+IsTextOf command.Check asked other = IsTold (IsFormOf Check) asked other
+IsTextOf command.CheckJson asked other = IsTold (IsFormOf CheckJson) asked other
+IsTextOf command.Show asked other = IsShownWith asked.fragments
+IsTextOf command.List asked other = IsListed
+IsTextOf command.Audit asked other = IsAuditedAs asked
+IsTextOf command.Json asked other = IsTold (IsFormOf Json) asked other
+IsTextOf command.Why asked other = IsTold (IsFormOf Why) asked other
+IsTextOf command.Page asked other = IsTold (IsFormOf Page) asked other

@@ -3,7 +3,7 @@
 use Rattle.std.specs.Prelude.{ℕ, List, [], ◌∷◌, ◌++◌, codes, Option, None, Some}
 use Rattle.std.specs.Fmt.{decimal}
 use Rattle.rtps_tool.specs.declared.command.WordFault.{WordFault}
-use Rattle.rtps_tool.specs.declared.command.WordFault.TheVariants.{Refused, Help, Version, Memory as WordMemory}
+use Rattle.rtps_tool.specs.declared.command.WordFault.TheVariants.{Refused, Help, Version, BothInput, Memory as WordMemory}
 use Rattle.rtps_tool.specs.declared.faults.RecFault.{RecFault}
 use Rattle.rtps_tool.specs.declared.faults.RecFault.TheVariants.{BadHex, TooLong, TooMany, Memory, BadCapture, CutCapture, Damaged}
 use Rattle.rtps_tool.specs.declared.faults.RunFault.{RunFault}
@@ -47,10 +47,15 @@ run_fault_number RunMemory = 4
 abbrev pub fault_line : RunFault → List ℕ
 fault_line fault = codes "rtps-audit: " ++ (run_fault_text fault ++ 10 ∷ [])
 
--- Where there was no memory for the words, this is told. What `clap` answers has the text that `clap` gives it, of which no
--- clause of `clap` speaks.
+-- the line of a fault of the other recording, which has its name
+abbrev pub other_fault_line : (name : List ℕ) → RunFault → List ℕ
+other_fault_line name fault = codes "rtps-audit: " ++ (name ++ (codes ": " ++ (run_fault_text fault ++ 10 ∷ [])))
+
+-- Where there was no memory for the words, or both recordings are standard input, this is told. What `clap` answers has the text that
+-- `clap` gives it, of which no clause of `clap` speaks; the other text is as those are.
 abbrev pub word_fault_text : WordFault → Option (List ℕ)
 word_fault_text (Refused error) = None
 word_fault_text (Help error) = None
 word_fault_text (Version error) = None
+word_fault_text BothInput = Some (codes "error: the argument '--arrived <OTHER>' cannot be standard input: FILE is\n\nFor more information, try '--help'.")
 word_fault_text WordMemory = Some (codes "out of memory")

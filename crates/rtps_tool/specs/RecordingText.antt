@@ -4,6 +4,7 @@ use Rattle.std.specs.Prelude.{ℕ, ◌==◌, ◌&&◌, nat_le, nat_lt, not, Bool
 use Rattle.std.specs.List.{enumerate_from, filter_map}
 use Rattle.hex.specs.Hex.{decode_of}
 use Rattle.rtps_digits.specs.Pairs.{octets_of}
+use Rattle.rtps_evidence.specs.Times.{no_times}
 use Rattle.rtps_report.specs.Recording.{RecordingValue}
 use Rattle.rtps_tool.specs.Lines.{lines_of}
 use Rattle.rtps_tool.specs.declared.faults.RecFault.{RecFault}
@@ -41,9 +42,13 @@ unfoldable pub recording_of_lines : (most number before : ℕ) → List (List �
 recording_of_lines most number before lines =
     unless_faulty (line_faults most before (datagram_lines number lines)) (map (λ line. octets_of line.1) (datagram_lines number lines))
 
--- a recording of which these are the datagrams, which no frames carry
+-- the recording of which these are the datagrams, which no frames carry: it has no times
+abbrev pub unframed : List (List ℕ) → RecordingValue
+unframed datagrams = record { datagrams = datagrams; times = no_times; ignored = None; reasons = None }
+
+-- the same, if there is no fault
 abbrev pub without_frames : Result (List (List ℕ)) RecFault → Result RecordingValue RecFault
-without_frames (Ok datagrams) = Ok (record { datagrams = datagrams; ignored = None; reasons = None })
+without_frames (Ok datagrams) = Ok (unframed datagrams)
 without_frames (Err fault) = Err fault
 
 -- the datagrams of a text in their order, so many at most, or its first fault

@@ -1,12 +1,14 @@
 -- What a run does to the reader and the writer that it is given, where their octets are known.
 -- own: all is read before anything is written, so that a text never stands for a part of the input.
-use Rattle.std.specs.Prelude.{ℕ, ◌≡◌, ◌≢◌, ◌<◌, ◌≤◌, List, length, take, Option, Result, Ok, Err}
+use Rattle.std.specs.Prelude.{ℕ, ◌≡◌, ◌≢◌, ◌<◌, ◌≤◌, List, length, take, Option, Some, Result, Ok, Err}
 use Rattle.std.specs.Io.KnownBytes.{Appends, Consumes, Keeps, IsAtEnd}
 use Rattle.rtps_report.specs.Recording.{RecordingValue}
 use Rattle.rtps_tool.specs.Forms.{recording_within}
 use Rattle.rtps_tool.specs.Limits.{usual}
 use Rattle.rtps_capture.specs.declared.captures.Captures.{Captures}
 use Rattle.rtps_capture.specs.declared.captures.Captures.TheVariants.{Classic}
+use Rattle.rtps_tool.specs.declared.faults.BesideFault.{BesideFault}
+use Rattle.rtps_tool.specs.declared.faults.BesideFault.TheVariants.{Run, Other}
 use Rattle.rtps_tool.specs.declared.faults.RecFault.{RecFault}
 use Rattle.rtps_tool.specs.declared.faults.RecFault.TheVariants.{Memory as RecMemory}
 use Rattle.rtps_tool.specs.declared.faults.RunFault.{RunFault}
@@ -63,6 +65,38 @@ RunsWithin limits captures IsPrinted unread left held holds (Err Memory) = Keeps
 -- within the usual limits, where classic captures are read
 abbrev pub Runs : (RecordingValue → List ℕ → Ending → Type 0) → (unread left held holds : Option (List ℕ)) → Result Ending RunFault → Type 0
 Runs IsPrinted unread left held holds result = RunsWithin usual Classic IsPrinted unread left held holds result
+
+-- the other recording was not read, for such a fault
+abbrev pub IsOtherFault : (RunFault → Type 0) → BesideFault → Type 0
+IsOtherFault Fails (Run fault) = ⊥
+IsOtherFault Fails (Other fault) = Fails fault
+
+-- The other recording was read too, and then a run of FILE beside it ended so: the other reader before and after it, and the run.
+abbrev pub RunsWithOther : Limits → Captures → (theirs rest : Option (List ℕ)) → (RecordingValue → Type 0) → Type 0
+RunsWithOther limits captures theirs rest EndsSo = (other : RecordingValue) × ReadsRecording limits captures theirs rest other × EndsSo other
+
+-- A run of FILE beside another recording: FILE is read first, and then the other one, each within these limits, where these captures are
+-- read; then a text of both is written. So a fault of the other recording is told only where FILE has none, and the other reader stays
+-- as it is where FILE has one. The reader of FILE before and after it, that of the other recording before and after it, the writer
+-- before and after it, and what the run answers.
+abbrev pub RunsBeside : Limits → Captures → (Option RecordingValue → RecordingValue → List ℕ → Ending → Type 0) → (unread left theirs rest held holds : Option (List ℕ)) → Result Ending BesideFault → Type 0
+RunsBeside limits captures IsPrinted unread left theirs rest held holds (Ok ending) =
+    RunsWithOther limits captures theirs rest (λ other. RunsWithin limits captures (IsPrinted (Some other)) unread left held holds (Ok ending))
+RunsBeside limits captures IsPrinted unread left theirs rest held holds (Err (Run (Recording fault))) =
+    (rest ≡ theirs) × ReadsFault limits captures unread left fault × Keeps held holds
+RunsBeside limits captures IsPrinted unread left theirs rest held holds (Err (Run Input)) = (rest ≡ theirs) × Keeps held holds
+RunsBeside limits captures IsPrinted unread left theirs rest held holds (Err (Run (Output written))) =
+    RunsWithOther limits captures theirs rest (λ other. RunsWithin limits captures (IsPrinted (Some other)) unread left held holds (Err (Output written)))
+RunsBeside limits captures IsPrinted unread left theirs rest held holds (Err (Run Memory)) = Keeps held holds
+RunsBeside limits captures IsPrinted unread left theirs rest held holds (Err (Other fault)) =
+    (recording : RecordingValue) × ReadsRecording limits captures unread left recording × FailsReading limits captures theirs rest fault × Keeps held holds
+
+-- A run that has no other recording: it leaves the other reader as it is, and no fault is of the other recording. The other reader
+-- before and after it, and what the run answers.
+abbrev pub RunsAlone : (Result Ending RunFault → Type 0) → (theirs rest : Option (List ℕ)) → Result Ending BesideFault → Type 0
+RunsAlone IsRun theirs rest (Ok ending) = (rest ≡ theirs) × IsRun (Ok ending)
+RunsAlone IsRun theirs rest (Err (Run fault)) = (rest ≡ theirs) × IsRun (Err fault)
+RunsAlone IsRun theirs rest (Err (Other fault)) = ⊥
 
 -- A run that reads nothing and writes this text: the writer before and after it, and what the run answers.
 abbrev pub Writes : List ℕ → (held holds : Option (List ℕ)) → Result Ending RunFault → Type 0

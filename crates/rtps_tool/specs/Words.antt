@@ -2,9 +2,10 @@
 -- own: a subcommand and one FILE; `sample` reads none. Two options say how large a recording may be, and a flag asks for any capture
 -- to be read. A flag of `show` and of what judges asks for samples in fragments to be read. What judges has options that say from
 -- which number on verdicts ask, which rows are asked for, and what else has to be so. A flag of `check` and of `audit` asks for
--- JSON. Of `audit`, `why` and `page` a flag asks for rows in spans; options of `check` say when a row is clean.
+-- JSON. Of `audit`, `why` and `page` a flag asks for rows in spans; options of `check` say when a row is clean. An option of `check` and
+-- of `page` names another recording, made at the host of readers. Of it and FILE one at most is standard input, which can be read once.
 use Rattle.std.specs.Prelude.{ℕ, ◌≡◌, ◌≢◌, ◌-◌, ◌^◌, ◌||◌, codes, Bool, true, false, List, [], ◌∷◌, IfSome, Option, None, Some, map, unwrap_or}
-use Rattle.std.specs.Option.{option_and_then}
+use Rattle.std.specs.Option.{option_and_then, option_map}
 use Rattle.std.specs.Str.Parse.{digits_value, without_leading_plus}
 use Rattle.clap.specs.Words.{App, IsAmong, IsUnsignedIn, Kinds, Row, Rule, Text, all_of, fault_of, first_of, kind_of, one_of, new_app, new_rule, subcommand_of, with_rule, with_subcommand}
 use Rattle.clap.specs.declared.builder.action.ArgAction.TheVariants.{Append, Set, SetTrue}
@@ -26,7 +27,7 @@ use Rattle.rtps_tool.specs.declared.command.ReportForm.{ReportForm}
 use Rattle.rtps_tool.specs.declared.command.ReportForm.TheVariants.{Lines, Json}
 use Rattle.rtps_tool.specs.declared.command.Choice.TheVariants.{Check, Show, List as ListChoice, Audit, Why, Page, Sample}
 use Rattle.rtps_tool.specs.declared.command.WordFault.{WordFault}
-use Rattle.rtps_tool.specs.declared.command.WordFault.TheVariants.{Refused, Help, Version, Memory}
+use Rattle.rtps_tool.specs.declared.command.WordFault.TheVariants.{Refused, Help, Version, BothInput, Memory}
 use Rattle.rtps_tool.specs.declared.demands.Demands.{Demands}
 use Rattle.rtps_tool.specs.declared.runs.Limits.{Limits}
 
@@ -72,6 +73,10 @@ expect_rule = record (new_rule (codes "PAIRS")) { long = Some (codes "expect"); 
 abbrev pub tail_rule : Rule
 tail_rule = record (new_rule (codes "TAIL")) { long = Some (codes "tail"); action = Some Set; parser = Some (Unsigned 0 (2 ^ 63 - 1)) }
 
+-- another recording, made at the host of readers: a file's name, or `-` for standard input
+abbrev pub arrived_rule : Rule
+arrived_rule = record (new_rule (codes "OTHER")) { long = Some (codes "arrived"); action = Some Set }
+
 -- a subcommand with the options that ask more of a report
 abbrev pub demanding : App → App
 demanding app =
@@ -92,8 +97,14 @@ audit_app = with_rule (report_app (codes "audit")) (flag_rule (codes "json"))
 abbrev pub check_app : App
 check_app =
     with_rule
+    (with_rule
     (with_rule (with_rule (with_rule (with_rule (with_rule (limited_app (codes "check")) from_rule) pattern_rule) expect_rule) tail_rule) (flag_rule (codes "certain")))
+    arrived_rule)
     (flag_rule (codes "json"))
+
+-- the subcommand `page`, of which rows can be held against another recording
+abbrev pub page_app : App
+page_app = with_rule (report_app (codes "page")) arrived_rule
 
 -- a program that has a version and wants a subcommand
 abbrev pub bare_program : App
@@ -109,32 +120,56 @@ program =
     (with_subcommand (with_subcommand (with_subcommand bare_program check_app.top) (fragments_app (codes "show")).top) (reading_app (codes "list")).top)
     audit_app.top)
     (report_app (codes "why")).top)
-    (report_app (codes "page")).top)
+    page_app.top)
     (new_app (codes "sample")).top
 
 -- the subcommand that was chosen
 abbrev pub subcommand_name : Choice → Text
-subcommand_name (Check file from limits form demands) = codes "check"
+subcommand_name (Check file arrived from limits form demands) = codes "check"
 subcommand_name (Show file limits captures fragments) = codes "show"
 subcommand_name (ListChoice file limits captures) = codes "list"
 subcommand_name (Audit file from limits captures form demands) = codes "audit"
 subcommand_name (Why file from limits captures demands) = codes "why"
-subcommand_name (Page file from limits captures demands) = codes "page"
+subcommand_name (Page file arrived from limits captures demands) = codes "page"
 subcommand_name Sample = codes "sample"
 
 -- the file that was chosen; `sample` has none
 abbrev pub file_name : Choice → Option Text
-file_name (Check file from limits form demands) = Some (string_bytes file)
+file_name (Check file arrived from limits form demands) = Some (string_bytes file)
 file_name (Show file limits captures fragments) = Some (string_bytes file)
 file_name (ListChoice file limits captures) = Some (string_bytes file)
 file_name (Audit file from limits captures form demands) = Some (string_bytes file)
 file_name (Why file from limits captures demands) = Some (string_bytes file)
-file_name (Page file from limits captures demands) = Some (string_bytes file)
+file_name (Page file arrived from limits captures demands) = Some (string_bytes file)
 file_name Sample = None
 
 -- its FILE is the one that was given, and empty where none was
 abbrev pub HasItsFile : Choice → List Row → Type 0
 HasItsFile choice rows = IfSome (file_name choice) (λ name. name ≡ unwrap_or (first_of (codes "FILE") rows) [])
+
+-- the other recording that was chosen; only `check` and `page` have one
+abbrev pub arrived_name : Choice → Option Text
+arrived_name (Check file arrived from limits form demands) = option_map string_bytes arrived
+arrived_name (Show file limits captures fragments) = None
+arrived_name (ListChoice file limits captures) = None
+arrived_name (Audit file from limits captures form demands) = None
+arrived_name (Why file from limits captures demands) = None
+arrived_name (Page file arrived from limits captures demands) = option_map string_bytes arrived
+arrived_name Sample = None
+
+-- its other recording is the one that was given, and none where none was
+abbrev pub HasItsOther : Choice → List Row → Type 0
+HasItsOther (Check file arrived from limits form demands) rows = option_map string_bytes arrived ≡ first_of (codes "OTHER") rows
+HasItsOther (Show file limits captures fragments) rows = Unit {0}
+HasItsOther (ListChoice file limits captures) rows = Unit {0}
+HasItsOther (Audit file from limits captures form demands) rows = Unit {0}
+HasItsOther (Why file from limits captures demands) rows = Unit {0}
+HasItsOther (Page file arrived from limits captures demands) rows = option_map string_bytes arrived ≡ first_of (codes "OTHER") rows
+HasItsOther Sample rows = Unit {0}
+
+-- FILE and the other recording are both standard input
+abbrev pub IsReadTwice : Choice → Type 0
+IsReadTwice choice = (file_name choice ≡ Some (codes "-")) × (arrived_name choice ≡ Some (codes "-"))
 
 -- The number is the one that was given, and the usual one where none was. `clap` takes no text that is none from 1 to
 -- 2^63 - 1; such a text would be as none.
@@ -149,12 +184,12 @@ IsNumberGiven text n = IsGivenOr 1 text n
 
 -- its number is the one that was given; only `check`, `audit`, `why` and `page` have one
 abbrev pub HasItsNumber : Choice → List Row → Type 0
-HasItsNumber (Check file from limits form demands) rows = IsNumberGiven (first_of (codes "N") rows) from
+HasItsNumber (Check file arrived from limits form demands) rows = IsNumberGiven (first_of (codes "N") rows) from
 HasItsNumber (Show file limits captures fragments) rows = Unit {0}
 HasItsNumber (ListChoice file limits captures) rows = Unit {0}
 HasItsNumber (Audit file from limits captures form demands) rows = IsNumberGiven (first_of (codes "N") rows) from
 HasItsNumber (Why file from limits captures demands) rows = IsNumberGiven (first_of (codes "N") rows) from
-HasItsNumber (Page file from limits captures demands) rows = IsNumberGiven (first_of (codes "N") rows) from
+HasItsNumber (Page file arrived from limits captures demands) rows = IsNumberGiven (first_of (codes "N") rows) from
 HasItsNumber Sample rows = Unit {0}
 
 -- The flag was given, or not: `clap` gives it the text `true` where it was, and `false` where not.
@@ -182,12 +217,12 @@ pub record IsFormGiven (rows : List Row) (form : ReportForm) : Type 0 where
 
 -- its form is the one that was asked for; only `check` and `audit` have one
 abbrev pub HasItsFlag : Choice → List Row → Type 0
-HasItsFlag (Check file from limits form demands) rows = IsFlagGiven (one_of (codes "json") rows) (is_json form)
+HasItsFlag (Check file arrived from limits form demands) rows = IsFlagGiven (one_of (codes "json") rows) (is_json form)
 HasItsFlag (Show file limits captures fragments) rows = Unit {0}
 HasItsFlag (ListChoice file limits captures) rows = Unit {0}
 HasItsFlag (Audit file from limits captures form demands) rows = IsFormGiven rows form
 HasItsFlag (Why file from limits captures demands) rows = Unit {0}
-HasItsFlag (Page file from limits captures demands) rows = Unit {0}
+HasItsFlag (Page file arrived from limits captures demands) rows = Unit {0}
 HasItsFlag Sample rows = Unit {0}
 
 -- any captures are asked for by one flag of two
@@ -200,12 +235,12 @@ pub record AreCapturesGiven (rows : List Row) (captures : Captures) : Type 0 whe
 
 -- it reads the captures that were asked for
 abbrev pub HasItsCaptures : Choice → List Row → Type 0
-HasItsCaptures (Check file from limits form demands) rows = Unit {0}
+HasItsCaptures (Check file arrived from limits form demands) rows = Unit {0}
 HasItsCaptures (Show file limits captures fragments) rows = IsFlagGiven (one_of (codes "any") rows) (is_any captures)
 HasItsCaptures (ListChoice file limits captures) rows = IsFlagGiven (one_of (codes "any") rows) (is_any captures)
 HasItsCaptures (Audit file from limits captures form demands) rows = AreCapturesGiven rows captures
 HasItsCaptures (Why file from limits captures demands) rows = AreCapturesGiven rows captures
-HasItsCaptures (Page file from limits captures demands) rows = AreCapturesGiven rows captures
+HasItsCaptures (Page file arrived from limits captures demands) rows = AreCapturesGiven rows captures
 HasItsCaptures Sample rows = Unit {0}
 
 -- the number of rows that was given, and none where none was. `clap` takes no text that is none from 0 to 2^63 - 1; such a text
@@ -234,11 +269,11 @@ pub record AreDemandsGiven (rows : List Row) (demands : Demands) : Type 0 where
   pub expect : IsExpectGiven (first_of (codes "PAIRS") rows) demands.expect
   pub strict : IsFlagGiven (one_of (codes "strict") rows) demands.strict
   pub fragments : IsFlagGiven (one_of (codes "fragments") rows) (are_read demands.fragments)
-  pub spans : IsFlagGiven (one_of (codes "spans") rows) demands.spans
 
 -- of `audit` and `why`: each row has to be complete
 pub record AreReportDemandsGiven (rows : List Row) (demands : Demands) : Type 0 where
   pub given : AreDemandsGiven rows demands
+  pub spans : IsFlagGiven (one_of (codes "spans") rows) demands.spans
   pub standard : demands.standard ≡ AllComplete
   pub talk : demands.talk ≡ false
 
@@ -247,9 +282,21 @@ abbrev pub page_standard : Bool → Standard
 page_standard true = AllClean 0 false
 page_standard false = AllComplete
 
+-- rows are in spans where there is another recording, and else where that is asked
+abbrev pub spans_beside : (name : Option Text) → Bool → Bool
+spans_beside None asked = asked
+spans_beside (Some name) asked = true
+
+-- so of `page`
+pub record ArePageSpansGiven (rows : List Row) (spans : Bool) : Type 0 where
+  pub asked : Bool
+  pub given : IsFlagGiven (one_of (codes "spans") rows) asked
+  pub beside : spans ≡ spans_beside (first_of (codes "OTHER") rows) asked
+
 -- of `page`
 pub record ArePageDemandsGiven (rows : List Row) (demands : Demands) : Type 0 where
   pub given : AreDemandsGiven rows demands
+  pub spans : ArePageSpansGiven rows demands.spans
   pub standard : demands.standard ≡ page_standard demands.spans
   pub talk : demands.talk ≡ true
 
@@ -267,12 +314,12 @@ pub record AreChecksGiven (rows : List Row) (demands : Demands) : Type 0 where
 -- it asks of its report what was given; only `check`, `audit`, `why` and `page` have one. `show` asks alone whether fragments are
 -- read
 abbrev pub HasItsDemands : Choice → List Row → Type 0
-HasItsDemands (Check file from limits form demands) rows = AreChecksGiven rows demands
+HasItsDemands (Check file arrived from limits form demands) rows = AreChecksGiven rows demands
 HasItsDemands (Show file limits captures fragments) rows = IsFlagGiven (one_of (codes "fragments") rows) (are_read fragments)
 HasItsDemands (ListChoice file limits captures) rows = Unit {0}
 HasItsDemands (Audit file from limits captures form demands) rows = AreReportDemandsGiven rows demands
 HasItsDemands (Why file from limits captures demands) rows = AreReportDemandsGiven rows demands
-HasItsDemands (Page file from limits captures demands) rows = ArePageDemandsGiven rows demands
+HasItsDemands (Page file arrived from limits captures demands) rows = ArePageDemandsGiven rows demands
 HasItsDemands Sample rows = Unit {0}
 
 -- the limits are those that were given, each the usual one where it was not
@@ -282,19 +329,19 @@ pub record AreLimitsGiven (rows : List Row) (limits : Limits) : Type 0 where
 
 -- its limits are those that were given
 abbrev pub HasItsLimits : Choice → List Row → Type 0
-HasItsLimits (Check file from limits form demands) rows = AreLimitsGiven rows limits
+HasItsLimits (Check file arrived from limits form demands) rows = AreLimitsGiven rows limits
 HasItsLimits (Show file limits captures fragments) rows = AreLimitsGiven rows limits
 HasItsLimits (ListChoice file limits captures) rows = AreLimitsGiven rows limits
 HasItsLimits (Audit file from limits captures form demands) rows = AreLimitsGiven rows limits
 HasItsLimits (Why file from limits captures demands) rows = AreLimitsGiven rows limits
-HasItsLimits (Page file from limits captures demands) rows = AreLimitsGiven rows limits
+HasItsLimits (Page file arrived from limits captures demands) rows = AreLimitsGiven rows limits
 HasItsLimits Sample rows = Unit {0}
 
--- the choice has the name of the subcommand that was found, its FILE, its number, its flags, its limits, and what it asks
--- of its report
+-- the choice has the name of the subcommand that was found, its FILE, its other recording, its number, its flags, its limits, and what
+-- it asks of its report
 abbrev pub IsChoice : Option (Text × List Row) → Choice → Type 0
 IsChoice found choice =
-    (rows : List Row) × (found ≡ Some (subcommand_name choice, rows)) × HasItsFile choice rows × HasItsNumber choice rows × HasItsFlag choice rows × HasItsLimits choice rows × HasItsCaptures choice rows × HasItsDemands choice rows
+    (rows : List Row) × (found ≡ Some (subcommand_name choice, rows)) × HasItsFile choice rows × HasItsOther choice rows × HasItsNumber choice rows × HasItsFlag choice rows × HasItsLimits choice rows × HasItsCaptures choice rows × HasItsDemands choice rows
 
 -- help and the version are answers, want of memory has no text, and any other error of `clap` refuses the words
 abbrev pub word_fault_by : ErrorKind → Error → WordFault
@@ -312,13 +359,15 @@ abbrev pub HasItsKind : WordFault → Type 0
 HasItsKind (Refused error) = (kind_of error ≢ DisplayHelp) × (kind_of error ≢ DisplayVersion) × (kind_of error ≢ OutOfMemory)
 HasItsKind (Help error) = kind_of error ≡ DisplayHelp
 HasItsKind (Version error) = kind_of error ≡ DisplayVersion
+HasItsKind BothInput = Unit {0}
 HasItsKind Memory = Unit {0}
 
--- the fault is one of these kinds, unless it is want of memory
+-- the fault is one of these kinds, unless it is want of memory; that both are standard input is none that `clap` finds
 abbrev pub IsOneOf : Kinds → WordFault → Type 0
 IsOneOf kinds (Refused error) = IsAmong (kind_of error) kinds
 IsOneOf kinds (Help error) = IsAmong DisplayHelp kinds
 IsOneOf kinds (Version error) = IsAmong DisplayVersion kinds
+IsOneOf kinds BothInput = ⊥
 IsOneOf kinds Memory = Unit {0}
 
 -- the text of a flag of this name among these words, behind the program's name
@@ -410,5 +459,10 @@ pub record WordsAreWanted : Type 0 where
   pub spans_of_list : faults_of_words (codes "list" ∷ codes "--spans" ∷ codes "a.rec" ∷ []) ≡ UnknownArgument ∷ []
   pub tail : faults_of_words (codes "check" ∷ codes "--tail" ∷ codes "0" ∷ codes "--certain" ∷ codes "a.rec" ∷ []) ≡ []
   pub no_number_of_a_tail : faults_of_words (codes "check" ∷ codes "--tail" ∷ codes "x" ∷ codes "a.rec" ∷ []) ≡ ValueValidation ∷ []
+  pub arrived : faults_of_words (codes "check" ∷ codes "--arrived" ∷ codes "b.pcap" ∷ codes "a.pcap" ∷ []) ≡ []
+  pub arrived_is_named : rows_of_words (codes "OTHER") (codes "check" ∷ codes "--arrived" ∷ codes "b.pcap" ∷ codes "a.pcap" ∷ []) ≡ Some (codes "b.pcap" ∷ [])
+  pub arrived_of_page : faults_of_words (codes "page" ∷ codes "--spans" ∷ codes "--arrived" ∷ codes "-" ∷ codes "a.pcap" ∷ []) ≡ []
+  pub arrived_of_audit : faults_of_words (codes "audit" ∷ codes "--arrived" ∷ codes "b.pcap" ∷ codes "a.pcap" ∷ []) ≡ UnknownArgument ∷ []
+  pub arrived_of_why : faults_of_words (codes "why" ∷ codes "--arrived" ∷ codes "b.pcap" ∷ codes "a.pcap" ∷ []) ≡ UnknownArgument ∷ []
   pub tail_of_audit : faults_of_words (codes "audit" ∷ codes "--tail" ∷ codes "1" ∷ codes "a.rec" ∷ []) ≡ UnknownArgument ∷ []
   pub certain_of_why : faults_of_words (codes "why" ∷ codes "--certain" ∷ codes "a.rec" ∷ []) ≡ UnknownArgument ∷ []

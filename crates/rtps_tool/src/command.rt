@@ -1,9 +1,10 @@
-ghost use Rattle.std.specs.Prelude.{◌≡◌, ◌⊎◌, ◌||◌, true, false, codes, Some, IfOk, IfErr, OnOk, [], MatchOption, map, unwrap_or};
+ghost use Rattle.std.specs.Prelude.{◌≡◌, ◌≢◌, ◌⊎◌, ◌↔◌, ◌||◌, true, false, codes, Some, IfOk, IfErr, IsTrue, OnOk, [], MatchOption, map, unwrap_or};
+ghost use Rattle.std.specs.Option.{option_map};
 ghost use Rattle.std.specs.String.{string_bytes};
 ghost use Rattle.clap.specs.Words.{app_of, fault_of, first_of, found_of, new_app, one_of, rows_of, rule_of, subcommand_of, subcommand_rows_of, takes};
 ghost use Rattle.clap.specs.declared.builder.command.Command.TheViews.{out-Command};
 ghost use Rattle.rtps_report.specs.Asked.{are_read};
-ghost use Rattle.rtps_tool.specs.Words.{bare_program as bare_app, audit_app, check_app, fragments_app, limited_app, flag_rule, is_any, is_json, number_rule, program as program_app, reading_app, report_app, AreCapturesGiven, AreLimitsGiven, IsChoice, IsFlagGiven, IsGivenOr, IsNumberGiven, IsOneOf, HasItsKind, IsFormGiven};
+ghost use Rattle.rtps_tool.specs.Words.{bare_program as bare_app, audit_app, check_app, fragments_app, limited_app, flag_rule, is_any, is_json, number_rule, program as program_app, reading_app, page_app, report_app, arrived_rule, AreCapturesGiven, IsReadTwice, AreLimitsGiven, IsChoice, IsFlagGiven, IsGivenOr, IsNumberGiven, IsOneOf, HasItsKind, IsFormGiven};
 
 use crate::demands::{
     Demands, checks_of, demands_of, page_demands_of, with_demands, with_rows, with_standard,
@@ -32,9 +33,11 @@ pub enum ReportForm {
 /// are read.
 #[derive(Debug, Drop)]
 pub enum Choice {
-    /// Say which topics lost data, of the writers' numbers from `from` on, and what to do. Any capture is read.
+    /// Say which topics lost data, of the writers' numbers from `from` on, and what to do. Any capture is read. What arrived is what
+    /// the recording `arrived` has, which was made at the host of readers, if there is one.
     Check {
         file: String,
+        arrived: Option<String>,
         from: SeqNum,
         limits: Limits,
         form: ReportForm,
@@ -71,9 +74,10 @@ pub enum Choice {
         captures: Captures,
         demands: Demands,
     },
-    /// Make a page of such an audit, to look at.
+    /// Make a page of such an audit, to look at. What arrived is what the recording `arrived` has, if there is one.
     Page {
         file: String,
+        arrived: Option<String>,
         from: SeqNum,
         limits: Limits,
         captures: Captures,
@@ -92,12 +96,14 @@ pub enum WordFault {
     Help(clap::Error),
     /// They ask for the version, with a text for standard output.
     Version(clap::Error),
+    /// FILE and the other recording are both standard input, which can be read once.
+    BothInput,
     /// There was no memory to read them.
     Memory,
 }
 
-/// The text of an error of `clap` is its own, of which no clause of `clap` says what it is; that of [`WordFault::Memory`] is
-/// given here.
+/// The text of an error of `clap` is its own, of which no clause of `clap` says what it is; those of [`WordFault::BothInput`] and of
+/// [`WordFault::Memory`] are given here.
 impl fmt::Display for WordFault {
     ghost use Rattle.rtps_tool.specs.FaultText.{word_fault_text};
 
@@ -108,6 +114,7 @@ impl fmt::Display for WordFault {
             WordFault::Refused(error) | WordFault::Help(error) | WordFault::Version(error) => {
                 write!(f, "{error}")
             }
+            WordFault::BothInput => f.write_str(BOTH_INPUT),
             WordFault::Memory => write!(f, "out of memory"),
         }
     }
@@ -163,6 +170,19 @@ const DATAGRAMS_HELP: &str =
 
 const OCTETS_HELP: &str = "The most octets that FILE may have, 1 to 9223372036854775807; \
     1073741824 if it is not given";
+
+const ARRIVED_HELP: &str =
+    "A second recording of the same time, made at the host of readers: its samples reached that host; \
+    - is standard input";
+
+const PAGE_ARRIVED_HELP: &str =
+    "A second recording of the same time, made at the host of readers: its samples reached that host; \
+    - is standard input. Sets --spans";
+
+/// What is told where both recordings are standard input. Its form is that of what `clap` tells.
+const BOTH_INPUT: &str =
+    "error: the argument '--arrived <OTHER>' cannot be standard input: FILE is\n\n\
+    For more information, try '--help'.";
 
 const JSON_HELP: &str = "Print one JSON object, with what each verdict rests on";
 
@@ -230,6 +250,17 @@ pub(crate) fn flag<'a>(alloc: Global, name: &'a str, help: &'a str) -> Arg<'a>
         .help(help)
 }
 
+/// The option that names another recording.
+fn arrived_option<'a>(alloc: Global, help: &'a str) -> Arg<'a>
+    ensures rule { rule_of result ≡ arrived_rule }
+    ensures local { result.global ≡ false }
+{
+    Arg::new(alloc, "OTHER")
+        .long("arrived")
+        .action(ArgAction::Set)
+        .help(help)
+}
+
 /// A subcommand that reads a FILE within two limits, and ends with one of these statuses.
 fn limited_subcommand<'a>(
     alloc: Global,
@@ -290,7 +321,8 @@ fn check_subcommand<'a>(alloc: Global) -> Result<Command<'a>, AllocError>
     let numbered = limited.arg(from)?;
     let chosen = with_rows(alloc, numbered)?;
     let held = with_standard(alloc, chosen)?;
-    held.arg(flag(alloc, "json", JSON_HELP))
+    let beside = held.arg(arrived_option(alloc, ARRIVED_HELP))?;
+    beside.arg(flag(alloc, "json", JSON_HELP))
 }
 
 /// A subcommand that judges: it reads a FILE, asks for numbers from some number on, and may ask more of its report.
@@ -315,6 +347,15 @@ fn audit_subcommand<'a>(alloc: Global) -> Result<Command<'a>, AllocError>
 {
     let report = report_subcommand(alloc, "audit", AUDITS)?;
     report.arg(flag(alloc, "json", JSON_HELP))
+}
+
+/// The subcommand `page`, which judges, and may have another recording.
+fn page_subcommand<'a>(alloc: Global) -> Result<Command<'a>, AllocError>
+    ensures app { IfOk result (λ command. app_of command ≡ page_app) }
+    ensures local { IfOk result (λ command. (out-Command command).has_globals ≡ false) }
+{
+    let report = report_subcommand(alloc, "page", PAGES)?;
+    report.arg(arrived_option(alloc, PAGE_ARRIVED_HELP))
 }
 
 /// A subcommand that reads nothing.
@@ -352,7 +393,7 @@ fn program<'a>(alloc: Global) -> Result<Command<'a>, AllocError>
     let three = two.subcommand(audit)?;
     let why = report_subcommand(alloc, "why", EXPLAINS)?;
     let four = three.subcommand(why)?;
-    let page = report_subcommand(alloc, "page", PAGES)?;
+    let page = page_subcommand(alloc)?;
     let five = four.subcommand(page)?;
     five.subcommand(plain_subcommand(alloc, "sample", SAMPLES))
 }
@@ -497,12 +538,26 @@ fn report_captures_of(found: &ArgMatches) -> Captures
     captures_by(any, strict)
 }
 
+/// The other recording that is given, if one is.
+fn arrived_of(alloc: Global, found: &ArgMatches) -> Result<Option<String>, AllocError>
+    ensures { IfOk result (λ arrived. option_map string_bytes arrived ≡ first_of (codes "OTHER") (rows_of (found_of found.now))) }
+{
+    match found.get_str("OTHER") {
+        Some(name) => {
+            let owned = String::from_str(alloc, name)?;
+            Ok(Some(owned))
+        }
+        None => Ok(None),
+    }
+}
+
 /// What the matches of `check` choose.
 fn check_of(alloc: Global, check: &ArgMatches) -> Result<Choice, AllocError>
     ensures { IfOk result (IsChoice (Some (codes "check", rows_of (found_of check.now)))) }
 {
     Ok(Choice::Check {
         file: file_of(alloc, check)?,
+        arrived: arrived_of(alloc, check)?,
         from: number_of(check),
         limits: limits_of(check),
         form: form_of(check),
@@ -567,6 +622,7 @@ fn page_of(alloc: Global, page: &ArgMatches) -> Result<Choice, AllocError>
 {
     Ok(Choice::Page {
         file: file_of(alloc, page)?,
+        arrived: arrived_of(alloc, page)?,
         from: number_of(page),
         limits: limits_of(page),
         captures: report_captures_of(page),
@@ -605,9 +661,11 @@ fn choice_of(alloc: Global, matches: &ArgMatches) -> Result<Option<Choice>, Allo
 }
 
 /// Reads the words of the command line, of which the first is the program's name. An `Err` says why they ask for nothing that
-/// can be run: they are refused, they ask for help or for the version, or there was no memory to read them.
+/// can be run: they are refused, they ask for help or for the version, both recordings are standard input, or there was no memory to
+/// read them.
 pub fn read_words<'a>(alloc: Global, words: &'a [&'a str]) -> Result<Choice, WordFault>
-    // The subcommand, the FILE, the number, the flags and the limits are those of the matches that `clap` defines for the words.
+    // The subcommand, the FILE, the other recording, the number, the flags and the limits are those of the matches that `clap` defines for
+    // the words.
     ensures chosen { IfOk result (IsChoice (subcommand_of program_app (map (λ word. word.now) words.now))) }
 
     // Words with a fault are refused, and the refusal is of its kind.
@@ -615,23 +673,50 @@ pub fn read_words<'a>(alloc: Global, words: &'a [&'a str]) -> Result<Choice, Wor
     ensures fault { IfErr result (λ fault. (fault_of program_app (map (λ word. word.now) words.now) ≡ [])
         ⊎ IsOneOf (fault_of program_app (map (λ word. word.now) words.now)) fault) }
 
-    // Words that `clap` takes and that name a subcommand are refused for want of memory alone.
+    // Words that `clap` takes and that name a subcommand are refused for want of memory, or where both recordings are standard input.
     ensures taken { IfErr result (λ fault. takes program_app (map (λ word. word.now) words.now) ≡ true
         → (choice : Choice) → IsChoice (subcommand_of program_app (map (λ word. word.now) words.now)) choice
-        → fault ≡ WordFault.Memory) }
+        → (fault ≡ WordFault.Memory) ⊎ (fault ≡ WordFault.BothInput)) }
+
+    // Standard input is read once at most.
+    ensures once { IfOk result (λ choice. ¬ IsReadTwice choice) }
+    ensures twice { IfErr result (λ fault. fault ≡ WordFault.BothInput
+        → (choice : Choice) × IsChoice (subcommand_of program_app (map (λ word. word.now) words.now)) choice × IsReadTwice choice) }
     ensures kind { IfErr result HasItsKind }
 {
     let mut program = program(alloc)?;
     let matches = program.try_get_matches_from_mut(words)?;
     match choice_of(alloc, &matches)? {
-        Some(choice) => Ok(choice),
+        Some(choice) => once(choice),
         None => Err(no_such_subcommand(&mut program)),
     }
 }
 
+/// Whether FILE and the other recording are both standard input.
+fn is_read_twice(choice: &Choice) -> bool
+    ensures { IsTrue result ↔ IsReadTwice choice.now }
+{
+    match (choice.file(), choice.arrived()) {
+        (Some(file), Some(other)) => file == "-" && other == "-",
+        _ => false,
+    }
+}
+
+/// The choice, but for one that reads standard input twice.
+fn once(choice: Choice) -> Result<Choice, WordFault>
+    ensures ok { IfOk result (λ chosen. (chosen ≡ choice) × (¬ IsReadTwice chosen)) }
+    ensures err { IfErr result (λ fault. (fault ≡ WordFault.BothInput) × IsReadTwice choice) }
+{
+    if is_read_twice(&choice) {
+        return Err(WordFault::BothInput);
+    }
+    Ok(choice)
+}
+
 /// What refuses a subcommand that `clap` takes and the program does not have.
 fn no_such_subcommand(program: &mut Command) -> WordFault
-    ensures { HasItsKind result }
+    ensures kind { HasItsKind result }
+    ensures other { result ≢ WordFault.BothInput }
 {
     match program.error(ErrorKind::InvalidSubcommand, "no such subcommand") {
         Ok(error) => WordFault::Refused(error),

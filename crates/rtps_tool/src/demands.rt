@@ -2,7 +2,7 @@ ghost use Rattle.std.specs.Prelude.{◌≡◌, [], IfOk, Some, codes, false, map
 ghost use Rattle.std.specs.String.{string_bytes};
 ghost use Rattle.clap.specs.Words.{all_of, app_of, first_of, found_of, rows_of, rule_of, with_rule};
 ghost use Rattle.clap.specs.declared.builder.command.Command.TheViews.{out-Command};
-ghost use Rattle.rtps_tool.specs.Words.{AreChecksGiven, ArePageDemandsGiven, AreReportDemandsGiven, IsExpectGiven, IsTailGiven, demanding, expect_rule, flag_rule, page_standard as page_standard_lem, pattern_rule, tail_rule};
+ghost use Rattle.rtps_tool.specs.Words.{AreChecksGiven, ArePageDemandsGiven, ArePageSpansGiven, AreReportDemandsGiven, IsExpectGiven, IsTailGiven, demanding, expect_rule, flag_rule, page_standard as page_standard_lem, pattern_rule, tail_rule};
 
 use crate::command::{GREATEST, flag, fragments_of, is_given};
 use clap::builder::ValueParser;
@@ -238,13 +238,26 @@ fn page_standard(spans: bool) -> Standard
     }
 }
 
+/// Whether rows of a page are in spans: where there is another recording, or that is asked.
+fn page_spans_of(found: &ArgMatches) -> bool
+    ensures { ArePageSpansGiven (rows_of (found_of found.now)) result }
+{
+    let asked = is_given(found, "spans");
+    match found.get_str("OTHER") {
+        Some(_) => true,
+        None => asked,
+    }
+}
+
 /// What the matches of `page` ask.
 pub(crate) fn page_demands_of(alloc: Global, found: &ArgMatches) -> Result<Demands, AllocError>
     ensures { IfOk result (ArePageDemandsGiven (rows_of (found_of found.now))) }
 {
     let demands = demands_of(alloc, found)?;
+    let spans = page_spans_of(found);
     Ok(Demands {
-        standard: page_standard(demands.spans),
+        spans,
+        standard: page_standard(spans),
         talk: true,
         ..demands
     })

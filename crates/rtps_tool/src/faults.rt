@@ -1,7 +1,7 @@
 ghost use Rattle.std.specs.Prelude.{◌≡◌, true, Some};
 ghost use Rattle.std.specs.Io.KnownBytes.{Appends};
-ghost use Rattle.rtps_tool.specs.FaultText.{fault_line, rec_fault_number, rec_fault_text, run_fault_number, run_fault_text};
-ghost use Rattle.rtps_tool.specs.Statuses.{status_of};
+ghost use Rattle.rtps_tool.specs.FaultText.{fault_line, other_fault_line, rec_fault_number, rec_fault_text, run_fault_number, run_fault_text};
+ghost use Rattle.rtps_tool.specs.Statuses.{fault_status_of, status_of};
 
 use rtps_capture::CaptureFault;
 use rtps_ids::Memory;
@@ -94,6 +94,16 @@ impl From<AllocError> for RecFault {
     }
 }
 
+impl From<Memory> for RecFault {
+    ghost use Rattle.rtps_tool.specs.declared.faults.RecFault.TheVariants.{Memory};
+
+    ghost from_gives = { λ _ fault. fault ≡ Memory };
+
+    fn from(_error: Memory) -> RecFault {
+        RecFault::Memory
+    }
+}
+
 impl<T: Drop> From<AllocFailed<T>> for RecFault {
     ghost use Rattle.rtps_tool.specs.declared.faults.RecFault.TheVariants.{Memory};
 
@@ -178,17 +188,57 @@ impl From<Memory> for RunFault {
     }
 }
 
-/// The status that the program ends with after a run: 0 where it is clean, 1 where it is not, 2 where the recording
+/// Why a run that may have another recording beside FILE did not write its whole text.
+#[derive(Clone, Copy, Debug, PartialEq, Eq)]
+pub enum BesideFault {
+    /// The run failed as a run of FILE alone may fail. Nothing is wrong with the other recording.
+    Run(RunFault),
+    /// The other recording was not read, as a run that reads it does not: never [`RunFault::Output`]. Nothing was written. Nothing is
+    /// wrong with FILE.
+    Other(RunFault),
+}
+
+impl From<RunFault> for BesideFault {
+    ghost use Rattle.rtps_tool.specs.declared.faults.BesideFault.TheVariants.{Run};
+
+    ghost from_gives = { λ run_fault fault. fault ≡ Run run_fault };
+
+    fn from(fault: RunFault) -> BesideFault {
+        BesideFault::Run(fault)
+    }
+}
+
+impl From<Memory> for BesideFault {
+    ghost use Rattle.rtps_tool.specs.declared.faults.BesideFault.TheVariants.{Run};
+    ghost use Rattle.rtps_tool.specs.declared.faults.RunFault.TheVariants.{Memory};
+
+    ghost from_gives = { λ _ fault. fault ≡ Run Memory };
+
+    fn from(_error: Memory) -> BesideFault {
+        BesideFault::Run(RunFault::Memory)
+    }
+}
+
+/// The status of a fault: 2 where the recording is refused, 3 where a read, a write or a request for memory failed.
+fn fault_status(fault: &RunFault) -> u8
+    ensures { result ≡ fault_status_of fault.now }
+{
+    match fault {
+        RunFault::Recording(RecFault::Memory) => 3,
+        RunFault::Recording(_) => 2,
+        RunFault::Input | RunFault::Output { .. } | RunFault::Memory => 3,
+    }
+}
+
+/// The status that the program ends with after a run: 0 where it is clean, 1 where it is not, 2 where a recording
 /// is refused, 3 where a read, a write or a request for memory failed.
-pub fn status(outcome: &Result<Ending, RunFault>) -> u8
+pub fn status(outcome: &Result<Ending, BesideFault>) -> u8
     ensures { result ≡ status_of outcome.now }
 {
     match outcome {
         Ok(Ending::Clean) => 0,
         Ok(Ending::Unclean | Ending::Unmet(_)) => 1,
-        Err(RunFault::Recording(RecFault::Memory)) => 3,
-        Err(RunFault::Recording(_)) => 2,
-        Err(RunFault::Input | RunFault::Output { .. } | RunFault::Memory) => 3,
+        Err(BesideFault::Run(fault) | BesideFault::Other(fault)) => fault_status(fault),
     }
 }
 
@@ -198,4 +248,12 @@ pub fn write_fault<W: Write>(fault: &RunFault, output: &mut W) -> bool
     ensures { result ≡ true → Appends (W.contents output.old) (W.contents output.new) (fault_line fault.now) }
 {
     writeln!(output, "rtps-audit: {fault}").is_ok()
+}
+
+/// Writes the line that tells of a fault of the other recording: `rtps-audit: `, its name, a colon and a space, the fault's text and LF.
+/// Where it answers true, the line was written. Where it answers false, nothing is promised, as of [`write_fault`].
+pub fn write_other_fault<W: Write>(name: &str, fault: &RunFault, output: &mut W) -> bool
+    ensures { result ≡ true → Appends (W.contents output.old) (W.contents output.new) (other_fault_line name.now fault.now) }
+{
+    writeln!(output, "rtps-audit: {name}: {fault}").is_ok()
 }

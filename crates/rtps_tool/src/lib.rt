@@ -16,7 +16,7 @@ mod streams;
 pub use choices::run_choice;
 pub use command::{Choice, ReportForm, WordFault, read_words};
 pub use demands::Demands;
-pub use faults::{RecFault, RunFault, status, write_fault};
+pub use faults::{BesideFault, RecFault, RunFault, status, write_fault, write_other_fault};
 pub use findings_text::write_findings;
 pub use follow::Follow;
 pub use form::either::{read_recording, read_recording_within};
@@ -27,6 +27,7 @@ pub use rtps_report::{
     Asked, Datagrams, Ending, FewRows, Findings, Recording, Rows, Standard, Unwatched, Watch,
 };
 pub use runs::{
-    Command, Limits, Options, run, run_audit, run_audit_from, run_list, run_sample, run_show,
+    Command, Inputs, Limits, Options, run, run_audit, run_audit_from, run_beside, run_list,
+    run_sample, run_show,
 };
 pub use streams::read_input;

@@ -1,4 +1,4 @@
-ghost use Rattle.std.specs.Prelude.{◌≡◌, IfOk};
+ghost use Rattle.std.specs.Prelude.{◌≡◌, IfOk, MatchResult, None};
 ghost use Rattle.std.specs.String.{string_bytes};
 ghost use Rattle.rtps_report.specs.Asked.{asked_value};
 ghost use Rattle.rtps_text.specs.ReportText.{IsAudited, IsAuditedFrom};
@@ -8,11 +8,12 @@ ghost use Rattle.rtps_text.specs.ShowText.{IsShown};
 ghost use Rattle.rtps_audit.specs.Index.{IsIndexBy};
 ghost use Rattle.rtps_fragments.specs.RecordedSamples.{intake_as};
 ghost use Rattle.rtps_report.specs.FullReport.{IsTold, report_value};
+ghost use Rattle.rtps_report.specs.ReaderSide.{arrived_value};
 ghost use Rattle.rtps_tool.specs.Commands.{IsFormOf, IsPageForm, IsTextOf};
 ghost use Rattle.rtps_tool.specs.Limits.{usual as usual_lem};
-ghost use Rattle.rtps_tool.specs.Runs.{Runs, RunsWithin, Writes};
+ghost use Rattle.rtps_tool.specs.Runs.{FailsReading, IsOtherFault, ReadsRecording, Runs, RunsBeside, RunsWithin, Writes};
 
-use crate::faults::RunFault;
+use crate::faults::{BesideFault, RunFault};
 use crate::follow::Follow;
 use crate::streams::{read_input, write_text};
 use rtps_capture::Captures;
@@ -110,27 +111,83 @@ pub fn run<R: Read, W: Write, P: Watch + Follow>(
     output: &mut W,
     watch: &mut P,
 ) -> Result<Ending, RunFault>
-    ensures { RunsWithin options.now.limits options.now.captures (IsTextOf options.now.command (asked_value options.now.asked))
+    ensures { RunsWithin options.now.limits options.now.captures (IsTextOf options.now.command (asked_value options.now.asked) None)
         (R.remaining input.old) (R.remaining input.new) (W.contents output.old) (W.contents output.new) result }
 {
     let recording = read_input(alloc, options.limits, options.captures, input)?;
     watch.recorded(recording.ignored());
-    let (text, ending) = text_of(alloc, options, &recording, watch)?;
+    let (text, ending) = text_of(alloc, options, &recording, None, watch)?;
     write_text(text.as_bytes(), output)?;
     Ok(ending)
 }
 
-/// What is printed of a recording, and how the run ends.
-fn text_of<P: Watch>(
+/// What a run reads: FILE, and another recording beside it, made at the host of readers in the same time.
+#[derive(Drop)]
+pub struct Inputs<R, S> {
+    pub file: R,
+    pub other: S,
+}
+
+/// [`run`] of FILE beside another recording, against which the rows of a report are held. FILE is read first, and then the other
+/// recording, each to its end or past the most octets that it may have; both have the same limits, and the same captures are read. It
+/// tells what was read of FILE.
+///
+/// Both are read and the whole text made before anything is written. An `Err` says which of the two could not be read, and what was
+/// written: nothing, but for [`RunFault::Output`]. A fault of the other recording is told only where FILE has none; where FILE is no
+/// recording or a read of it failed, nothing is read of the other one. How much was read of a recording is open after its
+/// [`RunFault::Input`], and after [`RunFault::Memory`].
+pub fn run_beside<R: Read, S: Read, W: Write, P: Watch + Follow>(
     alloc: Global,
     options: &Options<'_>,
-    recording: &Recording,
+    inputs: &mut Inputs<R, S>,
+    output: &mut W,
+    watch: &mut P,
+) -> Result<Ending, BesideFault>
+    ensures { RunsBeside options.now.limits options.now.captures (IsTextOf options.now.command (asked_value options.now.asked))
+        (R.remaining inputs.old.file) (R.remaining inputs.new.file) (S.remaining inputs.old.other) (S.remaining inputs.new.other)
+        (W.contents output.old) (W.contents output.new) result }
+{
+    let file = &mut inputs.file;
+    let recording = read_input(alloc, options.limits, options.captures, file)?;
+    watch.recorded(recording.ignored());
+    let other = read_other(alloc, options, &mut inputs.other)?;
+    let (text, ending) = text_of(alloc, options, &recording, Some(&other), watch)?;
+    write_text(text.as_bytes(), output)?;
+    Ok(ending)
+}
+
+/// Reads the other recording. An `Err` is its fault.
+fn read_other<R: Read>(
+    alloc: Global,
+    options: &Options<'_>,
+    input: &mut R,
+) -> Result<Recording, BesideFault>
+    ensures { MatchResult result
+        (ReadsRecording options.now.limits options.now.captures (R.remaining input.old) (R.remaining input.new))
+        (IsOtherFault (FailsReading options.now.limits options.now.captures (R.remaining input.old) (R.remaining input.new))) }
+{
+    match read_input(alloc, options.limits, options.captures, input) {
+        Ok(recording) => Ok(recording),
+        Err(fault) => Err(BesideFault::Other(fault)),
+    }
+}
+
+/// What is printed of a recording, beside another one, if there is one, and how the run ends.
+fn text_of<'a, P: Watch>(
+    alloc: Global,
+    options: &'a Options<'a>,
+    recording: &'a Recording,
+    arrived: Option<&'a Recording>,
     watch: &mut P,
 ) -> Result<(String, Ending), Memory>
-    ensures { IfOk result (λ answer. IsTextOf options.now.command (asked_value options.now.asked) recording.now (string_bytes answer.0) answer.1) }
+    ensures { IfOk result (λ answer. IsTextOf options.now.command (asked_value options.now.asked) (arrived_value arrived.entry) recording.now (string_bytes answer.0) answer.1) }
 {
     let asked = &options.asked;
-    let subject = Subject { recording, asked };
+    let subject = Subject {
+        recording,
+        asked,
+        arrived,
+    };
     match options.command {
         Command::Check => told(alloc, Form::Check, subject, watch),
         Command::CheckJson => told(alloc, Form::CheckJson, subject, watch),
@@ -160,7 +217,7 @@ fn told<P: Watch>(
     subject: Subject<'_>,
     watch: &mut P,
 ) -> Result<(String, Ending), Memory>
-    ensures { IfOk result (λ answer. IsTold (IsFormOf form) (asked_value subject.entry.asked.now) subject.entry.recording.now (string_bytes answer.0) answer.1) }
+    ensures { IfOk result (λ answer. IsTold (IsFormOf form) (asked_value subject.entry.asked.now) (arrived_value subject.entry.arrived) subject.entry.recording.now (string_bytes answer.0) answer.1) }
 {
     let mut samples = Samples::none(alloc);
     let report = report_on(alloc, subject, &mut samples, watch)?;

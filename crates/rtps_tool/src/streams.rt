@@ -2,6 +2,7 @@ ghost use Rattle.std.specs.Prelude.{◌≡◌, [], true, false, ◌+◌, ◌≤�
 ghost use Rattle.std.specs.Io.KnownBytes.{Appends, Consumes, IsAtEnd};
 ghost use Rattle.rtps_tool.specs.Forms.{begins_capture as begins_capture_lem};
 ghost use Rattle.rtps_capture.specs.declared.captures.Captures.{Captures as CapturesValue};
+ghost use Rattle.rtps_tool.specs.RecordingText.{unframed};
 ghost use Rattle.rtps_tool.specs.Runs.{ReadsRecording, FailsReading, FailsWriting};
 ghost use Rattle.rtps_tool.specs.Unfinished.{ReadsOn};
 ghost use Rattle.rtps_tool.specs.declared.runs.Limits.{Limits as LimitsValue};
@@ -104,7 +105,7 @@ fn read_text_input<R: Read>(
 {
     let mut reader = LineReader::new(alloc);
     read_pieces(limits, input, &mut reader, held, start)?;
-    Ok(Recording::of_text(reader.into_datagrams()))
+    Ok(Recording::of_text(alloc, reader.into_datagrams()))
 }
 
 /// Reads the lines that are a text, by way of what is held of it: so many octets were read.
@@ -120,7 +121,7 @@ fn read_pieces<R: Read>(
     requires begun { (4 ≤ start) × (start ≤ 65539) }
     ensures { (captures : CapturesValue) (before : Option (List ℕ))
         → begins_capture_lem captures (take start held.old) ≡ false → Consumes before (R.remaining input.old) (take start held.old) → MatchResult result
-        (λ _. ReadsRecording limits captures before (R.remaining input.new) record { datagrams = reader.new.datagrams; ignored = None; reasons = None })
+        (λ _. ReadsRecording limits captures before (R.remaining input.new) (unframed reader.new.datagrams))
         (FailsReading limits captures before (R.remaining input.new)) }
 {
     let mut total = start as u128;

@@ -17,6 +17,7 @@ use Rattle.rtps_wire.proofs.Fragments.{concat-parts_of, length-parts_in, lengths
 use Rattle.rtps_wire.proofs.Numbers.{numbers_fit}
 use Rattle.rtps_wire.proofs.Places.{items_placed}
 use Rattle.rtps_wire.proofs.Readings.{outcomes-done, outcomes-step}
+pub use Rattle.rtps_wire.proofs.Submessages.{whole_not_cut}
 
 last_with : (more : List ℕ → ℕ → List Outcome) (fault : Option WireFault) (rest : List ℕ) (at : ℕ) (refusal : Refusal) (behind : List Outcome)
     → outcomes_with more fault rest at ≡ Err refusal ∷ behind → behind ≡ []

@@ -6,7 +6,9 @@ ghost use Rattle.rtps_report.specs.Reported.{number_of as number_of_lem};
 ghost use Rattle.rtps_text.specs.ReportText.{explained_text, explanation_text, kept_text, missed_lines, not_received_line, rest_lines, shown_by, span_line, until_text};
 
 use crate::text::audit_text::ReportCountsLine;
-use rtps_evidence::{Evidence, Explanation, FirstMissed, Grounds, Location, NotReceived, Teller};
+use rtps_evidence::{
+    Evidence, Explanation, FirstMissed, Grounds, Location, NotReceived, Teller, Times,
+};
 use rtps_lines::{
     AcknowledgedLine, AnnouncedLine, AskedLine, ClaimedLine, PlaceComma, PlaceText, QuestionsLine,
     ToldLine, VerdictText, kind_name, push_field, push_sent,
@@ -16,15 +18,16 @@ use rtps_report::{FullReport, number_of};
 use std::alloc::{AllocError, Global};
 use std::fmt;
 
-/// What `why` prints of a report: each row, and what its verdict rests on.
+/// What `why` prints of a report: each row, and what its verdict rests on. It says no times.
 pub fn why_text(alloc: Global, report: &FullReport<'_>) -> Result<String, AllocError>
     ensures { IfOk result (λ text. string_bytes text
         ≡ explained_text (rows_of (report_value report.now)) report.now.explained.counts report.now.recording.now.ignored) }
 {
     let explained = &report.explained;
+    let times = Times::none(alloc);
     let mut text = String::new(alloc);
     writeln!(text, "pairs {}", explained.rows.len())?;
-    push_rows(&mut text, &explained.rows)?;
+    push_rows(&mut text, &explained.rows, &times)?;
     write!(
         text,
         "{}",
@@ -33,18 +36,18 @@ pub fn why_text(alloc: Global, report: &FullReport<'_>) -> Result<String, AllocE
     Ok(text)
 }
 
-fn push_rows(text: &mut String, rows: &[Explanation<'_>]) -> Result<(), AllocError>
+fn push_rows(text: &mut String, rows: &[Explanation<'_>], times: &Times) -> Result<(), AllocError>
     ensures { OnOk result (string_bytes text.new
-        ≡ string_bytes text.old ++ flat_map (λ row. explanation_text (explanation_value row)) rows.now) }
+        ≡ string_bytes text.old ++ flat_map (λ row. explanation_text times.now (explanation_value row)) rows.now) }
 {
     for row in rows {
-        push_row(text, row)?;
+        push_row(text, row, times)?;
     }
     Ok(())
 }
 
-fn push_row(text: &mut String, row: &Explanation<'_>) -> Result<(), AllocError>
-    ensures { OnOk result (string_bytes text.new ≡ string_bytes text.old ++ explanation_text (explanation_value row.now)) }
+fn push_row(text: &mut String, row: &Explanation<'_>, times: &Times) -> Result<(), AllocError>
+    ensures { OnOk result (string_bytes text.new ≡ string_bytes text.old ++ explanation_text times.now (explanation_value row.now)) }
 {
     let evidence = &row.evidence;
     writeln!(
@@ -61,14 +64,18 @@ fn push_row(text: &mut String, row: &Explanation<'_>) -> Result<(), AllocError>
         NameText(row.type_name)
     )?;
     push_span(text, evidence)?;
-    write!(text, "{}", AnnouncedLine(evidence.announcement))?;
-    write!(text, "{}", AcknowledgedLine(evidence.acknowledgement))?;
+    write!(text, "{}", AnnouncedLine(times, evidence.announcement))?;
+    write!(
+        text,
+        "{}",
+        AcknowledgedLine(times, evidence.acknowledgement)
+    )?;
     writeln!(
         text,
         "  payloads {} gone {} untold {}",
         evidence.payloads, evidence.gone, evidence.untold
     )?;
-    push_rest(text, evidence)
+    push_rest(text, evidence, times)
 }
 
 fn push_span(text: &mut String, evidence: &Evidence<'_>) -> Result<(), AllocError>
@@ -91,14 +98,14 @@ fn push_until(text: &mut String, until: Option<u64>) -> Result<(), AllocError>
     }
 }
 
-fn push_rest(text: &mut String, evidence: &Evidence<'_>) -> Result<(), AllocError>
-    ensures { OnOk result (string_bytes text.new ≡ string_bytes text.old ++ rest_lines (evidence_value evidence.now)) }
+fn push_rest(text: &mut String, evidence: &Evidence<'_>, times: &Times) -> Result<(), AllocError>
+    ensures { OnOk result (string_bytes text.new ≡ string_bytes text.old ++ rest_lines times.now (evidence_value evidence.now)) }
 {
     let numbers = sum_of(evidence.payloads, evidence.gone, evidence.untold);
     writeln!(text, "  received {} of {numbers}", evidence.received)?;
-    push_missed(text, evidence.missed, evidence.first_missed)?;
-    write!(text, "{}", NotReceivedLine(evidence.not_received))?;
-    push_shown(text, evidence)
+    push_missed(text, evidence.missed, evidence.first_missed, times)?;
+    write!(text, "{}", NotReceivedLine(times, evidence.not_received))?;
+    push_shown(text, evidence, times)
 }
 
 fn sum_of(one: u64, two: u64, three: u64) -> u128
@@ -107,18 +114,23 @@ fn sum_of(one: u64, two: u64, three: u64) -> u128
     u128::from(one) + u128::from(two) + u128::from(three)
 }
 
-fn push_missed(text: &mut String, missed: u64, first: Option<FirstMissed>) -> Result<(), AllocError>
-    ensures { OnOk result (string_bytes text.new ≡ string_bytes text.old ++ missed_lines missed first) }
+fn push_missed(
+    text: &mut String,
+    missed: u64,
+    first: Option<FirstMissed>,
+    times: &Times,
+) -> Result<(), AllocError>
+    ensures { OnOk result (string_bytes text.new ≡ string_bytes text.old ++ missed_lines times.now missed first) }
 {
     match first {
         None => Ok(()),
-        Some(first) => write!(text, "  missed {missed}\n{}", AskedLine(first)),
+        Some(first) => write!(text, "  missed {missed}\n{}", AskedLine(times, first)),
     }
 }
 
-fn push_shown(text: &mut String, evidence: &Evidence<'_>) -> Result<(), AllocError>
+fn push_shown(text: &mut String, evidence: &Evidence<'_>, times: &Times) -> Result<(), AllocError>
     ensures { OnOk result (string_bytes text.new
-        ≡ string_bytes text.old ++ shown_by (number_of_lem evidence.now.verdict) (grounds_value evidence.now.grounds)) }
+        ≡ string_bytes text.old ++ shown_by times.now (number_of_lem evidence.now.verdict) (grounds_value evidence.now.grounds)) }
 {
     let number = number_of(&evidence.verdict);
     match evidence.grounds {
@@ -128,35 +140,35 @@ fn push_shown(text: &mut String, evidence: &Evidence<'_>) -> Result<(), AllocErr
             asked_since,
             last_asked,
         } => {
-            write!(text, "{}", ToldLine(number, teller))?;
-            write!(text, "{}", QuestionsLine(asked_since, last_asked))
+            write!(text, "{}", ToldLine(times, number, teller))?;
+            write!(text, "{}", QuestionsLine(times, asked_since, last_asked))
         }
         Grounds::Conflict { first, other } => {
-            push_sent(text, number, first)?;
-            push_sent(text, number, other)
+            push_sent(text, number, first, times)?;
+            push_sent(text, number, other, times)
         }
         Grounds::Unfounded { teller, claim } => {
-            write!(text, "{}", ClaimedLine(claim))?;
-            write!(text, "{}", ToldLine(number, teller))
+            write!(text, "{}", ClaimedLine(times, claim))?;
+            write!(text, "{}", ToldLine(times, number, teller))
         }
     }
 }
 
 /// The line of the least number that is not received and of what keeps it; nothing where all are received.
 #[derive(Drop)]
-struct NotReceivedLine(Option<NotReceived>);
+struct NotReceivedLine<'t>(&'t Times, Option<NotReceived>);
 
-impl fmt::Display for NotReceivedLine {
-    ghost output = { λ line. Some (not_received_line line.0) };
+impl fmt::Display for NotReceivedLine<'_> {
+    ghost output = { λ line. Some (not_received_line line.0.now line.1) };
 
     fn fmt<W: fmt::Write>(&self, f: &mut fmt::Formatter<W>) -> fmt::Result {
-        match self.0 {
+        match self.1 {
             None => Ok(()),
             Some(kept) => writeln!(
                 f,
                 "  number {} may not be received: {}",
                 kept.number,
-                KeptText(kept.gone, kept.acknowledged)
+                KeptText(self.0, kept.gone, kept.acknowledged)
             ),
         }
     }
@@ -164,17 +176,17 @@ impl fmt::Display for NotReceivedLine {
 
 /// What keeps a number from being received: what told it gone, and where it was acknowledged.
 #[derive(Drop)]
-struct KeptText(Option<Teller>, Option<Location>);
+struct KeptText<'t>(&'t Times, Option<Teller>, Option<Location>);
 
-impl fmt::Display for KeptText {
-    ghost output = { λ text. Some (kept_text text.0 text.1) };
+impl fmt::Display for KeptText<'_> {
+    ghost output = { λ text. Some (kept_text text.0.now text.1 text.2) };
 
     #[tactic(auto, unfolding(crate::specs::ReportText::kept_text))]
     fn fmt<W: fmt::Write>(&self, f: &mut fmt::Formatter<W>) -> fmt::Result {
-        let Some(claim) = self.1 else {
+        let Some(claim) = self.2 else {
             return write!(f, "not acknowledged");
         };
-        match self.0 {
+        match self.1 {
             None => write!(
                 f,
                 "told nothing before datagram {} at {}",
@@ -184,8 +196,8 @@ impl fmt::Display for KeptText {
                 f,
                 "told gone by {} {} acknowledged {}",
                 kind_name(teller.kind),
-                PlaceComma(teller.place),
-                PlaceText(claim)
+                PlaceComma(self.0, teller.place),
+                PlaceText(self.0, claim)
             ),
         }
     }

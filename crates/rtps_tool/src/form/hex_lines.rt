@@ -48,7 +48,7 @@ pub(crate) fn read_text(alloc: Global, most: u64, text: &[u8]) -> Result<Recordi
     let mut reader = LineReader::new(alloc);
     let from = reader.read_complete(most, text, 0)?;
     reader.finish(most, &text[from..])?;
-    Ok(Recording::of_text(reader.into_datagrams()))
+    Ok(Recording::of_text(alloc, reader.into_datagrams()))
 }
 
 /// Appends the datagram that a line stands for, if it stands for one. There may be so many in all.

@@ -6,7 +6,7 @@ ghost use Rattle.rtps_tool.specs.RecordingCapture.{octets_in, recording_of_captu
 
 use crate::faults::RecFault;
 use rtps_capture::{ByteRange, Captures};
-use rtps_report::{DatagramSpan, Links, Reasons, Recording};
+use rtps_report::{DatagramSpan, Links, Reasons, Recording, Times};
 use std::alloc::Global;
 
 /// Reads a recording of so many datagrams at most from a capture of those that are read. It keeps the octets of the capture, and
@@ -23,6 +23,7 @@ pub(crate) fn read_capture(
 {
     let reading = rtps_capture::read_capture(alloc, captures, octets, most)?;
     let spans = spans_of(alloc, &reading.datagrams)?;
+    let times = Times::of(alloc, reading.start, reading.times)?;
     let ignored = reading.pieces + reading.cut + reading.other + reading.links;
     let reasons = Reasons {
         pieces: reading.pieces,
@@ -34,8 +35,8 @@ pub(crate) fn read_capture(
         },
     };
     match captures {
-        Captures::Classic => Ok(Recording::of_capture(reading.octets, spans, ignored)),
-        Captures::Any => Ok(Recording::of_any_capture(reading.octets, spans, reasons)),
+        Captures::Classic => Ok(Recording::of_capture(reading.octets, spans, times, ignored)),
+        Captures::Any => Ok(Recording::of_any_capture(reading.octets, spans, times, reasons)),
     }
 }
 

@@ -1,7 +1,7 @@
-use Rattle.std.proofs.Common.{◌++◌, ◌∷◌, [], ◌∙◌, ◌==◌, ℕ, List, ap, codes, if◌then◌else◌, map, string_bytes, sym}
+use Rattle.std.proofs.Common.{◌++◌, ◌∷◌, [], ◌∙◌, ◌==◌, ℕ, List, ap, codes, if◌then◌else◌, string_bytes, sym}
 use Rattle.std.proofs.lemmas.Result.{on_ok_weaker}
 use Rattle.std.specs.List.{concat}
-use Rattle.rtps_check.specs.CheckText.{beside_value, clean_line, no_pair_lines}
+use Rattle.rtps_check.specs.CheckText.{beside_value, clean_lines, no_pair_lines}
 use Rattle.rtps_check.proofs.checked_text.push_first.Goals as goal
 
 pub returns-then-totals-eq0 : goal.returns-then-totals-eq0
@@ -12,5 +12,5 @@ returns-then-totals-eq0 c =
     let lines : List ℕ → List ℕ = λ remedy. concat (codes "there is no pair to judge\n  -> " ∷ remedy ∷ codes "\n" ∷ []) in
     on_ok_weaker c.render.result
     (λ told. told ∙ ap (λ remedy. old ++ lines remedy) c.no_pair_remedy-remedy.ensures
-    ∙ ap (λ (pairs : ℕ). old ++ (if pairs == 0 then no_pair_lines beside.talk beside.left_out else clean_line totals)) (sym c.if-totals-eq0.true))
+    ∙ ap (λ (pairs : ℕ). old ++ (if pairs == 0 then no_pair_lines beside.talk beside.left_out else clean_lines beside.side totals)) (sym c.if-totals-eq0.true))
     c.render.ensures

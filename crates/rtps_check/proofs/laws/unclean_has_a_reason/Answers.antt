@@ -4,13 +4,13 @@ use Rattle.std.proofs.lemmas.Bool.Decides.{nat_tests}
 use Rattle.std.proofs.lemmas.Bool.{and_cases, and_from, and_parts, false≢true, or_cases, or_parts}
 use Rattle.std.proofs.lemmas.List.Sums.{count_by-le-length, sum_by-cons}
 use Rattle.std.specs.List.{list_all}
-use Rattle.rtps_evidence.specs.Clean.{has_all, is_clean as is_clean_in, is_complete as complete_in, is_open, is_tail as is_tail_in}
+use Rattle.rtps_evidence.specs.Clean.{has_all, is_clean as is_clean_in, is_complete as complete_in, is_open, is_tail as is_tail_in, is_whole, loses_none}
 use Rattle.rtps_report.specs.Findings.{are_none, findings_of, no_findings, when}
 use Rattle.rtps_report.specs.Asked.{is_of_complete, tail_of}
 use Rattle.rtps_report.specs.FullReport.{facts_with, is_met_by, missed_in}
 use Rattle.rtps_report.specs.Reported.{is_complete}
-use Rattle.rtps_report.specs.RowFacts.{is_certain, is_clean, is_clean_by, outcomes_by, outcomes_of}
-use Rattle.rtps_report.specs.Totals.{is_unclean, totals_of}
+use Rattle.rtps_report.specs.RowFacts.{is_certain, is_clean, is_clean_by, is_held_in, outcomes_by, outcomes_of}
+use Rattle.rtps_report.specs.Totals.{is_unclean, lost_of, totals_of}
 use Rattle.rtps_report.specs.Vocabulary.{Complete, Conflict, EvidenceValue, ExplanationValue, InSpan, Open, Outcomes, Unfounded, Verdict}
 use Rattle.rtps_report.specs.declared.asked.Standard.TheVariants.{AllClean, AllComplete}
 use Rattle.rtps_report.specs.declared.findings.Ending.TheVariants.{Clean, Unclean, Unmet}
@@ -19,7 +19,7 @@ use Rattle.rtps_report.specs.declared.findings.Findings.{Findings}
 use Rattle.rtps_report.specs.declared.advice.Scope.{Scope}
 use Rattle.rtps_report.specs.declared.asked.Standard.{Standard}
 use Rattle.rtps_report.specs.declared.totals.Totals.{Totals}
-use Rattle.rtps_lines.specs.Causes.{cause, causes_of, empty_cause, few_cause, findings_in, incomplete_words, lost_cause, missed_words, row_causes, unanswered_words, uncertain_of, uncertain_words, unsent_words}
+use Rattle.rtps_lines.specs.Causes.{cause, causes_of, empty_cause, few_cause, findings_in, incomplete_words, lost_cause, lost_words, missed_words, row_causes, unanswered_words, uncertain_of, uncertain_words, unsent_words}
 use Rattle.rtps_parts.specs.Parts.{WordsValue}
 use Rattle.rtps_check.specs.CheckText.{TellsWhyUnclean}
 use Rattle.rtps_check.proofs.laws.unclean_has_a_reason.Goals as goal
@@ -61,26 +61,51 @@ one_of b e = ap {B = ℕ} (λ c. cond c 1 0) e
 none_of : (b : Bool) → b ≡ false → ◌≡◌ {A = ℕ} (cond b 1 0) 0
 none_of b e = ap {B = ℕ} (λ c. cond c 1 0) e
 
+-- how many likely numbers did not arrive: all of them, where the pair is held
+abbrev lost_in : Bool → Outcomes → ℕ
+lost_in held outcomes = cond held outcomes.likely 0
+
+none_lost_in : (held : Bool) (outcomes : Outcomes) → (not held || (outcomes.likely == 0)) ≡ true → nat_lt 0 (lost_in held outcomes) ≡ false
+none_lost_in true outcomes e = nothing outcomes.likely e
+none_lost_in false outcomes e = refl
+
+some_lost_in : (held : Bool) (outcomes : Outcomes) → (not held || (outcomes.likely == 0)) ≡ false → nat_lt 0 (lost_in held outcomes) ≡ true
+some_lost_in true outcomes e = positive outcomes.likely e
+some_lost_in false outcomes e = absurd (true≢false e)
+
 -- how many of the numbers of a row are lost, each kind as one
-abbrev lost_kinds : Outcomes → ℕ
-lost_kinds outcomes = cond (nat_lt 0 outcomes.missed) 1 0 + (cond (nat_lt 0 outcomes.unsent) 1 0 + cond (nat_lt 0 outcomes.unanswered) 1 0)
+abbrev lost_kinds : Bool → Outcomes → ℕ
+lost_kinds held outcomes =
+    cond (nat_lt 0 outcomes.missed) 1 0
+    + (cond (nat_lt 0 outcomes.unsent) 1 0 + (cond (nat_lt 0 outcomes.unanswered) 1 0 + cond (nat_lt 0 (lost_in held outcomes)) 1 0))
 
-all_there : (outcomes : Outcomes) → has_all outcomes ≡ true → lost_kinds outcomes ≡ 0
-all_there outcomes e =
-    let first = and_parts (outcomes.missed == 0) ((outcomes.unsent == 0) && (outcomes.unanswered == 0)) e in
+all_there : (held : Bool) (outcomes : Outcomes) → loses_none held outcomes ≡ true → lost_kinds held outcomes ≡ 0
+all_there held outcomes e =
+    let both = and_parts (has_all outcomes) (not held || (outcomes.likely == 0)) e in
+    let first = and_parts (outcomes.missed == 0) ((outcomes.unsent == 0) && (outcomes.unanswered == 0)) both.0 in
     let last = and_parts (outcomes.unsent == 0) (outcomes.unanswered == 0) first.1 in
-    omega (arith, none_of _ (nothing outcomes.missed first.0), none_of _ (nothing outcomes.unsent last.0), none_of _ (nothing outcomes.unanswered last.1))
+    omega (
+      arith,
+      none_of _ (nothing outcomes.missed first.0),
+      none_of _ (nothing outcomes.unsent last.0),
+      none_of _ (nothing outcomes.unanswered last.1),
+      none_of _ (none_lost_in held outcomes both.1),
+    )
 
-some_lost : (outcomes : Outcomes) → has_all outcomes ≡ false → 0 < lost_kinds outcomes
-some_lost outcomes e = by (and_cases (outcomes.missed == 0) ((outcomes.unsent == 0) && (outcomes.unanswered == 0)) e)
+some_lost : (held : Bool) (outcomes : Outcomes) → loses_none held outcomes ≡ false → 0 < lost_kinds held outcomes
+some_lost held outcomes e = either (and_cases (has_all outcomes) (not held || (outcomes.likely == 0)) e)
   where
-    later : ((outcomes.unsent == 0) ≡ false) ⊎ ((outcomes.unanswered == 0) ≡ false) → 0 < lost_kinds outcomes
+    later : ((outcomes.unsent == 0) ≡ false) ⊎ ((outcomes.unanswered == 0) ≡ false) → 0 < lost_kinds held outcomes
     later (inl unsent) = omega (arith, one_of _ (positive outcomes.unsent unsent))
     later (inr unanswered) = omega (arith, one_of _ (positive outcomes.unanswered unanswered))
 
-    by : ((outcomes.missed == 0) ≡ false) ⊎ (((outcomes.unsent == 0) && (outcomes.unanswered == 0)) ≡ false) → 0 < lost_kinds outcomes
+    by : ((outcomes.missed == 0) ≡ false) ⊎ (((outcomes.unsent == 0) && (outcomes.unanswered == 0)) ≡ false) → 0 < lost_kinds held outcomes
     by (inl missed) = omega (arith, one_of _ (positive outcomes.missed missed))
     by (inr more) = later (and_cases (outcomes.unsent == 0) (outcomes.unanswered == 0) more)
+
+    either : (has_all outcomes ≡ false) ⊎ ((not held || (outcomes.likely == 0)) ≡ false) → 0 < lost_kinds held outcomes
+    either (inl some) = by (and_cases (outcomes.missed == 0) ((outcomes.unsent == 0) && (outcomes.unanswered == 0)) some)
+    either (inr likely) = omega (arith, one_of _ (some_lost_in held outcomes likely))
 
 same_complete : (verdict : Verdict) → complete_in verdict ≡ is_complete verdict
 same_complete (Complete last) = refl
@@ -89,37 +114,55 @@ same_complete (Conflict number) = refl
 same_complete (Unfounded datagram number) = refl
 
 -- of a row in a span that is clean nothing is lost
-clean_has_all : (tail : ℕ) (left : Bool) (verdict : Verdict) (outcomes : Outcomes) (base : ℕ) → is_clean_in tail left verdict outcomes base ≡ true → has_all outcomes ≡ true
-clean_has_all tail left verdict outcomes base e =
-    by (or_cases (complete_in verdict && has_all outcomes) (is_tail_in verdict outcomes base && (left || nat_le outcomes.unconfirmed tail)) e)
+clean_loses_none : (tail : ℕ) (left held : Bool) (verdict : Verdict) (outcomes : Outcomes) (base : ℕ) → is_clean_in tail left held verdict outcomes base ≡ true → loses_none held outcomes ≡ true
+clean_loses_none tail left held verdict outcomes base e =
+    by (or_cases (complete_in verdict && none) (is_whole held verdict outcomes || (is_tail_in held verdict outcomes base && few)) e)
   where
-    by : ((complete_in verdict && has_all outcomes) ≡ true) ⊎ ((is_tail_in verdict outcomes base && (left || nat_le outcomes.unconfirmed tail)) ≡ true) → has_all outcomes ≡ true
-    by (inl complete) = (and_parts (complete_in verdict) (has_all outcomes) complete).1
-    by (inr lacking) =
-        let is = (and_parts (is_tail_in verdict outcomes base) (left || nat_le outcomes.unconfirmed tail) lacking).0 in
-        (and_parts (nat_lt 1 base) (has_all outcomes) (and_parts (is_open verdict) (nat_lt 1 base && has_all outcomes) is).1).1
+    none : Bool
+    none = loses_none held outcomes
+
+    few : Bool
+    few = left || nat_le outcomes.unconfirmed tail
+
+    lacking : (is_whole held verdict outcomes ≡ true) ⊎ ((is_tail_in held verdict outcomes base && few) ≡ true) → loses_none held outcomes ≡ true
+    lacking (inl whole) =
+        let opened = (and_parts held (is_open verdict && (none && (outcomes.unconfirmed == 0))) whole).1 in
+        (and_parts none (outcomes.unconfirmed == 0) (and_parts (is_open verdict) (none && (outcomes.unconfirmed == 0)) opened).1).0
+    lacking (inr tails) =
+        let is = (and_parts (is_tail_in held verdict outcomes base) few tails).0 in
+        (and_parts (nat_lt 1 base) none (and_parts (is_open verdict) (nat_lt 1 base && none) is).1).1
+
+    by : ((complete_in verdict && none) ≡ true) ⊎ ((is_whole held verdict outcomes || (is_tail_in held verdict outcomes base && few)) ≡ true) → loses_none held outcomes ≡ true
+    by (inl complete) = (and_parts (complete_in verdict) none complete).1
+    by (inr lacks) = lacking (or_cases (is_whole held verdict outcomes) (is_tail_in held verdict outcomes base && few) lacks)
 
 none_lost : (tail received missed : ℕ) (verdict : Verdict) (in_span : Option InSpan) → is_clean_by tail verdict missed in_span ≡ true
-    → lost_kinds (outcomes_by received missed in_span) ≡ 0
+    → lost_kinds (is_held_in in_span) (outcomes_by received missed in_span) ≡ 0
 none_lost tail received missed verdict None e = omega (arith, none_of _ (nothing missed (and_parts (is_complete verdict) (missed == 0) e).1))
 none_lost tail received missed verdict (Some in_span) e =
-    all_there in_span.outcomes (clean_has_all tail (is_some in_span.until) verdict in_span.outcomes in_span.base e)
+    all_there in_span.is_held in_span.outcomes (clean_loses_none tail (is_some in_span.until) in_span.is_held verdict in_span.outcomes in_span.base e)
 
 -- of a complete row that is not clean something is lost
 complete_lost : (tail received missed : ℕ) (verdict : Verdict) (in_span : Option InSpan) → is_complete verdict ≡ true → is_clean_by tail verdict missed in_span ≡ false
-    → 0 < lost_kinds (outcomes_by received missed in_span)
+    → 0 < lost_kinds (is_held_in in_span) (outcomes_by received missed in_span)
 complete_lost tail received missed verdict None complete e = by (and_cases (is_complete verdict) (missed == 0) e)
   where
-    by : (is_complete verdict ≡ false) ⊎ ((missed == 0) ≡ false) → 0 < lost_kinds (outcomes_by received missed None)
+    by : (is_complete verdict ≡ false) ⊎ ((missed == 0) ≡ false) → 0 < lost_kinds false (outcomes_by received missed None)
     by (inl not_complete) = absurd (false≢true (sym not_complete ∙ complete))
     by (inr some) = omega (arith, one_of _ (positive missed some))
 complete_lost tail received missed verdict (Some in_span) complete e =
-    by (and_cases (complete_in verdict) (has_all in_span.outcomes)
-    (or_parts (complete_in verdict && has_all in_span.outcomes) (is_tail_in verdict in_span.outcomes in_span.base && (is_some in_span.until || nat_le in_span.outcomes.unconfirmed tail)) e).0)
+    by (and_cases (complete_in verdict) (loses_none held outcomes)
+    (or_parts (complete_in verdict && loses_none held outcomes) (is_whole held verdict outcomes || (is_tail_in held verdict outcomes in_span.base && (is_some in_span.until || nat_le outcomes.unconfirmed tail))) e).0)
   where
-    by : (complete_in verdict ≡ false) ⊎ (has_all in_span.outcomes ≡ false) → 0 < lost_kinds in_span.outcomes
+    held : Bool
+    held = in_span.is_held
+
+    outcomes : Outcomes
+    outcomes = in_span.outcomes
+
+    by : (complete_in verdict ≡ false) ⊎ (loses_none held outcomes ≡ false) → 0 < lost_kinds held outcomes
     by (inl not_complete) = absurd (false≢true (sym not_complete ∙ same_complete verdict ∙ complete))
-    by (inr some) = some_lost in_span.outcomes some
+    by (inr some) = some_lost held outcomes some
 
 and_not : (a b : Bool) → b ≡ true → (not a && not b) ≡ false
 and_not true b e = refl
@@ -143,7 +186,7 @@ unsure false is e = absurd (true≢false e)
 
 -- how much is wrong with a row
 abbrev wrong : ℕ → ℕ → Bool → EvidenceValue → ℕ
-wrong from tail certain evidence = cond (is_unclean tail evidence) 1 0 + (lost_kinds (outcomes_of evidence) + cond (certain && not (is_certain from evidence)) 1 0)
+wrong from tail certain evidence = cond (is_unclean tail evidence) 1 0 + (lost_kinds (is_held_in evidence.in_span) (outcomes_of evidence) + cond (certain && not (is_certain from evidence)) 1 0)
 
 none_wrong : (from tail : ℕ) (certain : Bool) (evidence : EvidenceValue) → is_met_by from (AllClean tail certain) evidence ≡ true → wrong from tail certain evidence ≡ 0
 none_wrong from tail certain evidence e =
@@ -171,7 +214,7 @@ abbrev all_wrong : Scope → Bool → List ExplanationValue → ℕ
 all_wrong scope certain rows =
     let totals = totals_of scope rows in
     totals.unclean_pairs
-    + ((totals.missed_pairs + (totals.unsent_pairs + totals.unanswered_pairs)) + count_by (λ row. certain && not (is_certain scope.from row.evidence)) rows)
+    + ((totals.missed_pairs + (totals.unsent_pairs + (totals.unanswered_pairs + totals.lost_pairs))) + count_by (λ row. certain && not (is_certain scope.from row.evidence)) rows)
 
 wrong_step : (scope : Scope) (certain : Bool) (row : ExplanationValue) (rows : List ExplanationValue)
     → all_wrong scope certain (row ∷ rows) ≡ wrong scope.from scope.tail certain row.evidence + all_wrong scope certain rows
@@ -182,6 +225,7 @@ wrong_step scope certain row rows =
       count_step (λ (one : ExplanationValue). nat_lt 0 (outcomes_of one.evidence).missed) row rows,
       count_step (λ (one : ExplanationValue). nat_lt 0 (outcomes_of one.evidence).unsent) row rows,
       count_step (λ (one : ExplanationValue). nat_lt 0 (outcomes_of one.evidence).unanswered) row rows,
+      count_step (λ (one : ExplanationValue). nat_lt 0 (lost_of one.evidence)) row rows,
       count_step (λ (one : ExplanationValue). certain && not (is_certain scope.from one.evidence)) row rows,
     )
 
@@ -261,7 +305,8 @@ met_without_reasons (AllClean tail certain) from unread rows e =
     (no_parts _ _ (no_lost totals.missed totals.missed_pairs missed_words (omega (arith, none)))
     (no_parts _ _ (no_lost totals.unsent totals.unsent_pairs unsent_words (omega (arith, none)))
     (no_parts _ _ (no_lost totals.unanswered totals.unanswered_pairs unanswered_words (omega (arith, none)))
-    (no_lost (uncertain_of totals certain).numbers (uncertain_of totals certain).pairs uncertain_words (omega (arith, none, uncertain))))))
+    (no_parts _ _ (no_lost totals.lost totals.lost_pairs lost_words (omega (arith, none)))
+    (no_lost (uncertain_of totals certain).numbers (uncertain_of totals certain).pairs uncertain_words (omega (arith, none, uncertain)))))))
 
 -- rows that are not give one
 not_met_has_a_reason : (standard : Standard) (from : ℕ) (unread : Bool) (rows : List ExplanationValue)
@@ -278,6 +323,7 @@ not_met_has_a_reason (AllClean tail certain) from unread rows e none =
     let missed = both_empty (lost_cause (record { numbers = totals.missed; pairs = totals.missed_pairs }) missed_words) _ unclean.1 in
     let unsent = both_empty (lost_cause (record { numbers = totals.unsent; pairs = totals.unsent_pairs }) unsent_words) _ missed.1 in
     let unanswered = both_empty (lost_cause (record { numbers = totals.unanswered; pairs = totals.unanswered_pairs }) unanswered_words) _ unsent.1 in
+    let lost = both_empty (lost_cause (record { numbers = totals.lost; pairs = totals.lost_pairs }) lost_words) _ unanswered.1 in
     absurd (omega (
       arith,
       rows_not_met scope certain rows e,
@@ -285,7 +331,8 @@ not_met_has_a_reason (AllClean tail certain) from unread rows e none =
       lost_none totals.missed totals.missed_pairs missed_words missed.0,
       lost_none totals.unsent totals.unsent_pairs unsent_words unsent.0,
       lost_none totals.unanswered totals.unanswered_pairs unanswered_words unanswered.0,
-      lost_none (uncertain_of totals certain).numbers (uncertain_of totals certain).pairs uncertain_words unanswered.1,
+      lost_none totals.lost totals.lost_pairs lost_words lost.0,
+      lost_none (uncertain_of totals certain).numbers (uncertain_of totals certain).pairs uncertain_words lost.1,
       uncertain_counted scope certain rows,
     ))
 

@@ -4,16 +4,16 @@ use Rattle.rtps_audit.specs.declared.report.Row.{Row}
 use Rattle.rtps_evidence.proofs.explanation.explain_index.Goals as goal
 
 pub returns : goal.returns
-returns g c = λ intake is.
-    let reports = (c.in_ok-report.ensures intake is).report in
+returns g c = λ intake beside are.
+    let reports = (c.in_ok-report.ensures intake are.index).report in
     record {
       report = c.in_ok-report.report;
       reports = reports;
       pairs = c.in_ok-rows.ensures.pairs ∙ ap (map (λ (row : Row). row.pair)) c.deref.ensures.value;
-      rows = λ whole. c.in_ok-rows.ensures.rows intake is whole ∙ c.deref.ensures.value;
+      rows = λ whole. c.in_ok-rows.ensures.rows intake are.index whole ∙ c.deref.ensures.value;
       counts = refl;
       directory = c.directory.result.now;
-      is_map = c.directory.ensures intake is;
+      is_map = c.directory.ensures intake are.index;
       named = c.in_ok-rows.ensures.named;
-      shown = c.in_ok-rows.ensures.shown intake is (subst (All (IsJudgedFrom c.args.extent.from _)) (sym c.deref.ensures.value) reports.judged);
+      shown = c.in_ok-rows.ensures.shown intake beside are (subst (All (IsJudgedFrom c.args.extent.from _)) (sym c.deref.ensures.value) reports.judged);
     }

@@ -17,7 +17,7 @@ loop-row-preserved c =
     let extent = c.args.extent in
     let judgement = c.in_ok-judgement.judgement in
     let evidence = c.in_ok-evidence.evidence in
-    let known : (intake : Intake) → IsIndexBy intake c.args.index.now → IsSummaryOf intake.acts c.in_ok-summary.summary =
+    let known : (intake : Intake) → IsIndexBy intake c.args.sides.now.index.now → IsSummaryOf intake.acts c.in_ok-summary.summary =
     λ intake is. c.in_ok-summary.ensures.summary intake is (c.loop-row.invariant.known intake is) in
     record {
       pairs = pairs_more c.loop-row.explained.items _ _ c.args.rows.now c.loop-row.row-index _ c.loop-row-test.true c.in_ok-push.ensures.items refl c.loop-row.invariant.pairs;
@@ -25,15 +25,15 @@ loop-row-preserved c =
           rows_more c.loop-row.explained.items _ _ c.args.rows.now c.loop-row.row-index _ c.loop-row-test.true c.in_ok-push.ensures.items refl
           (c.in_ok-evidence.ensures.judged ∙ c.in_ok-judgement.ensures.same intake is whole) (c.loop-row.invariant.rows intake is whole);
       named = subst (All (IsNamed c.args.directory.now.endpoints)) (sym c.in_ok-push.ensures.items) (All-push (IsNamed c.args.directory.now.endpoints) c.loop-row.explained.items _ c.loop-row.invariant.named (record { topic = c.names_of.ensures.topic; type_name = c.names_of.ensures.type_name }));
-      shown = λ intake is judged.
-          let its_verdict = judged_row judgement _ intake.acts c.in_ok-judgement.ensures.pair (c.in_ok-judgement.ensures.judged intake is (judged c.loop-row.row-index _ c.loop-row-test.true)) in
-          subst (All (λ (row : Explanation). IsEvidenceBy extent.in_spans extent.from row.pair intake row.evidence)) (sym c.in_ok-push.ensures.items)
-          (All-push (λ (row : Explanation). IsEvidenceBy extent.in_spans extent.from row.pair intake row.evidence) c.loop-row.explained.items _ (c.loop-row.invariant.shown intake is judged)
-          (subst (λ (p : Pair). IsEvidenceBy extent.in_spans extent.from p intake evidence) c.in_ok-judgement.ensures.pair (record {
+      shown = λ intake beside are judged.
+          let its_verdict = judged_row judgement _ intake.acts c.in_ok-judgement.ensures.pair (c.in_ok-judgement.ensures.judged intake are.index (judged c.loop-row.row-index _ c.loop-row-test.true)) in
+          subst (All (λ (row : Explanation). IsEvidenceBy extent.in_spans extent.from beside row.pair intake row.evidence)) (sym c.in_ok-push.ensures.items)
+          (All-push (λ (row : Explanation). IsEvidenceBy extent.in_spans extent.from beside row.pair intake row.evidence) c.loop-row.explained.items _ (c.loop-row.invariant.shown intake beside are judged)
+          (subst (λ (p : Pair). IsEvidenceBy extent.in_spans extent.from beside p intake evidence) c.in_ok-judgement.ensures.pair (record {
             span = judgement.span;
-            extent = subst (λ (p : Pair). IsExtent extent.in_spans extent.from p intake judgement.span) (sym c.in_ok-judgement.ensures.pair) (c.in_ok-judgement.ensures.extent intake is);
-            shown = c.in_ok-evidence.ensures.shown intake is (known intake is) its_verdict;
-            beside = subst (λ b. IsBeside b judgement.span judgement.pair (datagrams_until judgement.span.until intake.acts) evidence.in_span) c.in_ok-judgement.ensures.in_spans (c.in_ok-evidence.ensures.beside intake is (known intake is) its_verdict);
+            extent = subst (λ (p : Pair). IsExtent extent.in_spans extent.from p intake judgement.span) (sym c.in_ok-judgement.ensures.pair) (c.in_ok-judgement.ensures.extent intake are.index);
+            shown = c.in_ok-evidence.ensures.shown intake are.index (known intake are.index) its_verdict;
+            in_span = subst (λ b. IsBeside b beside judgement.span judgement.pair (datagrams_until judgement.span.until intake.acts) evidence.in_span) c.in_ok-judgement.ensures.in_spans (c.in_ok-evidence.ensures.beside intake beside are (known intake are.index) its_verdict);
           })));
       known = known;
     }

@@ -5,6 +5,7 @@ use Rattle.rtps_audit.specs.Intake.{Intake}
 use Rattle.rtps_audit.specs.Report.{IsJudgedFrom}
 use Rattle.rtps_evidence.specs.Evidence.{IsEvidenceBy}
 use Rattle.rtps_evidence.specs.Explanation.{IsNamed, row_of}
+use Rattle.rtps_evidence.specs.OtherSide.{AreSides, Beside}
 use Rattle.rtps_evidence.specs.WriterSummary.{IsSummaryOf}
 use Rattle.rtps_evidence.proofs.explanation.explain_rows.Given as goal
 
@@ -12,9 +13,9 @@ use Rattle.rtps_evidence.proofs.explanation.explain_rows.Given as goal
 abbrev pub invariant-loop-row : goal.invariant-loop-row
 invariant-loop-row l = record {
   pairs : map (λ row. row.pair) l.explained.items ≡ map (λ row. row.pair) (take l.row-index l.rows);
-  rows : (intake : Intake) → IsIndexBy intake l.index → l.fn.extent.in_spans ≡ false → map row_of l.explained.items ≡ take l.row-index l.rows;
+  rows : (intake : Intake) → IsIndexBy intake l.sides.index.now → l.fn.extent.in_spans ≡ false → map row_of l.explained.items ≡ take l.row-index l.rows;
   named : All (IsNamed l.directory.endpoints) l.explained.items;
-  shown : (intake : Intake) → IsIndexBy intake l.index → All (IsJudgedFrom l.fn.extent.from intake.acts) l.rows
-      → All (λ row. IsEvidenceBy l.fn.extent.in_spans l.fn.extent.from row.pair intake row.evidence) l.explained.items;
-  known : (intake : Intake) → IsIndexBy intake l.index → IfSome l.before (IsSummaryOf intake.acts);
+  shown : (intake : Intake) (beside : Beside) → AreSides intake beside l.sides → All (IsJudgedFrom l.fn.extent.from intake.acts) l.rows
+      → All (λ row. IsEvidenceBy l.fn.extent.in_spans l.fn.extent.from beside row.pair intake row.evidence) l.explained.items;
+  known : (intake : Intake) → IsIndexBy intake l.sides.index.now → IfSome l.before (IsSummaryOf intake.acts);
 }

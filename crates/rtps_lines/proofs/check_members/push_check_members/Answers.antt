@@ -4,15 +4,10 @@ use Rattle.std.specs.String.{string_bytes}
 use Rattle.json.specs.Json.{string as text}
 use Rattle.json.specs.Token.{Token, key}
 use Rattle.json.specs.Tree.{json_tokens}
-use Rattle.rtps_evidence.specs.Explanation.{explanation_value}
 use Rattle.rtps_report.specs.Asked.{asked_value}
 use Rattle.rtps_report.specs.FullReport.{report_value, rows_of}
-use Rattle.rtps_report.specs.NoteFacts.{note_facts, scope_of}
-use Rattle.rtps_report.specs.declared.advice.Scope.{Scope}
-use Rattle.rtps_lines.specs.CheckMembers.{notes_members, report_causes, report_notes, status_members}
-use Rattle.rtps_lines.specs.declared.json_object.Advised.TheVariants.{All}
-use Rattle.rtps_lines.specs.JsonText.{array_of, rows_members, tokens_of}
-use Rattle.rtps_lines.specs.Notes.{short_notes}
+use Rattle.rtps_lines.specs.CheckMembers.{check_telling, notes_members, report_causes, report_notes, status_members}
+use Rattle.rtps_lines.specs.JsonText.{TellingValue, array_of, rows_members, tokens_of}
 use Rattle.rtps_lines.specs.TalkMembers.{talk_members}
 use Rattle.rtps_lines.proofs.PartLemmas.{four_parts}
 use Rattle.rtps_lines.proofs.TalkLemmas.{tokens_of_four}
@@ -27,16 +22,14 @@ returns-clause-tokens c =
     let value = report_value report in
     let rows = rows_of value in
     let status = status_members report.ending (report_causes asked recording value) in
-    let members = rows_members (record { scope = scope_of asked recording value; advised = All }) rows report.explained.counts recording in
-    let talk = talk_members value in
+    let members = rows_members (check_telling asked recording value) rows report.explained.counts recording in
+    let talk = talk_members recording.times value in
     let notes = notes_members (report_notes asked recording value) in
     let first = c.in_ok-push_status.ensures.tokens
-    ∙ ap (λ (all : List (List ℕ)). start ++ tokens_of (status_members report.ending all)) (ap (map string_bytes) c.deref-2.ensures.value ∙ c.in_ok-causes.ensures) in
+    ∙ ap (λ (all : List (List ℕ)). start ++ tokens_of (status_members report.ending all)) (ap (map string_bytes) c.deref.ensures.value ∙ c.in_ok-causes.ensures) in
     let second = c.in_ok-push_report_members.ensures.tokens
-    ∙ ap (λ (scope : Scope). c.push_status.new.writer.tokens ++ tokens_of (rows_members (record { scope = scope; advised = All }) rows report.explained.counts recording)) c.scope_of.ensures in
-    let told = ap (map string_bytes) c.deref-3.ensures.value ∙ c.in_ok-notes.ensures
-    ∙ ap (λ facts. short_notes facts value.talk (map explanation_value c.deref.result.now)) c.notes_on.ensures
-    ∙ ap (λ items. short_notes (note_facts asked recording value) value.talk (map explanation_value items)) c.deref.ensures.value in
+    ∙ ap (λ (telling : TellingValue). c.push_status.new.writer.tokens ++ tokens_of (rows_members telling rows report.explained.counts recording)) c.telling_of.ensures in
+    let told = ap (map string_bytes) c.deref-2.ensures.value ∙ c.in_ok-notes.ensures in
     on_ok_weaker c.push_texts.result
     (λ last.
     four_parts start (tokens_of status) (tokens_of members) (tokens_of talk) (tokens_of notes) first second c.in_ok-push_talk_members.ensures.tokens

@@ -9,9 +9,10 @@ use Rattle.rtps_lines.proofs.json_members.push_delivery.Goals as goal
 pub returns-clause-tokens : goal.returns-clause-tokens
 returns-clause-tokens c =
     let evidence = c.args.evidence.now in
+    let times = c.args.clock.times.now in
     let member : List ℕ → ℕ → List Token = λ name n. key name ∷ number (decimal n) ∷ [] in
     on_ok_weaker c.push_first_missed.result
-    (four_parts c.args.writer.now.tokens (member (codes "received") evidence.received) (key (codes "not_received") ∷ json_tokens (not_received_json evidence.not_received))
-    (member (codes "missed") evidence.missed) (tokens_of (first_missed_members evidence.first_missed))
+    (four_parts c.args.writer.now.tokens (member (codes "received") evidence.received) (key (codes "not_received") ∷ json_tokens (not_received_json times evidence.not_received))
+    (member (codes "missed") evidence.missed) (tokens_of (first_missed_members times evidence.first_missed))
     c.in_ok-push_count.ensures.tokens c.in_ok-push_not_received.ensures.tokens c.in_ok-push_count-2.ensures.tokens)
     c.push_first_missed.ensures.tokens

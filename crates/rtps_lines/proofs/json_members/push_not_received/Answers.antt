@@ -10,11 +10,12 @@ pub returns-clause-tokens : goal.returns-clause-tokens
 returns-clause-tokens c =
     let start : List Token = c.args.writer.now.tokens in
     let name : Token = key c.args.name.now in
+    let times = c.args.clock.times.now in
     let kept = c.in-Some.kept in
     on_ok_weaker c.end_object.result
     (λ last.
-    six_parts start (name ∷ []) (begin_object ∷ []) (key (codes "number") ∷ number (decimal kept.number) ∷ []) (key (codes "gone") ∷ json_tokens (teller_json kept.gone))
-    (key (codes "acknowledged") ∷ json_tokens (place_json kept.acknowledged)) (end_object ∷ [])
+    six_parts start (name ∷ []) (begin_object ∷ []) (key (codes "number") ∷ number (decimal kept.number) ∷ []) (key (codes "gone") ∷ json_tokens (teller_json times kept.gone))
+    (key (codes "acknowledged") ∷ json_tokens (place_json times kept.acknowledged)) (end_object ∷ [])
     c.in_ok-key.ensures.ok c.in_ok-begin_object.ensures.ok c.in_ok-push_count.ensures.tokens c.in_ok-push_teller.ensures.tokens c.in_ok-push_standing.ensures.tokens last
-    ∙ ap (λ one. start ++ name ∷ json_tokens (not_received_json one)) (sym c.in-Some.is))
+    ∙ ap (λ one. start ++ name ∷ json_tokens (not_received_json times one)) (sym c.in-Some.is))
     c.end_object.ensures.ok

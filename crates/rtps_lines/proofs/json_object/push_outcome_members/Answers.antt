@@ -1,15 +1,20 @@
-use Rattle.std.proofs.Common.{◌∷◌, [], List, ℕ, codes, decimal}
+use Rattle.std.proofs.Common.{◌++◌, ◌∙◌, List, ap, codes, sym}
+use Rattle.std.proofs.lemmas.List.Concat.{flat_map-append}
 use Rattle.std.proofs.lemmas.Result.{on_ok_weaker}
-use Rattle.json.specs.Token.{Token, key, number}
-use Rattle.rtps_lines.proofs.PartLemmas.{six_parts}
+use Rattle.json.specs.Token.{Token}
+use Rattle.rtps_lines.specs.JsonText.{Member, arrived_members, count_json, lost_members, tokens_of, tokens_of_member}
+use Rattle.rtps_lines.proofs.PartLemmas.{three_parts}
 use Rattle.rtps_lines.proofs.json_object.push_outcome_members.Goals as goal
 
 pub returns-clause-tokens : goal.returns-clause-tokens
 returns-clause-tokens c =
-    let outcomes = c.args.outcomes in
-    let member : List ℕ → ℕ → List Token = λ name n. key name ∷ number (decimal n) ∷ [] in
-    on_ok_weaker c.push_count-6.result
-    (six_parts c.args.writer.now.tokens (member (codes "received") outcomes.received) (member (codes "missed") outcomes.missed) (member (codes "unsent") outcomes.unsent)
-    (member (codes "unanswered") outcomes.unanswered) (member (codes "likely") outcomes.likely) (member (codes "unconfirmed") outcomes.unconfirmed)
-    c.in_ok-push_count.ensures.tokens c.in_ok-push_count-2.ensures.tokens c.in_ok-push_count-3.ensures.tokens c.in_ok-push_count-4.ensures.tokens c.in_ok-push_count-5.ensures.tokens)
-    c.push_count-6.ensures.tokens
+    let start : List Token = c.args.writer.now.tokens in
+    let in_span = c.args.in_span.now in
+    let received : Member = (codes "received", count_json in_span.outcomes.received) in
+    let arrived = arrived_members c.args.has_other in_span in
+    let lost = lost_members in_span.outcomes in
+    on_ok_weaker c.push_lost.result
+    (λ last.
+    three_parts start (tokens_of_member received) (tokens_of arrived) (tokens_of lost) c.in_ok-push_count.ensures.tokens c.in_ok-push_arrived.ensures.tokens last
+    ∙ ap (λ rest. start ++ (tokens_of_member received ++ rest)) (sym (flat_map-append tokens_of_member arrived lost)))
+    c.push_lost.ensures.tokens

@@ -5,7 +5,7 @@ use Rattle.std.specs.List.{flat_map}
 use Rattle.json.specs.Token.{begin_array, end_array, key}
 use Rattle.json.specs.Tree.{json_tokens}
 use Rattle.rtps_evidence.specs.Explanation.{explanation_value}
-use Rattle.rtps_lines.specs.JsonText.{row_json}
+use Rattle.rtps_lines.specs.JsonText.{row_json, telling_value}
 use Rattle.rtps_lines.proofs.JsonLemmas.{rows_tokens}
 use Rattle.rtps_lines.proofs.PartLemmas.{four_parts}
 use Rattle.rtps_lines.proofs.json_object.push_pairs.Goals as goal
@@ -14,11 +14,13 @@ pub returns-clause-tokens : goal.returns-clause-tokens
 returns-clause-tokens c =
     let start = c.args.writer.now.tokens in
     let rows = c.args.rows.now in
+    let telling = telling_value c.args.form.telling in
+    let times = c.args.form.clock.times.now in
     let written = c.loop-row.invariant.0
-    ∙ ap (λ all. c.begin_array.new.self.tokens ++ flat_map (λ row. json_tokens (row_json c.args.telling (explanation_value row))) all) (take_all c.loop-row.row-index rows c.loop-row-test.false) in
-    let objects = flat_map (λ row. json_tokens (row_json c.args.telling (explanation_value row))) rows in
+    ∙ ap (λ all. c.begin_array.new.self.tokens ++ flat_map (λ row. json_tokens (row_json telling times (explanation_value row))) all) (take_all c.loop-row.row-index rows c.loop-row-test.false) in
+    let objects = flat_map (λ row. json_tokens (row_json telling times (explanation_value row))) rows in
     on_ok_weaker c.end_array.result
     (λ last.
     four_parts start (key (codes "pairs") ∷ []) (begin_array ∷ []) objects (end_array ∷ []) c.in_ok-key.ensures.ok c.in_ok-begin_array.ensures.ok written last
-    ∙ ap (λ tokens. start ++ key (codes "pairs") ∷ begin_array ∷ tokens) (rows_tokens c.args.telling rows))
+    ∙ ap (λ tokens. start ++ key (codes "pairs") ∷ begin_array ∷ tokens) (rows_tokens telling times rows))
     c.end_array.ensures.ok

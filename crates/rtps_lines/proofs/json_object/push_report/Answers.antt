@@ -2,8 +2,7 @@ use Rattle.std.proofs.Common.{◌++◌, ◌∷◌, [], ◌∙◌, List, ap, sym}
 use Rattle.std.proofs.lemmas.Result.{on_ok_weaker}
 use Rattle.json.specs.Token.{Token, begin_object, end_object}
 use Rattle.rtps_report.specs.FullReport.{report_value, rows_of}
-use Rattle.rtps_lines.specs.JsonText.{audit_telling, rows_members, tokens_of}
-use Rattle.rtps_lines.specs.declared.json_object.Telling.{Telling}
+use Rattle.rtps_lines.specs.JsonText.{TellingValue, audit_telling, rows_members, tokens_of}
 use Rattle.rtps_lines.proofs.JsonLemmas.{object_tokens}
 use Rattle.rtps_lines.proofs.PartLemmas.{three_parts}
 use Rattle.rtps_lines.proofs.json_object.push_report.Goals as goal
@@ -20,6 +19,6 @@ returns-clause-tokens c =
     on_ok_weaker c.end_object.result
     (λ last.
     three_parts start (begin_object ∷ []) (tokens_of members) (end_object ∷ []) c.in_ok-begin_object.ensures.ok
-    (c.in_ok-push_report_members.ensures.tokens ∙ ap (λ (telling : Telling). c.begin_object.new.self.tokens ++ tokens_of (rows_members telling told counts recording)) asked) last
+    (c.in_ok-push_report_members.ensures.tokens ∙ ap (λ (telling : TellingValue). c.begin_object.new.self.tokens ++ tokens_of (rows_members telling told counts recording)) asked) last
     ∙ ap (λ tokens. start ++ tokens) (sym (object_tokens members)))
     c.end_object.ensures.ok

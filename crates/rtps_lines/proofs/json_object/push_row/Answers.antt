@@ -2,7 +2,7 @@ use Rattle.std.proofs.Common.{◌++◌, ◌∷◌, [], ◌∙◌, ap, sym}
 use Rattle.std.proofs.lemmas.Result.{on_ok_weaker}
 use Rattle.json.specs.Token.{begin_object, end_object}
 use Rattle.rtps_evidence.specs.Explanation.{explanation_value}
-use Rattle.rtps_lines.specs.JsonText.{delivery_members, evidence_members, pair_members, shown_members, spanned_members, tokens_of, verdict_members}
+use Rattle.rtps_lines.specs.JsonText.{delivery_members, evidence_members, pair_members, shown_members, spanned_members, telling_value, tokens_of, verdict_members}
 use Rattle.rtps_lines.proofs.JsonLemmas.{row_tokens}
 use Rattle.rtps_lines.proofs.PartLemmas.{eight_parts}
 use Rattle.rtps_lines.proofs.json_object.push_row.Goals as goal
@@ -11,12 +11,13 @@ pub returns-clause-tokens : goal.returns-clause-tokens
 returns-clause-tokens c =
     let row = explanation_value c.args.row.now in
     let start = c.args.writer.now.tokens in
+    let times = c.args.form.clock.times.now in
     let pair = pair_members row in
     let verdict = verdict_members row.evidence.verdict in
-    let evidence = evidence_members row.evidence in
-    let delivery = delivery_members row.evidence in
-    let shown = shown_members row.evidence.grounds in
-    let spanned = spanned_members c.args.telling row.evidence in
+    let evidence = evidence_members times row.evidence in
+    let delivery = delivery_members times row.evidence in
+    let shown = shown_members times row.evidence.grounds in
+    let spanned = spanned_members (telling_value c.args.form.telling) times row in
     on_ok_weaker c.end_object.result
     (λ last.
     eight_parts start (begin_object ∷ []) (tokens_of pair) (tokens_of verdict) (tokens_of evidence) (tokens_of delivery) (tokens_of shown) (tokens_of spanned) (end_object ∷ []) c.in_ok-begin_object.ensures.ok

@@ -1,27 +1,35 @@
-use Rattle.std.proofs.Common.{◌++◌, ◌∷◌, [], ◌∙◌, ℕ, List, Option, ap, codes, decimal, sym}
+use Rattle.std.proofs.Common.{◌++◌, ◌∙◌, ℕ, Bool, List, Option, ap, codes, sym}
 use Rattle.std.proofs.lemmas.Result.{on_ok_weaker}
-use Rattle.json.specs.Token.{Token, boolean, key, number}
-use Rattle.json.specs.Tree.{json_tokens}
+use Rattle.json.specs.Json.{boolean}
+use Rattle.json.specs.Token.{Token}
 use Rattle.rtps_evidence.specs.Explanation.{evidence_value}
 use Rattle.rtps_report.specs.RowFacts.{is_clean, row_from}
 use Rattle.rtps_report.specs.Vocabulary.{InSpan}
-use Rattle.rtps_lines.specs.JsonText.{outcomes_json, span_by, tokens_of, until_json}
-use Rattle.rtps_lines.proofs.PartLemmas.{five_parts}
+use Rattle.rtps_lines.specs.JsonText.{Member, count_json, lacking_members, outcomes_json, span_by, telling_value, tokens_of, tokens_of_member, until_members, wait_members}
+use Rattle.rtps_lines.proofs.JsonLemmas.{span_tokens}
+use Rattle.rtps_lines.proofs.PartLemmas.{six_parts}
 use Rattle.rtps_lines.proofs.json_object.push_span.Goals as goal
 
 pub returns-clause-tokens : goal.returns-clause-tokens
 returns-clause-tokens c =
     let start : List Token = c.args.writer.now.tokens in
-    let scope = c.args.scope in
+    let telling = telling_value c.args.form.telling in
+    let times = c.args.form.clock.times.now in
     let evidence = evidence_value c.args.evidence.now in
     let in_span = c.in-Some.in_span in
-    let first : ℕ → List Token = λ n. key (codes "from") ∷ number (decimal n) ∷ [] in
-    let until : List Token = key (codes "until") ∷ json_tokens (until_json in_span.until) in
-    let outcomes : List Token = key (codes "outcomes") ∷ json_tokens (outcomes_json in_span.outcomes) in
-    on_ok_weaker c.boolean.result
+    let first : ℕ → Member = λ n. (codes "from", count_json n) in
+    let from = row_from telling.scope.from evidence.in_span in
+    let until : List Member = until_members times in_span.until in
+    let outcomes : Member = (codes "outcomes", outcomes_json telling.has_other in_span) in
+    let lacking : List Member = lacking_members telling.has_other in_span in
+    let clean : Bool → Member = λ is. (codes "clean", boolean is) in
+    let wait : List Member = wait_members times in_span.wait in
+    on_ok_weaker c.push_wait.result
     (λ last.
-    five_parts start (first (row_from scope.from evidence.in_span)) until outcomes (key (codes "clean") ∷ []) (boolean (is_clean scope.tail evidence) ∷ [])
-    (c.in_ok-push_count.ensures.tokens ∙ ap (λ n. start ++ first n) c.row_from.ensures) c.in_ok-push_until.ensures.tokens c.in_ok-push_outcomes.ensures.tokens c.in_ok-key.ensures.ok
-    (last ∙ ap (λ clean. c.key.new.self.tokens ++ boolean clean ∷ []) c.is_clean.ensures)
-    ∙ ap (λ (one : Option InSpan). start ++ tokens_of (span_by scope evidence one)) (sym c.in-Some.is))
-    c.boolean.ensures.ok
+    six_parts start (tokens_of_member (first from)) (tokens_of until) (tokens_of_member outcomes) (tokens_of lacking) (tokens_of_member (clean (is_clean telling.scope.tail evidence))) (tokens_of wait)
+    (c.in_ok-push_count.ensures.tokens ∙ ap (λ n. start ++ tokens_of_member (first n)) c.row_from.ensures)
+    c.in_ok-push_until.ensures.tokens c.in_ok-push_outcomes.ensures.tokens c.in_ok-push_lacking.ensures.tokens
+    (c.in_ok-push_flag.ensures.tokens ∙ ap (λ is. c.push_lacking.new.writer.tokens ++ tokens_of_member (clean is)) c.is_clean.ensures) last
+    ∙ ap (λ tokens. start ++ tokens) (sym (span_tokens (first from) outcomes (clean (is_clean telling.scope.tail evidence)) until lacking wait))
+    ∙ ap (λ (one : Option InSpan). start ++ tokens_of (span_by telling times evidence one)) (sym c.in-Some.is))
+    c.push_wait.ensures.tokens

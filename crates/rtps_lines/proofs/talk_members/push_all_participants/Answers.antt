@@ -10,5 +10,5 @@ pub returns-clause-tokens : goal.returns-clause-tokens
 returns-clause-tokens c =
     let all = take_all c.loop-participant.participant-index c.args.participants.now c.loop-participant-test.false in
     on_ok_weaker c.end_array.result
-    (array_written participant_json c.args.participants.now _ c.args.writer.now.tokens (key (codes "participants")) all c.in_ok-key.ensures.ok c.in_ok-begin_array.ensures.ok c.loop-participant.invariant.0)
+    (array_written (participant_json c.args.clock.times.now) c.args.participants.now _ c.args.writer.now.tokens (key (codes "participants")) all c.in_ok-key.ensures.ok c.in_ok-begin_array.ensures.ok c.loop-participant.invariant.0)
     c.end_array.ensures.ok

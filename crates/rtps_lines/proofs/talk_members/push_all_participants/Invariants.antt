@@ -6,5 +6,5 @@ use Rattle.rtps_lines.proofs.talk_members.push_all_participants.Given as goal
 
 abbrev pub invariant-loop-participant : goal.invariant-loop-participant
 invariant-loop-participant l =
-    (l.writer.tokens ≡ l.initial.writer.tokens ++ flat_map (λ participant. json_tokens (participant_json participant)) (take l.participant-index l.participants))
+    (l.writer.tokens ≡ l.initial.writer.tokens ++ flat_map (λ participant. json_tokens (participant_json l.clock.times.now participant)) (take l.participant-index l.participants))
     × (l.writer.before ≡ l.initial.writer.before)

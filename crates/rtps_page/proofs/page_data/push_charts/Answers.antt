@@ -1,14 +1,16 @@
-use Rattle.std.proofs.Common.{◌++◌, ◌∷◌, ◌∙◌, List, None, ap, append-nil, codes, map, sym}
-use Rattle.rtps_page.proofs.Written.{Token, answers_json, array_of, json_tokens, key, on_ok_weaker, placed_in, two_parts, writer_json, writers_behind}
+use Rattle.std.proofs.Common.{◌∷◌, [], List, None, codes, map}
+use Rattle.rtps_page.proofs.Written.{Token, answers_json, array_of, json_tokens, key, on_ok_weaker, placed_in, three_parts, timed_members, times_member, tokens_of, writer_json, writers_behind}
 use Rattle.rtps_page.proofs.page_data.push_charts.Goals as goal
 
 pub returns-clause-tokens : goal.returns-clause-tokens
 returns-clause-tokens c = λ intake is.
     let start : List Token = c.args.writer.now.tokens in
+    let times = c.args.clock.times.now in
     let acts = placed_in intake.acts in
     let pairs = c.args.pairs.now in
     let one : List Token = key (codes "writers") ∷ json_tokens (array_of (map (writer_json acts) (writers_behind None pairs))) in
     let two : List Token = key (codes "answers") ∷ json_tokens (array_of (map (answers_json acts) pairs)) in
-    on_ok_weaker c.push_all_answers.result
-    (λ last. two_parts start one two (c.in_ok-push_writers.ensures.tokens intake is) last ∙ ap (λ l. start ++ (one ++ l)) (sym (append-nil two)))
-    (c.push_all_answers.ensures.tokens intake is)
+    let three : List Token = tokens_of (timed_members times (times_member times acts pairs ∷ [])) in
+    on_ok_weaker c.push_times.result
+    (λ last. three_parts start one two three (c.in_ok-push_writers.ensures.tokens intake is) (c.in_ok-push_all_answers.ensures.tokens intake is) last)
+    (c.push_times.ensures.tokens intake is)

@@ -4,9 +4,10 @@ use Rattle.rtps_audit.specs.Laws.{FirstDatagramsDecide}
 use Rattle.rtps_audit.specs.RunVerdict.{IsVerdictFrom}
 use Rattle.rtps_audit.specs.Said.{FirstDatagramsSayTheSame, datagrams_until}
 use Rattle.rtps_audit.specs.Speech.{speech_by}
-use Rattle.rtps_audit.proofs.ExactVerdicts.{exact_verdict}
+use Rattle.rtps_audit.proofs.Offered.{exact_verdict}
 use Rattle.rtps_receiver.specs.Values.{ActValue}
 use Rattle.rtps_evidence.specs.Evidence.{IsBeside, IsEvidenceBy, IsShown}
+use Rattle.rtps_evidence.specs.OtherSide.{Beside}
 use Rattle.rtps_evidence.specs.Spans.{IsExtent, since_of}
 use Rattle.rtps_evidence.specs.declared.span.Span.{Span}
 use Rattle.rtps_fragments.specs.Laws.{FirstDatagramsDecideSamples, FirstDatagramsTellTheSame}
@@ -30,23 +31,24 @@ acts_are say tell Skipped until recording = sym (say until recording)
 acts_are say tell Read until recording = tell until recording
 
 -- the first number and the datagram of a row are those of its span
-row_first : (spans : Bool) (from : ℕ) (pair : Pair) (intake : Intake) (span : Span) (acts : List (List ActValue)) (beside : Option InSpan) → IsExtent spans from pair intake span → IsBeside spans span pair acts beside
-    → row_from from beside ≡ span.from
-row_first true from pair intake span acts beside extent (in_span, is, shown) = ap (row_from from) is ∙ shown.first
-row_first false from pair intake span acts beside extent is = ap (row_from from) is ∙ sym extent.first
+row_first : (spans : Bool) (from : ℕ) (beside : Beside) (pair : Pair) (intake : Intake) (span : Span) (acts : List (List ActValue)) (found : Option InSpan)
+    → IsExtent spans from pair intake span → IsBeside spans beside span pair acts found → row_from from found ≡ span.from
+row_first true from beside pair intake span acts found extent (in_span, is, shown) = ap (row_from from) is ∙ shown.first
+row_first false from beside pair intake span acts found extent is = ap (row_from from) is ∙ sym extent.first
 
-row_until : (spans : Bool) (from : ℕ) (pair : Pair) (intake : Intake) (span : Span) (acts : List (List ActValue)) (beside : Option InSpan) → IsExtent spans from pair intake span → IsBeside spans span pair acts beside
-    → left_in beside ≡ span.until
-row_until true from pair intake span acts beside extent (in_span, is, shown) = ap left_in is ∙ shown.until
-row_until false from pair intake span acts beside extent is = ap left_in is ∙ sym extent.until
+row_until : (spans : Bool) (from : ℕ) (beside : Beside) (pair : Pair) (intake : Intake) (span : Span) (acts : List (List ActValue)) (found : Option InSpan)
+    → IsExtent spans from pair intake span → IsBeside spans beside span pair acts found → left_in found ≡ span.until
+row_until true from beside pair intake span acts found extent (in_span, is, shown) = ap left_in is ∙ shown.until
+row_until false from beside pair intake span acts found extent is = ap left_in is ∙ sym extent.until
 
 module _ (say : FirstDatagramsSayTheSame) (tell : FirstDatagramsTellTheSame) (plain : FirstDatagramsDecide) (samples : FirstDatagramsDecideSamples) where
-  exact_row : (asked : AskedValue) (recording : List (List ℕ)) (row : Explanation) → IsEvidenceBy asked.spans asked.from row.pair (intake_as asked.fragments recording) row.evidence → IsExactRow asked recording row
-  exact_row asked recording row is =
+  exact_row : (asked : AskedValue) (beside : Beside) (recording : List (List ℕ)) (row : Explanation)
+      → IsEvidenceBy asked.spans asked.from beside row.pair (intake_as asked.fragments recording) row.evidence → IsExactRow asked beside recording row
+  exact_row asked beside recording row is =
       let intake = intake_as asked.fragments recording in
       let acts = datagrams_until is.span.until intake.acts in
-      let first = row_first asked.spans asked.from row.pair intake is.span acts row.evidence.in_span is.extent is.beside in
-      let until = row_until asked.spans asked.from row.pair intake is.span acts row.evidence.in_span is.extent is.beside in
+      let first = row_first asked.spans asked.from beside row.pair intake is.span acts row.evidence.in_span is.extent is.in_span in
+      let until = row_until asked.spans asked.from beside row.pair intake is.span acts row.evidence.in_span is.extent is.in_span in
       let same = acts_are say tell asked.fragments is.span.until recording in
       record {
         verdict = rw (first, until) (verdict_as plain samples asked.fragments is.span.from row.pair is.span.until recording row.evidence.verdict is.shown.verdict);
@@ -55,22 +57,23 @@ module _ (say : FirstDatagramsSayTheSame) (tell : FirstDatagramsTellTheSame) (pl
         first = first;
         until = until;
         shown = subst (λ (those : List (List ActValue)). IsShown is.span.from (since_of is.span) row.pair those row.evidence) same is.shown;
-        beside = subst (λ (those : List (List ActValue)). IsBeside asked.spans is.span row.pair those row.evidence.in_span) same is.beside;
+        in_span = subst (λ (those : List (List ActValue)). IsBeside asked.spans beside is.span row.pair those row.evidence.in_span) same is.in_span;
       }
 
-  exact_rows : (asked : AskedValue) (recording : List (List ℕ)) (rows : List Explanation) → All (λ (row : Explanation). IsEvidenceBy asked.spans asked.from row.pair (intake_as asked.fragments recording) row.evidence) rows
-      → All (IsExactRow asked recording) rows
-  exact_rows asked recording rows shown =
-      All-weaker (λ (row : Explanation). IsEvidenceBy asked.spans asked.from row.pair (intake_as asked.fragments recording) row.evidence) (IsExactRow asked recording) (exact_row asked recording) rows shown
+  exact_rows : (asked : AskedValue) (beside : Beside) (recording : List (List ℕ)) (rows : List Explanation)
+      → All (λ (row : Explanation). IsEvidenceBy asked.spans asked.from beside row.pair (intake_as asked.fragments recording) row.evidence) rows → All (IsExactRow asked beside recording) rows
+  exact_rows asked beside recording rows shown =
+      All-weaker (λ (row : Explanation). IsEvidenceBy asked.spans asked.from beside row.pair (intake_as asked.fragments recording) row.evidence) (IsExactRow asked beside recording)
+      (exact_row asked beside recording) rows shown
 
   explained_are_exact : ExplainedRowsAreExact
-  explained_are_exact asked recording explained is =
-      All-same (IsExactRow asked recording) _ _ is.rows (All-filter _ (IsExactRow asked recording) is.whole.rows.items (exact_rows asked recording is.whole.rows.items is.explains.shown))
+  explained_are_exact asked beside recording explained is =
+      All-same (IsExactRow asked beside recording) _ _ is.rows (All-filter _ (IsExactRow asked beside recording) is.whole.rows.items (exact_rows asked beside recording is.whole.rows.items is.explains.shown))
 
   left_out_are_exact : LeftOutRowsAreExact
-  left_out_are_exact asked recording explained left_out is =
+  left_out_are_exact asked beside recording explained left_out is =
       let whole = is.explains.whole in
-      All-same (IsExactRow asked recording) _ _ is.left_out_too (All-filter _ (IsExactRow asked recording) whole.rows.items (exact_rows asked recording whole.rows.items is.explains.explains.shown))
+      All-same (IsExactRow asked beside recording) _ _ is.left_out_too (All-filter _ (IsExactRow asked beside recording) whole.rows.items (exact_rows asked beside recording whole.rows.items is.explains.explains.shown))
 
   reported_are_exact : ReportedRowsAreExact
   reported_are_exact asked recording report is =

@@ -10,7 +10,7 @@ use Rattle.rtps_report.proofs.NamingLemmas.{named_in_acts}
 use Rattle.rtps_report.proofs.parted.parted_by.Goals as goal
 
 pub returns-then-asks_all_rows : goal.returns-then-asks_all_rows
-returns-then-asks_all_rows c = λ recording explains namings.
+returns-then-asks_all_rows c = λ beside recording explains namings.
     let asked = asked_value c.args.asked.now in
     let acts = acts_read c.args.asked.now.fragments recording in
     let rows = c.args.whole.rows.items in
@@ -21,7 +21,7 @@ returns-then-asks_all_rows c = λ recording explains namings.
     }
 
 pub returns : goal.returns
-returns c = λ recording explains namings.
+returns c = λ beside recording explains namings.
     let acts = acts_read c.args.asked.now.fragments recording in
     let rows = rows_value c.args.asked.now.rows in
     let wanted : IsFilterOf rows acts c.new-wanted.result = c.new-wanted.ensures acts (λ observed. named_in_acts c.args.asked.now.fragments recording c.args.namings.now (namings observed)) in

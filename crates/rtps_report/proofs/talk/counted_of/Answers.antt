@@ -1,27 +1,32 @@
-use Rattle.std.proofs.Common.{◌∙◌, subst}
-use Rattle.rtps_evidence.specs.Recorded.{IsRecordedBy}
+use Rattle.std.proofs.Common.{◌∙◌, refl, subst}
+use Rattle.rtps_evidence.specs.Recorded.{IsArrivedBy, IsRecordedBy}
 use Rattle.rtps_evidence.specs.declared.exchange.Extent.{Extent}
 use Rattle.rtps_report.specs.Asked.{asked_value}
 use Rattle.rtps_report.specs.Talk.{is_counted_of}
 use Rattle.rtps_report.proofs.TalkLemmas.{counted_by_topic, counted_more, counted_skip}
 use Rattle.rtps_report.proofs.talk.counted_of.Goals as goal
-use Rattle.rtps_report.proofs.talk.counted_of.Goals.{then-is_counted+in_ok-recorded+in_ok-push, else-is_counted}
+use Rattle.rtps_report.proofs.talk.counted_of.Goals.{then-is_counted+in_ok-recorded+in_ok-arrived+in_ok-push, else-is_counted}
 
 pub loop-found-preserved : goal.loop-found-preserved
-loop-found-preserved c = λ intake index.
+loop-found-preserved c = λ intake other index beside.
     let talk = c.args.talk.now in
     let asked = asked_value c.args.heard.now.asked.now in
     let entries = c.args.heard.now.directory.now.endpoints in
     let test = is_counted_of talk.unfit talk.namings asked entries in
     let by_topic = counted_by_topic talk.unfit talk.namings asked _ c.topic_of-topic.result.now _ c.is_counted.result c.topic_of-topic.ensures c.is_counted.ensures in
     elim c.if-is_counted.branch [
-      | then-is_counted+in_ok-recorded+in_ok-push w ↦
+      | then-is_counted+in_ok-recorded+in_ok-arrived+in_ok-push w ↦
           rw w.counted-is
-          (counted_more asked intake entries test c.deref-found-items.result.now c.loop-found.counted.items _ c.loop-found.found-index _ _ c.loop-found-test.true
+          (counted_more asked other intake entries test c.deref-found-items.result.now c.loop-found.counted.items _ c.loop-found.found-index _ _ c.loop-found-test.true
           (by_topic ∙ w.if-is_counted.true) w.in_ok-push.ensures.items c.topic_of-topic.ensures
-          (subst (λ (extent : Extent). IsRecordedBy extent.in_spans extent.from _ intake w.in_ok-recorded.recorded) w.extent.ensures (w.in_ok-recorded.ensures intake index))
-          (c.loop-found.invariant intake index))
+          (record {
+            of_pair = refl;
+            recorded = subst (λ (extent : Extent). IsRecordedBy extent.in_spans extent.from _ intake w.in_ok-recorded.recorded) w.extent.ensures (w.in_ok-recorded.ensures intake index);
+            arrived = subst (λ (extent : Extent). IsArrivedBy extent.in_spans extent.from other _ intake w.in_ok-arrived.arrived) w.extent-then-is_counted.ensures
+                (w.in_ok-arrived.ensures intake (record { other = other; times = c.args.heard.now.times.now.of_datagrams }) (record { index = index; other = beside; times = refl }));
+          })
+          (c.loop-found.invariant intake other index beside))
       | else-is_counted w ↦
           rw w.counted-is
-          (counted_skip asked intake entries test c.deref-found-items.result.now _ c.loop-found.found-index _ c.loop-found-test.true (by_topic ∙ w.if-is_counted.false) (c.loop-found.invariant intake index))
+          (counted_skip asked other intake entries test c.deref-found-items.result.now _ c.loop-found.found-index _ c.loop-found-test.true (by_topic ∙ w.if-is_counted.false) (c.loop-found.invariant intake other index beside))
     ]

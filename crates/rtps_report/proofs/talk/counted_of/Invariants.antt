@@ -1,6 +1,7 @@
-use Rattle.std.proofs.Common.{filter, map, take}
+use Rattle.std.proofs.Common.{Option, filter, map, take}
 use Rattle.rtps_audit.specs.Index.{IsIndexBy}
 use Rattle.rtps_audit.specs.Intake.{Intake}
+use Rattle.rtps_evidence.specs.OtherSide.{IsOtherSide, OtherRecording}
 use Rattle.rtps_report.specs.Asked.{asked_value}
 use Rattle.rtps_report.specs.BestEfforts.{counted_value}
 use Rattle.rtps_report.specs.Talk.{AreCounted, is_counted_of}
@@ -8,6 +9,6 @@ use Rattle.rtps_report.proofs.talk.counted_of.Given as goal
 
 abbrev pub invariant-loop-found : goal.invariant-loop-found
 invariant-loop-found l =
-    (intake : Intake) → IsIndexBy intake l.heard.index.now
-    → AreCounted (asked_value l.heard.asked.now) intake l.heard.directory.now.endpoints
+    (intake : Intake) (other : Option OtherRecording) → IsIndexBy intake l.heard.index.now → IsOtherSide other l.heard.other
+    → AreCounted (asked_value l.heard.asked.now) other intake l.heard.directory.now.endpoints
     (filter (is_counted_of l.talk.unfit l.talk.namings (asked_value l.heard.asked.now) l.heard.directory.now.endpoints) (take l.found-index l.found-items)) (map counted_value l.counted.items)

@@ -12,5 +12,5 @@ use Rattle.rtps_report.proofs.talk.participants_of.Given as goal
 abbrev pub invariant-loop-guid : goal.invariant-loop-guid
 invariant-loop-guid l =
     (intake : Intake) (datagrams : List (List ActValue)) → IsIndexBy intake l.heard.index.now → map placed_value l.heard.announcements.now ≡ announcements_in intake.announcing
-    → IsAnnouncedBy (acts_together intake.announcing) l.announced → IsTrafficOf datagrams l.traffic
-    → l.participants.items ≡ map (participant_told intake datagrams) (take l.guid-index l.guid-items)
+    → IsAnnouncedBy (acts_together intake.announcing) l.announced → IsTrafficOf datagrams l.heard.times.now.of_datagrams l.traffic
+    → l.participants.items ≡ map (participant_told intake datagrams l.heard.times.now.of_datagrams) (take l.guid-index l.guid-items)

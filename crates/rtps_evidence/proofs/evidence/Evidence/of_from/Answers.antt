@@ -1,8 +1,10 @@
-use Rattle.std.proofs.Common.{◌≡◌, false, subst}
+use Rattle.std.proofs.Common.{◌≡◌, ap, false, subst}
 use Rattle.rtps_audit.specs.Said.{datagrams_until}
 use Rattle.rtps_discovery.specs.declared.matching.Pair.{Pair}
 use Rattle.rtps_evidence.specs.Evidence.{IsBeside, IsShown}
+use Rattle.rtps_evidence.specs.OtherSide.{alone}
 use Rattle.rtps_evidence.specs.Spans.{since_of}
+use Rattle.rtps_evidence.specs.Times.{TimesValue}
 use Rattle.rtps_evidence.proofs.RowLemmas.{judged_row}
 use Rattle.rtps_evidence.proofs.evidence.Evidence.of_from.Goals as goal
 
@@ -18,6 +20,7 @@ returns c = λ intake is.
       span = judgement.span;
       extent = c.in_ok-judgement.ensures.extent intake is;
       shown = subst (λ (p : Pair). IsShown judgement.span.from (since_of judgement.span) p recording evidence) same (c.in_ok-evidence.ensures.shown intake is summed verdict);
-      beside = subst (λ (p : Pair). IsBeside false judgement.span p recording evidence.in_span) same
-          (subst (λ b. IsBeside b judgement.span judgement.pair recording evidence.in_span) c.in_ok-judgement.ensures.in_spans (c.in_ok-evidence.ensures.beside intake is summed verdict));
+      in_span = subst (λ (p : Pair). IsBeside false alone judgement.span p recording evidence.in_span) same
+          (subst (λ b. IsBeside b alone judgement.span judgement.pair recording evidence.in_span) c.in_ok-judgement.ensures.in_spans
+          (c.in_ok-evidence.ensures.beside intake alone (record { index = is; other = tt; times = ap (λ (t : TimesValue). t.of_datagrams) c.none-times.ensures }) summed verdict));
     }

@@ -5,22 +5,32 @@ use Rattle.rtps_audit.specs.Placed.{placed_in}
 use Rattle.rtps_audit.specs.Speech.{natural, speech_by}
 use Rattle.rtps_audit.specs.declared.answer.Answer.{Answer}
 use Rattle.rtps_evidence.specs.Evidence.{IsBeside}
-use Rattle.rtps_evidence.specs.Outcomes.{AreOutcomes}
+use Rattle.rtps_evidence.specs.FirstNumbers.{kept}
+use Rattle.rtps_evidence.specs.OtherSide.{is_held, is_there}
+use Rattle.rtps_evidence.specs.Outcomes.{AreOutcomes, absent_of, lacking_of}
 use Rattle.rtps_evidence.specs.Spans.{since_of}
+use Rattle.rtps_evidence.specs.Waits.{told_wait}
 use Rattle.rtps_evidence.specs.declared.in_span.InSpan.{InSpan}
 use Rattle.rtps_evidence.proofs.AnswerLemmas.{bases_same}
 use Rattle.rtps_evidence.proofs.in_span.InSpan.of.Goals as goal
 
 pub returns : goal.returns
-returns c = λ recording is last are missed.
+returns c = λ recording beside is there times last are missed.
     let exchange = c.args.exchange.now in
     let pair = exchange.pair in
     let all = placed_in recording in
     let asked = c.args.asked.now in
-    let counted = subst (λ n. AreOutcomes asked.from n (since_of exchange.span) pair all c.in_ok-outcomes.outcomes) last (c.in_ok-outcomes.ensures recording is are missed) in
-    let in_span : InSpan = record { joined = exchange.span.joined; is_joined_here = exchange.span.is_joined_here; from = c.cast_unsigned.result; until = exchange.span.until; outcomes = c.in_ok-outcomes.outcomes; base = c.greatest_base.result } in
+    let has = is_there beside.other pair in
+    let final = last_announced_from asked.from (speech_by pair.writer pair.reader recording) in
+    let own = c.in_ok-outcomes.ensures recording has is there.numbers are missed in
+    let counted = subst (λ n. AreOutcomes has asked.from n (since_of exchange.span) pair all c.in_ok-outcomes.outcomes) last own in
+    let absent : c.in_ok-absent.absent ≡ absent_of exchange.is_held has asked.from final pair all =
+    c.in_ok-absent.ensures all has there.numbers own ∙ ap (λ n. absent_of exchange.is_held has asked.from n pair all) last in
+    let lacking : c.in_ok-lacking.lacking ≡ kept (lacking_of exchange.is_held has asked.from final pair all) =
+    c.in_ok-lacking.ensures all has there.numbers are ∙ ap (λ n. kept (lacking_of exchange.is_held has asked.from n pair all)) last in
+    let in_span : InSpan = record { joined = exchange.span.joined; is_joined_here = exchange.span.is_joined_here; from = c.cast_unsigned.result; until = exchange.span.until; outcomes = c.in_ok-outcomes.outcomes; base = c.greatest_base.result; is_held = exchange.is_held; absent = c.in_ok-absent.absent; lacking = c.in_ok-lacking.lacking; wait = c.told_wait.result } in
     let yes : exchange.in_spans ≡ true = c.if-not-exchange.false in
-    subst (λ b. IsBeside b exchange.span pair recording (Some in_span)) (sym yes) (
+    subst (λ b. IsBeside b beside exchange.span pair recording (Some in_span)) (sym yes) (
       in_span,
       refl,
       record {
@@ -28,7 +38,14 @@ returns c = λ recording is last are missed.
         here = refl;
         first = omega (arith, ints);
         until = refl;
-        outcomes = subst (λ from. AreOutcomes from (last_announced_from from (speech_by pair.writer pair.reader recording)) (since_of exchange.span) pair all c.in_ok-outcomes.outcomes) c.requires.from counted;
+        outcomes = subst (λ from. AreOutcomes has from (last_announced_from from (speech_by pair.writer pair.reader recording)) (since_of exchange.span) pair all c.in_ok-outcomes.outcomes) c.requires.from counted;
         base = c.greatest_base.ensures.value ∙ ap (λ (l : List Answer). greatest (map (λ (answer : Answer). natural answer.base) l)) is.answers ∙ bases_same pair all;
+        held = there.holds;
+        absent = absent ∙ ap (λ h. absent_of h has asked.from final pair all) there.holds
+            ∙ ap (λ from. absent_of (is_held beside.other pair) has from (last_announced_from from (speech_by pair.writer pair.reader recording)) pair all) c.requires.from;
+        lacking = lacking ∙ ap (λ h. kept (lacking_of h has asked.from final pair all)) there.holds
+            ∙ ap (λ from. kept (lacking_of (is_held beside.other pair) has from (last_announced_from from (speech_by pair.writer pair.reader recording)) pair all))
+            c.requires.from;
+        wait = c.told_wait.ensures recording is ∙ ap (λ t. told_wait exchange.span pair t recording) times;
       },
     )

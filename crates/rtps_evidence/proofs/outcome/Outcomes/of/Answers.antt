@@ -17,7 +17,7 @@ use Rattle.rtps_evidence.specs.Spans.{since_of}
 use Rattle.rtps_evidence.specs.declared.amount.Stretch.{Stretch}
 use Rattle.rtps_evidence.proofs.AnswerLemmas.{bases_same}
 use Rattle.rtps_evidence.proofs.MissedLemmas.{brought_same}
-use Rattle.rtps_evidence.proofs.OutcomeCounts.{claimed_below, missed_put, outcomes_counted, unanswered_put, unsent_put, with_likely, with_missed, with_unanswered, with_unsent}
+use Rattle.rtps_evidence.proofs.OutcomeCounts.{claimed_below, missed_put, outcomes_counted, unanswered_put, unsent_put, with_arrived, with_likely, with_missed, with_unanswered, with_unsent}
 use Rattle.rtps_evidence.proofs.outcome.Outcomes.of.Goals as goal
 
 or_no : (b : Bool) → (b || false) ≡ b
@@ -32,7 +32,7 @@ pub outside-requires : goal.outside-requires
 outside-requires c = c.requires.lo
 
 pub returns : goal.returns
-returns c = λ recording is are missed.
+returns c = λ recording there is at_host are missed.
     let exchange = c.args.exchange.now in
     let pair = exchange.pair in
     let since = since_of exchange.span in
@@ -50,45 +50,51 @@ returns c = λ recording is are missed.
     c.greatest_base.ensures.value ∙ ap (λ (l : List Answer). greatest (map (λ (answer : Answer). natural answer.base) l)) is.answers ∙ bases_same pair all in
     let claimed : List Stretch = record { lo = 0; hi = c.greatest_base.result } ∷ [] in
     let one : ℕ → Bool = λ n. stretches_have c.in_ok-numbers.numbers.items n || false in
-    let two : ℕ → Bool = λ n. stretches_have c.count_with.new.numbers.items n || stretches_have c.args.unreceived.now.missed.now n in
-    let three : ℕ → Bool = λ n. stretches_have c.count_with-2.new.numbers.items n || stretches_have c.deref.result.now n in
-    let four : ℕ → Bool = λ n. stretches_have c.count_with-3.new.numbers.items n || stretches_have c.deref-2.result.now n in
-    let five : ℕ → Bool = λ n. stretches_have c.count_with-4.new.numbers.items n || stretches_have claimed n in
-    let there : (n : ℕ) → from ≤ n → n < last + 1 → r n ≡ false → lacks n ≡ true = λ n low high out. are n low (omega arith) ∙ ap not out in
+    let two : ℕ → Bool = λ n. stretches_have c.count_with.new.numbers.items n || stretches_have exchange.there.now n in
+    let three : ℕ → Bool = λ n. stretches_have c.count_with-2.new.numbers.items n || stretches_have c.args.unreceived.now.missed.now n in
+    let four : ℕ → Bool = λ n. stretches_have c.count_with-3.new.numbers.items n || stretches_have c.deref.result.now n in
+    let five : ℕ → Bool = λ n. stretches_have c.count_with-4.new.numbers.items n || stretches_have c.deref-2.result.now n in
+    let six : ℕ → Bool = λ n. stretches_have c.count_with-5.new.numbers.items n || stretches_have claimed n in
+    let lacking_too : (n : ℕ) → from ≤ n → n < last + 1 → r n ≡ false → lacks n ≡ true = λ n low high out. are n low (omega arith) ∙ ap not out in
     let first : (n : ℕ) → from ≤ n → n < last + 1 → one n ≡ r n =
     λ n low high. or_no (stretches_have c.in_ok-numbers.numbers.items n) ∙ c.in_ok-numbers.ensures n (omega (arith, begins, low)) high ∙ ap not (are n low (omega arith)) ∙ not_not (r n) in
-    let second : (n : ℕ) → from ≤ n → n < last + 1 → two n ≡ with_missed (r n) (w n) =
-    λ n low high. missed_put (stretches_have c.count_with.new.numbers.items n) (r n) (w n) (stretches_have c.args.unreceived.now.missed.now n) (two n) (c.in_ok-received.ensures.numbers n ∙ first n low high) (missed n low (omega arith)) refl in
+    let second : (n : ℕ) → from ≤ n → n < last + 1 → two n ≡ with_arrived (r n) (there n) =
+    λ n low high. ap (λ x. x || stretches_have exchange.there.now n) (c.in_ok-received.ensures.numbers n ∙ first n low high) ∙ ap (λ x. r n || x) (at_host n) in
+    let third : (n : ℕ) → from ≤ n → n < last + 1 → three n ≡ with_missed (r n) (there n) (w n) =
+    λ n low high. missed_put (stretches_have c.count_with-2.new.numbers.items n) (r n) (there n) (w n) (stretches_have c.args.unreceived.now.missed.now n) (three n) (c.in_ok-arrived.ensures.numbers n ∙ second n low high) (missed n low (omega arith)) refl in
     let brought : (n : ℕ) → lacks n ≡ true → stretches_have c.in_ok-brought.brought.items n ≡ b n =
     λ n lacking.
     c.in_ok-brought.ensures n lacking
     ∙ ap (λ s. list_any (brings_behind s c.listener.result.pair.writer c.listener.result.pair.reader n) (map placed_value exchange.said.acts.now)) c.listener.ensures.since
     ∙ ap (λ (p : Pair). list_any (brings_behind since p.writer p.reader n) (map placed_value exchange.said.acts.now)) c.listener.ensures.pair
     ∙ ap (list_any (brings_behind since pair.writer pair.reader n)) is.acts ∙ brought_same since pair.writer pair.reader n all in
-    let third : (n : ℕ) → from ≤ n → n < last + 1 → three n ≡ with_unsent (r n) (w n) (b n) =
-    λ n low high. unsent_put (stretches_have c.count_with-2.new.numbers.items n) (r n) (w n) (b n) (stretches_have c.deref.result.now n) (three n) (c.in_ok-missed.ensures.numbers n ∙ second n low high)
-    (λ out. ap (λ l. stretches_have l n) c.deref.ensures.value ∙ c.in_ok-unsent.ensures n low (omega arith) ∙ ap not (brought n (there n low high out))) refl in
-    let fourth : (n : ℕ) → from ≤ n → n < last + 1 → four n ≡ with_unanswered (r n) (w n) (b n) (u n) =
-    λ n low high. unanswered_put (stretches_have c.count_with-3.new.numbers.items n) (r n) (w n) (b n) (stretches_have c.deref-2.result.now n) (u n) (four n) (c.in_ok-unsent-2.ensures.numbers n ∙ third n low high)
-    (λ out. ap (λ l. stretches_have l n) c.deref-2.ensures.value ∙ c.in_ok-silent.ensures recording is n low (omega arith) (there n low high out)) refl in
+    let fourth : (n : ℕ) → from ≤ n → n < last + 1 → four n ≡ with_unsent (r n) (there n) (w n) (b n) =
+    λ n low high. unsent_put (stretches_have c.count_with-3.new.numbers.items n) (r n) (there n) (w n) (b n) (stretches_have c.deref.result.now n) (four n) (c.in_ok-missed.ensures.numbers n ∙ third n low high)
+    (λ out. ap (λ l. stretches_have l n) c.deref.ensures.value ∙ c.in_ok-unsent.ensures n low (omega arith) ∙ ap not (brought n (lacking_too n low high out))) refl in
+    let fifth : (n : ℕ) → from ≤ n → n < last + 1 → five n ≡ with_unanswered (r n) (there n) (w n) (b n) (u n) =
+    λ n low high. unanswered_put (stretches_have c.count_with-4.new.numbers.items n) (r n) (there n) (w n) (b n) (stretches_have c.deref-2.result.now n) (u n) (five n) (c.in_ok-unsent-2.ensures.numbers n ∙ fourth n low high)
+    (λ out. ap (λ l. stretches_have l n) c.deref-2.ensures.value ∙ c.in_ok-silent.ensures recording is n low (omega arith) (lacking_too n low high out)) refl in
     let below : (n : ℕ) → stretches_have claimed n ≡ k n =
     λ n.
     let zero : nat_le 0 n ≡ true = grind (arith, nat_tests) in
     ap (λ x. (x && nat_lt n c.greatest_base.result) || false) zero ∙ or_no (nat_lt n c.greatest_base.result) ∙ ap (nat_lt n) base ∙ claimed_below pair all n in
-    let fifth : (n : ℕ) → from ≤ n → n < last + 1 → five n ≡ with_likely (r n) (w n) (b n) (u n) (k n) =
+    let sixth : (n : ℕ) → from ≤ n → n < last + 1 → six n ≡ with_likely (r n) (there n) (w n) (b n) (u n) (k n) =
     λ n low high.
-    ap (λ x. x || stretches_have claimed n) (c.in_ok-unanswered.ensures.numbers n ∙ fourth n low high) ∙ ap (λ x. with_unanswered (r n) (w n) (b n) (u n) || x) (below n) in
-    let counted = outcomes_counted from last since pair all one two three four five (record { of_received = first; of_missed = second; of_unsent = third; of_unanswered = fourth; of_likely = fifth }) in
-    let missed_more : c.saturating_sub.result ≡ c.in_ok-missed.missed - c.in_ok-received.received = (let is = c.saturating_sub.ensures in omega (arith, is)) in
-    let unsent_more : c.saturating_sub-2.result ≡ c.in_ok-unsent-2.unsent - c.in_ok-missed.missed = (let is = c.saturating_sub-2.ensures in omega (arith, is)) in
-    let unanswered_more : c.saturating_sub-3.result ≡ c.in_ok-unanswered.unanswered - c.in_ok-unsent-2.unsent = (let is = c.saturating_sub-3.ensures in omega (arith, is)) in
-    let likely_more : c.saturating_sub-4.result ≡ c.in_ok-likely.likely - c.in_ok-unanswered.unanswered = (let is = c.saturating_sub-4.ensures in omega (arith, is)) in
-    let others : c.saturating_sub-5.result ≡ last + 1 - from - c.in_ok-likely.likely = (let is = c.saturating_sub-5.ensures in omega (arith, is, begins)) in
+    ap (λ x. x || stretches_have claimed n) (c.in_ok-unanswered.ensures.numbers n ∙ fifth n low high) ∙ ap (λ x. with_unanswered (r n) (there n) (w n) (b n) (u n) || x) (below n) in
+    let counted = outcomes_counted there from last since pair all one two three four five six
+    (record { of_received = first; of_arrived = second; of_missed = third; of_unsent = fourth; of_unanswered = fifth; of_likely = sixth }) in
+    let arrived_more : c.saturating_sub.result ≡ c.in_ok-arrived.arrived - c.in_ok-received.received = (let is = c.saturating_sub.ensures in omega (arith, is)) in
+    let missed_more : c.saturating_sub-2.result ≡ c.in_ok-missed.missed - c.in_ok-arrived.arrived = (let is = c.saturating_sub-2.ensures in omega (arith, is)) in
+    let unsent_more : c.saturating_sub-3.result ≡ c.in_ok-unsent-2.unsent - c.in_ok-missed.missed = (let is = c.saturating_sub-3.ensures in omega (arith, is)) in
+    let unanswered_more : c.saturating_sub-4.result ≡ c.in_ok-unanswered.unanswered - c.in_ok-unsent-2.unsent = (let is = c.saturating_sub-4.ensures in omega (arith, is)) in
+    let likely_more : c.saturating_sub-5.result ≡ c.in_ok-likely.likely - c.in_ok-unanswered.unanswered = (let is = c.saturating_sub-5.ensures in omega (arith, is)) in
+    let others : c.saturating_sub-6.result ≡ last + 1 - from - c.in_ok-likely.likely = (let is = c.saturating_sub-6.ensures in omega (arith, is, begins)) in
     record {
       received = c.in_ok-received.ensures.count ∙ counted.received;
-      missed = missed_more ∙ ap (λ m. m - c.in_ok-received.received) c.in_ok-missed.ensures.count ∙ ap (λ m. count_in two from (last + 1) - m) c.in_ok-received.ensures.count ∙ counted.missed;
-      unsent = unsent_more ∙ ap (λ m. m - c.in_ok-missed.missed) c.in_ok-unsent-2.ensures.count ∙ ap (λ m. count_in three from (last + 1) - m) c.in_ok-missed.ensures.count ∙ counted.unsent;
-      unanswered = unanswered_more ∙ ap (λ m. m - c.in_ok-unsent-2.unsent) c.in_ok-unanswered.ensures.count ∙ ap (λ m. count_in four from (last + 1) - m) c.in_ok-unsent-2.ensures.count ∙ counted.unanswered;
-      likely = likely_more ∙ ap (λ m. m - c.in_ok-unanswered.unanswered) c.in_ok-likely.ensures.count ∙ ap (λ m. count_in five from (last + 1) - m) c.in_ok-unanswered.ensures.count ∙ counted.likely;
+      arrived = arrived_more ∙ ap (λ m. m - c.in_ok-received.received) c.in_ok-arrived.ensures.count ∙ ap (λ m. count_in two from (last + 1) - m) c.in_ok-received.ensures.count ∙ counted.arrived;
+      missed = missed_more ∙ ap (λ m. m - c.in_ok-arrived.arrived) c.in_ok-missed.ensures.count ∙ ap (λ m. count_in three from (last + 1) - m) c.in_ok-arrived.ensures.count ∙ counted.missed;
+      unsent = unsent_more ∙ ap (λ m. m - c.in_ok-missed.missed) c.in_ok-unsent-2.ensures.count ∙ ap (λ m. count_in four from (last + 1) - m) c.in_ok-missed.ensures.count ∙ counted.unsent;
+      unanswered = unanswered_more ∙ ap (λ m. m - c.in_ok-unsent-2.unsent) c.in_ok-unanswered.ensures.count ∙ ap (λ m. count_in five from (last + 1) - m) c.in_ok-unsent-2.ensures.count ∙ counted.unanswered;
+      likely = likely_more ∙ ap (λ m. m - c.in_ok-unanswered.unanswered) c.in_ok-likely.ensures.count ∙ ap (λ m. count_in six from (last + 1) - m) c.in_ok-unanswered.ensures.count ∙ counted.likely;
       unconfirmed = others ∙ ap (λ m. last + 1 - from - m) c.in_ok-likely.ensures.count ∙ counted.unconfirmed;
     }

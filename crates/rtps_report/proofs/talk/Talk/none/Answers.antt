@@ -12,6 +12,9 @@ returns-clause-talks c =
       one_way = c.new-5.result;
       best_effort = c.new-6.result;
       best_effort_total = c.total_of.result;
-      participants = c.new-7.result;
+      held = c.new-7.result;
+      held_sums = c.new-8.result;
+      held_total = c.total_of-2.result;
+      participants = c.new-9.result;
     } in
-    λ asked. none_talk asked talk c.new.ensures c.new-2.ensures c.new-4.ensures.items c.new-5.ensures.items c.new-6.ensures.items c.total_of.ensures c.new-7.ensures.items
+    λ asked other times. none_talk asked other times talk c.new.ensures c.new-2.ensures c.new-4.ensures.items c.new-5.ensures.items c.new-6.ensures.items c.total_of.ensures c.new-7.ensures.items c.new-8.ensures.items c.total_of-2.ensures c.new-9.ensures.items

@@ -7,5 +7,5 @@ use Rattle.rtps_report.proofs.traffic.Traffic.of.Given as goal
 abbrev pub invariant-loop-place : goal.invariant-loop-place
 invariant-loop-place l = record {
   walks : IsWalkFor l.fn.fragments l.walk;
-  is : IsTrafficOf (datagrams_read l.fn.fragments (map (λ datagram. datagram.now) (take l.place l.recording))) l.traffic;
+  is : IsTrafficOf (datagrams_read l.fn.fragments (map (λ datagram. datagram.now) (take l.place l.recording))) l.times.of_datagrams l.traffic;
 }

@@ -9,8 +9,9 @@ use Rattle.rtps_text.proofs.text.why_text.push_rest.Goals as goal
 pub returns : goal.returns
 returns c =
     let evidence = evidence_value c.args.evidence.now in
+    let times = c.args.times.now in
     on_ok_weaker c.push_shown.result
-    (four_parts (string_bytes c.args.text.now) (received_line evidence.received (evidence.payloads + evidence.gone + evidence.untold)) (missed_lines evidence.missed evidence.first_missed)
-    (not_received_line evidence.not_received) (shown_by (number_of evidence.verdict) evidence.grounds)
+    (four_parts (string_bytes c.args.text.now) (received_line evidence.received (evidence.payloads + evidence.gone + evidence.untold)) (missed_lines times evidence.missed evidence.first_missed)
+    (not_received_line times evidence.not_received) (shown_by times (number_of evidence.verdict) evidence.grounds)
     (c.in_ok-writeln.ensures.bytes ∙ ap (λ numbers. string_bytes c.args.text.now ++ received_line evidence.received numbers) c.sum_of-numbers.ensures) c.in_ok-push_missed.ensures c.in_ok-write.ensures.bytes)
     c.push_shown.ensures

@@ -10,8 +10,9 @@ pub returns : goal.returns
 returns c =
     let row = explanation_value c.args.row.now in
     let evidence = row.evidence in
+    let times = c.args.times.now in
     on_ok_weaker c.push_rest.result
-    (seven_parts (string_bytes c.args.text.now) (pair_line row) (names_line row.topic row.type_name) (span_line evidence.in_span) (announced_line evidence.announcement)
-    (acknowledged_line evidence.acknowledgement) (amounts_line evidence.payloads evidence.gone evidence.untold) (rest_lines evidence)
+    (seven_parts (string_bytes c.args.text.now) (pair_line row) (names_line row.topic row.type_name) (span_line evidence.in_span) (announced_line times evidence.announcement)
+    (acknowledged_line times evidence.acknowledgement) (amounts_line evidence.payloads evidence.gone evidence.untold) (rest_lines times evidence)
     c.in_ok-writeln.ensures.bytes c.in_ok-writeln-2.ensures.bytes c.in_ok-push_span.ensures c.in_ok-write.ensures.bytes c.in_ok-write-2.ensures.bytes c.in_ok-writeln-3.ensures.bytes)
     c.push_rest.ensures

@@ -31,7 +31,7 @@ returns-in-Classic c =
     let now = c.in_ok-reading.reading.octets.items in
     let given = c.in_ok-spans.ensures.octets now ∙ ap₂ (λ (l : List ℕ) (ranges : List ByteRange). octets_in l ranges) told.1 c.deref.ensures.value in
     ap (recording_told c.args.captures c.args.octets.items) told.2
-    ∙ recording_told-is c.args.captures Classic c.args.octets.items _ _ c.in-Classic.is given ∙ ap Ok (sym c.of_capture.ensures)
+    ∙ recording_told-is c.args.captures Classic c.args.octets.items _ _ _ c.in-Classic.is given c.in_ok-times.ensures ∙ ap Ok (sym c.of_capture.ensures)
 
 pub returns : goal.returns
 unfolding recording_of_capture
@@ -40,4 +40,4 @@ returns c =
     let now = c.in_ok-reading.reading.octets.items in
     let given = c.in_ok-spans.ensures.octets now ∙ ap₂ (λ (l : List ℕ) (ranges : List ByteRange). octets_in l ranges) told.1 c.deref.ensures.value in
     ap (recording_told c.args.captures c.args.octets.items) told.2
-    ∙ recording_told-is c.args.captures Any c.args.octets.items _ _ c.in-Any.is given ∙ ap Ok (sym c.of_any_capture.ensures)
+    ∙ recording_told-is c.args.captures Any c.args.octets.items _ _ _ c.in-Any.is given c.in_ok-times.ensures ∙ ap Ok (sym c.of_any_capture.ensures)

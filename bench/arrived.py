@@ -1,0 +1,399 @@
+#!/usr/bin/env python3
+"""What arrived at the reader's host, by a second recording: a part of the second implementation, of `check FILE --arrived OTHER`.
+
+    arrived.py truth FILE OTHER TRUTH
+                            compares the numbers that did not arrive with those that the application did not take, which the JSON
+                            file TRUTH has, and says where they differ
+    arrived.py laws [COUNT [SEED]]
+                            checks laws of what arrived on COUNT random recordings, each with another, and says where they fail
+    arrived.py compare PROGRAM [COUNT [SEED]]
+                            runs PROGRAM on COUNT random recordings, each with another, and says where it differs
+
+FILE is the recording that is judged. OTHER is one that was made at the host of readers, in the same time.
+
+How the two are read
+- OTHER is read as FILE is: a text, or a capture of any form, with fragments of IP put together and with samples in fragments.
+- Limits are each recording's own: each may have as many datagrams and as many octets as is asked for.
+- FILE is read first, and its errors are told first. What is wrong with OTHER is told with its name, in the last line too, and ends
+  the run in the same way: with status 2 where it is refused, and with 3 where it cannot be read. Nothing is printed of FILE then.
+- One of the two may be standard input. Both may not: the words are refused.
+
+What the terms mean
+- Held against OTHER is a pair where OTHER has an act whose source is the reader's participant and whose destination is the writer's.
+  Only such a reader is at that host. Who joins, leaves or matches is a matter of FILE: what OTHER announces counts for nothing.
+- The numbers of a pair are those that FILE asks about: from its first one up to the greatest one before the reader left. A number
+  that OTHER alone has is none of them.
+- A number arrived where it is not received for certain and the reader is told a payload of it in OTHER: by a DATA, or by fragments
+  from which a sample can be put together. Any payload will do. It may stand anywhere in OTHER: two hosts have two clocks, so no
+  place and no time of the one is compared with one of the other. It arrived whatever else its kind were, gone ones too.
+- Of a pair that is held against OTHER each number is of one of seven kinds, the first of these that fits: received, arrived, missed,
+  unsent, unanswered, likely, unconfirmed. The seven add up to the numbers that are asked about.
+- A number lacks where it is neither received nor arrived. It did not reach the reader's host, if OTHER has all that did.
+- The tail of a pair that is held: it is open, its reader acknowledged something, each number below the greatest base of the answers
+  is received or arrived, and each other one is arrived or unconfirmed.
+- A row that is held is clean where it is complete or open and no number lacks, or where only a tail does, and either the reader left
+  or no more numbers lack than --tail allows. A conflict or an unfounded answer is in FILE, and stays.
+- All other rows are as without OTHER. A note says how many pairs are so.
+
+What is proved, and what is counted
+- Verdicts, received numbers and all evidence are those of FILE, as without OTHER, and so is what `--certain` asks for.
+- What arrived is what stands in OTHER. It is no premise of a verdict, and no consequence of one. A note says how many numbers are
+  received for certain and not in OTHER: then OTHER lacks something, and others that lack may have arrived.
+
+Pairs of best effort
+- Those that match and are observed in FILE, and are held against OTHER, are counted: of how many of their numbers OTHER has a payload
+  that the reader is told. Their numbers go from the first one of the pair up to the greatest one of which the writer sent a DATA or
+  a DATA_FRAG in FILE. They are told and no reason.
+
+What is printed
+- The first line says how many numbers arrived beside those that are received. The table has a column `arrived` behind `received`.
+  A row that is told has the first ten numbers that lack, and so has each best-effort pair of which some lack.
+- In JSON `"outcomes"` has a member `"arrived"` behind `"received"`, null in a row that is not held. Behind `"outcomes"` stands
+  `"not_arrived"`: the first ten numbers that lack, or null. The object has behind `"best_effort"` the member `"arrived"`: of each
+  best-effort pair that is held its topic, writer and reader, its numbers, how many of them arrived, and the first ten that lack.
+"""
+import json
+import os
+import random
+import subprocess
+import sys
+from importlib import import_module
+from itertools import islice
+
+import reference
+from asked import PLAIN
+from random_recordings import some_checked, some_life, text_of_datagrams
+from random_systems import some_other, some_system
+from reference import acts_of, guid_text, name_text, told_to
+from talk import named_by
+from wording import amount, grouped, in_pairs, of
+
+# So many numbers that did not arrive are named.
+NAMED = 10
+
+# What is told where both recordings are standard input.
+TWICE = ["error: the argument '--arrived <OTHER>' cannot be standard input: FILE is", '', "For more information, try '--help'."]
+
+BEST_EFFORT = 'by best effort nothing is sent again: look at the network, or make both reliable'
+ALONE = "the recording at the reader's host has nothing of the reader to the writer: it was not made at that host"
+LACKING = 'it lacks something: see that it ran all the time, and that tcpdump dropped nothing'
+
+# What weakens OTHER: its name among the counts of a capture, text of one, text of many, what to do.
+UNREAD = [
+    ('pieces', 'frame is a fragment of a packet that is not whole', 'frames are fragments of packets that are not whole',
+     'the other parts were lost on the way: what such packets carry did not arrive'),
+    ('cut', 'frame is cut', 'frames are cut',
+     'record whole frames, without a snap length (tcpdump -s), and end tcpdump with Ctrl-C: what is cut is told as not arrived'),
+    ('links', 'frame is of a link that is not read', 'frames are of links that are not read',
+     'record on an Ethernet, loopback or raw IP interface, or with tcpdump -i any: what is not read is told as not arrived'),
+]
+
+# ---- the other recording
+
+
+class Other:
+    """a recording that was made at the host of readers"""
+
+    def __init__(self, recording, ignored=None):
+        """`recording` has the acts of each datagram"""
+        self.recording, self.namings = recording, named_by(recording)
+        self.ignored = ignored if isinstance(ignored, dict) else {}
+
+    def holds(self, w, r):
+        """whether it has an act of the reader's participant that names the writer's"""
+        return (r[:12], w[:12]) in self.namings
+
+    def told(self, w, r):
+        """the numbers of which the reader is told a payload; None of a pair that is not held"""
+        return {act['number'] for _, act, words in told_to(self.recording, w, r) if words.payload is not None} if self.holds(w, r) else None
+
+
+def other_of(octets, name, limits=reference.USUAL, view='check', any_form=True, fragments=True):
+    """the other recording, which is read as the one that is judged, or the lines of standard error, each with its name"""
+    read = reference.input_of(octets, limits, any_form)
+    if not isinstance(read, str):
+        datagrams, ignored = read
+        return Other([acts_of(d, fragments) for d in datagrams], ignored)
+    *reasons, _ = reference.told_of(name, octets, limits, any_form, f'{view} --arrived - FILE')
+    return [*reasons, f'rtps-audit: {name}: {read}']
+
+
+# ---- numbers that did not arrive
+
+
+def first_named(numbers):
+    """the first ten of some numbers in their order"""
+    return list(islice(numbers, NAMED))
+
+
+def listed(named, count):
+    """some numbers, and how many more there are"""
+    return ', '.join(map(str, named)) + (f' and {grouped(count - len(named))} more' if count > len(named) else '')
+
+
+def lacking_lines(row):
+    """the line of a row with the first numbers that did not arrive"""
+    if not row.held or not row.lacking_count():
+        return []
+    return [f'not arrived {listed(first_named(row.lacking()), row.lacking_count())}']
+
+
+def more_arrived(rows):
+    """what the first line says of what arrived"""
+    return f", {grouped(sum(row.counts['arrived'] for row in rows))} more arrived"
+
+
+def lost_reasons(rows):
+    """why rows are not clean that would be so without the other recording"""
+    some = [row for row in rows if row.held and row.counts['likely']]
+    total = sum(row.counts['likely'] for row in some)
+    return [in_pairs(total, 'likely number did not arrive', 'likely numbers did not arrive', len(some))] if some else []
+
+
+# ---- pairs of best effort
+
+
+class BestEffort:
+    """a pair of best effort that is held: how many numbers it has, how many arrived, and the first that did not"""
+
+    def __init__(self, talk, w, r, told):
+        self.w, self.r = w, r
+        self.asked_about = talk.numbers(w, r)
+        self.told = {n for n in told if n in self.asked_about}
+        self.first, self.numbers, self.arrived = self.asked_about.start, len_of(self.asked_about), len(self.told)
+        self.lacking = first_named(n for n in self.asked_about if n not in self.told)
+
+    def all_lacking(self):
+        return set(self.asked_about) - self.told
+
+    def values(self):
+        return {'topic': name_text(self.w[2]), 'writer': guid_text(self.w[0]), 'reader': guid_text(self.r[0]), 'numbers': self.numbers,
+                'arrived': self.arrived, 'not_arrived': self.lacking}
+
+
+def len_of(numbers):
+    """how many numbers a range has, which may be more than `len` can say"""
+    return max(0, numbers.stop - numbers.start)
+
+
+class BothSides:
+    """what the other recording shows beside the rows: pairs of best effort, and what weakens it"""
+
+    def __init__(self, rows, talk, other):
+        self.other, self.rows = other, rows
+        held = [(w, r) for w, r in talk.best_effort if other.holds(w[0], r[0])]
+        self.best_effort = [BestEffort(talk, w, r, other.told(w[0], r[0])) for w, r in held]
+        self.alone = [row.key for row in rows if not row.held]
+
+    def by_topic(self):
+        """by topic how many numbers of best-effort pairs there are, and how many arrived"""
+        topics = {}
+        for pair in self.best_effort:
+            counts = topics.setdefault(pair.w[2], [0, 0])
+            counts[0] += pair.numbers
+            counts[1] += pair.arrived
+        return sorted(topics.items())
+
+    def notes(self, topic_text):
+        """what is told, the topics that it is about, or None, and what to do, or None"""
+        if self.best_effort:
+            numbers, arrived = (sum(counts[i] for _, counts in self.by_topic()) for i in (0, 1))
+            pairs = amount(len(self.best_effort), 'best-effort pair has', 'best-effort pairs have')
+            what = 'number' if numbers == 1 else 'numbers'
+            by_topic = ', '.join(f'{topic_text(topic)} {of(arrived, numbers)}' for topic, (numbers, arrived) in self.by_topic())
+            yield f"{pairs} {of(arrived, numbers)} {what} at the reader's host", by_topic, None
+        if self.alone:
+            topics = ', '.join(topic_text(topic) for topic, _ in sorted(set(self.alone)))
+            yield f"{amount(len(self.alone), 'pair is', 'pairs are')} judged by this recording alone", topics, ALONE
+        absent = [row for row in self.rows if row.absent]
+        if absent:
+            told = in_pairs(sum(row.absent for row in absent), 'number is received for certain', 'numbers are received for certain', len(absent))
+            topics = ', '.join(topic_text(topic) for topic, _ in sorted({row.key for row in absent}))
+            yield f"{told} and not in the recording at the reader's host", topics, LACKING
+        for name, one, many, advice in UNREAD:
+            if self.other.ignored.get(name, 0):
+                yield f"at the reader's host: {amount(self.other.ignored[name], one, many)}", None, advice
+
+    def lines(self, hosted, topic_text):
+        """the best-effort pairs of which numbers did not arrive, by topic"""
+        pairs = [pair for pair in self.best_effort if pair.lacking]
+        if not pairs:
+            return []
+        numbers = amount(sum(pair.numbers - pair.arrived for pair in pairs), 'number', 'numbers')
+        lines, last = [f"{numbers} of {amount(len(pairs), 'best-effort pair', 'best-effort pairs')} did not arrive"], None
+        for pair in sorted(pairs, key=lambda pair: pair.w[2]):
+            lines += [] if pair.w[2] == last else [topic_text(pair.w[2])]
+            last = pair.w[2]
+            shares = f'arrived {of(pair.arrived, pair.numbers)}, not {listed(pair.lacking, pair.numbers - pair.arrived)}'
+            lines += [f'  writer {hosted(pair.w[0])}', f'  reader {hosted(pair.r[0])}', f'    {shares}']
+        return lines + ['  -> ' + BEST_EFFORT]
+
+    def members(self):
+        return {'arrived': [pair.values() for pair in self.best_effort]}
+
+
+
+
+# ---- what applications took
+
+
+def guid_of(text):
+    return bytes.fromhex(text.replace('.', ''))
+
+
+def sides_of(octets, other, asked):
+    """the rows, and what the other recording shows beside them"""
+    datagrams, _ = reference.input_of(octets, any_form=True)
+    rows, talk, _ = spans().rows_of(datagrams, asked.checked(), True, other=other)
+    return rows, BothSides(rows, talk, other)
+
+
+def not_arrived(rows, sides):
+    """of each pair that is held its writer, its reader, its first number, and all numbers that did not arrive"""
+    for row in rows:
+        if row.held:
+            yield row.w, row.r, row.first, set(row.lacking())
+    for pair in sides.best_effort:
+        yield pair.w[0], pair.r[0], pair.first, pair.all_lacking()
+
+
+def truth(path, other_path, truth_path):
+    """whether the numbers that did not arrive are those that the application did not take"""
+    with open(path, 'rb') as f, open(other_path, 'rb') as g, open(truth_path) as h:
+        octets, other, ends = f.read(), other_of(g.read(), other_path), json.load(h)['eps']
+    rows, sides = sides_of(octets, other, PLAIN)
+    named, differing, pairs = {guid_of(end['guid']): (name, end) for name, end in ends.items()}, 0, 0
+    for w, r, first, lacking in not_arrived(rows, sides):
+        (name, writer), (_, reader) = named[w], named[r]
+        untaken = set(range(first, writer['wrote'] + 1)) - set(reader['took'].get(name, []))
+        pairs += 1
+        differing += lacking != untaken
+        print(f"{writer['topic']} {guid_text(w)} {guid_text(r)}: {len(lacking)} did not arrive, {len(untaken)} were not taken")
+        for what, numbers in ('took what did not arrive', lacking - untaken), ('did not take what arrived', untaken - lacking):
+            if numbers:
+                print(f'  {what}: {listed(sorted(numbers), len(numbers))}')
+    print(f'{pairs} pairs, {differing} differences')
+    return int(differing > 0 or pairs == 0)
+
+
+# ---- random recordings
+
+
+def without_other(row, plain):
+    """where a row that is held is not what the same row without the other recording says of it"""
+    if (row.verdict, row.lines, row.first, row.until) != (plain.verdict, plain.lines, plain.first, plain.until):
+        yield 'evidence'
+    for n in range(row.first, min(row.last, 11) + 1):
+        kind, other_kind = row.delivery.kind(n), plain.delivery.kind(n)
+        if kind != other_kind and (kind != 'arrived' or other_kind == 'received'):
+            yield f'kind of number {n}'
+
+
+def failing(rows, plain_rows, other, tail):
+    """the laws that rows by another recording do not keep"""
+    backwards = Other(other.recording[::-1])
+    for row, plain in zip(rows, plain_rows):
+        yield from without_other(row, plain) if row.held else []
+        if sum(row.counts.values()) != row.asked_about():
+            yield 'sum of the kinds'
+        if not row.held and (row.counts, row.is_clean(tail)) != (plain.counts, plain.is_clean(tail)):
+            yield 'row that is not held'
+        if row.held != any(act['source'] == row.r[:12] and act['dest'] == row.w[:12] for acts in other.recording for act in acts):
+            yield 'row that is held'
+        if row.held and other.told(row.w, row.r) != backwards.told(row.w, row.r):
+            yield 'order of the other recording'
+        if row.held and other.told(row.w, row.r) != in_whole(other.recording, row.w, row.r):
+            yield 'numbers that are told'
+        if row.held and row.is_clean(tail) and row.lacking_count() > max(tail, 0 if row.until is None else row.lacking_count()):
+            yield 'clean row that lacks numbers'
+        if row.held and row.kind in ('complete', 'open') and not row.lacking_count() and not row.is_clean(tail):
+            yield 'row that lacks nothing'
+
+
+def in_whole(recording, w, r):
+    """the numbers of which a reader hears a DATA, or each fragment of one shape"""
+    heard = [act for acts in recording for act in acts if reference.brings(act, w, r)]
+    whole = {act['number'] for act in heard if act['kind'] == 'data'}
+    parts = {}
+    for act in heard:
+        if act['kind'] == 'data_frag':
+            shape = act['number'], act['sample'], act['size'], act['key']
+            parts.setdefault(shape, set()).update(range(act['start'], act['start'] + act['count']))
+    return whole | {n for (n, sample, size, _), found in parts.items() if len(found) * size >= sample}
+
+
+def failing_best_effort(sides):
+    """the laws that pairs of best effort do not keep"""
+    for pair in sides.best_effort:
+        there = in_whole(sides.other.recording, pair.w[0], pair.r[0])
+        arrived = [n for n in pair.asked_about if n in there]
+        if (pair.arrived, pair.lacking) != (len(arrived), [n for n in pair.asked_about if n not in there][:NAMED]):
+            yield 'best effort'
+
+
+def laws(count, seed):
+    names = 'rows', 'held', 'clean', 'clean by it', 'unclean by it', 'arrived', 'lacking', 'best effort'
+    rng, failed, tried = random.Random(seed), 0, dict.fromkeys(names, 0)
+    for k in range(count):
+        datagrams = some_system(rng) if rng.random() < 0.4 else some_life(rng)
+        asked, other = some_checked(rng).checked(), Other([acts_of(d, True) for d in some_other(rng, datagrams)])
+        (rows, talk, _), (plain, _, _) = (spans().rows_of(datagrams, asked, True, other=one) for one in (other, None))
+        sides = BothSides(rows, talk, other)
+        found = [*failing(rows, plain, other, asked.tail), *failing_best_effort(sides)]
+        tried['best effort'] += len(sides.best_effort)
+        if bool(check_reasons(rows, asked.tail)) != any(not row.is_clean(asked.tail) for row in rows):
+            found.append('reasons')
+        for what in found:
+            failed += 1
+            print(f'the law on {what} fails on recording {k}, kept in {reference.kept(text_of_datagrams(datagrams))}')
+        for row, old in zip(rows, plain):
+            clean = row.is_clean(asked.tail), old.is_clean(asked.tail)
+            for name, more in (('rows', 1), ('held', row.held), ('clean', clean[0]), ('clean by it', clean == (True, False)),
+                               ('unclean by it', clean == (False, True)), ('arrived', row.counts['arrived'])):
+                tried[name] += more
+            tried['lacking'] += row.lacking_count() if row.held else 0
+    print(f'{count} recordings, {failed} failures; {tried}')
+    return int(failed > 0)
+
+
+def check_reasons(rows, tail):
+    return import_module('check').row_reasons(rows, tail)
+
+
+def compare(program, count, seed):
+    rng, differing = random.Random(seed), 0
+    for k in range(count):
+        datagrams = some_system(rng) if rng.random() < 0.5 else some_life(rng)
+        octets = text_of_datagrams(datagrams)
+        name = reference.kept(text_of_datagrams(some_other(rng, datagrams)) + (b'0\n' if rng.random() < 0.03 else b''))
+        differs = False
+        for flag in [], ['--json']:
+            asked = some_checked(rng)
+            asked.arrived = name
+            want = spans().checked_with(octets, asked, bool(flag), '-')
+            got = subprocess.run(program.split() + ['check', *flag, *asked.words(), '-'], input=octets, capture_output=True)
+            if (got.stdout.decode(), got.stderr.decode().splitlines(), got.returncode) != want:
+                differs = True
+                differing += 1
+                print(f"check {' '.join([*flag, *asked.words()])} differs on recording {k}, kept in {reference.kept(octets)}")
+        if not differs:
+            os.unlink(name)
+    print(f'{count} recordings, {differing} differences')
+    return int(differing > 0)
+
+
+def spans():
+    """the rows, which need this file"""
+    return import_module('spans')
+
+
+def main():
+    if sys.argv[1] == 'truth':
+        return truth(*sys.argv[2:5])
+    at = 3 if sys.argv[1] == 'compare' else 2
+    count, seed = (int(word) for word in sys.argv[at:at + 2] + ['1000', '1'][len(sys.argv[at:at + 2]):])
+    return laws(count, seed) if at == 2 else compare(sys.argv[2], count, seed)
+
+
+if __name__ == '__main__':
+    sys.exit(main())

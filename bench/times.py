@@ -1,0 +1,218 @@
+"""When the datagrams of a capture came, and what `check`, `page` and JSON say of that: a part of the second implementation.
+
+**The time of a datagram** is that of the frame that gave it; of a packet in pieces that of the frame that completed it. It is counted in
+nanoseconds since 1970 began, and what is finer is cut off. A record of a classic file has its seconds and, by the file's magic, microseconds
+or nanoseconds. A packet block of a pcapng file counts units of its interface: its first option 9 (if_tsresol), where it has one octet, says how
+many a second has: 10 to its power, or from 128 on 2 to the power of what it is above 128; else they are microseconds. Its first option 14
+(if_tsoffset), where it has eight octets, says how many seconds are added (a signed number); else it is 0. A datagram has no time where it came
+in a Simple Packet Block, where its time is before 1970, and where it needs more than 64 bits. A text has no times.
+
+**The start** of a capture is the time of the first frame of the file that has one, whether it gave a datagram or not.
+
+**A recording has times** where some datagram of it has one. Nothing below is said of another recording: its outputs are as they were.
+
+**The second** of a datagram that has a time is the time from the start to it in milliseconds, cut off towards zero, said with three places:
+`12.345`. Where it is before the start a `-` stands in front, but not in front of 0.000. Another time that is said is cut off so, too.
+
+**Where seconds stand.** In the text of `check`, and so of `page`, a place of a datagram that has a time is followed by a comma and the second:
+`in datagram 412 at 36, 12.345 s`, and so is the datagram in which a reader left. In JSON, and so in the data of `page`, each place has
+behind `at` a member `time`: the second as a number with three places, or null. A datagram that stands alone (`until` of a row, `first`, `last`
+and `left` of a participant) has a member of its own: `until_time`, `first_time`, `last_time`, `left_time`, null where the datagram is null or
+has no time. `show`, `list`, `audit` and `why` say no second in their texts.
+
+**Times go back** by the greatest step of a recording: how much the time of a datagram is before that of an earlier one, the greatest of
+all pairs that have times. Where it is more than a millisecond there is a note.
+
+**The end** of a list of datagrams is the greatest of their times.
+
+**A participant is silent** where it is announced, does not leave, some datagram has an act of it, and each datagram that has one has a time
+that is more than ten seconds before the end of the recording. It is so since the last of these datagrams. (A datagram that is ten seconds before
+the end is among the last ten seconds.)
+
+**A wait** of a row in a span is that of a HEARTBEAT without the final flag that the reader hears since it joined: to the first answer of the
+reader to the writer behind it, or, where there is none, to the end of the row's datagrams. Which is behind which is told by places. It is the time
+between the two, and 0 where this is below 0. A HEARTBEAT without a time is no wait, nor is one whose answer has none. **The longest wait** is
+the greatest, of equal ones the first. It is told where it is more than a second.
+
+**What is told of a row.** In `check` the block of a row has, behind the lines of evidence and before what to do, the line of its longest wait,
+and then that the writer's participant is silent, and the reader's. A row that is not clean for its tail alone has a block of its own where one
+of the two is silent, and shares no line. Of a reader whose participant is silent the advice is not that of a tail, but the next case that fits.
+What is clean, and why a run is not, do not change. In JSON a row in a span has behind `clean` the member `wait`: null, or an object of `seconds`,
+`asked` (a place) and `answered` (a place or null). That of `check` and `page` has behind it `silence`: the sentences that it has. `audit` says
+nothing of participants, and its advice does not know who is silent. Each participant has behind its times `silent`: true or false.
+
+**What is told of the recording.** The note on times that go back is the first of all notes. It is no reason for a run not to be clean.
+
+**What a chart needs.** The data of the page has behind `answers` the member `times`: a list of pairs, a datagram and its second, of each
+datagram that has a time and stands in an entry of `writers` or `answers`, each once and in order. So it has at most as many pairs as
+there are entries, and the chart has the second of all that it draws.
+"""
+import bisect
+import json
+import re
+from typing import NamedTuple, Optional
+
+MILLISECOND, SECOND = 10 ** 6, 10 ** 9
+MOST_BACK = MILLISECOND        # times may go back by so much, and nothing is said
+SILENCE = 10 * SECOND          # who says nothing at the end for longer is silent
+MOST_WAIT = SECOND             # a wait that is not longer is not told
+
+
+class Seconds:
+    """a time that is said: nanoseconds, in whole milliseconds, cut off towards zero"""
+
+    def __init__(self, nanoseconds):
+        whole = abs(nanoseconds) // MILLISECOND
+        self.text = ('-' if nanoseconds < 0 and whole else '') + f'{whole // 1000}.{whole % 1000:03}'
+
+    def __str__(self):
+        return self.text
+
+
+class Times:
+    """of a recording: the time of each of its datagrams, and the start, each None where there is none"""
+
+    def __init__(self, start=None, of_datagrams=()):
+        self.start, self.of_datagrams = start, list(of_datagrams)
+
+    def are_there(self):
+        return any(time is not None for time in self.of_datagrams)
+
+    def of(self, datagram):
+        """the time of a datagram, counted from 1"""
+        return self.of_datagrams[datagram - 1] if self.of_datagrams else None
+
+    def second(self, datagram):
+        """the second of a datagram; None of none, and of one without a time"""
+        time = None if datagram is None else self.of(datagram)
+        return None if time is None else Seconds(time - self.start)
+
+    def end(self, count):
+        """the end of the first `count` datagrams"""
+        return max((time for time in self.of_datagrams[:count] if time is not None), default=None)
+
+    def step_back(self):
+        """by how much times go back, in nanoseconds"""
+        step, latest = 0, 0
+        for time in self.of_datagrams:
+            if time is not None:
+                latest = max(latest, time)
+                step = max(step, latest - time)
+        return step
+
+
+NO_TIMES = Times()
+
+
+# ---- places with their seconds
+
+
+def behind(times, datagram):
+    """what is said behind a datagram or a place in it"""
+    second = times.second(datagram)
+    return '' if second is None else f', {second} s'
+
+
+def timed_line(times, line):
+    """a line with the second behind each place"""
+    return re.sub(r'in datagram (\d+) at \d+', lambda found: found[0] + behind(times, int(found[1])), line)
+
+
+def timed_values(times, value):
+    """a value of JSON with the second of each place in it"""
+    if isinstance(value, list):
+        return [timed_values(times, one) for one in value]
+    if not isinstance(value, dict) or not times.are_there():
+        return value
+    timed = {name: timed_values(times, one) for name, one in value.items()}
+    return timed | {'time': times.second(value['datagram'])} if 'at' in value else timed
+
+
+def alone(times, **datagrams):
+    """the members with the seconds of datagrams that stand alone"""
+    return {f'{name}_time': times.second(datagram) for name, datagram in datagrams.items()} if times.are_there() else {}
+
+
+def json_text(value, **words):
+    """JSON on one line, as Python writes it, with numbers of three places"""
+    if isinstance(value, Seconds):
+        return str(value)
+    if isinstance(value, dict):
+        return '{' + ','.join(f'{json.dumps(name, **words)}:{json_text(one, **words)}' for name, one in value.items()) + '}'
+    if isinstance(value, list):
+        return '[' + ','.join(json_text(one, **words) for one in value) + ']'
+    return json.dumps(value, **words)
+
+
+# ---- times that go back
+
+SORTED = 'the datagrams are out of order: reordercap FILE OUT sorts them by time, and OUT can be checked'
+
+
+def order_notes(times):
+    step = times.step_back()
+    return [(f'times go back by up to {Seconds(step)} s', None, SORTED)] if step > MOST_BACK else []
+
+
+# ---- participants that are silent
+
+
+def is_silent(times, datagrams, left):
+    """of a participant: the datagrams that have an act of it, and the one in which it leaves"""
+    own = [times.of(datagram) for datagram in datagrams]
+    return left is None and bool(own) and None not in own and max(own) < times.end(len(times.of_datagrams)) - SILENCE
+
+
+def silence_line(times, side, last):
+    """that the participant of a row's writer or reader is silent since its last datagram"""
+    return f"the {side}'s participant is silent since datagram {last}{behind(times, last)}, and did not leave: it was killed, or cut off"
+
+
+# ---- how long a reader let a writer wait
+
+
+class Wait(NamedTuple):
+    """for how long, from which place, and the place of the answer"""
+    nanoseconds: int
+    asked: tuple
+    answered: Optional[tuple]
+
+    def is_told(self):
+        return self.nanoseconds > MOST_WAIT
+
+
+def waits(times, questions, answers, count):
+    """those of HEARTBEATs at these places, in order, of a row that is judged by the first `count` datagrams and has answers at these places,
+    in order"""
+    end = times.end(count)
+    for asked in questions:
+        at = bisect.bisect_right(answers, asked)
+        answered = answers[at] if at < len(answers) else None
+        since, until = times.of(asked[0]), end if answered is None else times.of(answered[0])
+        if since is not None and until is not None:
+            yield Wait(max(0, until - since), asked, answered)
+
+
+def longest_wait(times, questions, answers, count):
+    """the longest wait that is told, or None"""
+    longest = max(waits(times, questions, answers, count), key=lambda wait: wait.nanoseconds, default=None)
+    return longest if longest is not None and longest.is_told() else None
+
+
+def standing(times, place):
+    return timed_line(times, f'in datagram {place[0]} at {place[1]}')
+
+
+def wait_line(times, wait):
+    answered = 'not answered' if wait.answered is None else f'answered {standing(times, wait.answered)}'
+    return f'let the writer wait {Seconds(wait.nanoseconds)} s: asked {standing(times, wait.asked)}, {answered}'
+
+
+def place_values(times, place):
+    return None if place is None else timed_values(times, {'datagram': place[0], 'at': place[1]})
+
+
+def wait_values(times, wait):
+    if wait is None:
+        return None
+    return {'seconds': Seconds(wait.nanoseconds), 'asked': place_values(times, wait.asked), 'answered': place_values(times, wait.answered)}

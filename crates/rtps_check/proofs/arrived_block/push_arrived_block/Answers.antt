@@ -1,0 +1,51 @@
+use Rattle.std.proofs.Common.{◌≡◌, ◌++◌, ◌∙◌, ◌==◌, [], List, None, Bor, ap, append-nil, codes, false, filter, length, map, string_bytes, subst, sum_by, sym, ℕ}
+use Rattle.std.proofs.lemmas.List.{length-map}
+use Rattle.std.proofs.lemmas.Result.{on_ok_weaker}
+use Rattle.rtps_lines.proofs.Offered.{three_parts}
+use Rattle.rtps_report.specs.BestEfforts.{HeldValue, held_value}
+use Rattle.rtps_report.specs.declared.best_effort.HeldPair.{HeldPair}
+use Rattle.rtps_report.specs.Talk.{talk_value}
+use Rattle.rtps_check.specs.ArrivedText.{AreByTopic, is_lossy, lossy_head, lossy_pairs, lost_of}
+use Rattle.rtps_check.proofs.AppendLemmas.{appended}
+use Rattle.rtps_check.proofs.ArrivedLemmas.{empty_list, some_lossy}
+use Rattle.rtps_check.proofs.arrived_block.push_arrived_block.Goals as goal
+
+abbrev values : List (Bor HeldPair) → List HeldValue
+values pairs = map (λ (one : Bor HeldPair). held_value one.now) pairs
+
+pub returns-then-is_empty : goal.returns-then-is_empty
+returns-then-is_empty c =
+    let talk = talk_value c.args.talk.now in
+    let sorted = c.in_ok-sorted.sorted in
+    let none : sorted.items ≡ [] = empty_list sorted.items (ap (λ (n : ℕ). n == 0) (sym sorted.ok.0) ∙ sym c.is_empty.ensures ∙ c.if-is_empty.true) in
+    let ordered : AreByTopic (filter is_lossy talk.held) (values sorted.items) =
+    subst (λ (all : List HeldPair). AreByTopic (filter is_lossy (map held_value all)) (values sorted.items)) c.deref.ensures.value c.in_ok-sorted.ensures in
+    record {
+      sorted = [];
+      by_topic = subst (λ (all : List (Bor HeldPair)). AreByTopic (filter is_lossy talk.held) (values all)) none ordered;
+      is_text = sym (append-nil (string_bytes c.args.text.now));
+    }
+
+pub returns : goal.returns
+returns c =
+    let talk = talk_value c.args.talk.now in
+    let old = string_bytes c.args.text.now in
+    let stored = c.in_ok-sorted.sorted in
+    let sorted = values stored.items in
+    let ordered : AreByTopic (filter is_lossy talk.held) sorted =
+    subst (λ (all : List HeldPair). AreByTopic (filter is_lossy (map held_value all)) sorted) c.deref.ensures.value c.in_ok-sorted.ensures in
+    let lost = c.lost_among.result in
+    let number = c.len.result in
+    let long : length sorted ≡ number = length-map stored.items (λ (one : Bor HeldPair). held_value one.now) ∙ sym stored.ok.0 ∙ sym c.len.ensures in
+    let sum : sum_by lost_of sorted ≡ lost = sym (c.lost_among.ensures ∙ ap (λ (all : List (Bor HeldPair)). sum_by lost_of (values all)) c.deref-2.ensures.value) in
+    let some : (number == 0) ≡ false = ap (λ (n : ℕ). n == 0) c.len.ensures ∙ sym c.is_empty.ensures ∙ c.if-is_empty.false in
+    let end = codes "  -> by best effort nothing is sent again: look at the network, or make both reliable\n" in
+    on_ok_weaker c.push_str.result
+    (λ last.
+    record {
+      sorted = sorted;
+      by_topic = ordered;
+      is_text = three_parts old (lossy_head lost number) (lossy_pairs talk.hosts None sorted) end (c.in_ok-render.ensures ∙ ap (λ head. old ++ head) c.lossy_head.ensures) c.in_ok-push_pairs.ensures last
+          ∙ ap (λ lines. old ++ lines) (some_lossy talk.hosts sorted lost number sum long some);
+    })
+    (appended c.push_str.result (string_bytes c.push_pairs.new.text) end (string_bytes c.push_str.new.self) c.push_str.ensures.bytes)

@@ -1,0 +1,102 @@
+-- What `check` prints of numbers that did not arrive at the reader's host, by another recording. own: the first ten of them are enough to
+-- look at, and how many more there are tells the rest. A reader of best effort never asks again, so what it lacks is in no row.
+use Rattle.std.specs.Prelude.{ℕ, ◌≡◌, ◌+◌, ◌-◌, ◌++◌, ◌==◌, Bool, nat_lt, if◌then◌else◌, List, [], ◌∷◌, codes, decimal, filter, length, sum_by, IsPermutation, IsSorted, Option, None, Some}
+use Rattle.std.specs.Cmp.Lexicographic.{slice_cmp}
+use Rattle.std.specs.List.{concat, join_by}
+use Rattle.std.specs.List.Sorted.{IsStable}
+use Rattle.std.specs.Ordering.{nat_cmp}
+use Rattle.std.specs.declared.cmp.Ordering.{Ordering}
+use Rattle.rtps_discovery.specs.declared.matching.Pair.{Pair}
+use Rattle.rtps_ids.specs.declared.identity.GuidPrefix.{GuidPrefix}
+use Rattle.rtps_evidence.specs.FirstNumbers.{numbers_of}
+use Rattle.rtps_lines.specs.Notes.{number_words}
+use Rattle.rtps_parts.specs.Parts.{WordsValue, amount, grouped, share}
+use Rattle.rtps_policies.specs.declared.host.Host.{Host}
+use Rattle.rtps_report.specs.BestEfforts.{HeldValue}
+use Rattle.rtps_report.specs.Talk.{TalkValue}
+use Rattle.rtps_report.specs.Vocabulary.{InSpan, Outcomes}
+use Rattle.rtps_check.specs.TalkText.{hosted, topic_line}
+
+-- ---- numbers
+
+-- that there are so many more; nothing where there is none
+abbrev pub more_text : ℕ → List ℕ
+more_text more = if more == 0 then [] else concat (codes " and " ∷ grouped more ∷ codes " more" ∷ [])
+
+-- the first of so many numbers, with a comma between each two, and how many more there are
+abbrev pub listed : List ℕ → ℕ → List ℕ
+listed numbers count = join_by decimal (codes ", ") numbers ++ more_text (count - length numbers)
+
+-- how many numbers are neither received nor arrived
+abbrev pub lacking_count : Outcomes → ℕ
+lacking_count outcomes = outcomes.missed + (outcomes.unsent + (outcomes.unanswered + (outcomes.likely + outcomes.unconfirmed)))
+
+-- the line of the first of so many numbers that did not arrive; nothing where there is none
+abbrev pub lacking_line : List ℕ → ℕ → List ℕ
+lacking_line numbers count = if count == 0 then [] else codes "    not arrived " ++ (listed numbers count ++ codes "\n")
+
+-- that of a row that is held against the other recording; nothing for another
+abbrev pub not_arrived_line : Option InSpan → List ℕ
+not_arrived_line None = []
+not_arrived_line (Some in_span) = if in_span.is_held then lacking_line (numbers_of in_span.lacking) (lacking_count in_span.outcomes) else []
+
+-- ---- pairs of best effort
+
+-- not all numbers of a pair arrived
+abbrev pub is_lossy : HeldValue → Bool
+is_lossy one = nat_lt one.arrived.arrived one.numbers
+
+-- how many of its numbers did not arrive
+abbrev pub lost_of : HeldValue → ℕ
+lost_of one = one.numbers - one.arrived.arrived
+
+-- by topic, octet by octet
+abbrev pub topic_cmp : HeldValue → HeldValue → Ordering
+topic_cmp one other = slice_cmp nat_cmp one.topic other.topic
+
+-- these are those by topic; those of one topic stay in their order
+pub record AreByTopic (pairs sorted : List HeldValue) : Type 0 where
+  pub all : IsPermutation pairs sorted
+  pub by_topic : IsSorted topic_cmp sorted
+  pub in_order : IsStable topic_cmp pairs sorted
+
+-- the lines of a writer and a reader
+abbrev pub two_lines : (GuidPrefix → Host) → Pair → List ℕ
+two_lines hosts pair =
+    concat (codes "  writer " ∷ hosted hosts pair.writer ∷ codes "\n  reader " ∷ hosted hosts pair.reader ∷ codes "\n" ∷ [])
+
+-- how many numbers of a pair arrived, of how many
+abbrev pub arrived_share : HeldValue → List ℕ
+arrived_share one = concat (codes "    arrived " ∷ share one.arrived.arrived one.numbers ∷ codes ", not " ∷ [])
+
+-- the lines of a pair: how many of its numbers arrived, and the first of those that did not
+abbrev pub lossy_pair : (GuidPrefix → Host) → HeldValue → List ℕ
+lossy_pair hosts one =
+    two_lines hosts one.pair ++ (arrived_share one ++ (listed (numbers_of one.arrived.lacking) (lost_of one) ++ codes "\n"))
+
+-- the lines of pairs behind one of this topic, if there is one
+abbrev pub lossy_pairs : (GuidPrefix → Host) → Option (List ℕ) → List HeldValue → List ℕ
+lossy_pairs hosts before [] = []
+lossy_pairs hosts before (one ∷ more) = topic_line before one.topic ++ (lossy_pair hosts one ++ lossy_pairs hosts (Some one.topic) more)
+
+-- the words for pairs of best effort
+abbrev pub best_effort_words : WordsValue
+best_effort_words = record { one = codes "best-effort pair"; many = codes "best-effort pairs" }
+
+-- how many numbers of so many pairs did not arrive, behind an empty line
+abbrev pub lossy_head : ℕ → ℕ → List ℕ
+lossy_head numbers pairs =
+    concat (codes "\n" ∷ amount numbers number_words ∷ codes " of " ∷ amount pairs best_effort_words ∷ codes " did not arrive\n" ∷ [])
+
+-- the lines of all of them, which stand by topic; nothing where there is none
+abbrev pub lossy_lines : (GuidPrefix → Host) → List HeldValue → List ℕ
+lossy_lines hosts [] = []
+lossy_lines hosts (one ∷ more) =
+    lossy_head (sum_by lost_of (one ∷ more)) (length (one ∷ more))
+    ++ (lossy_pairs hosts None (one ∷ more) ++ codes "  -> by best effort nothing is sent again: look at the network, or make both reliable\n")
+
+-- those of a report are appended to a text
+pub record IsArrivedBlock (talk : TalkValue) (before text : List ℕ) : Type 0 where
+  pub sorted : List HeldValue
+  pub by_topic : AreByTopic (filter is_lossy talk.held) sorted
+  pub is_text : text ≡ before ++ lossy_lines talk.hosts sorted

@@ -1,0 +1,105 @@
+-- The greatest of times and their greatest step back, one after another.
+use Rattle.std.proofs.Common.{◌≡◌, ◌∙◌, ℕ, ◌+◌, ◌<◌, ◌&&◌, ◌||◌, true, false, List, [], ◌∷◌, ◌++◌, get_or, length, map, max, take, below_more, Option, Some, None, refl, sym, ap, arith}
+use Rattle.std.specs.Prelude.{is_some}
+use Rattle.std.specs.List.{list_all}
+use Rattle.std.proofs.Math.Seq.{get_or-append_seam}
+use Rattle.std.proofs.lemmas.List.{get_or_append_left, map-append, take_more}
+use Rattle.std.proofs.lemmas.List.Folds.{list_all-append, list_all-map, list_all_at}
+use Rattle.rtps_audit.specs.Delivery.{greatest}
+use Rattle.rtps_audit.proofs.Offered.{greatest-append}
+use Rattle.rtps_evidence.specs.Times.{are_there, back_from, end_of, is_long_over, is_silent, later_of, step_back, time_of}
+
+-- ---- the end
+
+later_last : (one other third : Option ℕ) → later_of one (later_of other third) ≡ later_of (later_of one other) third
+later_last None other third = refl
+later_last (Some a) None third = refl
+later_last (Some a) (Some b) None = refl
+later_last (Some a) (Some b) (Some c) = ap Some (let e : max a (max b c) ≡ max (max a b) c = omega arith in e)
+
+later_none : (one : Option ℕ) → later_of one None ≡ one
+later_none None = refl
+later_none (Some a) = refl
+
+end_push : (times : List (Option ℕ)) (time : Option ℕ) → end_of (times ++ time ∷ []) ≡ later_of (end_of times) time
+end_push [] time = later_none time
+end_push (one ∷ times) time = ap (later_of one) (end_push times time) ∙ later_last one (end_of times) time
+
+pub end_more : (times : List (Option ℕ)) (i : ℕ) → i < length times → end_of (take (i + 1) times) ≡ later_of (end_of (take i times)) (get_or times i None)
+end_more times i lt = ap end_of (take_more times i None lt) ∙ end_push (take i times) (get_or times i None)
+
+-- the ends up to each, with one more
+pub ends_more : (times ends more : List (Option ℕ)) (i : ℕ) (latest : Option ℕ) → more ≡ ends ++ latest ∷ [] → length ends ≡ i → latest ≡ end_of (take (i + 1) times)
+    → ((k : ℕ) → k < i → get_or ends k None ≡ end_of (take (k + 1) times)) → (k : ℕ) → k < i + 1 → get_or more k None ≡ end_of (take (k + 1) times)
+ends_more times ends more i latest is size last each =
+    below_more (λ k. get_or more k None ≡ end_of (take (k + 1) times)) i
+    (λ k lt. ap (λ l. get_or l k None) is ∙ get_or_append_left ends (latest ∷ []) None k (omega arith) ∙ each k lt)
+    (ap (λ l. get_or l i None) is ∙ ap (λ n. get_or (ends ++ latest ∷ []) n None) (sym size) ∙ get_or-append_seam ends latest [] None ∙ last)
+
+-- some time is there where the list has an end
+pub there_is_end : (times : List (Option ℕ)) → is_some (end_of times) ≡ are_there times
+there_is_end [] = refl
+there_is_end (time ∷ times) = either time (end_of times) ∙ ap (λ b. is_some time || b) (there_is_end times)
+  where
+    either : (one other : Option ℕ) → is_some (later_of one other) ≡ (is_some one || is_some other)
+    either None other = refl
+    either (Some a) None = refl
+    either (Some a) (Some b) = refl
+
+-- ---- times that go back
+
+-- the step from the later of two times is the greater of the steps from them
+back_later : (one other time : Option ℕ) → back_from (later_of one other) time ≡ max (back_from one time) (back_from other time)
+back_later None other time = by (back_from other time)
+  where
+    by : (n : ℕ) → n ≡ max 0 n
+    by n = omega arith
+back_later (Some a) None time = by (back_from (Some a) time)
+  where
+    by : (n : ℕ) → n ≡ max n 0
+    by n = omega arith
+back_later (Some a) (Some b) None = omega arith
+back_later (Some a) (Some b) (Some c) = omega arith
+
+step_push : (times : List (Option ℕ)) (time : Option ℕ) → step_back (times ++ time ∷ []) ≡ max (step_back times) (back_from (end_of times) time)
+step_push [] time = omega arith
+step_push (one ∷ times) time =
+    ap (λ n. max n (step_back (times ++ time ∷ []))) first
+    ∙ ap (max (max (greatest (map (back_from one) times)) (back_from one time))) (step_push times time)
+    ∙ parts (greatest (map (back_from one) times)) (back_from one time) (step_back times) (back_from (end_of times) time)
+    ∙ ap (max (max (greatest (map (back_from one) times)) (step_back times))) (sym (back_later one (end_of times) time))
+  where
+    first : greatest (map (back_from one) (times ++ time ∷ [])) ≡ max (greatest (map (back_from one) times)) (back_from one time)
+    first = ap greatest (map-append (back_from one) times (time ∷ []))
+        ∙ greatest-append (map (back_from one) times) (back_from one time ∷ [])
+        ∙ only (greatest (map (back_from one) times)) (back_from one time)
+      where
+        only : (a b : ℕ) → max a (max b 0) ≡ max a b
+        only a b = omega arith
+
+    parts : (a b c d : ℕ) → max (max a b) (max c d) ≡ max (max a c) (max b d)
+    parts a b c d = omega arith
+
+pub step_more : (times : List (Option ℕ)) (i : ℕ) → i < length times → step_back (take (i + 1) times) ≡ max (step_back (take i times)) (back_from (end_of (take i times)) (get_or times i None))
+step_more times i lt = ap step_back (take_more times i None lt) ∙ step_push (take i times) (get_or times i None)
+
+-- ---- the times of some datagrams
+
+timed_more : (times : List (Option ℕ)) (numbers : List ℕ) (i : ℕ) → i < length numbers → map (time_of times) (take (i + 1) numbers) ≡ map (time_of times) (take i numbers) ++ time_of times (get_or numbers i 0) ∷ []
+timed_more times numbers i lt = ap (map (time_of times)) (take_more numbers i 0 lt) ∙ map-append (time_of times) (take i numbers) (get_or numbers i 0 ∷ [])
+
+pub latest_more : (times : List (Option ℕ)) (numbers : List ℕ) (i : ℕ) → i < length numbers → end_of (map (time_of times) (take (i + 1) numbers)) ≡ later_of (end_of (map (time_of times) (take i numbers))) (time_of times (get_or numbers i 0))
+latest_more times numbers i lt = ap end_of (timed_more times numbers i lt) ∙ end_push (map (time_of times) (take i numbers)) (time_of times (get_or numbers i 0))
+
+pub each_more : (times : List (Option ℕ)) (numbers : List ℕ) (i : ℕ) → i < length numbers → list_all is_some (map (time_of times) (take i numbers)) ≡ true → is_some (time_of times (get_or numbers i 0)) ≡ true
+    → list_all is_some (map (time_of times) (take (i + 1) numbers)) ≡ true
+each_more times numbers i lt so_far is =
+    ap (list_all is_some) (timed_more times numbers i lt)
+    ∙ list_all-append is_some (map (time_of times) (take i numbers)) (time_of times (get_or numbers i 0) ∷ [])
+    ∙ ap (λ b. b && (is_some (time_of times (get_or numbers i 0)) && true)) so_far
+    ∙ ap (λ b. b && true) is
+
+pub one_wants : (times : List (Option ℕ)) (numbers : List ℕ) (i : ℕ) → i < length numbers → is_some (time_of times (get_or numbers i 0)) ≡ false → is_silent times numbers ≡ false
+one_wants times numbers i lt is =
+    ap (λ b. b && is_long_over (end_of (map (time_of times) numbers)) (end_of times))
+    (list_all-map is_some (time_of times) numbers ∙ list_all_at (λ number. is_some (time_of times number)) numbers i 0 lt is)

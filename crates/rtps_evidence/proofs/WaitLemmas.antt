@@ -1,0 +1,197 @@
+-- The first answer behind a place, the longest of some waits, one after another, and that there is none without times.
+use Rattle.std.proofs.Common.{◌≡◌, ◌∙◌, ℕ, zero, suc, ◌+◌, ◌-◌, ◌<◌, ◌≤◌, ◌==◌, ◌&&◌, Bool, true, false, cond, nat_lt, List, [], ◌∷◌, ◌++◌, add-one, append-nil, filter, get_or, length, map, max, take, Option, Some, None, refl, sym, ap, arith, inl, inr}
+use Rattle.std.specs.Prelude.{slice_get}
+use Rattle.std.specs.List.{cons_option, find}
+use Rattle.std.specs.Option.{option_or}
+use Rattle.std.proofs.lemmas.Bool.{and_parts, cases_lt}
+use Rattle.std.proofs.lemmas.Bool.Decides.{nat_tests}
+use Rattle.std.proofs.lemmas.List.{map-append}
+use Rattle.std.proofs.lemmas.List.Elements.{filter-append, filter_map-append}
+use Rattle.std.proofs.lemmas.List.Folds.{find-append}
+use Rattle.rtps_discovery.specs.declared.matching.Pair.{Pair}
+use Rattle.rtps_receiver.specs.Speech.{is_heard_by, is_spoken_by}
+use Rattle.rtps_audit.specs.Delivery.{greatest}
+use Rattle.rtps_audit.specs.Placed.{PlacedValue, is_from, placed_value}
+use Rattle.rtps_audit.specs.declared.answer.Answer.{Answer}
+use Rattle.rtps_audit.specs.declared.placed.Placed.{Placed}
+use Rattle.rtps_audit.proofs.Offered.{greatest-append, speaker_is_origin}
+use Rattle.rtps_evidence.specs.Locations.{is_behind, location_of}
+use Rattle.rtps_evidence.specs.Questions.{is_question, place_of, questions_behind}
+use Rattle.rtps_evidence.specs.Times.{are_there, time_of}
+use Rattle.rtps_evidence.specs.Waits.{HasPassed, answered_at, answers_behind, ended_at, length_of, longer_of, longest, precedes, questions_of, told_of, wait_from, wait_of, waits_of}
+use Rattle.rtps_evidence.specs.declared.location.Location.{Location}
+use Rattle.rtps_evidence.specs.declared.waits.Wait.{Wait}
+use Rattle.rtps_evidence.proofs.QuestionLemmas.{filter_filter}
+use Rattle.rtps_evidence.proofs.RequestLemmas.{taken_more}
+
+-- ---- the first element that passes, where those before it do not
+
+none_then : {X : Type 0} (test : X → Bool) (x : X) (rest : Option X) → cond (test x) (Some x) rest ≡ None → (test x ≡ false) × (rest ≡ None)
+none_then {X} test x rest none = by (test x) refl none
+  where
+    by : (b : Bool) → test x ≡ b → cond b (Some x) rest ≡ None → (test x ≡ false) × (rest ≡ None)
+    by true is none = absurd (let no : Some x ≡ None = none in cc)
+    by false is none = (is, none)
+
+none_first : {X : Type 0} (test : X → Bool) (xs : List X) → find test (take zero xs) ≡ None
+none_first test [] = refl
+none_first test (x ∷ xs) = refl
+
+pub none_past : {X : Type 0} (test : X → Bool) (xs : List X) (k : ℕ) (d : X) → k < length xs → find test (take k xs) ≡ None → test (get_or xs k d) ≡ false → find test (take (k + 1) xs) ≡ None
+none_past {X} test xs k d lt none is = rw add-one (by xs k lt none is)
+  where
+    by : (xs : List X) (k : ℕ) → k < length xs → find test (take k xs) ≡ None → test (get_or xs k d) ≡ false → find test (take (suc k) xs) ≡ None
+    by [] k lt none is = absurd (omega arith)
+    by (x ∷ xs) zero lt none is = ap (λ b. cond b (Some x) (find test (take zero xs))) is ∙ none_first test xs
+    by (x ∷ xs) (suc k) lt none is =
+        let parts = none_then test x (find test (take k xs)) none in
+        ap (λ b. cond b (Some x) (find test (take (suc k) xs))) parts.0 ∙ by xs k (omega arith) parts.1 is
+
+pub found_next : {X : Type 0} (test : X → Bool) (xs : List X) (k : ℕ) (d : X) → k < length xs → find test (take k xs) ≡ None → test (get_or xs k d) ≡ true → find test xs ≡ slice_get xs k
+found_next test [] k d lt none is = absurd (omega arith)
+found_next test (x ∷ xs) zero d lt none is = ap (λ b. cond b (Some x) (find test xs)) is
+found_next test (x ∷ xs) (suc k) d lt none is =
+    let parts = none_then test x (find test (take k xs)) none in
+    ap (λ b. cond b (Some x) (find test xs)) parts.0 ∙ found_next test xs k d (omega arith) parts.1 is
+
+pub none_left : {X : Type 0} (test : X → Bool) (xs : List X) (k : ℕ) → length xs ≤ k → find test (take k xs) ≡ None → find test xs ≡ slice_get xs k
+none_left test [] k le none = refl
+none_left test (x ∷ xs) zero le none = absurd (omega arith)
+none_left test (x ∷ xs) (suc k) le none =
+    let parts = none_then test x (find test (take k xs)) none in
+    ap (λ b. cond b (Some x) (find test xs)) parts.0 ∙ none_left test xs k (omega arith) parts.1
+
+-- ---- answers behind a place
+
+none_weaker : {X : Type 0} (one other : X → Bool) → ((x : X) → one x ≡ false → other x ≡ false) → (xs : List X) → find one xs ≡ None → find other xs ≡ None
+none_weaker one other h [] none = refl
+none_weaker one other h (x ∷ xs) none =
+    let parts = none_then one x (find one xs) none in
+    ap (λ b. cond b (Some x) (find other xs)) (h x parts.0) ∙ none_weaker one other h xs parts.1
+
+pub passed_none : (answers : List Answer) (place : Location) → HasPassed answers 0 place
+passed_none answers place = record { within = omega arith; none = none_first (answers_behind place) answers }
+
+-- what stands behind no place does not stand behind a later one
+not_behind : (one other place : Location) → precedes other one ≡ false → precedes one place ≡ false → precedes other place ≡ false
+not_behind one other place late early = grind (arith, nat_tests)
+
+pub passed_on : (answers : List Answer) (passed : ℕ) (one other : Location) → precedes other one ≡ false → HasPassed answers passed one → HasPassed answers passed other
+passed_on answers passed one other late has =
+    record {
+      within = has.within;
+      none = none_weaker (answers_behind one) (answers_behind other) (λ answer early. not_behind one other (place_of answer) late early) (take passed answers) has.none;
+    }
+
+-- ---- the longest wait, with one more
+
+-- none is so long, where all are shorter
+none_longer : (n : ℕ) (waits : List Wait) → greatest (map length_of waits) < n → find (λ wait. wait.nanoseconds == n) waits ≡ None
+none_longer n [] lt = refl
+none_longer n (wait ∷ waits) lt =
+    let differs : (wait.nanoseconds == n) ≡ false = grind (arith, nat_tests) in
+    ap (λ b. cond b (Some wait) (find (λ one. one.nanoseconds == n) waits)) differs ∙ none_longer n waits (omega arith)
+
+-- one is as long as the greatest
+some_longest : (wait : Wait) (waits : List Wait) (n : ℕ) → n ≡ max wait.nanoseconds (greatest (map length_of waits)) → (one : Wait) × (find (λ w. w.nanoseconds == n) (wait ∷ waits) ≡ Some one) × (one.nanoseconds ≡ n)
+some_longest wait [] n is =
+    let same : (wait.nanoseconds == n) ≡ true = grind (arith, nat_tests) in
+    (wait, ap (λ b. cond b (Some wait) None) same, omega arith)
+some_longest wait (next ∷ waits) n is = elim (cases_lt wait.nanoseconds (greatest (map length_of (next ∷ waits)))) [
+  | inl lt ↦
+      let there = some_longest next waits n (omega arith) in
+      let differs : (wait.nanoseconds == n) ≡ false = grind (arith, nat_tests) in
+      (there.0, ap (λ b. cond b (Some wait) (find (λ w. w.nanoseconds == n) (next ∷ waits))) differs ∙ there.1, there.2)
+  | inr ge ↦
+      let same : (wait.nanoseconds == n) ≡ true = grind (arith, nat_tests) in
+      (wait, ap (λ b. cond b (Some wait) (find (λ w. w.nanoseconds == n) (next ∷ waits))) same, omega arith)
+]
+
+longer_then : (waits : List Wait) (one wait : Wait) (n : ℕ) → n ≡ greatest (map length_of waits) → find (λ w. w.nanoseconds == n) waits ≡ Some one → one.nanoseconds ≡ n
+    → find (λ w. w.nanoseconds == max n wait.nanoseconds) (waits ++ wait ∷ []) ≡ longer_of (Some one) (Some wait)
+longer_then waits one wait n is found long =
+    find-append (λ w. w.nanoseconds == max n wait.nanoseconds) waits (wait ∷ []) ∙ elim (cases_lt n wait.nanoseconds) [
+      | inl lt ↦
+          let top : max n wait.nanoseconds ≡ wait.nanoseconds = omega arith in
+          let same : (wait.nanoseconds == wait.nanoseconds) ≡ true = grind (arith, nat_tests) in
+          let less : nat_lt one.nanoseconds wait.nanoseconds ≡ true = grind (arith, nat_tests) in
+          ap (λ m. option_or (find (λ w. w.nanoseconds == m) waits) (find (λ w. w.nanoseconds == m) (wait ∷ []))) top
+          ∙ ap (λ o. option_or o (find (λ w. w.nanoseconds == wait.nanoseconds) (wait ∷ []))) (none_longer wait.nanoseconds waits (omega arith))
+          ∙ ap (λ b. cond b (Some wait) None) same
+          ∙ sym (ap (λ b. cond b (Some wait) (Some one)) less)
+      | inr ge ↦
+          let top : max n wait.nanoseconds ≡ n = omega arith in
+          let no_less : nat_lt one.nanoseconds wait.nanoseconds ≡ false = grind (arith, nat_tests) in
+          ap (λ m. option_or (find (λ w. w.nanoseconds == m) waits) (find (λ w. w.nanoseconds == m) (wait ∷ []))) top
+          ∙ ap (λ o. option_or o (find (λ w. w.nanoseconds == n) (wait ∷ []))) found
+          ∙ sym (ap (λ b. cond b (Some wait) (Some one)) no_less)
+    ]
+
+longest_push : (waits : List Wait) (wait : Wait) → longest (waits ++ wait ∷ []) ≡ longer_of (longest waits) (Some wait)
+longest_push [] wait = let same : (wait.nanoseconds == max wait.nanoseconds 0) ≡ true = grind (arith, nat_tests) in ap (λ b. cond b (Some wait) None) same
+longest_push (one ∷ waits) wait =
+    let there = some_longest one waits (greatest (map length_of (one ∷ waits))) refl in
+    let top : greatest (map length_of ((one ∷ waits) ++ wait ∷ [])) ≡ max (greatest (map length_of (one ∷ waits))) (max wait.nanoseconds 0) =
+    ap greatest (map-append length_of (one ∷ waits) (wait ∷ [])) ∙ greatest-append (map length_of (one ∷ waits)) (wait.nanoseconds ∷ []) in
+    let greater : greatest (map length_of ((one ∷ waits) ++ wait ∷ [])) ≡ max (greatest (map length_of (one ∷ waits))) wait.nanoseconds = omega arith in
+    ap (λ n. find (λ w. w.nanoseconds == n) ((one ∷ waits) ++ wait ∷ [])) greater
+    ∙ longer_then (one ∷ waits) there.0 wait (greatest (map length_of (one ∷ waits))) refl there.1 there.2
+    ∙ sym (ap (λ o. longer_of o (Some wait)) there.1)
+
+pub longest_more : (waits : List Wait) (wait : Option Wait) → longest (waits ++ cons_option wait []) ≡ longer_of (longest waits) wait
+longest_more waits None = ap longest (append-nil waits) ∙ by (longest waits)
+  where
+    by : (one : Option Wait) → one ≡ longer_of one None
+    by None = refl
+    by (Some one) = refl
+longest_more waits (Some wait) = longest_push waits wait
+
+pub waits_more : (times : List (Option ℕ)) (end : Option ℕ) (answers : List Answer) (questions : List PlacedValue) (question : PlacedValue)
+    → longest (waits_of times end answers (questions ++ question ∷ [])) ≡ longer_of (longest (waits_of times end answers questions)) (wait_from times end answers question)
+waits_more times end answers questions question =
+    ap longest (filter_map-append (wait_from times end answers) questions (question ∷ [])) ∙ longest_more (waits_of times end answers questions) (wait_from times end answers question)
+
+-- ---- the questions, one after another
+
+pub questions_more : (test : PlacedValue → Bool) (acts : List Placed) (i : ℕ) (x : Placed) → i < length acts → x ≡ get_or acts i x → (b : Bool) → test (placed_value x) ≡ b
+    → filter test (map placed_value (take (i + 1) acts)) ≡ filter test (map placed_value (take i acts)) ++ cond b (placed_value x ∷ []) []
+questions_more test acts i x lt at b is =
+    ap (filter test) (taken_more acts i x lt at)
+    ∙ filter-append test (map placed_value (take i acts)) (placed_value x ∷ [])
+    ∙ ap (λ c. filter test (map placed_value (take i acts)) ++ cond c (placed_value x ∷ []) []) is
+
+-- those of the writer's acts are those of all acts
+pub questions_same : (since : Option Location) (pair : Pair) (acts : List PlacedValue) → questions_of since pair (filter (is_from pair.writer) acts) ≡ questions_of since pair acts
+questions_same since pair acts = filter_filter (questions_behind since pair.writer pair.reader) (is_from pair.writer) (λ at passes. speaker_is_origin pair.writer at (spoken at passes)) acts
+  where
+    spoken : (at : PlacedValue) → questions_behind since pair.writer pair.reader at ≡ true → is_spoken_by at.act pair.writer ≡ true
+    spoken at passes =
+        let parts = and_parts (is_behind since at) (is_spoken_by at.act pair.writer && (is_heard_by at.act pair.reader && is_question at.act.body)) passes in
+        (and_parts (is_spoken_by at.act pair.writer) (is_heard_by at.act pair.reader && is_question at.act.body) parts.1).0
+
+-- ---- where no datagram has a time
+
+none_timed : (times : List (Option ℕ)) (k : ℕ) → are_there times ≡ false → get_or times k None ≡ None
+none_timed [] k lacks = refl
+none_timed (None ∷ times) zero lacks = refl
+none_timed (None ∷ times) (suc k) lacks = none_timed times k lacks
+none_timed (Some time ∷ times) k lacks = absurd (let yes : true ≡ false = lacks in cc)
+
+untimed : (times : List (Option ℕ)) (number : ℕ) → are_there times ≡ false → time_of times number ≡ None
+untimed times number lacks = by (nat_lt 0 number)
+  where
+    by : (b : Bool) → cond b (get_or times (number - 1) None) None ≡ None
+    by true = none_timed times (number - 1) lacks
+    by false = refl
+
+no_waits : (times : List (Option ℕ)) (end : Option ℕ) (answers : List Answer) (questions : List PlacedValue) → are_there times ≡ false → waits_of times end answers questions ≡ []
+no_waits times end answers [] lacks = refl
+no_waits times end answers (question ∷ questions) lacks =
+    let asked = location_of question in
+    let answered = answered_at asked answers in
+    ap (λ since. cons_option (wait_of asked answered since (ended_at times end answered)) (waits_of times end answers questions)) (untimed times asked.datagram lacks)
+    ∙ no_waits times end answers questions lacks
+
+-- no wait is told there
+pub none_told : (times : List (Option ℕ)) (end : Option ℕ) (answers : List Answer) (questions : List PlacedValue) → are_there times ≡ false → told_of (longest (waits_of times end answers questions)) ≡ None
+none_told times end answers questions lacks = ap (λ (l : List Wait). told_of (longest l)) (no_waits times end answers questions lacks)

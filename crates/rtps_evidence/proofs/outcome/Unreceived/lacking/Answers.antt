@@ -1,0 +1,37 @@
+use Rattle.std.proofs.Common.{◌≡◌, ◌∙◌, ◌+◌, ◌<◌, ◌≤◌, ◌||◌, ◌&&◌, ℕ, Bool, List, ap, arith, false, not, refl, sym, true}
+use Rattle.std.proofs.lemmas.Int.{ints}
+use Rattle.std.proofs.lemmas.List.Folds.{list_any-append}
+use Rattle.rtps_evidence.specs.Amount.{stretch_has, stretches_have}
+use Rattle.rtps_evidence.specs.FirstNumbers.{kept}
+use Rattle.rtps_evidence.specs.Outcomes.{lacking_of}
+use Rattle.rtps_evidence.specs.Received.{is_received}
+use Rattle.rtps_evidence.specs.declared.amount.Stretch.{Stretch}
+use Rattle.rtps_evidence.proofs.FirstNumbersLemmas.{first_same}
+use Rattle.rtps_evidence.proofs.outcome.Unreceived.lacking.Goals as goal
+
+-- a number is neither among those that do not lack, nor among those that are there
+neither : (lacks received there : Bool) → lacks ≡ not received → not (not lacks || there) ≡ (not received && not there)
+neither true true there is = let bad = is in cc
+neither true false true is = refl
+neither true false false is = refl
+neither false true there is = refl
+neither false false there is = let bad = is in cc
+
+pub returns : goal.returns
+returns c = λ acts there at_host are.
+    let exchange = c.args.exchange.now in
+    let pair = exchange.pair in
+    let asked = c.args.asked.now in
+    let lacks : ℕ → Bool = stretches_have c.args.self.now.numbers.now in
+    let received : ℕ → Bool = is_received pair.writer pair.reader acts in
+    let numbers : List Stretch = c.extend_from_slice.new.self.items in
+    let held : exchange.is_held ≡ true = c.if-not-exchange.false in
+    let from : c.cast_unsigned-from.result ≡ asked.from = omega (arith, ints) in
+    let has : (n : ℕ) → asked.from ≤ n → n < asked.last + 1 → stretches_have numbers n ≡ (not (lacks n) || there n) = λ n low high.
+    ap (λ l. stretches_have l n) c.in_ok-extend_from_slice.ensures.items
+    ∙ list_any-append (stretch_has n) c.in_ok-numbers.numbers.items exchange.there.now
+    ∙ ap (λ b. b || stretches_have exchange.there.now n) (c.in_ok-numbers.ensures n (omega (arith, from, low)) high)
+    ∙ ap (λ b. not (lacks n) || b) (at_host n) in
+    let named = first_same (λ n. not (stretches_have numbers n)) (λ n. not (received n) && not (there n)) asked.from (asked.last + 1)
+    (λ n low high. ap not (has n low high) ∙ neither (lacks n) (received n) (there n) (are n low (omega arith))) in
+    c.in_ok-lacking.ensures ∙ ap kept named ∙ ap (λ b. kept (lacking_of b there asked.from asked.last pair acts)) (sym held)

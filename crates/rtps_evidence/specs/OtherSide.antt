@@ -1,0 +1,66 @@
+-- What stands beside a recording that is judged: another one, made at the host of readers, and when its datagrams came. DDSI-RTPS 2.5, 8.3.8.8 "InfoDestination": a
+-- participant that sends says which one it sends to. own: what stands in the other recording came to that host. Two hosts have two
+-- clocks, so no place of the one is compared with one of the other.
+use Rattle.std.specs.Prelude.{ℕ, Bool, false, ◌≡◌, ◌&&◌, nat_lt, List, [], Option, Some, None}
+use Rattle.rtps_discovery.specs.declared.matching.Pair.{Pair}
+use Rattle.rtps_receiver.specs.Values.{ActValue}
+use Rattle.rtps_policies.specs.Namings.{AreNamingsOf, named_in}
+use Rattle.rtps_audit.specs.Index.{IsIndexBy}
+use Rattle.rtps_audit.specs.Intake.{Intake}
+use Rattle.rtps_audit.specs.Placed.{placed_in}
+use Rattle.rtps_evidence.specs.Amount.{is_sent, stretches_have}
+use Rattle.rtps_evidence.specs.declared.amount.Stretch.{Stretch}
+use Rattle.rtps_evidence.specs.declared.other_side.OtherSide.{OtherSide}
+use Rattle.rtps_evidence.specs.declared.other_side.Sides.{Sides}
+
+-- what is taken in of it, and the acts of each of its datagrams by which it is known who names whom
+pub record OtherRecording : Type 0 where
+  pub intake : Intake
+  pub named : List (List ActValue)
+
+-- the code has this recording
+pub record IsSideOf (other : OtherRecording) (side : OtherSide) : Type 0 where
+  pub index : IsIndexBy other.intake side.index.now
+  pub namings : AreNamingsOf other.named side.namings.now
+
+-- the code has one where there is one
+abbrev pub IsOtherSide : Option OtherRecording → Option OtherSide → Type 0
+IsOtherSide None None = Unit {0}
+IsOtherSide None (Some side) = ⊥
+IsOtherSide (Some other) None = ⊥
+IsOtherSide (Some other) (Some side) = IsSideOf other side
+
+-- what stands beside a recording: another one, if there is one, and when its own datagrams came
+pub record Beside : Type 0 where
+  pub other : Option OtherRecording
+  pub times : List (Option ℕ)
+
+-- nothing does
+abbrev pub alone : Beside
+alone = record { other = None; times = [] }
+
+-- the same, without another recording
+abbrev pub without_other : Beside → Beside
+without_other beside = record { other = None; times = beside.times }
+
+-- the code has what is taken in of the recording that is judged, and what stands beside it
+pub record AreSides (intake : Intake) (beside : Beside) (sides : Sides) : Type 0 where
+  pub index : IsIndexBy intake sides.index.now
+  pub other : IsOtherSide beside.other sides.other
+  pub times : sides.times.now.of_datagrams ≡ beside.times
+
+-- A pair is held against it: it has an act whose source is the reader's participant and whose destination is the writer's. Only such a
+-- reader is at that host.
+abbrev pub is_held : Option OtherRecording → Pair → Bool
+is_held None pair = false
+is_held (Some other) pair = nat_lt 0 (named_in other.named (record { source = pair.reader.prefix; dest = pair.writer.prefix }))
+
+-- n is there for a pair that is held: in the other recording its reader hears a payload for n from its writer
+abbrev pub is_there : Option OtherRecording → Pair → ℕ → Bool
+is_there None pair n = false
+is_there (Some other) pair n = is_held (Some other) pair && is_sent pair.writer pair.reader (placed_in other.intake.acts) n
+
+-- whether the pair is held, and the numbers that are there
+pub record AreThere (other : Option OtherRecording) (pair : Pair) (held : Bool) (there : List Stretch) : Type 0 where
+  pub holds : held ≡ is_held other pair
+  pub numbers : (n : ℕ) → stretches_have there n ≡ is_there other pair n

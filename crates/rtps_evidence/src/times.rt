@@ -1,0 +1,218 @@
+ghost use Rattle.std.specs.Prelude.{◌≡◌, [], take, IfOk, None};
+ghost use Rattle.rtps_audit.specs.Said.{datagrams_until};
+ghost use Rattle.rtps_evidence.specs.Times.{AreEnds, are_there as are_there_lem, back_from, end_of, is_long_over as is_long_over_lem, is_silent as is_silent_lem, later_of, second_of, seconds_between, seconds_of, step_back as step_back_lem, time_of};
+
+use rtps_ids::Memory;
+use std::alloc::Global;
+use std::marker::Model;
+
+/// How many nanoseconds a millisecond has.
+const MILLISECOND: u64 = 1_000_000;
+
+/// A participant is silent where the end of a recording has nothing of it for longer than this.
+const SILENCE: u64 = 10_000_000_000;
+
+/// A time as it is said, in milliseconds: cut off towards zero, with its sign. 0 has none.
+#[derive(Clone, Copy, PartialEq, Eq, Debug)]
+pub struct Seconds {
+    pub negative: bool,
+    pub milliseconds: u64,
+}
+
+impl Seconds {
+    /// So many nanoseconds, as they are said.
+    pub fn of(nanoseconds: u64) -> Seconds
+        ensures { result ≡ seconds_of nanoseconds }
+    {
+        Seconds {
+            negative: false,
+            milliseconds: nanoseconds / MILLISECOND,
+        }
+    }
+
+    /// How long behind the start a time is, as it is said.
+    pub fn between(start: u64, time: u64) -> Seconds
+        ensures { result ≡ seconds_between start time }
+    {
+        let milliseconds = time.abs_diff(start) / MILLISECOND;
+        Seconds {
+            negative: time < start && 0 < milliseconds,
+            milliseconds,
+        }
+    }
+}
+
+/// When the datagrams of a capture came, in nanoseconds since 1970 began.
+#[derive(Drop)]
+pub struct Times {
+    /// The time of the first frame of the capture that has one, whether it gave a datagram or not.
+    start: Option<u64>,
+    /// The time of each datagram. There are none of a text.
+    of_datagrams: Vec<Option<u64>>,
+    /// The greatest time among the first datagrams, up to each.
+    ends: Vec<Option<u64>>,
+}
+
+impl Model for Times {
+    ghost use Rattle.rtps_evidence.specs.Times.{AreEnds, TimesValue};
+
+    ghost Value = { TimesValue };
+
+    ghost view = { λ times. record { start = times.start; of_datagrams = times.of_datagrams.items } };
+
+    ghost invariant = { λ times. AreEnds times.of_datagrams.items times.ends.items };
+}
+
+/// The later of two times, where there are two.
+fn later(one: Option<u64>, other: Option<u64>) -> Option<u64>
+    ensures { result ≡ later_of one other }
+{
+    match (one, other) {
+        (Some(one), Some(other)) => Some(one.max(other)),
+        (Some(one), None) => Some(one),
+        (None, other) => other,
+    }
+}
+
+/// By how much a time is before an earlier one, where there are both.
+fn back(earlier: Option<u64>, time: Option<u64>) -> u64
+    ensures { result ≡ back_from earlier time }
+{
+    match (earlier, time) {
+        (Some(earlier), Some(time)) => earlier.saturating_sub(time),
+        (Some(_), None) => 0,
+        (None, _) => 0,
+    }
+}
+
+/// Whether a time is more than ten seconds before an end, where there are both.
+fn is_long_over(latest: Option<u64>, end: Option<u64>) -> bool
+    ensures { result ≡ is_long_over_lem latest end }
+{
+    match (latest, end) {
+        (Some(latest), Some(end)) => latest < end.saturating_sub(SILENCE),
+        (Some(_), None) => false,
+        (None, _) => false,
+    }
+}
+
+/// The greatest of these times, up to each of them.
+fn ends_of(alloc: Global, times: &[Option<u64>]) -> Result<Vec<Option<u64>>, Memory>
+    ensures { IfOk result (λ ends. AreEnds times.now ends.items) }
+{
+    let mut ends = Vec::with_capacity(alloc, times.len())?;
+    let mut latest = None;
+    for time in times {
+        latest = later(latest, *time);
+        ends.push(latest)?;
+    }
+    Ok(ends)
+}
+
+impl Times {
+    /// No times, as of a text. It takes no memory.
+    pub fn none(alloc: Global) -> Times
+        ensures { result ≡ record { start = None; of_datagrams = [] } }
+    {
+        Times {
+            start: None,
+            of_datagrams: Vec::new(alloc),
+            ends: Vec::new(alloc),
+        }
+    }
+
+    /// The start of a capture, and the time of each of its datagrams, in the order of sending. `Memory` is answered where
+    /// what is kept of them cannot grow.
+    pub fn of(
+        alloc: Global,
+        start: Option<u64>,
+        of_datagrams: Vec<Option<u64>>,
+    ) -> Result<Times, Memory>
+        ensures { IfOk result (λ times. times ≡ record { start = start; of_datagrams = of_datagrams.items }) }
+    {
+        let ends = ends_of(alloc, &of_datagrams)?;
+        Ok(Times {
+            start,
+            of_datagrams,
+            ends,
+        })
+    }
+
+    /// Whether some datagram has a time.
+    pub fn are_there(&self) -> bool
+        ensures { result ≡ are_there_lem self.now.of_datagrams }
+    {
+        self.end(self.of_datagrams.len()).is_some()
+    }
+
+    /// The time of a datagram. They count from 1: it is None of 0, and past the last.
+    pub fn of_datagram(&self, number: u64) -> Option<u64>
+        ensures { result ≡ time_of self.now.of_datagrams number }
+    {
+        if number == 0 || (self.of_datagrams.len() as u64) < number {
+            return None;
+        }
+        self.of_datagrams[number as usize - 1]
+    }
+
+    /// The greatest time among the first `count` datagrams, or among all where there are no more. It takes one step.
+    pub fn end(&self, count: usize) -> Option<u64>
+        ensures { result ≡ end_of (take count self.now.of_datagrams) }
+    {
+        let count = count.min(self.ends.len());
+        if count == 0 {
+            return None;
+        }
+        self.ends[count - 1]
+    }
+
+    /// The greatest time among the datagrams before this one, which is counted from 1; among all, where there is none.
+    pub fn end_until(&self, until: Option<u64>) -> Option<u64>
+        ensures { result ≡ end_of (datagrams_until until self.now.of_datagrams) }
+    {
+        match until {
+            Some(datagram) => self.end(datagram.saturating_sub(1) as usize),
+            None => self.end(self.of_datagrams.len()),
+        }
+    }
+
+    /// By how much times go back, in nanoseconds: how much the time of a datagram is before that of an earlier one, the
+    /// greatest of all pairs that have times; or 0.
+    pub fn step_back(&self) -> u64
+        ensures { result ≡ step_back_lem self.now.of_datagrams }
+    {
+        let mut step = 0u64;
+        let mut latest = None;
+        for time in &self.of_datagrams {
+            step = step.max(back(latest, *time));
+            latest = later(latest, *time);
+        }
+        step
+    }
+
+    /// How long behind the start of the capture a datagram came, as it is said. None where it has no time.
+    pub fn second(&self, datagram: u64) -> Option<Seconds>
+        ensures { result ≡ second_of self.now.start (time_of self.now.of_datagrams datagram) }
+    {
+        match (self.start, self.of_datagram(datagram)) {
+            (Some(start), Some(time)) => Some(Seconds::between(start, time)),
+            (Some(_), None) => None,
+            (None, _) => None,
+        }
+    }
+    /// Whether a participant that does not leave is silent, by the datagrams that have an act of it: there are some, each has a
+    /// time, and the greatest of these times is more than ten seconds before the end of the recording.
+    pub fn is_silent(&self, datagrams: &[u64]) -> bool
+        ensures { result ≡ is_silent_lem self.now.of_datagrams datagrams.now }
+    {
+        let mut latest = None;
+        for datagram in datagrams {
+            let time = self.of_datagram(*datagram);
+            if time.is_none() {
+                return false;
+            }
+            latest = later(latest, time);
+        }
+        is_long_over(latest, self.end(self.of_datagrams.len()))
+    }
+}

@@ -1,0 +1,219 @@
+ghost use Rattle.std.specs.Prelude.{◌≡◌, find, map, slice_get, List};
+ghost use Rattle.rtps_receiver.specs.Values.{ActValue};
+ghost use Rattle.rtps_audit.specs.Placed.{placed_value};
+ghost use Rattle.rtps_audit.specs.Said.{IsSaid};
+ghost use Rattle.rtps_evidence.specs.Questions.{place_of as place_of_lem, questions_behind};
+ghost use Rattle.rtps_evidence.specs.Waits.{HasPassed, answered_at, answers_behind, is_told as is_told_lem, longer_of, longest, precedes as precedes_lem, questions_of, told_of, told_wait as told_wait_lem, wait_between as wait_between_lem, waits_of};
+
+use crate::exchange::Exchange;
+use crate::listener::Listener;
+use crate::location::{Location, is_behind, location_of};
+use crate::times::Times;
+use rtps_audit::{Answer, Placed, Said};
+use rtps_receiver::ActBody;
+use std::marker::Model;
+
+/// A wait that is not longer than this is not told.
+const MOST_WAIT: u64 = 1_000_000_000;
+
+/// How long a reader let a writer wait for an answer.
+#[derive(Clone, Copy, PartialEq, Eq, Debug)]
+pub struct Wait {
+    pub nanoseconds: u64,
+    /// Where the writer asks.
+    pub asked: Location,
+    /// Where the reader answers; None where the row ends first.
+    pub answered: Option<Location>,
+}
+
+impl Wait {
+    /// Whether it is longer than a second.
+    fn is_told(&self) -> bool
+        ensures { result ≡ is_told_lem self.now }
+    {
+        MOST_WAIT < self.nanoseconds
+    }
+}
+
+/// A wait, where there is one that is longer than a second.
+fn told(wait: Option<Wait>) -> Option<Wait>
+    ensures { result ≡ told_of wait }
+{
+    match wait {
+        Some(wait) => { if wait.is_told() { Some(wait) } else { None } }
+        None => None,
+    }
+}
+
+/// The longer of two waits, where there are two; of equal ones the first.
+fn longer(one: Option<Wait>, other: Option<Wait>) -> Option<Wait>
+    ensures { result ≡ longer_of one other }
+{
+    match (one, other) {
+        (Some(one), Some(other)) => {
+            if one.nanoseconds < other.nanoseconds {
+                Some(other)
+            } else {
+                Some(one)
+            }
+        }
+        (Some(one), None) => Some(one),
+        (None, other) => other,
+    }
+}
+
+/// Whether a place stands before another: in an earlier datagram, or further to the front of the same one.
+fn precedes(one: Location, other: Location) -> bool
+    ensures { result ≡ precedes_lem one other }
+{
+    one.datagram < other.datagram || (one.datagram == other.datagram && one.at < other.at)
+}
+
+/// Where an answer stands.
+fn place_of(answer: &Answer) -> Location
+    ensures { result ≡ place_of_lem answer.now }
+{
+    Location {
+        datagram: answer.datagram as u64,
+        at: answer.at,
+    }
+}
+
+/// The first of these answers that stands behind a place, where those before this one do not.
+fn pass_answers(answers: &[Answer], passed: usize, place: Location) -> usize
+    requires { HasPassed answers.now passed place }
+    ensures passed { HasPassed answers.now result place }
+    ensures next { find (answers_behind place) answers.now ≡ slice_get answers.now result }
+{
+    for next in passed..answers.len() {
+        if precedes(place, place_of(&answers[next])) {
+            return next;
+        }
+    }
+    answers.len()
+}
+
+/// A walk over the answers of a reader to a writer. It is seen as the list of them.
+#[derive(Drop)]
+struct AnswerWalk<'s> {
+    answers: &'s [Answer],
+    /// So many of them do not stand behind the place that was asked for at last.
+    passed: usize,
+    place: Location,
+}
+
+impl<'s> Model for AnswerWalk<'s> {
+    ghost use Rattle.std.specs.Prelude.{List};
+    ghost use Rattle.rtps_audit.specs.declared.answer.Answer.{Answer as AnswerValue};
+    ghost use Rattle.rtps_evidence.specs.Waits.{HasPassed};
+
+    ghost Value = { List AnswerValue };
+
+    ghost view = { λ walk. walk.answers.now };
+
+    ghost invariant = { λ walk. HasPassed walk.answers.now walk.passed walk.place };
+}
+
+impl<'s> AnswerWalk<'s> {
+    /// The walk stands in front of all answers.
+    fn new(answers: &'s [Answer]) -> AnswerWalk<'s>
+        ensures { result ≡ answers.now }
+    {
+        AnswerWalk {
+            answers,
+            passed: 0,
+            place: Location { datagram: 0, at: 0 },
+        }
+    }
+
+    /// Where the first answer behind a place stands. The walk goes on to it, where the place does not stand before the one
+    /// that was asked for at last; else it begins anew.
+    fn first_behind(&mut self, place: Location) -> Option<Location>
+        ensures place { result ≡ answered_at place self.old }
+        ensures same { self.new ≡ self.old }
+    {
+        let passed = if precedes(place, self.place) {
+            0
+        } else {
+            self.passed
+        };
+        self.passed = pass_answers(self.answers, passed, place);
+        self.place = place;
+        if self.passed == self.answers.len() {
+            return None;
+        }
+        Some(place_of(&self.answers[self.passed]))
+    }
+}
+
+/// Whether the reader hears by an act, since it is there, that the writer asks for an answer.
+fn asks(placed: &Placed<'_>, listener: &Listener) -> bool
+    ensures { result ≡ questions_behind listener.now.since listener.now.pair.writer listener.now.pair.reader
+        (placed_value placed.now) }
+{
+    let ActBody::Heartbeat(heartbeat) = &placed.act.body else {
+        return false;
+    };
+    is_behind(listener.since, placed)
+        && placed.act.spoken_by(listener.pair.writer)
+        && placed.act.heard_by(listener.pair.reader)
+        && !heartbeat.is_final
+}
+
+/// The wait from a place to that of the answer, or to the end where there is none. There is none where a time is wanting.
+fn wait_between(
+    times: &Times,
+    end: Option<u64>,
+    asked: Location,
+    answered: Option<Location>,
+) -> Option<Wait>
+    ensures { result ≡ wait_between_lem times.now.of_datagrams end asked answered }
+{
+    let since = times.of_datagram(asked.datagram)?;
+    let until = match answered {
+        Some(place) => times.of_datagram(place.datagram)?,
+        None => end?,
+    };
+    Some(Wait {
+        nanoseconds: until.saturating_sub(since),
+        asked,
+        answered,
+    })
+}
+
+/// The longest wait by what a pair said, up to the end at this time.
+fn longest_among(
+    said: &Said<'_, '_>,
+    listener: &Listener,
+    times: &Times,
+    end: Option<u64>,
+) -> Option<Wait>
+    ensures { result ≡ longest (waits_of times.now.of_datagrams end said.now.answers.now
+        (questions_of listener.now.since listener.now.pair (map placed_value said.now.acts.now))) }
+{
+    let mut walk = AnswerWalk::new(said.answers);
+    let mut found = None;
+    for placed in said.acts {
+        if asks(placed, listener) {
+            let asked = location_of(placed);
+            let answered = walk.first_behind(asked);
+            found = longer(found, wait_between(times, end, asked, answered));
+        }
+    }
+    found
+}
+
+/// The longest wait of an exchange, up to the end of what was said, where it is longer than a second. It takes no memory, and no
+/// step where there are no times. Where acts stand in the order of their places, as those of octets do, it takes steps in
+/// proportion to the acts of the writer and the answers.
+pub(crate) fn told_wait(exchange: &Exchange<'_, '_>) -> Option<Wait>
+    ensures { (recording : List (List ActValue)) → IsSaid exchange.now.pair recording exchange.now.said
+        → result ≡ told_wait_lem exchange.now.span exchange.now.pair exchange.now.times.now.of_datagrams recording }
+{
+    let times = exchange.times;
+    if !times.are_there() {
+        return None;
+    }
+    let end = times.end_until(exchange.span.until);
+    told(longest_among(&exchange.said, &exchange.listener(), times, end))
+}

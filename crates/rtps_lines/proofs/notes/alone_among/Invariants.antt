@@ -1,0 +1,8 @@
+use Rattle.std.proofs.Common.{◌≡◌, map, take}
+use Rattle.rtps_evidence.specs.Explanation.{explanation_value}
+use Rattle.rtps_lines.specs.Notes.{alone_in}
+use Rattle.rtps_lines.proofs.notes.alone_among.Given as goal
+
+-- those among the rows so far
+abbrev pub invariant-loop-row : goal.invariant-loop-row
+invariant-loop-row l = map explanation_value l.alone.items ≡ alone_in (map explanation_value (take l.row-index l.rows))

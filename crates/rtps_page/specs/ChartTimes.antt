@@ -1,0 +1,45 @@
+-- When the datagrams came that stand in the entries of charts. own: an entry names its datagram by its number. So a page tells the
+-- second of each such datagram once, and not in each entry.
+use Rattle.std.specs.Prelude.{ℕ, ◌++◌, ◌==◌, nat_lt, Bool, List, [], ◌∷◌, filter, length, map, Option, None, Some, flat_map}
+use Rattle.std.specs.List.{list_any, range_with_len}
+use Rattle.json.specs.Json.{Json}
+use Rattle.rtps_ids.specs.declared.identity.Guid.{Guid}
+use Rattle.rtps_receiver.specs.Speech.{is_spoken_by}
+use Rattle.rtps_discovery.specs.declared.matching.Pair.{Pair}
+use Rattle.rtps_audit.specs.Placed.{PlacedValue, answers_among}
+use Rattle.rtps_evidence.specs.Times.{TimesValue}
+use Rattle.rtps_evidence.specs.declared.times.Seconds.{Seconds}
+use Rattle.rtps_lines.specs.JsonText.{array_of, count_json, second_json}
+use Rattle.rtps_lines.specs.Lines.{second_in}
+use Rattle.rtps_page.specs.ChartEntries.{entries_of}
+use Rattle.rtps_page.specs.ChartRoom.{writers_behind}
+
+-- what an act says has an entry
+abbrev pub has_entry : PlacedValue → Bool
+has_entry placed = nat_lt 0 (length (entries_of placed))
+
+-- the datagrams in which this writer says something that has an entry
+abbrev pub said_in : List PlacedValue → Guid → List ℕ
+said_in acts writer = map (λ placed. placed.datagram) (filter has_entry (filter (λ placed. is_spoken_by placed.act writer) acts))
+
+-- the datagrams in which the reader of a pair answers its writer
+abbrev pub answered_in : List PlacedValue → Pair → List ℕ
+answered_in acts pair = map (λ answer. answer.datagram) (answers_among pair acts)
+
+-- the datagrams that stand in the entries of the charts of these pairs
+abbrev pub datagrams_shown : List PlacedValue → List Pair → List ℕ
+datagrams_shown acts pairs = flat_map (said_in acts) (writers_behind None pairs) ++ flat_map (answered_in acts) pairs
+
+-- a number is one of these
+abbrev pub is_among : List ℕ → ℕ → Bool
+is_among numbers number = list_any (λ other. number == other) numbers
+
+-- a datagram and its second; nothing where it has no time
+abbrev pub time_json : ℕ → Option Seconds → List Json
+time_json datagram None = []
+time_json datagram (Some second) = array_of (count_json datagram ∷ second_json (Some second) ∷ []) ∷ []
+
+-- of all datagrams of a recording those that are shown and have a time, each with its second
+abbrev pub times_json : TimesValue → List ℕ → List Json
+times_json times shown =
+    flat_map (λ datagram. time_json datagram (second_in times datagram)) (filter (is_among shown) (range_with_len 1 (length times.of_datagrams)))

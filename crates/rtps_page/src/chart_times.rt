@@ -1,0 +1,141 @@
+ghost use Rattle.std.specs.Prelude.{ℕ, ◌≡◌, ◌++◌, ◌∷◌, [], flat_map, IfOk, OnOk};
+ghost use Rattle.std.specs.List.Sorted.{IsStrictlyIncreasing};
+ghost use Rattle.json.specs.Tree.{json_tokens};
+ghost use Rattle.rtps_audit.specs.Index.{IsIndexBy};
+ghost use Rattle.rtps_audit.specs.Intake.{Intake};
+ghost use Rattle.rtps_audit.specs.Placed.{placed_in};
+ghost use Rattle.rtps_lines.specs.JsonText.{timed_members, tokens_of};
+ghost use Rattle.rtps_lines.specs.Lines.{second_in};
+ghost use Rattle.rtps_page.specs.ChartTimes.{answered_in, datagrams_shown as datagrams_shown_lem, is_among, said_in, time_json};
+ghost use Rattle.rtps_page.specs.Page.{times_member};
+
+use crate::chart_writers::writers_of;
+use crate::entry_counts::has_entry;
+use json::Writer;
+use rtps_audit::Index;
+use rtps_discovery::Pair;
+use rtps_ids::Guid;
+use rtps_lines::{Clock, push_seconds};
+use std::alloc::{AllocError, Global};
+
+/// Adds the datagrams in which a writer says something that has an entry.
+fn add_said(numbers: &mut Vec<u64>, index: &Index<'_>, writer: Guid) -> Result<(), AllocError>
+    ensures { (intake : Intake) → IsIndexBy intake index.now
+        → OnOk result (numbers.new.items ≡ numbers.old.items ++ said_in (placed_in intake.acts) writer) }
+{
+    for placed in index.acts_of(writer) {
+        if placed.act.spoken_by(writer) && has_entry(placed) {
+            numbers.push(placed.datagram as u64)?;
+        }
+    }
+    Ok(())
+}
+
+/// Adds the datagrams in which the reader of a pair answers.
+fn add_answered(numbers: &mut Vec<u64>, index: &Index<'_>, pair: Pair) -> Result<(), AllocError>
+    ensures { (intake : Intake) → IsIndexBy intake index.now
+        → OnOk result (numbers.new.items ≡ numbers.old.items ++ answered_in (placed_in intake.acts) pair) }
+{
+    for answer in index.answers_of(pair) {
+        numbers.push(answer.datagram as u64)?;
+    }
+    Ok(())
+}
+
+fn all_said(alloc: Global, index: &Index<'_>, writers: &[Guid]) -> Result<Vec<u64>, AllocError>
+    ensures { (intake : Intake) → IsIndexBy intake index.now
+        → IfOk result (λ numbers. numbers.items ≡ flat_map (said_in (placed_in intake.acts)) writers.now) }
+{
+    let mut numbers = Vec::new(alloc);
+    for writer in writers {
+        add_said(&mut numbers, index, *writer)?;
+    }
+    Ok(numbers)
+}
+
+fn add_all_answered(
+    numbers: &mut Vec<u64>,
+    index: &Index<'_>,
+    pairs: &[Pair],
+) -> Result<(), AllocError>
+    ensures { (intake : Intake) → IsIndexBy intake index.now
+        → OnOk result (numbers.new.items ≡ numbers.old.items ++ flat_map (answered_in (placed_in intake.acts)) pairs.now) }
+{
+    for pair in pairs {
+        add_answered(numbers, index, *pair)?;
+    }
+    Ok(())
+}
+
+/// Puts numbers in rising order, and keeps each once.
+fn sort_once(numbers: &mut Vec<u64>)
+    ensures rising { IsStrictlyIncreasing numbers.new.items }
+    ensures same { (number : ℕ) → is_among numbers.new.items number ≡ is_among numbers.old.items number }
+{
+    numbers.sort_unstable();
+    numbers.dedup();
+}
+
+/// The datagrams that stand in the charts of these pairs, each once and in rising order.
+fn datagrams_shown(alloc: Global, index: &Index<'_>, pairs: &[Pair]) -> Result<Vec<u64>, AllocError>
+    ensures rising { IfOk result (λ numbers. IsStrictlyIncreasing numbers.items) }
+    ensures same { (intake : Intake) → IsIndexBy intake index.now → IfOk result (λ numbers. (number : ℕ)
+        → is_among numbers.items number ≡ is_among (datagrams_shown_lem (placed_in intake.acts) pairs.now) number) }
+{
+    let writers = writers_of(alloc, pairs)?;
+    let mut numbers = all_said(alloc, index, &writers)?;
+    add_all_answered(&mut numbers, index, pairs)?;
+    sort_once(&mut numbers);
+    Ok(numbers)
+}
+
+/// Appends a datagram and its second, where it has a time.
+fn push_time(writer: &mut Writer, clock: Clock<'_>, datagram: u64) -> Result<(), AllocError>
+    ensures tokens { OnOk result (writer.new.tokens
+        ≡ writer.old.tokens ++ flat_map json_tokens (time_json datagram (second_in clock.entry.times.now datagram))) }
+    ensures before { writer.new.before ≡ writer.old.before }
+{
+    let Some(second) = clock.times.second(datagram) else {
+        return Ok(());
+    };
+    writer.begin_array()?;
+    writer.u64(datagram)?;
+    push_seconds(writer, second, clock.alloc)?;
+    writer.end_array()
+}
+
+fn push_each_time(
+    writer: &mut Writer,
+    clock: Clock<'_>,
+    datagrams: &[u64],
+) -> Result<(), AllocError>
+    ensures tokens { OnOk result (writer.new.tokens ≡ writer.old.tokens
+        ++ flat_map (λ datagram. flat_map json_tokens (time_json datagram (second_in clock.entry.times.now datagram))) datagrams.now) }
+    ensures before { writer.new.before ≡ writer.old.before }
+{
+    for datagram in datagrams {
+        push_time(writer, clock, *datagram)?;
+    }
+    Ok(())
+}
+
+/// Appends when the datagrams of the charts came, where the recording has times.
+pub(crate) fn push_times(
+    writer: &mut Writer,
+    clock: Clock<'_>,
+    index: &Index<'_>,
+    pairs: &[Pair],
+) -> Result<(), AllocError>
+    ensures tokens { (intake : Intake) → IsIndexBy intake index.now → OnOk result (writer.new.tokens ≡ writer.old.tokens
+        ++ tokens_of (timed_members clock.entry.times.now (times_member clock.entry.times.now (placed_in intake.acts) pairs.now ∷ []))) }
+    ensures before { writer.new.before ≡ writer.old.before }
+{
+    if !clock.times.are_there() {
+        return Ok(());
+    }
+    let datagrams = datagrams_shown(clock.alloc, index, pairs)?;
+    writer.key("times")?;
+    writer.begin_array()?;
+    push_each_time(writer, clock, &datagrams)?;
+    writer.end_array()
+}

@@ -1,0 +1,42 @@
+-- What is told of another recording against which rows are held, in numbers.
+-- own: a row that is not held was not judged at its reader's host. A number that came and is not there shows that the other recording
+-- lacks something, and so do frames of it that were not read. All have to be told beside the rows.
+use Rattle.std.specs.Prelude.{ℕ, nat_lt, not, List, Option, None, Some, count_by, sum_by}
+use Rattle.rtps_report.specs.FullReport.{ReportValue, rows_of}
+use Rattle.rtps_report.specs.Recording.{RecordingValue, known}
+use Rattle.rtps_report.specs.RowFacts.{absent_in, is_held_in}
+use Rattle.rtps_report.specs.Vocabulary.{ExplanationValue}
+use Rattle.rtps_report.specs.declared.side_facts.SideFacts.{SideFacts}
+
+-- how many rows are not held
+abbrev pub rows_alone : List ExplanationValue → ℕ
+rows_alone rows = count_by (λ row. not (is_held_in row.evidence.in_span)) rows
+
+-- how many rows have numbers that are received for certain though the other recording has none of them
+abbrev pub rows_absent : List ExplanationValue → ℕ
+rows_absent rows = count_by (λ row. nat_lt 0 (absent_in row.evidence.in_span)) rows
+
+-- how many numbers these are
+abbrev pub numbers_absent : List ExplanationValue → ℕ
+numbers_absent rows = sum_by (λ row. absent_in row.evidence.in_span) rows
+
+-- what is told of these rows, and of the recording against which they are held
+abbrev pub facts_beside : List ExplanationValue → RecordingValue → SideFacts
+facts_beside rows other =
+    record {
+      alone = rows_alone rows;
+      absent_pairs = rows_absent rows;
+      absent = numbers_absent rows;
+      pieces = (known other.reasons).pieces;
+      cut = (known other.reasons).cut;
+      links = (known other.reasons).links;
+    }
+
+-- the same where there is another recording
+abbrev pub facts_if : List ExplanationValue → Option RecordingValue → Option SideFacts
+facts_if rows None = None
+facts_if rows (Some other) = Some (facts_beside rows other)
+
+-- those of a report
+abbrev pub side_facts : ReportValue → Option SideFacts
+side_facts report = facts_if (rows_of report) report.arrived

@@ -1,0 +1,66 @@
+ghost use Rattle.std.specs.Prelude.{IfOk, Option};
+ghost use Rattle.rtps_evidence.specs.OtherSide.{IsOtherSide, OtherRecording};
+ghost use Rattle.rtps_report.specs.ReaderSide.{IsReaderSide, IsReaderSideBy, arrived_value, other_by, other_of};
+
+use crate::recording::{Recording, datagrams_of};
+use crate::traffic::Traffic;
+use rtps_audit::Index;
+use rtps_evidence::{OtherSide, Times};
+use rtps_fragments::{Fragments, Indexed, Samples, index_as};
+use rtps_ids::Memory;
+use rtps_policies::Namings;
+use std::alloc::Global;
+
+/// What is kept of another recording, made at the host of readers: its index, and which of its participants names which.
+#[derive(Drop)]
+pub(crate) struct ReaderSide<'b> {
+    index: Index<'b>,
+    namings: Namings,
+}
+
+/// That of a recording. The samples that it borrows are put into `samples`. `Memory` is answered where there is none for it.
+fn side_of<'b>(
+    alloc: Global,
+    recording: &'b Recording,
+    fragments: Fragments,
+    samples: &'b mut Samples,
+) -> Result<ReaderSide<'b>, Memory>
+    ensures { IfOk result (IsReaderSide (other_of fragments recording.now)) }
+{
+    let datagrams = datagrams_of(alloc, recording)?;
+    let traffic = Traffic::of(alloc, &datagrams, &Times::none(alloc), fragments)?;
+    let indexed = index_as(alloc, &datagrams, fragments, samples)?;
+    Ok(ReaderSide {
+        index: indexed.index,
+        namings: traffic.namings,
+    })
+}
+
+/// The same where there is a recording.
+pub(crate) fn side_by<'b>(
+    alloc: Global,
+    arrived: Option<&'b Recording>,
+    fragments: Fragments,
+    samples: &'b mut Samples,
+) -> Result<Option<ReaderSide<'b>>, Memory>
+    ensures { IfOk result (IsReaderSideBy (other_by fragments (arrived_value arrived.entry))) }
+{
+    let Some(recording) = arrived else {
+        return Ok(None);
+    };
+    let side = side_of(alloc, recording, fragments, samples)?;
+    Ok(Some(side))
+}
+
+/// It as rows are held against it.
+pub(crate) fn beside<'o, 'b>(side: &'o Option<ReaderSide<'b>>) -> Option<OtherSide<'o, 'b>>
+    ensures { (other : Option OtherRecording) → IsReaderSideBy other side.now → IsOtherSide other result }
+{
+    match side {
+        Some(side) => Some(OtherSide {
+            index: &side.index,
+            namings: &side.namings,
+        }),
+        None => None,
+    }
+}

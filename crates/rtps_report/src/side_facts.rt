@@ -1,0 +1,86 @@
+ghost use Rattle.std.specs.Prelude.{◌≡◌, map};
+ghost use Rattle.rtps_evidence.specs.Explanation.{explanation_value};
+ghost use Rattle.rtps_report.specs.FullReport.{report_value};
+ghost use Rattle.rtps_report.specs.SideFacts.{facts_beside as facts_beside_lem, numbers_absent as numbers_absent_lem, rows_absent as rows_absent_lem, rows_alone as rows_alone_lem, side_facts};
+
+use crate::full_report::FullReport;
+use crate::recording::{Links, Recording, known};
+use crate::row_facts::{absent_of, is_held};
+use rtps_evidence::Explanation;
+
+/// What is told of another recording against which rows are held, in numbers.
+#[derive(Clone, Copy, PartialEq, Eq, Debug)]
+pub struct SideFacts {
+    /// The rows that are not held against it.
+    pub alone: u64,
+    /// The rows of which numbers are received for certain though it has none of them.
+    pub absent_pairs: u64,
+    /// How many numbers these are.
+    pub absent: u128,
+    // Frames of it that gave no datagram, by the reasons that it knows.
+    pub pieces: u64,
+    pub cut: u64,
+    pub links: Links,
+}
+
+/// How many rows are not held.
+fn rows_alone(rows: &[Explanation<'_>]) -> u64
+    ensures { result ≡ rows_alone_lem (map explanation_value rows.now) }
+{
+    let mut alone = 0;
+    for row in rows {
+        if !is_held(&row.evidence) {
+            alone += 1;
+        }
+    }
+    alone
+}
+
+/// How many rows have numbers that are received for certain though the other recording has none of them.
+fn rows_absent(rows: &[Explanation<'_>]) -> u64
+    ensures { result ≡ rows_absent_lem (map explanation_value rows.now) }
+{
+    let mut absent = 0;
+    for row in rows {
+        if absent_of(&row.evidence) > 0 {
+            absent += 1;
+        }
+    }
+    absent
+}
+
+/// How many numbers these are.
+fn numbers_absent(rows: &[Explanation<'_>]) -> u128
+    ensures { result ≡ numbers_absent_lem (map explanation_value rows.now) }
+{
+    let mut absent = 0;
+    for row in rows {
+        absent += u128::from(absent_of(&row.evidence));
+    }
+    absent
+}
+
+/// What is told of these rows, and of the recording against which they are held.
+fn facts_beside(rows: &[Explanation<'_>], other: &Recording) -> SideFacts
+    ensures { result ≡ facts_beside_lem (map explanation_value rows.now) other.now }
+{
+    let reasons = known(other.reasons());
+    SideFacts {
+        alone: rows_alone(rows),
+        absent_pairs: rows_absent(rows),
+        absent: numbers_absent(rows),
+        pieces: reasons.pieces,
+        cut: reasons.cut,
+        links: reasons.links,
+    }
+}
+
+/// What is told of the other recording; None where there is none.
+pub fn facts_of_side(report: &FullReport<'_>) -> Option<SideFacts>
+    ensures { result ≡ side_facts (report_value report.now) }
+{
+    match report.arrived {
+        Some(other) => Some(facts_beside(&report.explained.rows, other)),
+        None => None,
+    }
+}

@@ -1,0 +1,383 @@
+#!/usr/bin/env python3
+"""Tests what the program says of times: of captures in all units, of times that go back, of who is silent, and of how long a reader let
+its writer wait.
+
+    tests/timed.py [PROGRAM]
+
+What is wanted was worked out by hand. It is held to the second implementation, bench/times.py, and where a PROGRAM is given to that. Each
+group prints a line with what was counted. The last line is 'N passed, M failed'.
+"""
+import re
+import sys
+
+sys.dont_write_bytecode = True
+import program
+import page
+import reference
+import spans
+from asked import asked_by
+from capture_writer import (NANOSECONDS, enhanced, fragment, interface, old, option, packet, record, section, simple,
+                            start, udp_4)
+from program import text_of
+from recorded import Participant, Topic
+
+SECOND, MILLISECOND = 10 ** 9, 10 ** 6
+TCP = packet(b'', protocol=6)          # a frame that gives no datagram
+
+
+class Answers:
+    """what is said of an input by the second implementation, as the tests of a program ask it"""
+
+    def run(self, view, octets, words=()):
+        asked = asked_by(list(words))
+        if view == 'check':
+            text, status = spans.check(octets, asked, '--json' in words)
+        elif view == 'page':
+            text, _, status = page.answer_as(octets, asked)
+        elif view in ('json', 'why') and asked.spans:
+            text, _, status = spans.report(view, octets, asked)
+        else:
+            text, _, status = reference.answer_as(view, octets, asked)
+        return text, '', status
+
+
+class Timed(program.Counts):
+    """tests of the second implementation, and of a program where there is one"""
+
+    def __init__(self, path):
+        super().__init__()
+        self.runs = {'bench/times.py': Answers().run} | ({path: program.Tests(path).run} if path else {})
+
+    def says(self, name, view, octets, wanted, seen=lambda text: text, words=()):
+        """what is seen in the answer is what is wanted"""
+        for by, run in self.runs.items():
+            self.holds(f'{view}: {name}, by {by}', wanted, seen(run(view, octets, words)[0]))
+
+    def checks(self, name, octets, *lines, words=()):
+        """these lines stand in the text of `check`, and no other one speaks of times"""
+        self.says(name, 'check', octets, list(lines), of_times, words)
+
+    def tells(self, name, octets, pattern, *found, words=('--json',)):
+        """what a pattern finds in `check --json`"""
+        self.says(name, 'check', octets, list(found), lambda text: re.findall(pattern, text), words)
+
+
+def of_times(text):
+    """the lines that have a second"""
+    return [line.strip() for line in text.splitlines() if re.search(r'\d\.\d{3} s', line)]
+
+
+# ---- captures
+
+def at(second, nanosecond=0):
+    return second * SECOND + nanosecond
+
+
+def nanoseconds(frames):
+    """a classic capture of raw IP of frames, each behind its time in nanoseconds"""
+    return start(magic=NANOSECONDS) + b''.join(record(frame, time=divmod(time, SECOND)) for time, frame in frames)
+
+
+def timed(datagrams, times):
+    assert len(datagrams) == len(times)
+    return nanoseconds([(time, packet(d)) for time, d in zip(times, datagrams)])
+
+
+def told(code, *octets):
+    return option(code, bytes(octets))
+
+
+def offset(seconds):
+    return option(14, seconds.to_bytes(8, 'little', signed=True))
+
+
+def blocks(options, *ticks, write=enhanced):
+    """a section of one interface: a frame that gives nothing, and the datagrams of TWO, each with its ticks"""
+    return section() + interface(options=options) + b''.join(write(frame, time=time) for frame, time in zip(FRAMES, ticks))
+
+
+ONE, OTHER = Participant(1), Participant(2)
+TWO = [ONE.announced(), OTHER.announced()]
+FRAMES = [TCP, *map(packet, TWO)]
+
+
+def classic(order, *times):
+    return start(order=order) + b''.join(record(frame, order, time=time) for frame, time in zip(FRAMES, times))
+
+
+# ---- the second of each of two datagrams
+
+def units(tests):
+    first, second = FRAMES[1:]
+    inner = udp_4(TWO[0])
+    head, rest = fragment(inner, 0, 40), fragment(inner, 40, len(inner))
+    usb = section() + interface(189) + interface() + enhanced(b'usb', 0, time=3000000)
+    on_two = section() + interface(options=offset(1000)) + interface(options=offset(1001))
+    rows = {
+        'microseconds': (classic('little', (1700000000, 0), (1700000000, 999999), (1700000001, 1000)), '0.999', '1.001'),
+        'microseconds, big': (classic('big', (1700000000, 0), (1700000000, 999999), (1700000001, 1000)), '0.999', '1.001'),
+        'a fraction above a second': (classic('little', (10, 0), (10, 1500000), (10, 4294967295)), '1.500', '4294.967'),
+        'nanoseconds': (nanoseconds(zip((at(7, 999999999), at(8), at(8, 999999)), FRAMES)), '0.000', '0.001'),
+        'pcapng': (blocks(b'', 1000000, 2234567, 2 ** 40), '1.234', '1099510.627'),
+        'pcapng in nanoseconds': (blocks(told(9, 9), 5, 1000004, 1000005), '0.000', '0.001'),
+        'pcapng in milliseconds': (blocks(told(9, 3), 5, 1239, 1240), '1.234', '1.235'),
+        'pcapng in seconds': (blocks(told(9, 0), 7, 9, 10), '2.000', '3.000'),
+        'pcapng in picoseconds': (blocks(told(9, 12), 0, 1999999999, 2000000000), '0.001', '0.002'),
+        'pcapng in 1024ths': (blocks(told(9, 138), 0, 1, 1023), '0.000', '0.999'),
+        'pcapng in seconds, by a power of 2': (blocks(told(9, 128), 1, 2, 3), '1.000', '2.000'),
+        'a resolution of two octets': (blocks(told(9, 3, 0), 0, 1000, 2000), '0.001', '0.002'),
+        'two resolutions': (blocks(told(9, 3) + told(9, 9), 0, 1, 2), '0.001', '0.002'),
+        'a resolution behind the end of the options': (blocks(told(0) + told(9, 9), 0, 1000, 2000), '0.001', '0.002'),
+        'two offsets': (on_two + enhanced(TCP) + enhanced(first, 1) + enhanced(second, 0, time=1500000), '1.000', '1.500'),
+        'an offset of four octets': (blocks(told(14, 9, 9, 9, 9), 0, 1000, 2000), '0.001', '0.002'),
+        'an offset below 0': (blocks(offset(-5), 5000000, 6000000, 7000000), '1.000', '2.000'),
+        'before 1970': (blocks(offset(-5), 5000000, 4999999, 5001000), 'null', '0.001'),
+        'the greatest second of 64 bits': (blocks(told(9, 0), 18446744000, 18446744073, 18446744074), '73.000', 'null'),
+        'the greatest nanosecond': (blocks(told(9, 9), 2 ** 64 - 10 ** 6, 2 ** 64 - 1, 2 ** 64 - 10 ** 6), '0.000', '0.000'),
+        'a Simple Packet': (blocks(b'', 0) + simple(first) + enhanced(second, time=2000), 'null', '0.002'),
+        'the old block': (blocks(told(9, 3), 5, 1239, 1240, write=old), '1.234', '1.235'),
+        'the start is of a link that is not read': (usb + enhanced(first, 1, time=4000000) + enhanced(second, 1, time=5000000), '1.000', '2.000'),
+        'the start is behind a Simple Packet': (section() + interface() + simple(TCP) + enhanced(first, time=7000) + enhanced(second, time=9000), '0.000', '0.002'),
+        'no frame in front': (timed(TWO, [at(5), at(6, 500000)]), '0.000', '1.000'),
+        'before the start': (nanoseconds(zip((at(9), at(8, 650000000), at(8, 999000001)), FRAMES)), '-0.350', '0.000'),
+        'a second before the start': (nanoseconds(zip((at(9), at(8), at(7, 999999999)), FRAMES)), '-1.000', '-1.000'),
+    }
+    for name, (octets, *wanted) in rows.items():
+        tests.tells(name, octets, r'"first_time":([^,]*)', *wanted)
+        tests.tells(name, octets, r'"last_time":([^,]*)', *wanted)
+    # A packet in pieces has the time of the frame that completes it.
+    for order in ((head, rest), (rest, head)):
+        pieces = nanoseconds(zip((at(0), at(3), at(4)), (*order, second)))
+        tests.tells('pieces', pieces, r'"guid":"010f(..).*?"first_time":([^,]*)', ('01', '3.000'), ('02', '4.000'))
+    for name, octets in (('Simple Packets alone', section() + interface() + b''.join(map(simple, FRAMES))), ('a text', text_of(TWO))):
+        tests.tells(name, octets, r'_time|"time|"silent|"silence|"wait')
+        tests.tells(name, octets, r'"last":(\d)', '1', '2')
+    print(f'units: {len(rows) + 4}')
+
+
+# ---- a writer and a reader: number 2 is lost twice, and the writer drops it
+
+def pair():
+    return Topic(b'rt/chatter', b'std_msgs::msg::dds_::String_', Participant(1), Participant(2))
+
+
+def lost():
+    topic = pair()
+    return [*TWO, *topic.announced, topic.sent(1), topic.asks(1, 1), topic.answers(2), topic.sent(2), topic.asks(1, 2), topic.answers(2, 2),
+            topic.resent(2), topic.asks(3, 2), topic.answers(3)]
+
+
+# One datagram each 100 ms, the tenth 200 ns before its time.
+STEADY = [at(1700000000) + 100 * MILLISECOND * k for k in range(13)]
+STEADY[9] -= 200
+
+WRITER, READER = '010f01010101010101010101.00000103', '010f02020202020202020202.00000104'
+SAID = f'''0 of 1 pair is clean, 1 of 2 numbers received
+
+topic     pairs  clean  before  received  missed
+/chatter      1      0       0         1       1
+
+/chatter std_msgs/msg/String
+  writer {WRITER}
+  reader {READER}, from 1
+  complete 2, received 1, missed 1
+    number 2 asked for in datagram 10 at 36, 0.899 s, sent again in datagram 11 at 36, 1.000 s, told gone by heartbeat in datagram 12 at 20, 1.100 s
+    -> it was sent again, and nothing shows that it arrived: look at the network; a recording at the reader's side tells
+
+not clean: 1 number was missed in 1 pair
+'''
+PLACES = (
+    '"announced":{"number":2,"by":"data","datagram":8,"at":20,"time":0.700}',
+    '"acknowledged":{"below":3,"datagram":13,"at":36,"time":1.200}',
+    '"gone":{"by":"heartbeat","datagram":12,"at":20,"time":1.100}',
+    '"acknowledged":{"datagram":13,"at":36,"time":1.200}',
+    '"asked":{"datagram":10,"at":36,"time":0.899}',
+    '"again":{"datagram":11,"at":36,"time":1.000}',
+    '"gone":{"by":"heartbeat","datagram":12,"at":20,"time":1.100}',
+)
+
+
+def places(tests):
+    octets = timed(lost(), STEADY)
+    tests.says('each place', 'check', octets, SAID)
+    for name, view, words in (('each place', 'json', ()), ('with spans', 'json', ('--spans',)), ('of check', 'check', ('--json',))):
+        tests.says(name, view, octets, list(PLACES), lambda text: re.findall(r'"\w+":{[^{}]*"at"[^{}]*}', text), words)
+    tests.tells('the row', octets, r'"from":1,.*?"outcomes"|"clean":false,.*"advice":', '"from":1,"until":null,"until_time":null,"outcomes"',
+                '"clean":false,"wait":null,"silence":[],"advice":')
+    tests.says('places with no time', 'check', text_of(lost()), re.sub(r', \d\.\d{3} s', '', SAID))
+    for view in ('show', 'list', 'audit', 'why'):
+        tests.says('no seconds', view, octets, [], of_times)
+    for name, (datagrams, *lines) in verdicts().items():
+        tests.checks(name, timed(datagrams, STEADY[:9][:len(datagrams)]), *lines)
+    print(f'places: {len(verdicts()) + 9}')
+
+
+def verdicts():
+    """rows of each other verdict, a datagram each 100 ms, with the lines that have a place"""
+    topic = pair()
+    begun = [*TWO, *topic.announced]
+    changed = topic.sent(1)[:-1] + b'\7'
+    return {
+        'open': ([*begun, topic.sent(1), topic.asks(1, 1), topic.answers(1), topic.asks(1, 1), topic.asks(1, 1)],
+                 'number 1 told by data in datagram 5 at 20, 0.400 s', 'asked 2 times since its last answer, last in datagram 9 at 20, 0.800 s'),
+        'conflict': ([*begun, topic.sent(1), changed, topic.answers(2)], 'number 1 payload whole 20 in datagram 5 at 20, 0.400 s',
+                     'number 1 payload whole 20 in datagram 6 at 20, 0.500 s'),
+        'unfounded': ([*begun, topic.asks(1, 1), topic.answers(2), topic.sent(1)], 'announced 1 by heartbeat in datagram 5 at 20, 0.400 s',
+                      'claimed below 2 in datagram 6 at 36, 0.500 s', 'number 1 told by data in datagram 7 at 20, 0.600 s'),
+    }
+
+
+def page_data(tests):
+    """the seconds that the page has for its chart: of each datagram that stands in it, once"""
+    topic = pair()
+    octets = timed(lost()[:-1] + [topic.answers(3) + topic.answers(3)[20:]], STEADY)
+    wanted = ['"times":[[5,0.400],[6,0.500],[7,0.600],[8,0.700],[9,0.800],[10,0.899],[11,1.000],[12,1.100],[13,1.200]]']
+    tests.says('the chart', 'page', octets, wanted, lambda text: re.findall(r'"times":\[\[.*?\]\]', text), ('--spans',))
+    tests.says('a text', 'page', text_of(lost()), [], lambda text: re.findall(r'"times":\[[\[\]]', text), ('--spans',))
+    print('data of the page: 2')
+
+
+# ---- times that go back
+
+BACK = 'times go back by up to {} s'
+
+
+def going_back(tests):
+    rows = {
+        'by nothing': ([0, 0, 0], None), 'by a millisecond': ([0, 5 * MILLISECOND, 4 * MILLISECOND], None),
+        'by a nanosecond more': ([0, 5 * MILLISECOND, 4 * MILLISECOND - 1], '0.001'), 'by two milliseconds': ([0, 5 * MILLISECOND, 3 * MILLISECOND], '0.002'),
+        'in two steps of a millisecond': ([2 * MILLISECOND, MILLISECOND, 0], '0.002'),
+        'the greatest of three': ([at(9), at(8, 500000000), at(9), at(2), at(9), at(5)], '7.000'),
+        'behind one that is far ahead': ([0, at(3600), at(1), at(2)], '3599.000'),
+    }
+    for name, (times, step) in rows.items():
+        datagrams = (TWO * 3)[:len(times)]
+        tests.checks(name, timed(datagrams, [at(100) + time for time in times]), *([BACK.format(step)] if step else []))
+    octets = timed(TWO, [at(9), at(8)])
+    tests.tells('its advice', octets, r'"times go back[^"]*"', '"times go back by up to 1.000 s -> the datagrams are out of order: reordercap FILE OUT '
+                'sorts them by time, and OUT can be checked"')
+    tests.says('it stands first', 'check', octets, BACK.format('1.000'), lambda text: text.splitlines()[3])
+    without = section() + interface() + enhanced(FRAMES[1], time=9000000) + simple(FRAMES[2]) + enhanced(FRAMES[1], time=8000000)
+    tests.checks('past one without a time', without, BACK.format('1.000'))
+    ignored = nanoseconds([(at(9), TCP), (at(5), packet(TWO[0])), (at(6), packet(TWO[1]))])
+    tests.checks('a frame that gives nothing', ignored)
+    print(f'times that go back: {len(rows) + 4}')
+
+
+# ---- how long the reader let the writer wait
+
+WAIT = 'let the writer wait {} s: asked in datagram {} at 20, {} s, {}'
+
+
+def of_waits(text):
+    return [line.strip() for line in text.splitlines() if 'let the writer wait' in line]
+
+
+def waiting(tests):
+    topic = pair()
+    begun = [*TWO, *topic.announced, topic.sent(1)]
+
+    def after(*more):
+        """the announcements and number 1, in five datagrams, and more, each behind its time"""
+        return timed(begun + [d for _, d in more], [at(50)] * 5 + [at(50) + time for time, _ in more])
+
+    # The reader lacks number 1, and so no row is clean in which it acknowledges nothing more.
+    ask, lacks = topic.asks(1, 1), topic.answers(1, 1)
+    rows = {
+        'a second': ([(0, ask), (at(1), lacks)], None),
+        'a nanosecond more': ([(0, ask), (at(1, 1), lacks)], ('1.000', 6, '0.000', 'answered in datagram 7 at 36, 1.000 s')),
+        'asked twice': ([(0, ask), (at(2), ask), (at(3, 5), lacks)], ('3.000', 6, '0.000', 'answered in datagram 8 at 36, 3.000 s')),
+        'the greatest': ([(0, ask), (at(2), lacks), (at(2), ask), (at(5), lacks), (at(5), ask), (at(6), lacks)],
+                         ('3.000', 8, '2.000', 'answered in datagram 9 at 36, 5.000 s')),
+        'the first of equal ones': ([(0, ask), (at(2), lacks), (at(2), ask), (at(4), lacks)], ('2.000', 6, '0.000', 'answered in datagram 7 at 36, 2.000 s')),
+        'to the end': ([(0, lacks), (0, ask), (at(4), topic.sent(2))], ('4.000', 7, '0.000', 'not answered')),
+        'a second to the end': ([(0, lacks), (0, ask), (at(1), topic.sent(2))], None),
+        'to the end, which is no datagram of the two': ([(0, lacks), (0, ask), (at(9), TWO[0])], ('9.000', 7, '0.000', 'not answered')),
+        'an answer that is earlier by its time': ([(at(7), ask), (at(5), lacks)], None),
+        'asked behind the last answer, by its place': ([(at(1), lacks), (at(0), ask), (at(3), topic.sent(2))], ('3.000', 7, '0.000', 'not answered')),
+        'the end is the greatest time': ([(0, lacks), (0, ask), (at(6), topic.sent(2)), (at(2), topic.sent(3))], ('6.000', 7, '0.000', 'not answered')),
+        'an answer that acknowledges nothing new': ([(0, ask), (at(2), topic.answers(1))], ('2.000', 6, '0.000', 'answered in datagram 7 at 36, 2.000 s')),
+        'the final flag': ([(0, ask[:21] + b'\2' + ask[22:]), (at(4), lacks)], None),
+        'a clean row': ([(0, ask), (at(2), topic.answers(2))], None),
+    }
+    for name, (more, wanted) in rows.items():
+        tests.says(name, 'check', after(*more), [WAIT.format(*wanted)] if wanted else [], of_waits)
+    early = timed([*TWO, topic.announced[0], topic.sent(1), ask, topic.announced[1], topic.sent(2), topic.answers(3)], [at(50)] * 5 + [at(59)] * 3)
+    tests.tells('asked before the reader joined', early, r'"from":\d|"wait":[^,]*', '"from":2', '"wait":null')
+    clean = after(*rows['a clean row'][0])
+    wanted = '"wait":{"seconds":2.000,"asked":{"datagram":6,"at":20,"time":0.000},"answered":{"datagram":7,"at":36,"time":2.000}}'
+    tests.tells('a clean row', clean, r'"wait":.*?}}', wanted)
+    tests.says('a clean row of a report in spans', 'json', clean, [wanted], lambda text: re.findall(r'"wait":.*?}}', text), ('--spans',))
+    tests.says('a report without spans', 'json', clean, [], lambda text: re.findall('"wait"|"silence"|_time', text))
+    tests.tells('to the end', after(*rows['to the end'][0]), r'"wait":.*?"answered":null}',
+                '"wait":{"seconds":4.000,"asked":{"datagram":7,"at":20,"time":0.000},"answered":null}')
+    tests.tells('a second', after(*rows['a second'][0]), r'"wait":[^,]*', '"wait":null')
+    # An answer without a time ends the wait, and is none.
+    frames = [*map(packet, begun), packet(ask), packet(lacks), packet(ask), packet(lacks)]
+    without = section() + interface() + b''.join(simple(frame) if k == 6 else enhanced(frame, time=2000000 * k) for k, frame in enumerate(frames))
+    tests.says('an answer without a time', 'check', without, [WAIT.format('2.000', 8, '14.000', 'answered in datagram 9 at 36, 16.000 s')], of_waits)
+    print(f'waits: {len(rows) + 7}')
+
+
+# ---- who is silent
+
+def leaving(topic):
+    """the reader's participant leaves: status info in the inline QoS, and its GUID as the key"""
+    inline = b'\0\x71\0\4\0\0\0\3' + b'\0\x70\0\x10' + topic.reader + b'\0\0\1\xc1' + b'\0\1\0\0'
+    body = b'\0\0\0\x10' + bytes(4) + b'\0\1\0\xc2' + bytes(7) + b'\2' + inline
+    return b'RTPS\2\5\0\0' + topic.reader + b'\x15\2' + len(body).to_bytes(2, 'big') + body
+
+
+SILENT = "the {}'s participant is silent since datagram {}, {} s, and did not leave: it was killed, or cut off"
+
+
+def silence(tests):
+    topic = pair()
+    begun = [*TWO, *topic.announced, topic.sent(1), topic.asks(1, 1), topic.answers(2)]
+
+    def ending(time, *more):
+        """the reader is last heard at 2 s, and the writer's participant at a time: with what is between them"""
+        datagrams = [*begun, *more, topic.sent(2)]
+        return timed(datagrams, [at(90)] * 5 + [at(92)] * (2 + len(more)) + [at(90) + time])
+
+    acknowledged, number = 'acknowledged below 2 in datagram 7 at 36, 2.000 s', 'number 2 told by data in datagram 8 at 20, {} s'
+    tests.checks('ten seconds', ending(at(12)))
+    tests.checks('a nanosecond more', ending(at(12, 1)), acknowledged, number.format('12.000'), SILENT.format('reader', 7, '2.000'))
+    tests.tells('ten seconds', ending(at(12)), r'"(?:first|last|left)_time":[^,]*,?|"silent":\w+|"silence":\[.*?\]', '"silence":[]',
+                '"first_time":0.000,', '"last_time":12.000,', '"left_time":null,', '"silent":false',
+                '"first_time":0.000,', '"last_time":2.000,', '"left_time":null,', '"silent":false')
+    tests.tells('a nanosecond more', ending(at(12, 1)), r'"silent":\w+|"silence":\[.*?\]', f'"silence":["{SILENT.format("reader", 7, "2.000")}"]',
+                '"silent":false', '"silent":true')
+    # A tail is told in a line that rows share, and so is not that of a row whose participant is silent; --tail lets both pass.
+    shared = lambda text: re.findall('1 pair lacks only a tail|-> .*', text)
+    tests.says('a tail', 'check', ending(at(12)), ['1 pair lacks only a tail', '-> stop publishing some seconds before the recording ends, or allow a tail '
+                                                   '(--tail)'], shared)
+    tests.says('a tail of a silent reader', 'check', ending(at(12, 1)), ['-> the reader may have all: stop publishing, wait some seconds, and only then '
+                                                                         'end the recording'], shared)
+    tests.says('a tail that may be', 'check', ending(at(12, 1)), ['clean'], lambda text: text.splitlines()[-1:], ('--tail', '1'))
+    left = ending(at(30), leaving(topic))
+    tests.checks('the reader left', left)
+    tests.tells('the reader left', left, r'"until":8,"until_time":[^,]*|"left":8.*', '"until":8,"until_time":2.000',
+                '"left":8,"first_time":0.000,"last_time":2.000,"left_time":2.000,"silent":false}],"notes":[]}')
+    lacking = [*TWO, *topic.announced, topic.sent(1), topic.asks(1, 1), topic.answers(1, 1), topic.resent(1), topic.asks(2, 1), leaving(topic), topic.sent(2)]
+    tests.says('the reader left behind a miss', 'check', timed(lacking, [at(90)] * 10 + [at(140)]), [f'reader {READER}, from 1, left in datagram 10, 0.000 s'],
+               lambda text: [line for line in of_times(text) if 'left' in line])
+    writer = timed(begun + [topic.sent(2), topic.answers(2)], [at(90)] * 7 + [at(91), at(101, 1)])
+    tests.checks('the writer', writer, acknowledged.replace('2.000', '0.000'), number.format('1.000'), SILENT.format('writer', 8, '1.000'))
+    # Nobody is announced as a participant.
+    octets = timed(begun[2:] + [topic.sent(2)], [at(90)] * 5 + [at(140)])
+    tests.checks('participants that are not announced', octets)
+    print('silence: 14')
+
+
+def main():
+    if len(sys.argv) > 2:
+        raise SystemExit(__doc__)
+    tests = Timed(sys.argv[1] if len(sys.argv) == 2 else None)
+    for group in (units, places, page_data, going_back, waiting, silence):
+        group(tests)
+    return tests.told()
+
+
+if __name__ == '__main__':
+    sys.exit(main())
