@@ -289,7 +289,7 @@ def tail_note(rows):
 def notes(rows, talk, counts, tail, sides):
     """what weakens the report: each with the topics that it is about, or None, and what to do, or None"""
     late = [row for row in rows if row.wrote_before_alone]
-    tails = [row for row in rows if row.is_clean(tail) and row.is_tail()]
+    tails = [row for row in rows if row.is_clean(tail) and row.kind == 'open' and row.tail()]
     found = order_notes(talk.times) + talk_notes(talk) + (list(sides.notes(topic_text)) if sides else [])
     found += [(late_note(late), topics_of(late), LATE)] if late else []
     found += [(tail_note(tails), None, None)] if tails else []

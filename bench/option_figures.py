@@ -92,6 +92,21 @@ def samples(count, in_fragments):
     return three_readers(count, pieces)
 
 
+def sent_again(readers=10, sample=4 * MIB):
+    """one large sample for everyone, such as a map, of which one fragment is sent again to each of some readers in hosts of their own"""
+    hosts = [bytes([0xb0 + k]) * 12 for k in range(readers)]
+    last = -(-sample // FRAGMENT)
+    sizes = [FRAGMENT] * (last - 1) + [sample - FRAGMENT * (last - 1)]
+    yield announcement('writer', A, WRITER)
+    yield from (announcement('reader', host, reader_at(k)) for k, host in enumerate(hosts))
+    yield from (header(A) + piece(1, start + 1, bytes(size), sample=sample) for start, size in enumerate(sizes))
+    for k, host in enumerate(hosts):
+        again = piece(1, 2 + k, bytes(FRAGMENT), sample=sample)
+        yield header(A) + to(host) + again[:8] + reader_at(k) + again[12:]
+    yield header(A) + heartbeat(WRITER, 1, 1)
+    yield from (header(host) + to(A) + ack_nack(reader_at(k), WRITER, 2) for k, host in enumerate(hosts))
+
+
 def of_pieces(count, one):
     """so many DATA_FRAG, each by its place"""
     return three_readers(count, (header(A) + piece(*one(place)) for place in range(count)))
@@ -128,6 +143,7 @@ ROWS = {
     'robot_fragments': (Run([], 'robot', robot), Run(FRAGMENTS, 'robot', robot)),
     'limit_fragments': (Run([], 'limit', limit), Run(FRAGMENTS, 'limit', limit)),
     'fragments': (Run(LIMIT, 'gibibyte', lambda: samples(10737, False)), Run(LIMIT + FRAGMENTS, 'gibibyte_in_fragments', lambda: samples(10737, True))),
+    'sent_again': (Run([], 'sent_again', sent_again), Run(FRAGMENTS, 'sent_again', sent_again)),
     'many_numbers': hostile('many_numbers', 999994, NUMBERS),
     'promises': hostile('promises', 999994, PROMISES),
     'many_shapes': hostile('many_shapes', 65535, SHAPES),

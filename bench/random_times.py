@@ -8,7 +8,6 @@ The datagrams are those of random recordings. They come at times that are near t
 seconds lie between them, and a nanosecond more or less; some go back, and some have none.
 """
 import random
-import subprocess
 import sys
 
 import page
@@ -108,13 +107,10 @@ def main():
     seen = dict.fromkeys(['times go back', 'let the writer wait', 'is silent since', 'lacks only a tail'], 0)
     for k in range(count):
         octets = some_timed(rng)
-        for words, want, status in answers(rng, octets):
-            got = subprocess.run(program.split() + words + ['-'], input=octets, capture_output=True)
-            if (got.stdout.decode(), got.returncode) != (want, status):
-                differing += 1
-                print(f"{' '.join(words)} differs on capture {k}, kept in {reference.kept(octets, '.pcap')}")
-            for what in seen if words[0] == 'check' else ():
-                seen[what] += what in want
+        for answer in answers(rng, octets):
+            differing += reference.differs(program, octets, answer, (f'capture {k}', '.pcap'))
+            for what in seen if answer[0][0] == 'check' else ():
+                seen[what] += what in answer[1]
     print(f'{count} captures, {differing} differences; {seen}')
     return int(differing > 0)
 

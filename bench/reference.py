@@ -180,7 +180,7 @@ def piece_of(flags, order, b):
         return None
     offset, n, start = number(b[2:4], order), sequence_number(b[12:20], order), number(b[20:24], order)
     count, size, sample = number(b[24:26], order), number(b[26:28], order), number(b[28:32], order)
-    if offset < 28 or 4 + offset > len(b) or n < 1 or min(start, count, size, sample) < 1:
+    if offset < 28 or 4 + offset > len(b) or n < 1 or min(start, count, size) < 1 or size > sample:
         return None
     rest, qos = b[4 + offset:], 0
     if flags & 2:
@@ -191,7 +191,7 @@ def piece_of(flags, order, b):
         rest = rest[qos:]
     last = start + count - 1
     octets = min(sample, last * size) - (start - 1) * size
-    if last > (sample + size - 1) // size or len(rest) < octets:
+    if last > (sample + size - 1) // size or not octets <= len(rest) <= count * size:
         return None
     return {'kind': 'data_frag', 'reader': b[4:8], 'writer': b[8:12], 'number': n, 'start': start, 'count': count, 'size': size,
             'sample': sample, 'qos': qos, 'key': int(bool(flags & 4)), 'octets': rest[:octets]}
@@ -1113,6 +1113,17 @@ def kept(text, suffix='.rec'):
     with tempfile.NamedTemporaryFile(delete=False, suffix=suffix) as f:
         f.write(text)
     return f.name
+
+
+def differs(program, octets, answer, where):
+    """whether the program answers otherwise than the words, the text and the status say; it is told, and the recording is kept"""
+    words, want, status = answer
+    got = subprocess.run(program.split() + words + ['-'], input=octets, capture_output=True)
+    if (got.stdout.decode(), got.returncode) == (want, status):
+        return False
+    what, suffix = where
+    print(f"{' '.join(words)} differs on {what}, kept in {kept(octets, suffix)}")
+    return True
 
 
 def questions(rng):

@@ -13,7 +13,6 @@ A row in a span is the verdict of the datagrams before the reader left, from the
 that is asked about is in one of six kinds, the first of KINDS that fits.
 """
 import random
-import subprocess
 import sys
 
 import arrived
@@ -329,11 +328,7 @@ def compare(program, count, seed):
     rng, differing = random.Random(seed), 0
     for k in range(count):
         octets = some_recorded(rng)
-        for words, want, status in answers(rng, octets):
-            got = subprocess.run(program.split() + words + ['-'], input=octets, capture_output=True)
-            if (got.stdout.decode(), got.returncode) != (want, status):
-                differing += 1
-                print(f"{' '.join(words)} differs on recording {k}, kept in {reference.kept(octets)}")
+        differing += sum(reference.differs(program, octets, answer, (f'recording {k}', '.rec')) for answer in answers(rng, octets))
     print(f'{count} recordings, {differing} differences')
     return int(differing > 0)
 

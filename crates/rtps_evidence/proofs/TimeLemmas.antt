@@ -1,13 +1,11 @@
 -- The greatest of times and their greatest step back, one after another.
-use Rattle.std.proofs.Common.{◌≡◌, ◌∙◌, ℕ, ◌+◌, ◌<◌, ◌&&◌, ◌||◌, true, false, List, [], ◌∷◌, ◌++◌, get_or, length, map, max, take, below_more, Option, Some, None, refl, sym, ap, arith}
+use Rattle.std.proofs.Common.{◌≡◌, ◌∙◌, ℕ, ◌+◌, ◌<◌, ◌||◌, List, [], ◌∷◌, ◌++◌, get_or, length, map, max, take, below_more, Option, Some, None, refl, sym, ap, arith}
 use Rattle.std.specs.Prelude.{is_some}
-use Rattle.std.specs.List.{list_all}
 use Rattle.std.proofs.Math.Seq.{get_or-append_seam}
 use Rattle.std.proofs.lemmas.List.{get_or_append_left, map-append, take_more}
-use Rattle.std.proofs.lemmas.List.Folds.{list_all-append, list_all-map, list_all_at}
 use Rattle.rtps_audit.specs.Delivery.{greatest}
 use Rattle.rtps_audit.proofs.Offered.{greatest-append}
-use Rattle.rtps_evidence.specs.Times.{are_there, back_from, end_of, is_long_over, is_silent, later_of, step_back, time_of}
+use Rattle.rtps_evidence.specs.Times.{are_there, back_from, end_of, later_of, step_back}
 
 -- ---- the end
 
@@ -82,24 +80,3 @@ step_push (one ∷ times) time =
 
 pub step_more : (times : List (Option ℕ)) (i : ℕ) → i < length times → step_back (take (i + 1) times) ≡ max (step_back (take i times)) (back_from (end_of (take i times)) (get_or times i None))
 step_more times i lt = ap step_back (take_more times i None lt) ∙ step_push (take i times) (get_or times i None)
-
--- ---- the times of some datagrams
-
-timed_more : (times : List (Option ℕ)) (numbers : List ℕ) (i : ℕ) → i < length numbers → map (time_of times) (take (i + 1) numbers) ≡ map (time_of times) (take i numbers) ++ time_of times (get_or numbers i 0) ∷ []
-timed_more times numbers i lt = ap (map (time_of times)) (take_more numbers i 0 lt) ∙ map-append (time_of times) (take i numbers) (get_or numbers i 0 ∷ [])
-
-pub latest_more : (times : List (Option ℕ)) (numbers : List ℕ) (i : ℕ) → i < length numbers → end_of (map (time_of times) (take (i + 1) numbers)) ≡ later_of (end_of (map (time_of times) (take i numbers))) (time_of times (get_or numbers i 0))
-latest_more times numbers i lt = ap end_of (timed_more times numbers i lt) ∙ end_push (map (time_of times) (take i numbers)) (time_of times (get_or numbers i 0))
-
-pub each_more : (times : List (Option ℕ)) (numbers : List ℕ) (i : ℕ) → i < length numbers → list_all is_some (map (time_of times) (take i numbers)) ≡ true → is_some (time_of times (get_or numbers i 0)) ≡ true
-    → list_all is_some (map (time_of times) (take (i + 1) numbers)) ≡ true
-each_more times numbers i lt so_far is =
-    ap (list_all is_some) (timed_more times numbers i lt)
-    ∙ list_all-append is_some (map (time_of times) (take i numbers)) (time_of times (get_or numbers i 0) ∷ [])
-    ∙ ap (λ b. b && (is_some (time_of times (get_or numbers i 0)) && true)) so_far
-    ∙ ap (λ b. b && true) is
-
-pub one_wants : (times : List (Option ℕ)) (numbers : List ℕ) (i : ℕ) → i < length numbers → is_some (time_of times (get_or numbers i 0)) ≡ false → is_silent times numbers ≡ false
-one_wants times numbers i lt is =
-    ap (λ b. b && is_long_over (end_of (map (time_of times) numbers)) (end_of times))
-    (list_all-map is_some (time_of times) numbers ∙ list_all_at (λ number. is_some (time_of times number)) numbers i 0 lt is)

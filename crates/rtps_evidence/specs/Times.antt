@@ -1,8 +1,8 @@
 -- When the datagrams of a recording came. own: DDSI-RTPS 2.5 gives a datagram no time of its own, but a capture has the time at which
 -- it took each frame. Times are nanoseconds since 1970 began. A list of them has the time of each datagram in the order of sending,
 -- None where it has none; datagrams count from 1.
-use Rattle.std.specs.Prelude.{ℕ, Bool, false, ◌+◌, ◌-◌, ◌*◌, ◌/◌, ◌^◌, ◌≡◌, ◌<◌, ◌&&◌, nat_lt, if◌then◌else◌, is_some, length, map, max, slice_index_or, take, List, [], ◌∷◌, Option, Some, None}
-use Rattle.std.specs.List.{list_all, list_any}
+use Rattle.std.specs.Prelude.{ℕ, Bool, false, ◌+◌, ◌-◌, ◌/◌, ◌^◌, ◌≡◌, ◌<◌, ◌&&◌, nat_lt, if◌then◌else◌, is_some, length, map, max, slice_index_or, take, List, [], ◌∷◌, Option, Some, None}
+use Rattle.std.specs.List.{list_any}
 use Rattle.rtps_audit.specs.Delivery.{greatest}
 use Rattle.rtps_evidence.specs.declared.times.Seconds.{Seconds}
 
@@ -81,17 +81,3 @@ abbrev pub second_of : Option ℕ → Option ℕ → Option Seconds
 second_of None time = None
 second_of (Some start) None = None
 second_of (Some start) (Some time) = Some (seconds_between start time)
-
--- ---- participants that are silent
-
--- a time is more than ten seconds before an end, where there are both
-abbrev pub is_long_over : Option ℕ → Option ℕ → Bool
-is_long_over None end = false
-is_long_over (Some latest) None = false
-is_long_over (Some latest) (Some end) = nat_lt (latest + 10 * 10 ^ 9) end
-
--- of a participant that does not leave, by the numbers of the datagrams that have an act of it: there are some, each has a time, and
--- the greatest of these times is more than ten seconds before the end of the recording
-abbrev pub is_silent : List (Option ℕ) → List ℕ → Bool
-is_silent times numbers =
-    list_all is_some (map (time_of times) numbers) && is_long_over (end_of (map (time_of times) numbers)) (end_of times)

@@ -1,6 +1,6 @@
 ghost use Rattle.std.specs.Prelude.{◌≡◌, [], take, IfOk, None};
 ghost use Rattle.rtps_audit.specs.Said.{datagrams_until};
-ghost use Rattle.rtps_evidence.specs.Times.{AreEnds, are_there as are_there_lem, back_from, end_of, is_long_over as is_long_over_lem, is_silent as is_silent_lem, later_of, second_of, seconds_between, seconds_of, step_back as step_back_lem, time_of};
+ghost use Rattle.rtps_evidence.specs.Times.{AreEnds, are_there as are_there_lem, back_from, end_of, later_of, second_of, seconds_between, seconds_of, step_back as step_back_lem, time_of};
 
 use rtps_ids::Memory;
 use std::alloc::Global;
@@ -8,9 +8,6 @@ use std::marker::Model;
 
 /// How many nanoseconds a millisecond has.
 const MILLISECOND: u64 = 1_000_000;
-
-/// A participant is silent where the end of a recording has nothing of it for longer than this.
-const SILENCE: u64 = 10_000_000_000;
 
 /// A time as it is said, in milliseconds: cut off towards zero, with its sign. 0 has none.
 #[derive(Clone, Copy, PartialEq, Eq, Debug)]
@@ -82,17 +79,6 @@ fn back(earlier: Option<u64>, time: Option<u64>) -> u64
         (Some(earlier), Some(time)) => earlier.saturating_sub(time),
         (Some(_), None) => 0,
         (None, _) => 0,
-    }
-}
-
-/// Whether a time is more than ten seconds before an end, where there are both.
-fn is_long_over(latest: Option<u64>, end: Option<u64>) -> bool
-    ensures { result ≡ is_long_over_lem latest end }
-{
-    match (latest, end) {
-        (Some(latest), Some(end)) => latest < end.saturating_sub(SILENCE),
-        (Some(_), None) => false,
-        (None, _) => false,
     }
 }
 
@@ -199,20 +185,5 @@ impl Times {
             (Some(_), None) => None,
             (None, _) => None,
         }
-    }
-    /// Whether a participant that does not leave is silent, by the datagrams that have an act of it: there are some, each has a
-    /// time, and the greatest of these times is more than ten seconds before the end of the recording.
-    pub fn is_silent(&self, datagrams: &[u64]) -> bool
-        ensures { result ≡ is_silent_lem self.now.of_datagrams datagrams.now }
-    {
-        let mut latest = None;
-        for datagram in datagrams {
-            let time = self.of_datagram(*datagram);
-            if time.is_none() {
-                return false;
-            }
-            latest = later(latest, time);
-        }
-        is_long_over(latest, self.end(self.of_datagrams.len()))
     }
 }

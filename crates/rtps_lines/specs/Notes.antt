@@ -18,7 +18,7 @@ use Rattle.rtps_report.specs.declared.note_facts.NoteFacts.{NoteFacts}
 use Rattle.rtps_report.specs.declared.side_facts.SideFacts.{SideFacts}
 use Rattle.rtps_lines.specs.Lines.{seconds_text}
 use Rattle.rtps_lines.specs.declared.notes.NotedRows.{NotedRows}
-use Rattle.rtps_lines.specs.declared.notes.Unread.{Unread}
+use Rattle.rtps_lines.specs.declared.side_notes.Unread.{Unread}
 use Rattle.rtps_lines.specs.declared.notes.Weakness.{Weakness}
 use Rattle.rtps_lines.specs.declared.notes.Weakness.TheVariants.{Likely, Pieces, Cut, Links, Other, Fragments, Unsettled, Refused}
 

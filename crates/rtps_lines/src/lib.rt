@@ -10,6 +10,7 @@ mod json_members;
 mod json_object;
 mod notes;
 mod policy_values;
+mod side_notes;
 mod silent_participants;
 mod talk_members;
 

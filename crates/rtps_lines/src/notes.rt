@@ -6,15 +6,14 @@ ghost use Rattle.rtps_parts.specs.Parts.{part_text, words_value};
 ghost use Rattle.rtps_report.specs.ByTopic.{topics_of as topics_of_lem};
 ghost use Rattle.rtps_report.specs.BestEfforts.{best_effort_value};
 ghost use Rattle.rtps_report.specs.Talk.{talk_value};
-ghost use Rattle.rtps_lines.specs.Notes.{absent_note, absent_rows, alone_in, alone_note, back_by as back_by_lem, best_effort_note, best_effort_remedy as best_effort_remedy_lem, detail_of, held_note, host_note, is_silence, joined_names as joined_names_lem, late_by as late_by_lem, late_note, left_out_by as left_out_by_lem, left_out_notes, names_if as names_if_lem, note, noted_value, notes as notes_lem, notes_beside, number_words as number_words_lem, order_note, pair_words as pair_words_lem, remedy_of, share_text, shares_if as shares_if_lem, shares_text, side_notes, silence_words as silence_words_lem, silent_in, silent_note, tail_note, topic_name as topic_name_lem, unread_note, unread_there as unread_there_lem, unread_value, weaknesses as weaknesses_lem, words_of};
+ghost use Rattle.rtps_lines.specs.Notes.{back_by as back_by_lem, best_effort_note, best_effort_remedy as best_effort_remedy_lem, detail_of, host_note, is_silence, joined_names as joined_names_lem, late_by as late_by_lem, late_note, left_out_by as left_out_by_lem, left_out_notes, names_if as names_if_lem, note, noted_value, notes as notes_lem, number_words as number_words_lem, order_note, pair_words as pair_words_lem, remedy_of, share_text, shares_if as shares_if_lem, shares_text, silence_words as silence_words_lem, silent_in, silent_note, tail_note, topic_name as topic_name_lem, weaknesses as weaknesses_lem, words_of};
 
 use crate::fields::SecondsText;
+use crate::side_notes::push_beside;
 use rtps_evidence::{Explanation, Seconds};
 use rtps_parts::{Part, Words, push_rendered, render, words_for};
 use rtps_policies::Silence;
-use rtps_report::{
-    BestEffort, NoteFacts, SideFacts, Talk, absent_of, are_on_one_host, is_held, topics_of,
-};
+use rtps_report::{BestEffort, NoteFacts, SideFacts, Talk, are_on_one_host, topics_of};
 use std::alloc::{AllocError, Global};
 
 /// What weakens a report.
@@ -205,7 +204,11 @@ pub fn names_of(alloc: Global, rows: &[Explanation<'_>]) -> Result<String, Alloc
 }
 
 /// The same where topics are named; empty where they are not.
-fn names_if(alloc: Global, named: bool, rows: &[Explanation<'_>]) -> Result<String, AllocError>
+pub(crate) fn names_if(
+    alloc: Global,
+    named: bool,
+    rows: &[Explanation<'_>],
+) -> Result<String, AllocError>
     ensures { IfOk result (λ names. string_bytes names ≡ names_if_lem named (map explanation_value rows.now)) }
 {
     if named {
@@ -374,7 +377,11 @@ fn shares_of(alloc: Global, sums: &[BestEffort<'_>]) -> Result<String, AllocErro
 }
 
 /// The same where topics are named; empty where they are not.
-fn shares_if(alloc: Global, named: bool, sums: &[BestEffort<'_>]) -> Result<String, AllocError>
+pub(crate) fn shares_if(
+    alloc: Global,
+    named: bool,
+    sums: &[BestEffort<'_>],
+) -> Result<String, AllocError>
     ensures { IfOk result (λ shares. string_bytes shares ≡ shares_if_lem named (map best_effort_value sums.now)) }
 {
     if named {
@@ -508,192 +515,6 @@ fn push_tails(alloc: Global, notes: &mut Vec<String>, facts: &NoteFacts) -> Resu
     push_rendered(alloc, notes, &parts)
 }
 
-/// Appends how many numbers of all pairs of best effort arrived, and behind that the text on their topics.
-fn push_held(
-    alloc: Global,
-    notes: &mut Vec<String>,
-    total: &BestEffort<'_>,
-    shares: &str,
-) -> Result<(), AllocError>
-    ensures { OnOk result (map string_bytes notes.new.items ≡ map string_bytes notes.old.items ++ held_note (best_effort_value total.now) shares.now) }
-{
-    if total.pairs == 0 {
-        return Ok(());
-    }
-    let pairs = Words {
-        one: "best-effort pair has ",
-        many: "best-effort pairs have ",
-    };
-    let numbers = Words {
-        one: " number at the reader's host",
-        many: " numbers at the reader's host",
-    };
-    let parts = [
-        Part::Amount(u128::from(total.pairs), pairs),
-        Part::Share(total.recorded, total.numbers),
-        Part::Text(words_for(total.numbers, numbers)),
-        Part::Text(shares),
-    ];
-    push_rendered(alloc, notes, &parts)
-}
-
-/// Those of rows that are not held.
-fn alone_among<'a>(
-    alloc: Global,
-    rows: &[Explanation<'a>],
-) -> Result<Vec<Explanation<'a>>, AllocError>
-    ensures { IfOk result (λ alone. map explanation_value alone.items ≡ alone_in (map explanation_value rows.now)) }
-{
-    let mut alone = Vec::new(alloc);
-    for row in rows {
-        if !is_held(&row.evidence) {
-            alone.push(*row)?;
-        }
-    }
-    Ok(alone)
-}
-
-/// Those of rows of which numbers are received for certain though the other recording has none of them.
-fn absent_among<'a>(
-    alloc: Global,
-    rows: &[Explanation<'a>],
-) -> Result<Vec<Explanation<'a>>, AllocError>
-    ensures { IfOk result (λ absent. map explanation_value absent.items ≡ absent_rows (map explanation_value rows.now)) }
-{
-    let mut absent = Vec::new(alloc);
-    for row in rows {
-        if absent_of(&row.evidence) > 0 {
-            absent.push(*row)?;
-        }
-    }
-    Ok(absent)
-}
-
-/// Appends how many rows are not held, and behind that the names of their topics.
-fn push_alone<'t>(
-    alloc: Global,
-    notes: &mut Vec<String>,
-    told: (u64, &'t str),
-    arrow: &'t str,
-) -> Result<(), AllocError>
-    ensures { OnOk result (map string_bytes notes.new.items ≡ map string_bytes notes.old.items ++ alone_note arrow.now told.entry.0 told.entry.1.now) }
-{
-    let (alone, names) = told;
-    if alone == 0 {
-        return Ok(());
-    }
-    let pairs = Words {
-        one: "pair is judged by this recording alone",
-        many: "pairs are judged by this recording alone",
-    };
-    let parts = [
-        Part::Amount(u128::from(alone), pairs),
-        Part::Text(names),
-        Part::Text(arrow),
-        Part::Text(
-            "the recording at the reader's host has nothing of the reader to the writer: it was not made at that host",
-        ),
-    ];
-    push_rendered(alloc, notes, &parts)
-}
-
-/// Appends how many numbers are received for certain though the other recording has none of them, and behind that the names of their
-/// topics.
-fn push_absent<'t>(
-    alloc: Global,
-    notes: &mut Vec<String>,
-    told: (&SideFacts, &'t str),
-    arrow: &'t str,
-) -> Result<(), AllocError>
-    ensures { OnOk result (map string_bytes notes.new.items ≡ map string_bytes notes.old.items ++ absent_note arrow.now told.entry.0.now told.entry.1.now) }
-{
-    let (side, names) = told;
-    if side.absent_pairs == 0 {
-        return Ok(());
-    }
-    let numbers = Words {
-        one: "number is received for certain in",
-        many: "numbers are received for certain in",
-    };
-    let parts = [
-        Part::Amount(side.absent, numbers),
-        Part::Text(" "),
-        Part::Amount(u128::from(side.absent_pairs), pair_words()),
-        Part::Text(" and not in the recording at the reader's host"),
-        Part::Text(names),
-        Part::Text(arrow),
-        Part::Text(
-            "it lacks something: see that it ran all the time, and that tcpdump dropped nothing",
-        ),
-    ];
-    push_rendered(alloc, notes, &parts)
-}
-
-/// What of the other recording was not read: how much, the words for it, and what to do.
-#[derive(Clone, Copy)]
-struct Unread {
-    number: u64,
-    words: Words,
-    remedy: &'static str,
-}
-
-/// Frames of the other recording that gave no datagram.
-fn unread_there(side: &SideFacts) -> [Unread; 3]
-    ensures { map unread_value result ≡ unread_there_lem side.now }
-{
-    [
-        Unread {
-            number: side.pieces,
-            words: Weakness::Pieces.words(),
-            remedy: "the other parts were lost on the way: what such packets carry did not arrive",
-        },
-        Unread {
-            number: side.cut,
-            words: Weakness::Cut.words(),
-            remedy: "record whole frames, without a snap length (tcpdump -s), and end tcpdump with Ctrl-C: what is cut is told as not arrived",
-        },
-        Unread {
-            number: side.links.number,
-            words: Weakness::Links(side.links.first).words(),
-            remedy: "record on an Ethernet, loopback or raw IP interface, or with tcpdump -i any: what is not read is told as not arrived",
-        },
-    ]
-}
-
-fn push_unread(
-    alloc: Global,
-    notes: &mut Vec<String>,
-    unread: Unread,
-    arrow: &str,
-) -> Result<(), AllocError>
-    ensures { OnOk result (map string_bytes notes.new.items ≡ map string_bytes notes.old.items ++ unread_note arrow.now (unread_value unread)) }
-{
-    if unread.number == 0 {
-        return Ok(());
-    }
-    let parts = [
-        Part::Text("at the reader's host: "),
-        Part::Amount(u128::from(unread.number), unread.words),
-        Part::Text(arrow),
-        Part::Text(unread.remedy),
-    ];
-    push_rendered(alloc, notes, &parts)
-}
-
-fn push_all_unread(
-    alloc: Global,
-    notes: &mut Vec<String>,
-    side: &SideFacts,
-    arrow: &str,
-) -> Result<(), AllocError>
-    ensures { OnOk result (map string_bytes notes.new.items ≡ map string_bytes notes.old.items ++ flat_map (unread_note arrow.now) (unread_there_lem side.now)) }
-{
-    for unread in &unread_there(side) {
-        push_unread(alloc, notes, *unread, arrow)?;
-    }
-    Ok(())
-}
-
 /// Of what notes tell. Rows stand by topic.
 #[derive(Clone, Copy)]
 pub struct NotedRows<'r, 'a> {
@@ -709,43 +530,6 @@ pub struct NotedRows<'r, 'a> {
     pub side: Option<SideFacts>,
     /// Whether the topics are named.
     pub named: bool,
-}
-
-/// The names of the topics of rows that are not held, where topics are named.
-fn alone_names(alloc: Global, told: NotedRows<'_, '_>) -> Result<String, AllocError>
-    ensures { IfOk result (λ names. string_bytes names ≡ names_if_lem told.entry.named (alone_in (map explanation_value told.entry.rows.now))) }
-{
-    let alone = alone_among(alloc, told.rows)?;
-    names_if(alloc, told.named, &alone)
-}
-
-/// The names of the topics of rows of which numbers are received for certain though the other recording has none of them.
-fn absent_names(alloc: Global, told: NotedRows<'_, '_>) -> Result<String, AllocError>
-    ensures { IfOk result (λ names. string_bytes names ≡ names_if_lem told.entry.named (absent_rows (map explanation_value told.entry.rows.now))) }
-{
-    let absent = absent_among(alloc, told.rows)?;
-    names_if(alloc, told.named, &absent)
-}
-
-/// Appends what another recording shows.
-fn push_beside(
-    alloc: Global,
-    notes: &mut Vec<String>,
-    told: NotedRows<'_, '_>,
-    arrow: &str,
-) -> Result<(), AllocError>
-    ensures { OnOk result (map string_bytes notes.new.items ≡ map string_bytes notes.old.items ++ side_notes arrow.now (noted_value told.entry) told.entry.side) }
-{
-    let Some(side) = told.side else {
-        return Ok(());
-    };
-    let alone = alone_names(alloc, told)?;
-    let absent = absent_names(alloc, told)?;
-    let shares = shares_if(alloc, told.named, &told.talk.held_sums)?;
-    push_held(alloc, notes, &told.talk.held_total, &shares)?;
-    push_alone(alloc, notes, (side.alone, &alone), arrow)?;
-    push_absent(alloc, notes, (&side, &absent), arrow)?;
-    push_all_unread(alloc, notes, &side, arrow)
 }
 
 /// What weakens a report, and before what is to be done this arrow.

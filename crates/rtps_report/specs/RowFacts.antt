@@ -70,9 +70,9 @@ is_tail evidence = is_tail_by evidence.verdict evidence.in_span
 abbrev pub is_tail_alone : Silences → ℕ → EvidenceValue → Bool
 is_tail_alone silences tail evidence = not (is_clean tail evidence) && (is_tail evidence && are_heard silences)
 
--- it is clean with a tail
+-- it is clean with a tail, which has numbers: where all of them arrived, nothing is lacking
 abbrev pub is_clean_tail : ℕ → EvidenceValue → Bool
-is_clean_tail tail evidence = is_clean tail evidence && is_tail evidence
+is_clean_tail tail evidence = is_clean tail evidence && (is_tail evidence && nat_lt 0 (outcomes_of evidence).unconfirmed)
 
 -- someone has to look at it
 abbrev pub is_noted : Silences → ℕ → EvidenceValue → Bool

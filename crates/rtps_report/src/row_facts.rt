@@ -151,10 +151,11 @@ pub fn is_noted(tail: u64, evidence: &Evidence<'_>, silences: Silences) -> bool
     !is_clean(tail, evidence) && !is_tail_alone(tail, evidence, silences)
 }
 
+/// Whether a row is clean with a tail, which has numbers: where all of them arrived, nothing is lacking.
 pub(crate) fn is_clean_tail(tail: u64, evidence: &Evidence<'_>) -> bool
     ensures { result ≡ is_clean_tail_lem tail (evidence_value evidence.now) }
 {
-    is_clean(tail, evidence) && is_tail(evidence)
+    is_clean(tail, evidence) && is_tail(evidence) && outcomes_of(evidence).unconfirmed > 0
 }
 
 /// Whether all numbers that the writer of a complete row announced stand before it.

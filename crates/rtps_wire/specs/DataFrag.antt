@@ -1,5 +1,6 @@
 -- DATA_FRAG: consecutive fragments of a sample. DDSI-RTPS 2.5, 8.3.8.3 "DataFrag" and 9.4.5.5 "DataFrag Submessage".
--- own: if its body breaks a rule, it has no fault, but no fragments that can be used either. It is skipped then.
+-- own: if its body breaks a rule (8.3.8.3.3 "Validity" and those below), it has no fault, but no fragments that can be used either. It is
+-- skipped then.
 use Rattle.std.specs.Prelude.{ℕ, zero, suc, ℤ, ◌≡◌, ◌<◌, ◌≤◌, ◌+◌, ◌-◌, ◌*◌, ◌/◌, ◌==◌, ◌&&◌, bit_and, not, min, pos, int_lt, nat_le, Bool, List, [], ◌∷◌, length, take, drop, is_err, Option, Some, None, if◌then◌else◌}
 use Rattle.std.specs.Int.RustNames.{unsigned_abs}
 use Rattle.std.specs.Option.{option_map}
@@ -33,15 +34,17 @@ fragments_length shape first last = min shape.sample (last * shape.fragment) - (
 abbrev pub fragment_length : Shape → ℕ → ℕ
 fragment_length shape i = fragments_length shape i i
 
--- These octets begin with so many fragments of a sample of this shape, from the fragment `first` on. There is at least one.
+-- These octets begin with so many fragments of a sample of this shape, from the fragment `first` on. There is at least one, none is greater
+-- than the sample, and the octets are at most what so many whole fragments have (8.3.8.3.3).
 abbrev pub begins_with_fragments : Shape → ℕ → ℕ → List ℕ → Bool
 begins_with_fragments shape first count octets =
-    nat_le 1 shape.sample
-    && nat_le 1 shape.fragment
+    nat_le 1 shape.fragment
+    && nat_le shape.fragment shape.sample
     && nat_le 1 first
     && nat_le 1 count
     && nat_le (first + count - 1) (last_fragment shape)
     && nat_le (fragments_length shape first (first + count - 1)) (length octets)
+    && nat_le (length octets) (count * shape.fragment)
 
 -- ---- the fields of a body. extraFlags, octetsToInlineQos and the inline QoS are as in a DATA, and so are the flags Q and N
 

@@ -52,7 +52,8 @@ pub struct DataFrag<'a> {
 impl<'a> DataFrag<'a> {
     /// Reads the DATA_FRAG at the beginning of these octets: those of a datagram from the first octet of a submessage on.
     /// None if it is another submessage, if it has a fault, or if it has no fragments that can be used: fields are absent
-    /// or out of range, its sample does not have these fragments, or octets of them are absent.
+    /// or out of range, its sample does not have these fragments, octets of them are absent, or there are more than they may have
+    /// (DDSI-RTPS 2.5, 8.3.8.3.3 "Validity").
     #[tactic(auto, using(crate::proofs::FragmentFields::of_whole, crate::proofs::FragmentFields::none_of_other))]
     pub fn read(submessage: &'a [u8]) -> Option<DataFrag<'a>>
         ensures value { option_map data_frag_value result ≡ data_frag_at submessage.now }

@@ -1,4 +1,4 @@
-ghost use Rattle.std.specs.Prelude.{◌≡◌, ◌+◌, ◌-◌, false, length, take, true, MatchOption};
+ghost use Rattle.std.specs.Prelude.{◌≡◌, ◌+◌, ◌-◌, ◌*◌, ◌&&◌, nat_le, false, length, take, true, MatchOption};
 ghost use Rattle.std.specs.Option.{option_map};
 ghost use Rattle.rtps_wire.specs.DataFrag.{begins_with_fragments, data_frag_in, data_frag_value, fragments_length};
 
@@ -46,13 +46,21 @@ pub(crate) fn data_frag(order: Order, flags: u8, body: &[u8]) -> Option<DataFrag
     })
 }
 
-/// The fragments at the beginning of these octets, from the fragment `first` on. None if the sample does not have them, or
-/// if octets of them are absent.
+/// Whether a sample has room for a fragment, and so many fragments have room for these octets.
+fn have_room(shape: Shape, count: u16, octets: &[u8]) -> bool
+    ensures { result ≡ (nat_le shape.fragment shape.sample && nat_le (length octets.now) (count * shape.fragment)) }
+{
+    let most = u64::from(count) * u64::from(shape.fragment);
+    u32::from(shape.fragment) <= shape.sample && octets.len() as u64 <= most
+}
+
+/// The fragments at the beginning of these octets, from the fragment `first` on. None if the sample does not have them, if octets
+/// of them are absent, or if there are more octets than so many fragments may have.
 fn fragments(shape: Shape, first: u32, count: u16, octets: &[u8]) -> Option<&[u8]>
     ensures { MatchOption result (begins_with_fragments shape first count octets.now ≡ false)
         (λ found. (begins_with_fragments shape first count octets.now ≡ true) × (found.now ≡ take (fragments_length shape first (first + count - 1)) octets.now)) }
 {
-    if shape.sample == 0 || shape.fragment == 0 || first == 0 || count == 0 {
+    if shape.fragment == 0 || first == 0 || count == 0 || !have_room(shape, count, octets) {
         return None;
     }
     let before = u64::from(first) - 1;

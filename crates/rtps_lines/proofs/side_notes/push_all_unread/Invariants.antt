@@ -2,7 +2,7 @@ use Rattle.std.proofs.Common.{◌≡◌, ◌++◌, map, take}
 use Rattle.std.specs.List.{flat_map}
 use Rattle.std.specs.String.{string_bytes}
 use Rattle.rtps_lines.specs.Notes.{unread_note, unread_value}
-use Rattle.rtps_lines.proofs.notes.push_all_unread.Given as goal
+use Rattle.rtps_lines.proofs.side_notes.push_all_unread.Given as goal
 
 abbrev pub invariant-loop-unread : goal.invariant-loop-unread
 invariant-loop-unread l =

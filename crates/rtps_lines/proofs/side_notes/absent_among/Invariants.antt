@@ -1,7 +1,7 @@
 use Rattle.std.proofs.Common.{◌≡◌, map, take}
 use Rattle.rtps_evidence.specs.Explanation.{explanation_value}
 use Rattle.rtps_lines.specs.Notes.{absent_rows}
-use Rattle.rtps_lines.proofs.notes.absent_among.Given as goal
+use Rattle.rtps_lines.proofs.side_notes.absent_among.Given as goal
 
 -- those among the rows so far
 abbrev pub invariant-loop-row : goal.invariant-loop-row

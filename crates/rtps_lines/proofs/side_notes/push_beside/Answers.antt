@@ -6,7 +6,7 @@ use Rattle.rtps_evidence.specs.Explanation.{explanation_value}
 use Rattle.rtps_report.specs.BestEfforts.{best_effort_value}
 use Rattle.rtps_lines.specs.Notes.{absent_note, absent_rows, alone_in, alone_note, held_note, names_if, noted_value, shares_if, side_notes, unread_note, unread_there}
 use Rattle.rtps_lines.proofs.NoteLemmas.{behind}
-use Rattle.rtps_lines.proofs.notes.push_beside.Goals as goal
+use Rattle.rtps_lines.proofs.side_notes.push_beside.Goals as goal
 
 pub returns : goal.returns
 returns c =

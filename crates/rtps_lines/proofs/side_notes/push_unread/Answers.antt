@@ -4,7 +4,7 @@ use Rattle.std.specs.List.{concat}
 use Rattle.std.specs.String.{string_bytes}
 use Rattle.rtps_parts.specs.Parts.{amount, words_value}
 use Rattle.rtps_lines.proofs.NoteLemmas.{some_note}
-use Rattle.rtps_lines.proofs.notes.push_unread.Goals as goal
+use Rattle.rtps_lines.proofs.side_notes.push_unread.Goals as goal
 
 pub returns : goal.returns
 returns c =

@@ -3,9 +3,9 @@ use Rattle.std.specs.Result.{IfOk}
 use Rattle.std.specs.String.{string_bytes}
 use Rattle.rtps_report.specs.Vocabulary.{ExplanationValue, explanation_value}
 use Rattle.rtps_lines.specs.Notes.{names_if}
-use Rattle.rtps_lines.proofs.notes.absent_names.Goals as goal
+use Rattle.rtps_lines.proofs.side_notes.alone_names.Goals as goal
 
 pub returns : goal.returns
 returns c =
     subst (λ (rows : List ExplanationValue). IfOk c.names_if.result (λ names. string_bytes names ≡ names_if c.args.told.named rows))
-    (ap (map explanation_value) c.deref.ensures.value ∙ c.in_ok-absent.ensures) c.names_if.ensures
+    (ap (map explanation_value) c.deref.ensures.value ∙ c.in_ok-alone.ensures) c.names_if.ensures
