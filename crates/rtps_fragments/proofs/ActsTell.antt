@@ -1,13 +1,13 @@
 -- Of any writer and reader, a recording with pieces and its acts with the samples among them tell alike.
 use Rattle.std.proofs.Common.{◌≡◌, ℕ, zero, suc, ◌+◌, ◌-◌, ◌<◌, ◌≤◌, max, Bool, true, false, cond, List, [], ◌∷◌, ◌++◌, length, map, Option, Some, None, slice_get, take, refl, sym, ◌∙◌, ap, subst, arith, inl, inr, ◌⊎◌, append_assoc, append-nil}
-use Rattle.std.specs.Prelude.{Contains}
+use Rattle.std.specs.Prelude.{Contains, unwrap_or}
 use Rattle.std.specs.List.{cons_option, filter_map, flat_map}
 use Rattle.std.proofs.lemmas.Bool.{cases_lt}
 use Rattle.std.proofs.lemmas.List.{length-map}
-use Rattle.std.proofs.lemmas.List.Elements.{Contains-append_left, Contains-append_cases}
+use Rattle.std.proofs.lemmas.List.Elements.{Contains-append_left, Contains-append_right, Contains-append_cases}
 use Rattle.rtps_ids.specs.declared.identity.Guid.{Guid}
 use Rattle.rtps_wire.specs.Values.{PayloadValue}
-use Rattle.rtps_receiver.specs.Speech.{entity_from, writer_named}
+use Rattle.rtps_receiver.specs.Speech.{entity_from, reader_named, unknown_entity, writer_named}
 use Rattle.rtps_receiver.specs.Values.{ActBodyValue, ActValue}
 use Rattle.rtps_receiver.specs.Values.ActBodyValue.{Data, Heartbeat, AckNack, Gap, DataFrag, NackFrag}
 use Rattle.rtps_audit.specs.Delivery.{Claims, Datagram, Gives, IsAsked, Word, greatest, last_announced_from}
@@ -15,18 +15,19 @@ use Rattle.rtps_audit.specs.Delivery.Word.{Told}
 use Rattle.rtps_audit.specs.Said.{datagrams_until}
 use Rattle.rtps_audit.specs.Speech.{announced_for, announced_of_body, base_for, said_by, word_for, speech_by}
 use Rattle.rtps_audit.proofs.Offered.{below_greatest, contains_cases, contains_head, contains_mapped, contains_none, contains_tail, get_mapped, greatest_below, if_some, made_from, makes, mapped_contains, mapped_get}
-use Rattle.rtps_fragments.specs.FragmentDelivery.{Fragment, FragmentDatagram, IsPutTogether, Piece, Shape, fragments_from, fragments_of, last_fragment, said_in}
+use Rattle.rtps_fragments.specs.FragmentDelivery.{Fragment, FragmentDatagram, IsPutTogether, Piece, Shape, fragments_from, fragments_of, last_fragment, payload_by, said_in}
 use Rattle.rtps_fragments.specs.FragmentVerdict.{IsSaidBefore, IsSentBefore}
-use Rattle.rtps_fragments.specs.Laws.{ActsStayWithoutPieces, ActsTellAlike, ArePieceActs, FirstDatagramsTellAlike, FirstDatagramsTellTheSame, HasFragmentsWithin, HasNoPieces, IsPieceAct, TellsAlike}
-use Rattle.rtps_fragments.specs.Samples.{payloads_of}
+use Rattle.rtps_fragments.specs.Laws.{ActsStayWithoutPieces, ActsTellAlike, ArePieceActs, FirstDatagramsTellAlike, FirstDatagramsTellTheSame, HasFragmentsWithin, IsPieceAct, TellsAlike}
+use Rattle.rtps_fragments.specs.Samples.{came_of, payloads_of, samples_of}
 use Rattle.rtps_fragments.specs.Sending.{piece_acts_of, sending_of}
-use Rattle.rtps_fragments.specs.SampleActs.{PieceAct, acts_and_samples, datagrams_and_samples, fragment_speech_of, fragments_in, piece_acts_in, piece_for, samples_told}
+use Rattle.rtps_fragments.specs.SampleActs.{PieceAct, acts_and_samples, acts_with_samples, datagrams_and_samples, fragment_speech_of, fragments_in, offers_of, piece_acts_in, piece_for, samples_told}
+use Rattle.rtps_fragments.proofs.ActsAnd.{all_stay, length-acts, take_acts}
 use Rattle.rtps_fragments.proofs.AlikeBySamples.{IsGivenBefore, IsHadBefore, put_together, samples_alike}
 use Rattle.rtps_fragments.proofs.Audiences.{flat_from, flat_has}
 use Rattle.rtps_fragments.proofs.FragmentsBefore.{fragments_before, place_of, sent_by, there_at}
 use Rattle.rtps_fragments.proofs.HeardLemmas.{heard-append, heard-cons, heard_has, heard_of, heard_one}
-use Rattle.rtps_fragments.proofs.SampleActLemmas.{IsSampleOf, NamesItsWriter, TellsReader, act_or_sample, act_there, hears, put_or_sample, sample_is_put, sample_spoken}
-use Rattle.rtps_fragments.proofs.SamplesTell.{none_put}
+use Rattle.rtps_fragments.proofs.HearingLemmas.{reader_told, silence_told}
+use Rattle.rtps_fragments.proofs.SampleActLemmas.{IsAllTold, IsSampleOf, NamesAll, TellsReader, act_or_sample, act_there, heard_is, hears_part, parts_told, sample_is_put, sample_spoken}
 use Rattle.rtps_fragments.proofs.ToldLemmas.{IsPut}
 
 -- ---- the parts before a place
@@ -51,73 +52,95 @@ in_all recording datagram part there among = flat_has (λ (d : List PieceAct). d
 
 -- ---- the datagrams with their samples
 
-samples_at : (all before : List PieceAct) (recording : List (List PieceAct)) (i : ℕ) (datagram : List PieceAct) → slice_get recording i ≡ Some datagram
-    → slice_get (datagrams_and_samples all before recording) i ≡ Some (acts_and_samples all (before ++ parts_before recording i) datagram)
-samples_at all before [] i datagram at = cc
-samples_at all before (first ∷ recording) zero datagram at =
+samples_at : (before : List PieceAct) (recording : List (List PieceAct)) (i : ℕ) (datagram : List PieceAct) → slice_get recording i ≡ Some datagram
+    → slice_get (datagrams_and_samples before recording) i ≡ Some (acts_and_samples (before ++ parts_before recording i) datagram)
+samples_at before [] i datagram at = cc
+samples_at before (first ∷ recording) zero datagram at =
     let same : first ≡ datagram = (let h = at in cc) in
-    ap (λ d. Some (acts_and_samples all before d)) same ∙ ap (λ ps. Some (acts_and_samples all ps datagram)) (sym (append-nil before))
-samples_at all before (first ∷ recording) (suc i) datagram at =
-    samples_at all (before ++ first) recording i datagram at ∙ ap (λ ps. Some (acts_and_samples all ps datagram)) (append_assoc before first (parts_before recording i))
+    ap (λ d. Some (acts_and_samples before d)) same ∙ ap (λ ps. Some (acts_and_samples ps datagram)) (sym (append-nil before))
+samples_at before (first ∷ recording) (suc i) datagram at =
+    samples_at (before ++ first) recording i datagram at ∙ ap (λ ps. Some (acts_and_samples ps datagram)) (append_assoc before first (parts_before recording i))
 
-samples_from : (all before : List PieceAct) (recording : List (List PieceAct)) (i : ℕ) (acts : List ActValue) → slice_get (datagrams_and_samples all before recording) i ≡ Some acts
-    → (datagram : List PieceAct) × (slice_get recording i ≡ Some datagram) × (acts_and_samples all (before ++ parts_before recording i) datagram ≡ acts)
-samples_from all before [] i acts at = cc
-samples_from all before (first ∷ recording) zero acts at =
-    let same : acts_and_samples all before first ≡ acts = (let h = at in cc) in
-    (first, refl, ap (λ ps. acts_and_samples all ps first) (append-nil before) ∙ same)
-samples_from all before (first ∷ recording) (suc i) acts at =
-    let (datagram, stands, is) = samples_from all (before ++ first) recording i acts at in
-    (datagram, stands, ap (λ ps. acts_and_samples all ps datagram) (sym (append_assoc before first (parts_before recording i))) ∙ is)
-
-samples_length : (all before : List PieceAct) (recording : List (List PieceAct)) → length (datagrams_and_samples all before recording) ≡ length recording
-samples_length all before [] = refl
-samples_length all before (first ∷ recording) = ap suc (samples_length all (before ++ first) recording)
+samples_from : (before : List PieceAct) (recording : List (List PieceAct)) (i : ℕ) (acts : List ActValue) → slice_get (datagrams_and_samples before recording) i ≡ Some acts
+    → (datagram : List PieceAct) × (slice_get recording i ≡ Some datagram) × (acts_and_samples (before ++ parts_before recording i) datagram ≡ acts)
+samples_from before [] i acts at = cc
+samples_from before (first ∷ recording) zero acts at =
+    let same : acts_and_samples before first ≡ acts = (let h = at in cc) in
+    (first, refl, ap (λ ps. acts_and_samples ps first) (append-nil before) ∙ same)
+samples_from before (first ∷ recording) (suc i) acts at =
+    let (datagram, stands, is) = samples_from (before ++ first) recording i acts at in
+    (datagram, stands, ap (λ ps. acts_and_samples ps datagram) (sym (append_assoc before first (parts_before recording i))) ∙ is)
 
 -- ---- what the reader hears
 
-datagram_heard : (writer reader : Guid) (datagram : List PieceAct) → flat_map fragments_of (filter_map (piece_for writer reader) datagram) ≡ heard_of (hears writer reader) datagram
+datagram_heard : (writer reader : Guid) (datagram : List PieceAct) → flat_map fragments_of (filter_map (piece_for writer reader) datagram) ≡ heard_of (hears_part writer reader) datagram
 datagram_heard writer reader [] = refl
 datagram_heard writer reader (part ∷ parts) =
-    by (hears writer reader part) part.piece
-    ∙ ap (λ fs. heard_one (hears writer reader part) part.piece ++ fs) (datagram_heard writer reader parts)
-    ∙ sym (heard-cons (hears writer reader) part parts)
+    by (hears_part writer reader part) part.piece
+    ∙ ap (λ fs. heard_one (hears_part writer reader part) part.piece ++ fs) (datagram_heard writer reader parts)
+    ∙ sym (heard-cons (hears_part writer reader) part parts)
   where
     by : (b : Bool) (o : Option Piece) → flat_map fragments_of (cons_option (cond b o None) (filter_map (piece_for writer reader) parts)) ≡ heard_one b o ++ flat_map fragments_of (filter_map (piece_for writer reader) parts)
     by true (Some piece) = refl
     by true None = refl
     by false o = refl
 
-fragments_are : (writer reader : Guid) (recording : List (List PieceAct)) (i : ℕ) → fragments_before (fragment_speech_of writer reader recording) i ≡ heard_of (hears writer reader) (parts_before recording i)
+fragments_are : (writer reader : Guid) (recording : List (List PieceAct)) (i : ℕ) → fragments_before (fragment_speech_of writer reader recording) i ≡ heard_of (hears_part writer reader) (parts_before recording i)
 fragments_are writer reader [] i = refl
 fragments_are writer reader (first ∷ recording) zero = refl
 fragments_are writer reader (first ∷ recording) (suc i) =
     ap (λ fs. fs ++ fragments_before (fragment_speech_of writer reader recording) i) (datagram_heard writer reader first)
-    ∙ ap (λ fs. heard_of (hears writer reader) first ++ fs) (fragments_are writer reader recording i)
-    ∙ sym (heard-append (hears writer reader) first (parts_before recording i))
+    ∙ ap (λ fs. heard_of (hears_part writer reader) first ++ fs) (fragments_are writer reader recording i)
+    ∙ sym (heard-append (hears_part writer reader) first (parts_before recording i))
+
+-- a datagram before the place tells the reader the payload
+abbrev IsToldAt : Guid → Guid → List PieceAct → List (List PieceAct) → ℕ → ℕ → PayloadValue → Type 0
+IsToldAt writer reader before recording j n payload =
+    (i : ℕ) × (datagram : List PieceAct) × (i < j) × (slice_get recording i ≡ Some datagram) × TellsReader writer reader (acts_and_samples (before ++ parts_before recording i) datagram) n payload
+
+datagrams_told : (writer reader : Guid) (n : ℕ) (shape : Shape) (before : List PieceAct) (recording : List (List PieceAct)) → NamesAll (piece_acts_in recording) → (j : ℕ) (So : List ℕ → Type 0) → IsAllTold writer reader n shape before So
+    → IsAllTold writer reader n shape (before ++ parts_before recording j) (λ octets. So octets ⊎ IsToldAt writer reader before recording j n (payload_by shape octets))
+datagrams_told writer reader n shape before [] named j So told =
+    subst (λ ps. IsAllTold writer reader n shape ps (λ octets. So octets ⊎ IsToldAt writer reader before [] j n (payload_by shape octets))) (sym (append-nil before)) (λ audience among has octets there. inl (told audience among has octets there))
+datagrams_told writer reader n shape before (first ∷ recording) named zero So told =
+    subst (λ ps. IsAllTold writer reader n shape ps (λ octets. So octets ⊎ IsToldAt writer reader before (first ∷ recording) zero n (payload_by shape octets))) (sym (append-nil before)) (λ audience among has octets there. inl (told audience among has octets there))
+datagrams_told writer reader n shape before (first ∷ recording) named (suc j) So told =
+    let Here : List ℕ → Type 0 = λ octets. So octets ⊎ TellsReader writer reader (acts_and_samples before first) n (payload_by shape octets) in
+    let one = parts_told writer reader n shape before first (λ part piece among is. named part piece (Contains-append_left first (piece_acts_in recording) part among) is) So told in
+    let rest = datagrams_told writer reader n shape (before ++ first) recording (λ part piece among is. named part piece (Contains-append_right first (piece_acts_in recording) part among) is) j Here one in
+    subst (λ ps. IsAllTold writer reader n shape ps (λ octets. So octets ⊎ IsToldAt writer reader before (first ∷ recording) (suc j) n (payload_by shape octets))) (append_assoc before first (parts_before recording j))
+    (λ audience among has octets there. join octets (rest audience among has octets there))
+  where
+    join : (octets : List ℕ) → (So octets ⊎ TellsReader writer reader (acts_and_samples before first) n (payload_by shape octets)) ⊎ IsToldAt writer reader (before ++ first) recording j n (payload_by shape octets)
+        → So octets ⊎ IsToldAt writer reader before (first ∷ recording) (suc j) n (payload_by shape octets)
+    join octets (inl (inl so)) = inl so
+    join octets (inl (inr tells)) = inr (0, first, omega arith, refl, subst (λ ps. TellsReader writer reader (acts_and_samples ps first) n (payload_by shape octets)) (sym (append-nil before)) tells)
+    join octets (inr (i, datagram, lt, at, tells)) =
+        inr (suc i, datagram, omega arith, at, subst (λ ps. TellsReader writer reader (acts_and_samples ps datagram) n (payload_by shape octets)) (append_assoc before first (parts_before recording i)) tells)
+
+before_all : (recording : List (List PieceAct)) (j : ℕ) (part : PieceAct) → Contains (parts_before recording j) part → Contains (piece_acts_in recording) part
+before_all [] j part among = absurd (contains_none part among)
+before_all (first ∷ recording) zero part among = absurd (contains_none part among)
+before_all (first ∷ recording) (suc j) part among = elim (Contains-append_cases first (parts_before recording j) part among) [
+  | inl here ↦ Contains-append_left first (piece_acts_in recording) part here
+  | inr there ↦ Contains-append_right first (piece_acts_in recording) part (before_all recording j part there)
+]
 
 -- what can be put together before a place is told by a datagram before it
-put_at : (writer reader : Guid) (all : List PieceAct) → ((part : PieceAct) (piece : Piece) → Contains all part → part.piece ≡ Some piece → NamesItsWriter part.act) → (n : ℕ) (shape : Shape) (payload : PayloadValue) (before : List PieceAct)
-    (recording : List (List PieceAct)) (j : ℕ) → ((part : PieceAct) → Contains (before ++ piece_acts_in recording) part → Contains all part)
-    → Contains (payloads_of n shape (heard_of (hears writer reader) (before ++ parts_before recording j))) payload
-    → Contains (payloads_of n shape (heard_of (hears writer reader) before)) payload
-    ⊎ ((i : ℕ) × (datagram : List PieceAct) × (i < j) × (slice_get recording i ≡ Some datagram) × TellsReader writer reader (acts_and_samples all (before ++ parts_before recording i) datagram) n payload)
-put_at writer reader all named n shape payload before [] j known among = inl (subst (λ ps. Contains (payloads_of n shape (heard_of (hears writer reader) ps)) payload) (append-nil before) among)
-put_at writer reader all named n shape payload before (first ∷ recording) zero known among =
-    inl (subst (λ ps. Contains (payloads_of n shape (heard_of (hears writer reader) ps)) payload) (append-nil before) among)
-put_at writer reader all named n shape payload before (first ∷ recording) (suc j) known among =
-    let assoc = append_assoc before first (piece_acts_in recording) in
-    let moved = subst (λ ps. Contains (payloads_of n shape (heard_of (hears writer reader) ps)) payload) (sym (append_assoc before first (parts_before recording j))) among in
-    let more = λ (part : PieceAct) (there : Contains ((before ++ first) ++ piece_acts_in recording) part). known part (subst (λ ps. Contains ps part) assoc there) in
-    elim (put_at writer reader all named n shape payload (before ++ first) recording j more moved) [
-      | inl earlier ↦
-          elim (put_or_sample writer reader all named n shape payload before first (λ part there. more part (Contains-append_left (before ++ first) (piece_acts_in recording) part there)) earlier) [
-            | inl old ↦ inl old
-            | inr tells ↦ inr (0, first, omega arith, refl, subst (λ ps. TellsReader writer reader (acts_and_samples all ps first) n payload) (sym (append-nil before)) tells)
-          ]
-      | inr (i, datagram, lt, at, tells) ↦
-          inr (suc i, datagram, omega arith, at, subst (λ ps. TellsReader writer reader (acts_and_samples all ps datagram) n payload) (append_assoc before first (parts_before recording i)) tells)
-    ]
+put_at : (writer reader : Guid) (n : ℕ) (shape : Shape) (payload : PayloadValue) (recording : List (List PieceAct)) (j : ℕ) → NamesAll (piece_acts_in recording)
+    → Contains (payloads_of n shape (heard_of (hears_part writer reader) (parts_before recording j))) payload → IsToldAt writer reader [] recording j n payload
+put_at writer reader n shape payload recording j named among =
+    let last = last_fragment shape in
+    let before = parts_before recording j in
+    let (octets, made, is) = contains_mapped (payload_by shape) (samples_of last (filter_map (came_of n shape) (heard_of (hears_part writer reader) before))) payload among in
+    let heard = subst (λ cs. Contains (samples_of last cs) octets) (heard_is writer reader n shape before (λ part piece there e. named part piece (before_all recording j part there) e)) made in
+    let Nothing : List ℕ → Type 0 = λ o. ⊥ in
+    let So : List ℕ → Type 0 = λ o. Nothing o ⊎ IsToldAt writer reader [] recording j n (payload_by shape o) in
+    let told = datagrams_told writer reader n shape [] recording named j Nothing (silence_told last reader Nothing) in
+    subst (IsToldAt writer reader [] recording j n) is (elim (reader_told last reader (offers_of writer n shape before) So told octets heard) [
+      | inl none ↦ absurd none
+      | inr at ↦ at
+    ])
 
 -- ---- parts
 
@@ -128,6 +151,14 @@ announcer_named (Heartbeat value) n e = refl
 announcer_named (Gap value) n e = refl
 announcer_named (AckNack value) n e = cc
 announcer_named (NackFrag value) n e = cc
+
+pub reader_announced : (body : ActBodyValue) (n : ℕ) → announced_of_body body ≡ Some n → reader_named body ≡ Some (unwrap_or (reader_named body) unknown_entity)
+reader_announced (Data value) n e = refl
+reader_announced (DataFrag value) n e = refl
+reader_announced (Heartbeat value) n e = refl
+reader_announced (Gap value) n e = refl
+reader_announced (AckNack value) n e = cc
+reader_announced (NackFrag value) n e = cc
 
 pub fragment_bounds : (n : ℕ) (shape : Shape) (i : ℕ) (parts : List (List ℕ)) (f : Fragment) → Contains (fragments_from n shape i parts) f → (i ≤ f.index) × (f.index < i + length parts) × (f.shape ≡ shape)
 fragment_bounds n shape i [] f among = absurd (contains_none f among)
@@ -154,15 +185,15 @@ no_base true base e = cc
 no_base false base e = cc
 
 -- what these acts announce, their samples announce, and no other number
-announced_alike : (writer : Guid) (all before datagram : List PieceAct) → ((part : PieceAct) (piece : Piece) → Contains datagram part → part.piece ≡ Some piece → IsPieceAct part piece)
-    → greatest (filter_map (announced_for writer) (map (λ (part : PieceAct). part.act) datagram)) ≡ greatest (filter_map (announced_for writer) (acts_and_samples all before datagram))
-announced_alike writer all before datagram parts = same_greatest _ _ to from
+announced_alike : (writer : Guid) (before datagram : List PieceAct) → ((part : PieceAct) (piece : Piece) → Contains datagram part → part.piece ≡ Some piece → IsPieceAct part piece)
+    → greatest (filter_map (announced_for writer) (map (λ (part : PieceAct). part.act) datagram)) ≡ greatest (filter_map (announced_for writer) (acts_and_samples before datagram))
+announced_alike writer before datagram parts = same_greatest _ _ to from
   where
-    to : (x : ℕ) → Contains (filter_map (announced_for writer) (map (λ (part : PieceAct). part.act) datagram)) x → Contains (filter_map (announced_for writer) (acts_and_samples all before datagram)) x
+    to : (x : ℕ) → Contains (filter_map (announced_for writer) (map (λ (part : PieceAct). part.act) datagram)) x → Contains (filter_map (announced_for writer) (acts_and_samples before datagram)) x
     to x among =
         let (act, there, is) = made_from (announced_for writer) (map (λ (part : PieceAct). part.act) datagram) x among in
         let (part, has, same) = contains_mapped (λ (p : PieceAct). p.act) datagram act there in
-        makes (announced_for writer) (acts_and_samples all before datagram) part.act x (act_there all before datagram part has) (ap (announced_for writer) same ∙ is)
+        makes (announced_for writer) (acts_and_samples before datagram) part.act x (act_there before datagram part has) (ap (announced_for writer) same ∙ is)
 
     of_part : (part : PieceAct) (x : ℕ) → Contains datagram part → announced_for writer part.act ≡ Some x → Contains (filter_map (announced_for writer) (map (λ (p : PieceAct). p.act) datagram)) x
     of_part part x has is = makes (announced_for writer) (map (λ (p : PieceAct). p.act) datagram) part.act x (mapped_contains (λ (p : PieceAct). p.act) datagram part has) is
@@ -172,34 +203,34 @@ announced_alike writer all before datagram parts = same_greatest _ _ to from
         let part = parts sample.part sample.piece sample.among sample.has in
         let named = announcer_named sample.part.act.body sample.piece.number part.announces in
         let (spoken, number) = if_some _ (Some sample.piece.number) x (subst (λ (a : ActValue). announced_for writer a ≡ Some x) (sym sample.is) is) in
-        let speaks = sym (sample_spoken sample.part.act sample.piece.number sample.audience sample.payload writer named) ∙ spoken in
+        let speaks = sym (sample_spoken sample.part.act sample.piece.number sample.audience (payload_by sample.piece.shape sample.octets) writer named) ∙ spoken in
         of_part sample.part x sample.among (ap (λ b. cond b (announced_of_body sample.part.act.body) None) speaks ∙ part.announces ∙ number)
 
-    from : (x : ℕ) → Contains (filter_map (announced_for writer) (acts_and_samples all before datagram)) x → Contains (filter_map (announced_for writer) (map (λ (part : PieceAct). part.act) datagram)) x
+    from : (x : ℕ) → Contains (filter_map (announced_for writer) (acts_and_samples before datagram)) x → Contains (filter_map (announced_for writer) (map (λ (part : PieceAct). part.act) datagram)) x
     from x among =
-        let (act, there, is) = made_from (announced_for writer) (acts_and_samples all before datagram) x among in
-        elim (act_or_sample all before datagram act there) [
+        let (act, there, is) = made_from (announced_for writer) (acts_and_samples before datagram) x among in
+        elim (act_or_sample before datagram act there) [
           | inl (part, has, same) ↦ of_part part x has (ap (announced_for writer) same ∙ is)
           | inr sample ↦ of_sample act x sample is
         ]
 
-last_alike : (from : ℕ) (writer reader : Guid) (all before : List PieceAct) (recording : List (List PieceAct)) → ArePieceActs recording
-    → last_announced_from from (said_in (fragment_speech_of writer reader recording)) ≡ last_announced_from from (speech_by writer reader (datagrams_and_samples all before recording))
-last_alike from writer reader all before [] parts = refl
-last_alike from writer reader all before (first ∷ recording) parts =
-    ap (λ n. max n (last_announced_from from (said_in (fragment_speech_of writer reader recording)))) (announced_alike writer all before first (λ part piece among is. parts first part piece (contains_head first recording) among is))
-    ∙ ap (max (greatest (filter_map (announced_for writer) (acts_and_samples all before first))))
-    (last_alike from writer reader all (before ++ first) recording (λ datagram part piece there among is. parts datagram part piece (contains_tail first recording datagram there) among is))
+last_alike : (from : ℕ) (writer reader : Guid) (before : List PieceAct) (recording : List (List PieceAct)) → ArePieceActs recording
+    → last_announced_from from (said_in (fragment_speech_of writer reader recording)) ≡ last_announced_from from (speech_by writer reader (datagrams_and_samples before recording))
+last_alike from writer reader before [] parts = refl
+last_alike from writer reader before (first ∷ recording) parts =
+    ap (λ n. max n (last_announced_from from (said_in (fragment_speech_of writer reader recording)))) (announced_alike writer before first (λ part piece among is. parts first part piece (contains_head first recording) among is))
+    ∙ ap (max (greatest (filter_map (announced_for writer) (acts_and_samples before first))))
+    (last_alike from writer reader (before ++ first) recording (λ datagram part piece there among is. parts datagram part piece (contains_tail first recording datagram there) among is))
 
 -- ---- all that is told
 
-names_all : (recording : List (List PieceAct)) → ArePieceActs recording → (part : PieceAct) (piece : Piece) → Contains (piece_acts_in recording) part → part.piece ≡ Some piece → NamesItsWriter part.act
+pub names_all : (recording : List (List PieceAct)) → ArePieceActs recording → NamesAll (piece_acts_in recording)
 names_all recording parts part piece among is =
     let (datagram, there, has) = flat_from (λ (d : List PieceAct). d) recording part among in
-    announcer_named part.act.body piece.number (parts datagram part piece there has is).announces
+    let announces = (parts datagram part piece there has is).announces in
+    (announcer_named part.act.body piece.number announces, reader_announced part.act.body piece.number announces)
 
--- of a recording that is a part of all that is sent
-module _ (from : ℕ) (writer reader : Guid) (all : List PieceAct) (named : (part : PieceAct) (piece : Piece) → Contains all part → part.piece ≡ Some piece → NamesItsWriter part.act) (recording : List (List PieceAct)) (parts : ArePieceActs recording) (known : (part : PieceAct) → Contains (piece_acts_in recording) part → Contains all part) where
+module _ (from : ℕ) (writer reader : Guid) (recording : List (List PieceAct)) (parts : ArePieceActs recording) where
   said_at : (i : ℕ) (datagram : List PieceAct) → slice_get recording i ≡ Some datagram → slice_get (said_in (fragment_speech_of writer reader recording)) i ≡ Some (said_by writer reader (map (λ (p : PieceAct). p.act) datagram))
   said_at i datagram at =
       get_mapped (λ (d : FragmentDatagram). d.said) (fragment_speech_of writer reader recording) i _
@@ -213,53 +244,52 @@ module _ (from : ℕ) (writer reader : Guid) (all : List PieceAct) (named : (par
       (own, there, ap (λ (d : FragmentDatagram). d.said) made ∙ is)
 
   told_at : (i : ℕ) (datagram : List PieceAct) → slice_get recording i ≡ Some datagram
-      → slice_get (speech_by writer reader (datagrams_and_samples all [] recording)) i ≡ Some (said_by writer reader (acts_and_samples all (parts_before recording i) datagram))
+      → slice_get (speech_by writer reader (datagrams_and_samples [] recording)) i ≡ Some (said_by writer reader (acts_and_samples (parts_before recording i) datagram))
   told_at i datagram at =
-      get_mapped (said_by writer reader) (datagrams_and_samples all [] recording) i (acts_and_samples all (parts_before recording i) datagram) (samples_at all [] recording i datagram at)
+      get_mapped (said_by writer reader) (datagrams_and_samples [] recording) i (acts_and_samples (parts_before recording i) datagram) (samples_at [] recording i datagram at)
 
-  told_from : (i : ℕ) (datagram : Datagram) → slice_get (speech_by writer reader (datagrams_and_samples all [] recording)) i ≡ Some datagram
-      → (own : List PieceAct) × (slice_get recording i ≡ Some own) × (said_by writer reader (acts_and_samples all (parts_before recording i) own) ≡ datagram)
+  told_from : (i : ℕ) (datagram : Datagram) → slice_get (speech_by writer reader (datagrams_and_samples [] recording)) i ≡ Some datagram
+      → (own : List PieceAct) × (slice_get recording i ≡ Some own) × (said_by writer reader (acts_and_samples (parts_before recording i) own) ≡ datagram)
   told_from i datagram at =
-      let (acts, stands, is) = mapped_get (said_by writer reader) (datagrams_and_samples all [] recording) i datagram at in
-      let (own, there, made) = samples_from all [] recording i acts stands in
+      let (acts, stands, is) = mapped_get (said_by writer reader) (datagrams_and_samples [] recording) i datagram at in
+      let (own, there, made) = samples_from [] recording i acts stands in
       (own, there, ap (said_by writer reader) made ∙ is)
 
   -- an act with a word gives it
-  act_gives : (i n : ℕ) (word : Word) (datagram : List PieceAct) (act : ActValue) → slice_get recording i ≡ Some datagram → Contains (acts_and_samples all (parts_before recording i) datagram) act
-      → word_for writer reader act n ≡ Some word → IsAsked from n → (k : ℕ) × Gives from (speech_by writer reader (datagrams_and_samples all [] recording)) i k n word
+  act_gives : (i n : ℕ) (word : Word) (datagram : List PieceAct) (act : ActValue) → slice_get recording i ≡ Some datagram → Contains (acts_and_samples (parts_before recording i) datagram) act
+      → word_for writer reader act n ≡ Some word → IsAsked from n → (k : ℕ) × Gives from (speech_by writer reader (datagrams_and_samples [] recording)) i k n word
   act_gives i n word datagram act at among says asked =
-      let acts = acts_and_samples all (parts_before recording i) datagram in
+      let acts = acts_and_samples (parts_before recording i) datagram in
       let (k, stands) = place_of acts act among in
       (k, record { datagram = said_by writer reader acts; act = word_for writer reader act; stands = told_at i datagram at; speaks = get_mapped (word_for writer reader) acts k act stands; asked = asked; says = says })
 
-  said_is_given : (j n : ℕ) (word : Word) → IsSaidBefore from (fragment_speech_of writer reader recording) j n word → IsGivenBefore from (speech_by writer reader (datagrams_and_samples all [] recording)) j n word
+  said_is_given : (j n : ℕ) (word : Word) → IsSaidBefore from (fragment_speech_of writer reader recording) j n word → IsGivenBefore from (speech_by writer reader (datagrams_and_samples [] recording)) j n word
   said_is_given j n word said =
       let gives = said.gives in
       let (own, at, is) = said_from said.place gives.datagram gives.stands in
       let speaks = subst (λ (d : Datagram). slice_get d.acts said.act ≡ Some gives.act) (sym is) gives.speaks in
       let (act, stands, made) = mapped_get (word_for writer reader) (map (λ (p : PieceAct). p.act) own) said.act gives.act speaks in
       let (part, there, same) = mapped_get (λ (p : PieceAct). p.act) own said.act act stands in
-      let among = act_there all (parts_before recording said.place) own part (there_at own said.act part there) in
+      let among = act_there (parts_before recording said.place) own part (there_at own said.act part there) in
       let says = ap (λ (a : ActValue). word_for writer reader a n) same ∙ ap (λ (f : ℕ → Option Word). f n) made ∙ gives.says in
       let (k, given) = act_gives said.place n word own part.act at among says gives.asked in
       (said.place, k, said.earlier, given)
 
   put_is_given : (j n : ℕ) (payload : PayloadValue) → IsAsked from n → IsPut n (fragments_before (fragment_speech_of writer reader recording) j) payload
-      → IsGivenBefore from (speech_by writer reader (datagrams_and_samples all [] recording)) j n (Told payload)
+      → IsGivenBefore from (speech_by writer reader (datagrams_and_samples [] recording)) j n (Told payload)
   put_is_given j n payload asked (shape, among) =
       let heard = subst (λ fs. Contains (payloads_of n shape fs) payload) (fragments_are writer reader recording j) among in
-      elim (put_at writer reader all named n shape payload [] recording j known heard) [
-        | inl none ↦ absurd (none_put n payload (shape, none))
-        | inr (i, datagram, lt, at, (act, there, says)) ↦ let (k, given) = act_gives i n (Told payload) datagram act at there says asked in (i, k, lt, given)
-      ]
+      let (i, datagram, lt, at, (act, there, says)) = put_at writer reader n shape payload recording j (names_all recording parts) heard in
+      let (k, given) = act_gives i n (Told payload) datagram act at there says asked in
+      (i, k, lt, given)
 
   -- a part that the reader hears is a piece of its datagram
-  part_sent : (i j : ℕ) (datagram : List PieceAct) (part : PieceAct) (f : Fragment) → i < j → slice_get recording i ≡ Some datagram → Contains datagram part → hears writer reader part ≡ true → Contains (fragments_in part.piece) f
+  part_sent : (i j : ℕ) (datagram : List PieceAct) (part : PieceAct) (f : Fragment) → i < j → slice_get recording i ≡ Some datagram → Contains datagram part → hears_part writer reader part ≡ true → Contains (fragments_in part.piece) f
       → IsAsked from f.number → IsSentBefore from (fragment_speech_of writer reader recording) j f
   part_sent i j datagram part f lt at among passes has asked =
       let with_pieces : FragmentDatagram = record { said = said_by writer reader (map (λ (p : PieceAct). p.act) datagram); pieces = filter_map (piece_for writer reader) datagram } in
       let stands = get_mapped (λ (d : List PieceAct). let x : FragmentDatagram = record { said = said_by writer reader (map (λ (p : PieceAct). p.act) d); pieces = filter_map (piece_for writer reader) d } in x) recording i datagram at in
-      let there = subst (λ fs. Contains fs f) (sym (datagram_heard writer reader datagram)) (heard_has (hears writer reader) datagram part f among passes has) in
+      let there = subst (λ fs. Contains fs f) (sym (datagram_heard writer reader datagram)) (heard_has (hears_part writer reader) datagram part f among passes has) in
       sent_by (fragment_speech_of writer reader recording) i j with_pieces f lt stands there asked
 
   within : HasFragmentsWithin from (fragment_speech_of writer reader recording)
@@ -274,14 +304,14 @@ module _ (from : ℕ) (writer reader : Guid) (all : List PieceAct) (named : (par
       let last = of.last in
       (omega arith, subst (λ s. f.index ≤ last_fragment s) (sym shape) (omega arith))
 
-  given_is_had : (j n : ℕ) (word : Word) → IsGivenBefore from (speech_by writer reader (datagrams_and_samples all [] recording)) j n word → IsHadBefore from (fragment_speech_of writer reader recording) j n word
+  given_is_had : (j n : ℕ) (word : Word) → IsGivenBefore from (speech_by writer reader (datagrams_and_samples [] recording)) j n word → IsHadBefore from (fragment_speech_of writer reader recording) j n word
   given_is_had j n word (i, k, lt, gives) =
       let (own, at, is) = told_from i gives.datagram gives.stands in
-      let acts = acts_and_samples all (parts_before recording i) own in
+      let acts = acts_and_samples (parts_before recording i) own in
       let speaks = subst (λ (d : Datagram). slice_get d.acts k ≡ Some gives.act) (sym is) gives.speaks in
       let (act, stands, made) = mapped_get (word_for writer reader) acts k gives.act speaks in
       let says = ap (λ (f : ℕ → Option Word). f n) made ∙ gives.says in
-      elim (act_or_sample all (parts_before recording i) own act (there_at acts k act stands)) [
+      elim (act_or_sample (parts_before recording i) own act (there_at acts k act stands)) [
         | inl (part, among, same) ↦ inl (said own part at among (ap (λ (a : ActValue). word_for writer reader a n) same ∙ says) gives.asked)
         | inr sample ↦ inr (put own act at sample says gives.asked)
       ]
@@ -309,37 +339,37 @@ module _ (from : ℕ) (writer reader : Guid) (all : List PieceAct) (named : (par
           → (payload : PayloadValue) × (word ≡ Told payload) × IsPutTogether (IsSentBefore from (fragment_speech_of writer reader recording) j) n payload
       put own act at sample says asked =
           let there = λ (f : Fragment). IsAsked from f.number → IsSentBefore from (fragment_speech_of writer reader recording) j f in
-          let (payload, tells, (fragments, is_put, sent)) = sample_is_put writer reader (parts_before recording i) own (λ part piece among is. named part piece (known part (in_all recording own part (there_at recording i own at) among)) is) there (λ part among passes f has asked_for. elim (Contains-append_cases (parts_before recording i) own part among) [
+          let (payload, tells, (fragments, is_put, sent)) = sample_is_put writer reader (parts_before recording i) own (λ part piece among is. names_all recording parts part piece (elim (Contains-append_cases (parts_before recording i) own part among) [ inl earlier ↦ before_all recording i part earlier | inr now ↦ in_all recording own part (there_at recording i own at) now ]) is) there (λ part among passes f has asked_for. elim (Contains-append_cases (parts_before recording i) own part among) [
             | inl earlier ↦ let (h, datagram, before, stands, holds) = parts_from recording i part earlier in part_sent h j datagram part f (omega arith) stands holds passes has asked_for
             | inr now ↦ part_sent i j own part f lt at now passes has asked_for
           ]) act n word sample says in
           (payload, tells, put_together from (fragment_speech_of writer reader recording) within j n asked fragments sent payload is_put)
 
-  claims_to : (j n : ℕ) → Claims from (said_in (fragment_speech_of writer reader recording)) j n → Claims from (speech_by writer reader (datagrams_and_samples all [] recording)) j n
+  claims_to : (j n : ℕ) → Claims from (said_in (fragment_speech_of writer reader recording)) j n → Claims from (speech_by writer reader (datagrams_and_samples [] recording)) j n
   claims_to j n claims =
       let (own, at, is) = said_from j claims.datagram claims.stands in
-      let acts = acts_and_samples all (parts_before recording j) own in
+      let acts = acts_and_samples (parts_before recording j) own in
       let (act, there, base) = made_from (base_for writer reader) (map (λ (p : PieceAct). p.act) own) claims.base (subst (λ (d : Datagram). Contains d.bases claims.base) (sym is) claims.answers) in
       let (part, among, same) = contains_mapped (λ (p : PieceAct). p.act) own act there in
       record {
         datagram = said_by writer reader acts;
         base = claims.base;
         stands = told_at j own at;
-        answers = makes (base_for writer reader) acts part.act claims.base (act_there all (parts_before recording j) own part among) (ap (base_for writer reader) same ∙ base);
+        answers = makes (base_for writer reader) acts part.act claims.base (act_there (parts_before recording j) own part among) (ap (base_for writer reader) same ∙ base);
         asked = claims.asked;
         below = claims.below;
       }
 
-  claims_from : (j n : ℕ) → Claims from (speech_by writer reader (datagrams_and_samples all [] recording)) j n → Claims from (said_in (fragment_speech_of writer reader recording)) j n
+  claims_from : (j n : ℕ) → Claims from (speech_by writer reader (datagrams_and_samples [] recording)) j n → Claims from (said_in (fragment_speech_of writer reader recording)) j n
   claims_from j n claims =
       let (own, at, is) = told_from j claims.datagram claims.stands in
-      let acts = acts_and_samples all (parts_before recording j) own in
+      let acts = acts_and_samples (parts_before recording j) own in
       let (act, there, base) = made_from (base_for writer reader) acts claims.base (subst (λ (d : Datagram). Contains d.bases claims.base) (sym is) claims.answers) in
       record {
         datagram = said_by writer reader (map (λ (p : PieceAct). p.act) own);
         base = claims.base;
         stands = said_at j own at;
-        answers = elim (act_or_sample all (parts_before recording j) own act there) [
+        answers = elim (act_or_sample (parts_before recording j) own act there) [
           | inl (part, among, same) ↦ makes (base_for writer reader) (map (λ (p : PieceAct). p.act) own) part.act claims.base (mapped_contains (λ (p : PieceAct). p.act) own part among) (ap (base_for writer reader) same ∙ base)
           | inr sample ↦ absurd (no_base _ claims.base (subst (λ (a : ActValue). base_for writer reader a ≡ Some claims.base) (sym sample.is) base))
         ];
@@ -347,28 +377,18 @@ module _ (from : ℕ) (writer reader : Guid) (all : List PieceAct) (named : (par
         below = claims.below;
       }
 
-part_tells_alike : (from : ℕ) (writer reader : Guid) (all : List PieceAct) → ((part : PieceAct) (piece : Piece) → Contains all part → part.piece ≡ Some piece → NamesItsWriter part.act) → (recording : List (List PieceAct)) → ArePieceActs recording
-    → ((part : PieceAct) → Contains (piece_acts_in recording) part → Contains all part)
-    → TellsAlike from (fragment_speech_of writer reader recording) (speech_by writer reader (datagrams_and_samples all [] recording))
-part_tells_alike from writer reader all named recording parts known =
-    samples_alike from (fragment_speech_of writer reader recording) (within from writer reader all named recording parts known) (speech_by writer reader (datagrams_and_samples all [] recording)) (record {
-      counted = length-map (datagrams_and_samples all [] recording) (said_by writer reader) ∙ samples_length all [] recording ∙ sym (length-map recording _);
-      claims = λ j n. (claims_to from writer reader all named recording parts known j n, claims_from from writer reader all named recording parts known j n);
-      announced = last_alike from writer reader all [] recording parts;
-      said = said_is_given from writer reader all named recording parts known;
-      put = put_is_given from writer reader all named recording parts known;
-      given = given_is_had from writer reader all named recording parts known;
+pub acts_tell_alike : ActsTellAlike
+acts_tell_alike from writer reader recording parts =
+    samples_alike from (fragment_speech_of writer reader recording) (within from writer reader recording parts) (speech_by writer reader (datagrams_and_samples [] recording)) (record {
+      counted = length-map (datagrams_and_samples [] recording) (said_by writer reader) ∙ length-acts samples_told [] recording ∙ sym (length-map recording _);
+      claims = λ j n. (claims_to from writer reader recording parts j n, claims_from from writer reader recording parts j n);
+      announced = last_alike from writer reader [] recording parts;
+      said = said_is_given from writer reader recording parts;
+      put = put_is_given from writer reader recording parts;
+      given = given_is_had from writer reader recording parts;
     })
 
-pub acts_tell_alike : ActsTellAlike
-acts_tell_alike from writer reader recording parts = part_tells_alike from writer reader (piece_acts_in recording) (names_all recording parts) recording parts (λ part there. there)
-
 -- ---- the first datagrams
-
-take_samples : (all before : List PieceAct) (n : ℕ) (recording : List (List PieceAct)) → datagrams_and_samples all before (take n recording) ≡ take n (datagrams_and_samples all before recording)
-take_samples all before zero recording = refl
-take_samples all before (suc n) [] = refl
-take_samples all before (suc n) (first ∷ recording) = ap (λ rest. acts_and_samples all before first ∷ rest) (take_samples all (before ++ first) n recording)
 
 take_mapped : (n : ℕ) (recording : List (List ℕ)) → take n (map piece_acts_of recording) ≡ map piece_acts_of (take n recording)
 take_mapped zero recording = refl
@@ -379,14 +399,9 @@ pub sent_until : (until : Option ℕ) (recording : List (List ℕ)) → datagram
 sent_until None recording = refl
 sent_until (Some datagram) recording = take_mapped (datagram - 1) recording
 
-samples_until : (all : List PieceAct) (until : Option ℕ) (recording : List (List PieceAct)) → datagrams_until until (datagrams_and_samples all [] recording) ≡ datagrams_and_samples all [] (datagrams_until until recording)
-samples_until all None recording = refl
-samples_until all (Some datagram) recording = sym (take_samples all [] (datagram - 1) recording)
-
 pub first_datagrams_tell_the_same : FirstDatagramsTellTheSame
-first_datagrams_tell_the_same until recording =
-    let all = piece_acts_in (sending_of recording) in
-    samples_until all until (sending_of recording) ∙ ap (datagrams_and_samples all []) (sent_until until recording)
+first_datagrams_tell_the_same None recording = refl
+first_datagrams_tell_the_same (Some datagram) recording = sym (take_acts samples_told [] (datagram - 1) (sending_of recording)) ∙ ap acts_with_samples (sent_until (Some datagram) recording)
 
 taken_there : {X : Type 0} (n : ℕ) (xs : List X) (x : X) → Contains (take n xs) x → Contains xs x
 taken_there zero xs x among = absurd (contains_none x among)
@@ -400,28 +415,11 @@ pub first_datagrams_tell_alike : FirstDatagramsTellAlike
 first_datagrams_tell_alike from writer reader None recording parts = acts_tell_alike from writer reader recording parts
 first_datagrams_tell_alike from writer reader (Some until) recording parts =
     let n = until - 1 in
-    let all = piece_acts_in recording in
     let first = take n recording in
-    let of_first : ArePieceActs first = λ datagram part piece there among is. parts datagram part piece (taken_there n recording datagram there) among is in
-    let known = λ (part : PieceAct) (among : Contains (piece_acts_in first) part).
-    let (datagram, there, has) = flat_from (λ (d : List PieceAct). d) first part among in
-    in_all recording datagram part (taken_there n recording datagram there) has in
-    subst (λ (acts : List (List ActValue)). TellsAlike from (fragment_speech_of writer reader first) (speech_by writer reader acts)) (take_samples all [] n recording)
-    (part_tells_alike from writer reader all (names_all recording parts) first of_first known)
+    subst (λ (acts : List (List ActValue)). TellsAlike from (fragment_speech_of writer reader first) (speech_by writer reader acts)) (take_acts samples_told [] n recording)
+    (acts_tell_alike from writer reader first (λ datagram part piece there among is. parts datagram part piece (taken_there n recording datagram there) among is))
 
 -- ---- no pieces
 
-datagram_stays : (all before datagram : List PieceAct) → ((part : PieceAct) → Contains datagram part → part.piece ≡ None) → acts_and_samples all before datagram ≡ map (λ (part : PieceAct). part.act) datagram
-datagram_stays all before [] none = refl
-datagram_stays all before (part ∷ parts) none =
-    ap (λ o. part.act ∷ (samples_told all before part.act o ++ acts_and_samples all (before ++ part ∷ []) parts)) (none part (contains_head part parts))
-    ∙ ap (λ acts. part.act ∷ acts) (datagram_stays all (before ++ part ∷ []) parts (λ other among. none other (contains_tail part parts other among)))
-
-all_stay : (all before : List PieceAct) (recording : List (List PieceAct)) → HasNoPieces recording → datagrams_and_samples all before recording ≡ map (map (λ (part : PieceAct). part.act)) recording
-all_stay all before [] none = refl
-all_stay all before (first ∷ recording) none =
-    ap (λ acts. acts ∷ datagrams_and_samples all (before ++ first) recording) (datagram_stays all before first (λ part among. none first part (contains_head first recording) among))
-    ∙ ap (λ rest. map (λ (part : PieceAct). part.act) first ∷ rest) (all_stay all (before ++ first) recording (λ datagram part there among. none datagram part (contains_tail first recording datagram there) among))
-
 pub acts_stay_without_pieces : ActsStayWithoutPieces
-acts_stay_without_pieces recording none = all_stay (piece_acts_in recording) [] recording none
+acts_stay_without_pieces recording none = all_stay samples_told (λ before act. refl) [] recording none

@@ -1,18 +1,19 @@
--- The audience by which a reader hears just the parts of a sample that it hears.
-use Rattle.std.proofs.Common.{◌≡◌, ℕ, Bool, true, false, not, List, [], ◌∷◌, map, filter, Option, Some, None, refl, sym, ap, subst, inl, inr, ◌⊎◌}
+-- The audiences of a sample: what comes to each, and the one by which a reader hears just what it hears.
+use Rattle.std.proofs.Common.{◌≡◌, ℕ, Bool, true, false, cond, ◌&&◌, List, [], ◌∷◌, ◌++◌, map, filter, Option, Some, None, refl, sym, ◌∙◌, ap, subst, inl, inr, ◌⊎◌, append-nil}
 use Rattle.std.specs.Prelude.{Contains, ◌||◌}
-use Rattle.std.specs.List.{filter_map, flat_map}
-use Rattle.std.proofs.lemmas.Bool.{cases_Bool, or_left, or_right, or_cases, and_parts}
-use Rattle.std.proofs.lemmas.List.Elements.{Contains-append_left, Contains-append_right, Contains-append_cases}
+use Rattle.std.specs.List.{flat_map, list_any}
+use Rattle.std.proofs.lemmas.Bool.{cases_Bool}
+use Rattle.std.proofs.lemmas.List.Concat.{flat_map-append}
+use Rattle.std.proofs.lemmas.List.Elements.{Contains-append_left, Contains-append_right, Contains-append_cases, filter-append}
 use Rattle.std.proofs.lemmas.Slice.Eq.{bytes_eq-Decides}
 use Rattle.rtps_ids.specs.declared.identity.EntityId.{EntityId}
-use Rattle.rtps_ids.specs.declared.identity.Guid.{Guid}
 use Rattle.rtps_ids.specs.declared.identity.GuidPrefix.{GuidPrefix}
-use Rattle.rtps_receiver.specs.Speech.{is_among, is_entity, is_for, is_for_all, is_heard_by, is_prefix, names, reader_named, unknown_entity}
-use Rattle.rtps_receiver.specs.Values.{ActValue}
-use Rattle.rtps_audit.proofs.Offered.{both, contains_cases, contains_head, contains_none, contains_tail, kept_if_passed, makes, mapped_contains}
+use Rattle.rtps_receiver.specs.Speech.{is_entity, is_for, is_for_all, is_prefix, names, unknown_entity}
 use Rattle.rtps_receiver.specs.declared.speech.Audience.{Audience}
-use Rattle.rtps_fragments.specs.SampleActs.{PieceAct, audiences_among, is_same_dest, once, reaches}
+use Rattle.rtps_audit.proofs.Offered.{contains_cases, contains_head, contains_mapped, contains_none, contains_tail, kept_if_passed, kept_is_there, mapped_contains}
+use Rattle.rtps_fragments.specs.Listeners.{AreNamed, Hearing, Offer, begins, came_to, everyone, has_name, has_no_name, hearing_of, hears, hears_all, is_for_audience, is_known, is_same_dest, named_so, silence, with_news}
+use Rattle.rtps_fragments.specs.declared.listeners.Name.{Name}
+use Rattle.rtps_fragments.specs.declared.listeners.Name.TheVariants.{Dest, Reader}
 
 -- ---- tests
 
@@ -34,7 +35,11 @@ dest_is (Some one) None e = cc
 dest_is None (Some other) e = cc
 dest_is None None e = refl
 
-for_is : (dest : Option GuidPrefix) (prefix : GuidPrefix) → is_for dest prefix ≡ true → dest ≡ Some prefix
+own_dest : (dest : Option GuidPrefix) → is_same_dest dest dest ≡ true
+own_dest (Some dest) = own_prefix dest
+own_dest None = refl
+
+pub for_is : (dest : Option GuidPrefix) (prefix : GuidPrefix) → is_for dest prefix ≡ true → dest ≡ Some prefix
 for_is (Some dest) prefix e = ap Some (prefix_is dest prefix e)
 for_is None prefix e = cc
 
@@ -61,16 +66,37 @@ any_or_none test (y ∷ ys) = elim (cases_Bool (test y)) [
   ]
 ]
 
-once_has : {X : Type 0} (same : X → X → Bool) → ((x y : X) → same x y ≡ true → x ≡ y) → (xs : List X) (x : X) → Contains xs x → Contains (once same xs) x
-once_has same are [] x among = absurd (contains_none x among)
-once_has same are (y ∷ ys) x among = elim (contains_cases y ys x among) [
-  | inl here ↦ subst (Contains (once same (y ∷ ys))) here (contains_head y (filter (λ z. not (same y z)) (once same ys)))
-  | inr there ↦ elim (cases_Bool (same y x)) [
-    | inl is ↦ subst (Contains (once same (y ∷ ys))) (are y x is) (contains_head y (filter (λ z. not (same y z)) (once same ys)))
-    | inr apart ↦
-        contains_tail y (filter (λ z. not (same y z)) (once same ys)) x (kept_if_passed (λ z. not (same y z)) (once same ys) x (once_has same are ys x there) (ap not apart))
-  ]
+pub none_of_all : {X : Type 0} (test : X → Bool) (xs : List X) → ((x : X) → Contains xs x → test x ≡ false) → list_any test xs ≡ false
+none_of_all test [] none = refl
+none_of_all test (y ∷ ys) none = ap (λ b. b || list_any test ys) (none y (contains_head y ys)) ∙ none_of_all test ys (λ x among. none x (contains_tail y ys x among))
+
+pub any_from : {X : Type 0} (test : X → Bool) (xs : List X) (x : X) → Contains xs x → test x ≡ true → list_any test xs ≡ true
+any_from test [] x among is = absurd (contains_none x among)
+any_from test (y ∷ ys) x among is = elim (contains_cases y ys x among) [
+  | inl here ↦ first (test y) (ap test here ∙ is)
+  | inr there ↦ later (test y) (any_from test ys x there is)
 ]
+  where
+    first : (b : Bool) → b ≡ true → (b || list_any test ys) ≡ true
+    first true e = refl
+    first false e = cc
+
+    later : (b : Bool) → list_any test ys ≡ true → (b || list_any test ys) ≡ true
+    later true e = refl
+    later false e = e
+
+neither : (a b : Bool) → (a || b) ≡ false → (a ≡ false) × (b ≡ false)
+neither true b e = cc
+neither false b e = (refl, e)
+
+pub none_is : {X : Type 0} (test : X → Bool) (xs : List X) (x : X) → list_any test xs ≡ false → Contains xs x → test x ≡ false
+none_is test [] x none among = absurd (contains_none x among)
+none_is test (y ∷ ys) x none among =
+    let (never, rest) = neither (test y) (list_any test ys) none in
+    elim (contains_cases y ys x among) [
+      | inl here ↦ subst (λ z. test z ≡ false) here never
+      | inr there ↦ none_is test ys x rest there
+    ]
 
 pub flat_has : {X Y : Type 0} (f : X → List Y) (xs : List X) (x : X) (y : Y) → Contains xs x → Contains (f x) y → Contains (flat_map f xs) y
 flat_has f [] x y among made = absurd (contains_none x among)
@@ -86,109 +112,198 @@ flat_from f (z ∷ xs) y among = elim (Contains-append_cases (f z) (flat_map f x
   | inr there ↦ let (x, more, made) = flat_from f xs y there in (x, contains_tail z xs x more, made)
 ]
 
--- ---- the least audience of a reader
+pub filter_alike : {X : Type 0} (test other : X → Bool) (xs : List X) → ((x : X) → Contains xs x → test x ≡ other x) → filter test xs ≡ filter other xs
+filter_alike test other [] agree = refl
+filter_alike test other (x ∷ xs) agree =
+    ap (λ b. cond b (x ∷ filter test xs) (filter test xs)) (agree x (contains_head x xs)) ∙ ap (λ ys. cond (other x) (x ∷ ys) ys) (filter_alike test other xs (λ y among. agree y (contains_tail x xs y among)))
 
--- by this destination, each of these parts is for it where it is for the reader's participant
-abbrev DestFor : Guid → List PieceAct → Type 0
-DestFor reader parts =
-    (dest : Option GuidPrefix) × Contains (once is_same_dest (None ∷ map (λ part. part.act.dest) parts)) dest × ((is_for_all dest || is_for dest reader.prefix) ≡ true)
-    × ((part : PieceAct) → Contains parts part → (is_for_all part.act.dest || is_same_dest part.act.dest dest) ≡ (is_for_all part.act.dest || is_for part.act.dest reader.prefix))
+-- an element of a list with others behind it
+pub among_more : {X : Type 0} (b : Bool) (xs ys : List X) (x : X) → Contains xs x → Contains (cond b xs (xs ++ ys)) x
+among_more true xs ys x among = among
+among_more false xs ys x among = Contains-append_left xs ys x among
 
-dest_for : (reader : Guid) (parts : List PieceAct) → DestFor reader parts
-dest_for reader parts = elim (any_or_none (λ part. is_for part.act.dest reader.prefix) parts) [
-  | inl (part, among, is) ↦ named part among (for_is part.act.dest reader.prefix is)
-  | inr none ↦ (None, contains_head None _, refl, λ part among. alone part.act.dest (none part among))
-]
+-- ---- what comes to an audience
+
+pub came_same : (news : List Offer) (one other : Audience) → ((offer : Offer) → Contains news offer → is_for_audience offer.audience one ≡ is_for_audience offer.audience other) → came_to one news ≡ came_to other news
+came_same news one other agree = ap (flat_map (λ (o : Offer). o.came)) (filter_alike (λ (o : Offer). is_for_audience o.audience one) (λ (o : Offer). is_for_audience o.audience other) news agree)
+
+pub came_to-more : (audience : Audience) (news : List Offer) (offer : Offer) → came_to audience (news ++ offer ∷ []) ≡ came_to audience news ++ cond (is_for_audience offer.audience audience) offer.came []
+came_to-more audience news offer =
+    let comes : Offer → Bool = λ o. is_for_audience o.audience audience in
+    ap (flat_map (λ (o : Offer). o.came)) (filter-append comes news (offer ∷ [])) ∙ flat_map-append (λ (o : Offer). o.came) (filter comes news) (filter comes (offer ∷ []))
+    ∙ ap (λ cs. came_to audience news ++ cs) (by (comes offer))
   where
-    every : List (Option GuidPrefix)
-    every = None ∷ map (λ part. part.act.dest) parts
+    by : (b : Bool) → flat_map (λ (o : Offer). o.came) (cond b (offer ∷ []) []) ≡ cond b offer.came []
+    by true = append-nil offer.came
+    by false = refl
 
-    same : (dest : Option GuidPrefix) → (is_for_all dest || is_same_dest dest (Some reader.prefix)) ≡ (is_for_all dest || is_for dest reader.prefix)
-    same (Some dest) = refl
-    same None = refl
+-- ---- a name more
 
-    alone : (dest : Option GuidPrefix) → is_for dest reader.prefix ≡ false → (is_for_all dest || is_same_dest dest None) ≡ (is_for_all dest || is_for dest reader.prefix)
-    alone (Some dest) e = sym e
-    alone None e = refl
+-- what was for an audience without the name came to those of it that have the name, where nobody had it
+for_named : (name : Name) (one audience : Audience) → has_name name one ≡ false → has_no_name name audience ≡ true → is_for_audience one (named_so name audience) ≡ is_for_audience one audience
+for_named (Dest dest) one audience never free = ap (λ b. b && (is_entity one.reader unknown_entity || is_entity one.reader audience.reader)) (by one.dest audience.dest never free)
+  where
+    by : (d a : Option GuidPrefix) → is_same_dest d dest ≡ false → is_for_all a ≡ true → (is_for_all d || is_same_dest d dest) ≡ (is_for_all d || is_same_dest d a)
+    by None a never free = refl
+    by (Some d) None never free = never
+    by (Some d) (Some a) never free = cc
+for_named (Reader reader) one audience never free =
+    ap (λ b. (is_for_all one.dest || is_same_dest one.dest audience.dest) && b)
+    (ap (λ b. is_entity one.reader unknown_entity || b) never ∙ or_false (is_entity one.reader unknown_entity) ∙ ap (λ e. is_entity one.reader unknown_entity || is_entity one.reader e) (sym (entity_is audience.reader unknown_entity free)))
+  where
+    or_false : (b : Bool) → (b || false) ≡ (b || b)
+    or_false true = refl
+    or_false false = refl
 
-    named : (part : PieceAct) → Contains parts part → part.act.dest ≡ Some reader.prefix → DestFor reader parts
-    named part among is =
-        let all = map (λ (p : PieceAct). p.act.dest) parts in
-        let there : Contains all (Some reader.prefix) = subst (Contains all) is (mapped_contains (λ (p : PieceAct). p.act.dest) parts part among) in (
-          Some reader.prefix,
-          once_has is_same_dest dest_is (None ∷ all) (Some reader.prefix) (contains_tail None all (Some reader.prefix) there),
-          own_prefix reader.prefix,
-          λ other also. same other.act.dest,
+pub came_named : (hearing : Hearing) → AreNamed hearing → (name : Name) → list_any (has_name name) hearing.audiences ≡ false → (audience : Audience) → has_no_name name audience ≡ true
+    → came_to (named_so name audience) hearing.news ≡ came_to audience hearing.news
+came_named hearing named name none audience free =
+    came_same hearing.news (named_so name audience) audience (λ offer among. for_named name offer.audience audience (none_is (has_name name) hearing.audiences offer.audience none (named offer among)) free)
+
+-- each audience stays one
+pub stays_among : (hearing : Hearing) (name : Name) (audience : Audience) → Contains hearing.audiences audience → Contains (begins hearing name).audiences audience
+stays_among hearing name audience among = among_more (list_any (has_name name) hearing.audiences) hearing.audiences (map (named_so name) (filter (has_no_name name) hearing.audiences)) audience among
+
+pub named_begins : (hearing : Hearing) (name : Name) → AreNamed hearing → AreNamed (begins hearing name)
+named_begins hearing name named offer among = stays_among hearing name offer.audience (named offer among)
+
+-- ---- the audiences of a sample
+
+-- Everyone is one, and so is each destination with each reader; each news was for one.
+pub record IsSound (hearing : Hearing) : Type 0 where
+  pub all : Contains hearing.audiences everyone
+  pub closed : (one other : Audience) → Contains hearing.audiences one → Contains hearing.audiences other → Contains hearing.audiences (record { dest = one.dest; reader = other.reader })
+  pub named : AreNamed hearing
+
+module _ (auds : List Audience) (name : Name) where
+  -- those that are begun
+  abbrev fresh : List Audience
+  fresh = map (named_so name) (filter (has_no_name name) auds)
+
+  is_fresh : (audience : Audience) → Contains auds audience → has_no_name name audience ≡ true → Contains fresh (named_so name audience)
+  is_fresh audience among free = mapped_contains (named_so name) (filter (has_no_name name) auds) audience (kept_if_passed (has_no_name name) auds audience among free)
+
+  fresh_from : (audience : Audience) → Contains fresh audience → (from : Audience) × Contains auds from × (named_so name from ≡ audience)
+  fresh_from audience among =
+      let (from, kept, is) = contains_mapped (named_so name) (filter (has_no_name name) auds) audience among in
+      (from, kept_is_there (has_no_name name) auds from kept, is)
+
+  free_everyone : has_no_name name everyone ≡ true
+  free_everyone = by name
+    where
+      by : (n : Name) → has_no_name n everyone ≡ true
+      by (Dest dest) = refl
+      by (Reader reader) = own_entity unknown_entity
+
+abbrev Pairs : List Audience → Type 0
+Pairs auds = (one other : Audience) → Contains auds one → Contains auds other → Contains auds (record { dest = one.dest; reader = other.reader })
+
+pairs_begun : (auds : List Audience) (name : Name) → Contains auds everyone → Pairs auds → Pairs (auds ++ fresh auds name)
+pairs_begun auds (Dest dest) all pairs one other first second =
+    elim (Contains-append_cases auds (fresh auds (Dest dest)) one first) [
+      | inl old ↦ Contains-append_left auds (fresh auds (Dest dest)) _ (elim (Contains-append_cases auds (fresh auds (Dest dest)) other second) [
+        | inl there ↦ pairs one other old there
+        | inr begun ↦ let (from, among, is) = fresh_from auds (Dest dest) other begun in subst (λ (a : Audience). Contains auds (record { dest = one.dest; reader = a.reader })) is (pairs one from old among)
+      ])
+      | inr begun ↦
+          let (from, among, is) = fresh_from auds (Dest dest) one begun in
+          Contains-append_right auds (fresh auds (Dest dest)) _ (subst (λ (a : Audience). Contains (fresh auds (Dest dest)) (record { dest = a.dest; reader = other.reader })) is (elim (Contains-append_cases auds (fresh auds (Dest dest)) other second) [
+            | inl there ↦ is_fresh auds (Dest dest) (record { dest = None; reader = other.reader }) (pairs everyone other all there) refl
+            | inr too ↦ let (source, has, same) = fresh_from auds (Dest dest) other too in subst (λ (a : Audience). Contains (fresh auds (Dest dest)) (record { dest = dest; reader = a.reader })) same (subst (Contains (fresh auds (Dest dest))) (sym same) too)
+          ]))
+    ]
+pairs_begun auds (Reader reader) all pairs one other first second =
+    elim (Contains-append_cases auds (fresh auds (Reader reader)) other second) [
+      | inl old ↦ Contains-append_left auds (fresh auds (Reader reader)) _ (elim (Contains-append_cases auds (fresh auds (Reader reader)) one first) [
+        | inl there ↦ pairs one other there old
+        | inr begun ↦ let (from, among, is) = fresh_from auds (Reader reader) one begun in subst (λ (a : Audience). Contains auds (record { dest = a.dest; reader = other.reader })) is (pairs from other among old)
+      ])
+      | inr begun ↦
+          let (from, among, is) = fresh_from auds (Reader reader) other begun in
+          Contains-append_right auds (fresh auds (Reader reader)) _ (subst (λ (a : Audience). Contains (fresh auds (Reader reader)) (record { dest = one.dest; reader = a.reader })) is (elim (Contains-append_cases auds (fresh auds (Reader reader)) one first) [
+            | inl there ↦ is_fresh auds (Reader reader) (record { dest = one.dest; reader = unknown_entity }) (pairs one everyone there all) (own_entity unknown_entity)
+            | inr too ↦ let (source, has, same) = fresh_from auds (Reader reader) one too in subst (λ (a : Audience). Contains (fresh auds (Reader reader)) (record { dest = a.dest; reader = reader })) same (subst (Contains (fresh auds (Reader reader))) (sym same) too)
+          ]))
+    ]
+
+pairs_named : (auds : List Audience) (name : Name) (b : Bool) → Contains auds everyone → Pairs auds → Pairs (cond b auds (auds ++ fresh auds name))
+pairs_named auds name true all pairs = pairs
+pairs_named auds name false all pairs = pairs_begun auds name all pairs
+
+begins_sound : (hearing : Hearing) (name : Name) → IsSound hearing → IsSound (begins hearing name)
+begins_sound hearing name sound = record {
+  all = stays_among hearing name everyone sound.all;
+  closed = pairs_named hearing.audiences name (list_any (has_name name) hearing.audiences) sound.all sound.closed;
+  named = named_begins hearing name sound.named;
+}
+
+-- some audience has the name
+name_there : (hearing : Hearing) (name : Name) → IsSound hearing → (audience : Audience) × Contains (begins hearing name).audiences audience × (has_name name audience ≡ true)
+name_there hearing name sound = by (any_or_none (has_name name) hearing.audiences)
+  where
+    own_name : (n : Name) (audience : Audience) → has_name n (named_so n audience) ≡ true
+    own_name (Dest dest) audience = own_dest dest
+    own_name (Reader reader) audience = own_entity reader
+
+    by : ((audience : Audience) × Contains hearing.audiences audience × (has_name name audience ≡ true)) ⊎ ((audience : Audience) → Contains hearing.audiences audience → has_name name audience ≡ false)
+        → (audience : Audience) × Contains (begins hearing name).audiences audience × (has_name name audience ≡ true)
+    by (inl (audience, among, has)) = (audience, stays_among hearing name audience among, has)
+    by (inr none) =
+        let begun = Contains-append_right hearing.audiences (fresh hearing.audiences name) (named_so name everyone) (is_fresh hearing.audiences name everyone sound.all (free_everyone hearing.audiences name)) in (
+          named_so name everyone,
+          subst (λ b. Contains (cond b hearing.audiences (hearing.audiences ++ fresh hearing.audiences name)) (named_so name everyone)) (sym (none_of_all (has_name name) hearing.audiences none)) begun,
+          own_name name everyone,
         )
 
--- by this reader, each of these parts names it or every reader where it names the reader or every one
-abbrev ReaderFor : Guid → List PieceAct → Type 0
-ReaderFor reader parts =
-    (entity : EntityId) × Contains (once is_entity (unknown_entity ∷ filter_map (λ part. reader_named part.act.body) parts)) entity × ((is_entity entity unknown_entity || is_entity entity reader.entity) ≡ true)
-    × ((part : PieceAct) → Contains parts part
-    → (names (reader_named part.act.body) unknown_entity || names (reader_named part.act.body) entity) ≡ (names (reader_named part.act.body) unknown_entity || names (reader_named part.act.body) reader.entity))
+heard_sound : (hearing : Hearing) (offer : Offer) → IsSound hearing → IsSound (with_news (begins (begins hearing (Dest offer.audience.dest)) (Reader offer.audience.reader)) offer)
+heard_sound hearing offer sound =
+    let first = begins hearing (Dest offer.audience.dest) in
+    let second = begins first (Reader offer.audience.reader) in
+    let one = begins_sound hearing (Dest offer.audience.dest) sound in
+    let two = begins_sound first (Reader offer.audience.reader) one in
+    let (a, among, dest) = name_there hearing (Dest offer.audience.dest) sound in
+    let (b, there, reader) = name_there first (Reader offer.audience.reader) one in
+    let both_named = two.closed a b (stays_among first (Reader offer.audience.reader) a among) there in
+    let has : Contains second.audiences offer.audience =
+    subst (λ d. Contains second.audiences (record { dest = d; reader = offer.audience.reader })) (dest_is a.dest offer.audience.dest dest)
+    (subst (λ e. Contains second.audiences (record { dest = a.dest; reader = e })) (entity_is b.reader offer.audience.reader reader) both_named) in
+    record {
+      all = two.all;
+      closed = two.closed;
+      named = λ other among_all. elim (Contains-append_cases hearing.news (offer ∷ []) other among_all) [
+        | inl old ↦ two.named other old
+        | inr new ↦ elim (contains_cases offer [] other new) [
+          | inl same ↦ subst (λ (o : Offer). Contains second.audiences o.audience) same has
+          | inr nothing ↦ absurd (contains_none other nothing)
+        ]
+      ];
+    }
 
-reader_for : (reader : Guid) (parts : List PieceAct) → ReaderFor reader parts
-reader_for reader parts = elim (any_or_none (λ part. names (reader_named part.act.body) reader.entity) parts) [
-  | inl (part, among, is) ↦ named part among (names_is (reader_named part.act.body) reader.entity is)
-  | inr none ↦ (
-    unknown_entity,
-    contains_head unknown_entity _,
-    or_left (is_entity unknown_entity unknown_entity) (is_entity unknown_entity reader.entity) (own_entity unknown_entity),
-    λ part among. or_own (names (reader_named part.act.body) unknown_entity) (names (reader_named part.act.body) reader.entity) (none part among),
-  )
-]
+pub hears_sound : (hearing : Hearing) (offer : Offer) → IsSound hearing → IsSound (hears hearing offer)
+hears_sound hearing offer sound = by (is_known hearing offer)
   where
-    named : (part : PieceAct) → Contains parts part → reader_named part.act.body ≡ Some reader.entity → ReaderFor reader parts
-    named part among is =
-        let all = filter_map (λ (p : PieceAct). reader_named p.act.body) parts in
-        let there : Contains all reader.entity = makes (λ (p : PieceAct). reader_named p.act.body) parts part reader.entity among is in (
-          reader.entity,
-          once_has is_entity entity_is (unknown_entity ∷ all) reader.entity (contains_tail unknown_entity all reader.entity there),
-          or_right (is_entity reader.entity unknown_entity) (is_entity reader.entity reader.entity) (own_entity reader.entity),
-          λ other also. refl,
-        )
+    by : (b : Bool) → IsSound (cond b hearing (with_news (begins (begins hearing (Dest offer.audience.dest)) (Reader offer.audience.reader)) offer))
+    by true = sound
+    by false = heard_sound hearing offer sound
 
--- The reader is of this audience, which is one of those of the sample. Of its parts, all of the audience hear those that the reader
--- hears, and no others.
-pub record IsLeastAudience (reader : Guid) (parts : List PieceAct) (audience : Audience) : Type 0 where
-  pub among : Contains (audiences_among parts) audience
-  pub has : is_among audience.dest (Some audience.reader) reader ≡ true
-  pub same : (part : PieceAct) → Contains parts part → reaches part.act audience ≡ is_heard_by part.act reader
+pub all_sound : (hearing : Hearing) (offers : List Offer) → IsSound hearing → IsSound (hears_all hearing offers)
+all_sound hearing [] sound = sound
+all_sound hearing (offer ∷ offers) sound = all_sound (hears hearing offer) offers (hears_sound hearing offer sound)
 
-pub least_audience : (reader : Guid) (parts : List PieceAct) → (audience : Audience) × IsLeastAudience reader parts audience
-least_audience reader parts =
-    let (dest, dests, for, each) = dest_for reader parts in
-    let (entity, entities, names_it, every) = reader_for reader parts in
-    let audience : Audience = record { dest = dest; reader = entity } in
-    let readers = once is_entity (unknown_entity ∷ filter_map (λ (p : PieceAct). reader_named p.act.body) parts) in
-    let made : Option GuidPrefix → List Audience = λ d. map (λ e. record { dest = d; reader = e }) readers in (
-      audience,
-      record {
-        among = flat_has made (once is_same_dest (None ∷ map (λ (p : PieceAct). p.act.dest) parts)) dest audience dests (mapped_contains (λ (e : EntityId). let a : Audience = record { dest = dest; reader = e } in a) readers entity entities);
-        has = both for names_it;
-        same = λ part there. both (each part there) (every part there);
-      },
-    )
+pub silence_sound : IsSound silence
+silence_sound = record {
+  all = contains_head everyone [];
+  closed = λ one other first second. subst (λ (a : Audience). Contains (everyone ∷ []) (record { dest = a.dest; reader = other.reader })) (only one first) (subst (λ (a : Audience). Contains (everyone ∷ []) (record { dest = None; reader = a.reader })) (only other second) (contains_head everyone []));
+  named = λ offer among. absurd (contains_none offer among);
+}
+  where
+    only : (audience : Audience) → Contains (everyone ∷ []) audience → everyone ≡ audience
+    only audience among = elim (contains_cases everyone [] audience among) [ inl here ↦ here | inr nothing ↦ absurd (contains_none audience nothing) ]
 
--- ---- an audience that has the reader
+pub sound_of : (offers : List Offer) → IsSound (hearing_of offers)
+sound_of offers = all_sound silence offers silence_sound
 
-for_reader : (dest other : Option GuidPrefix) (prefix : GuidPrefix) → (is_for_all dest || is_same_dest dest other) ≡ true → (is_for_all other || is_for other prefix) ≡ true → (is_for_all dest || is_for dest prefix) ≡ true
-for_reader None other prefix same has = refl
-for_reader (Some dest) None prefix same has = cc
-for_reader (Some dest) (Some other) prefix same has = subst (λ p. is_prefix p prefix ≡ true) (sym (prefix_is dest other same)) has
-
-names_reader : (named : Option EntityId) (other entity : EntityId) → (names named unknown_entity || names named other) ≡ true → (is_entity other unknown_entity || is_entity other entity) ≡ true
-    → (names named unknown_entity || names named entity) ≡ true
-names_reader None other entity same has = cc
-names_reader (Some named) other entity same has = elim (or_cases (is_entity named unknown_entity) (is_entity named other) same) [
-  | inl unknown ↦ or_left (is_entity named unknown_entity) (is_entity named entity) unknown
-  | inr is ↦ subst (λ e. (is_entity e unknown_entity || is_entity e entity) ≡ true) (sym (entity_is named other is)) has
-]
-
--- what all of an audience hear, each reader of it hears
-pub reached_is_heard : (act : ActValue) (audience : Audience) (reader : Guid) → reaches act audience ≡ true → is_among audience.dest (Some audience.reader) reader ≡ true → is_heard_by act reader ≡ true
-reached_is_heard act audience reader reached has =
-    let (for, named) = and_parts (is_for_all act.dest || is_same_dest act.dest audience.dest) _ reached in
-    let (its, their) = and_parts (is_for_all audience.dest || is_for audience.dest reader.prefix) _ has in
-    both (for_reader act.dest audience.dest reader.prefix for its) (names_reader (reader_named act.body) audience.reader reader.entity named their)
+-- one more of them
+pub hears-more : (hearing : Hearing) (offers : List Offer) (offer : Offer) → hears_all hearing (offers ++ offer ∷ []) ≡ hears (hears_all hearing offers) offer
+hears-more hearing [] offer = refl
+hears-more hearing (first ∷ offers) offer = hears-more (hears hearing first) offers offer

@@ -1,19 +1,20 @@
 -- What is kept of the fragments that came, with one fragment more.
 use Rattle.std.proofs.Common.{◌≡◌, ℕ, zero, suc, ◌+◌, ◌<◌, ◌≤◌, Bool, true, false, cond, not, List, [], ◌∷◌, ◌++◌, length, append-nil, append_assoc, set, take, drop, ◌-◌, Option, Some, None, slice_get, refl, sym, ◌∙◌, ap, subst, arith, inl, inr, ◌⊎◌}
-use Rattle.std.specs.Prelude.{◌==◌, is_some, nat_lt, option_copied}
+use Rattle.std.specs.Prelude.{◌&&◌, ◌==◌, is_some, nat_lt, option_copied}
 use Rattle.std.specs.Borrow.{Bor}
 use Rattle.std.specs.BTreeMap.{BTreeMap, Updates, get, is_at}
-use Rattle.std.specs.List.{concat, find}
+use Rattle.std.specs.List.{concat, find, list_all}
 use Rattle.std.specs.Option.{option_or}
 use Rattle.std.specs.Ordering.{nat_cmp}
 use Rattle.std.specs.Str.{bytes_eq}
 use Rattle.std.proofs.lemmas.Bool.{cases_lt}
-use Rattle.std.proofs.lemmas.List.{length-set}
+use Rattle.std.proofs.Math.Bool.{and-false}
+use Rattle.std.proofs.lemmas.List.{length-set, take-append-drop}
 use Rattle.std.proofs.lemmas.Bool.Decides.{Decides-eqb, nat_tests}
-use Rattle.std.proofs.lemmas.List.Folds.{find-append}
-use Rattle.std.proofs.lemmas.Option.{slice_get_cases}
+use Rattle.std.proofs.lemmas.List.Folds.{find-append, list_all-append}
+use Rattle.std.proofs.lemmas.Option.{slice_get_cases, slice_get_past}
 use Rattle.std.proofs.lemmas.Slice.Eq.{bytes_eq-Decides}
-use Rattle.rtps_fragments.specs.Came.{IsCame, came_from, kept_first, kept_other, with_part}
+use Rattle.rtps_fragments.specs.Came.{IsCame, came_from, kept_first, kept_front, kept_other, with_part}
 use Rattle.rtps_wire.specs.DataFrag.{parts_in}
 use Rattle.rtps_fragments.specs.Samples.{differs, first_of, firsts_of, is_other, samples_by, samples_of}
 use Rattle.rtps_fragments.specs.declared.came.Came.{Came}
@@ -93,87 +94,69 @@ put_first old new k i octets updates = ap option_copied (updates.0 i ∙ ap (λ 
     by true = refl
     by false = refl
 
+-- the octets at a place of the front are kept
+pub front_first : (kept : Came) (i : ℕ) (octets : Bor (List ℕ)) → slice_get kept.front.items i ≡ Some octets → kept_first kept (suc i) ≡ Some octets.now
+front_first kept i octets e = ap (λ o. option_or (option_copied o) (option_copied (get nat_cmp kept.ahead (suc i)))) e
+
+-- behind the front a fragment is kept in the map
+pub ahead_first : (kept : Came) (i : ℕ) → kept_front kept ≤ i → kept_first kept (suc i) ≡ option_copied (get nat_cmp kept.ahead (suc i))
+ahead_first kept i past = ap (λ o. option_or (option_copied o) (option_copied (get nat_cmp kept.ahead (suc i)))) (slice_get_past kept.front.items i past)
+
+-- each fragment of the front is there
+pub front_there : (kept : Came) (i : ℕ) → i < kept_front kept → is_some (kept_first kept (suc i)) ≡ true
+front_there kept i lt = elim (slice_get_cases kept.front.items i).1 [
+  | inl found ↦ ap is_some (front_first kept i found.0 found.2)
+  | inr past ↦ absurd (let le = past.0 in omega arith)
+]
+
 module _ (last : ℕ) (came : List (ℕ × List ℕ)) (kept new : Came) (k : ℕ) (octets : List ℕ) (is : IsCame last came kept) where
   -- a fragment that came before
-  pub kept_again : (first : List ℕ) → kept_first kept k ≡ Some first → ((i : ℕ) → kept_first new i ≡ kept_first kept i) → new.front ≡ kept.front
+  pub kept_again : (first : List ℕ) → kept_first kept k ≡ Some first → ((i : ℕ) → kept_first new i ≡ kept_first kept i) → kept_front new ≡ kept_front kept
       → kept_other new ≡ option_or (kept_other kept) (cond (not (bytes_eq first octets)) (Some (k, octets)) None) → IsCame last (came ++ (k, octets) ∷ []) new
   kept_again first found firsts front other =
       let here : first_of came k ≡ Some first = sym (is.firsts k) ∙ found in
       record {
         firsts = λ i. firsts i ∙ is.firsts i ∙ sym (first_again came k first octets i here);
         within = subst (λ n. n ≤ last) (sym front) is.within;
-        there = λ i lt. ap is_some (first_again came k first octets (suc i) here) ∙ is.there i (subst (λ n. i < n) front lt);
-        next = λ lt. first_again came k first octets (suc new.front) here ∙ ap (λ n. first_of came (suc n)) front ∙ is.next (subst (λ n. n < last) front lt);
+        next = λ lt. first_again came k first octets (suc (kept_front new)) here ∙ ap (λ n. first_of came (suc n)) front ∙ is.next (subst (λ n. n < last) front lt);
         other = other ∙ ap (λ o. option_or o (cond (not (bytes_eq first octets)) (Some (k, octets)) None)) is.other ∙ sym (other_again came k first octets here);
       }
 
   -- a fragment that came for the first time
-  pub kept_new : kept_first kept k ≡ None → ((i : ℕ) → kept_first new i ≡ cond (i == k) (Some octets) (kept_first kept i)) → kept.front ≤ new.front → new.front ≤ last
-      → ((i : ℕ) → kept.front ≤ i → i < new.front → is_some (kept_first new (suc i)) ≡ true) → (new.front < last → kept_first new (suc new.front) ≡ None) → kept_other new ≡ kept_other kept
-      → IsCame last (came ++ (k, octets) ∷ []) new
-  kept_new none firsts onward within there next other =
+  pub kept_new : kept_first kept k ≡ None → ((i : ℕ) → kept_first new i ≡ cond (i == k) (Some octets) (kept_first kept i)) → kept_front new ≤ last
+      → (kept_front new < last → kept_first new (suc (kept_front new)) ≡ None) → kept_other new ≡ kept_other kept → IsCame last (came ++ (k, octets) ∷ []) new
+  kept_new none firsts within next other =
       let absent : first_of came k ≡ None = sym (is.firsts k) ∙ none in
       let all : (i : ℕ) → kept_first new i ≡ first_of (came ++ (k, octets) ∷ []) i =
       λ i. firsts i ∙ ap (cond (i == k) (Some octets)) (is.firsts i) ∙ sym (first_new came k octets i absent) in
-      record {
-        firsts = all;
-        within = within;
-        there = λ i lt. elim (cases_lt i kept.front) [
-          | inl before ↦ stays i before (is.there i before)
-          | inr behind ↦ ap is_some (sym (all (suc i))) ∙ there i behind lt
-        ];
-        next = λ lt. sym (all (suc new.front)) ∙ next lt;
-        other = other ∙ is.other ∙ sym (other_new came k octets absent);
-      }
-    where
-      by : (i : ℕ) (b : Bool) → is_some (first_of came (suc i)) ≡ true → is_some (cond b (Some octets) (first_of came (suc i))) ≡ true
-      by i true e = refl
-      by i false e = e
-
-      stays : (i : ℕ) → i < kept.front → is_some (first_of came (suc i)) ≡ true → is_some (first_of (came ++ (k, octets) ∷ []) (suc i)) ≡ true
-      stays i before e = ap is_some (first_new came k octets (suc i) (sym (is.firsts k) ∙ none)) ∙ by i (suc i == k) e
-
-  -- the next one after those that came
-  pub kept_next : k ≡ suc kept.front → kept.front < last → ((i : ℕ) → kept_first new i ≡ cond (i == k) (Some octets) (kept_first kept i)) → k ≤ new.front → new.front ≤ last
-      → ((i : ℕ) → k ≤ i → i < new.front → is_some (kept_first new (suc i)) ≡ true) → (new.front < last → kept_first new (suc new.front) ≡ None) → kept_other new ≡ kept_other kept
-      → IsCame last (came ++ (k, octets) ∷ []) new
-  kept_next follows more firsts onward within there next other =
-      let absent : kept_first kept k ≡ None = is.firsts k ∙ ap (first_of came) follows ∙ is.next more in
-      let here : kept_first new k ≡ Some octets = firsts k ∙ ap (λ b. cond b (Some octets) (kept_first kept k)) (own_number k) in
-      let each : (i : ℕ) → kept.front ≤ i → i < new.front → is_some (kept_first new (suc i)) ≡ true =
-      λ i ge lt. elim (cases_lt i k) [
-        | inl before ↦ (let same : suc i ≡ k = omega (arith, follows, ge, before) in ap (λ n. is_some (kept_first new n)) same ∙ ap is_some here)
-        | inr behind ↦ there i behind lt
-      ] in
-      kept_new absent firsts (omega (arith, follows, onward)) within each next other
+      record { firsts = all; within = within; next = λ lt. sym (all (suc (kept_front new))) ∙ next lt; other = other ∙ is.other ∙ sym (other_new came k octets absent) }
 
 -- what is kept at first
-pub kept_none : (last : ℕ) (kept : Came) → ((i : ℕ) → kept_first kept i ≡ None) → kept.front ≡ 0 → kept.other ≡ 0 → IsCame last [] kept
-kept_none last kept firsts front other = record {
-  firsts = firsts;
-  within = subst (λ n. n ≤ last) (sym front) (omega arith);
-  there = λ i lt. absurd (let none : i < 0 = subst (λ n. i < n) front lt in omega arith);
+pub kept_none : (last : ℕ) (kept : Came) → kept.front.items ≡ [] → ((i : ℕ) → get nat_cmp kept.ahead i ≡ None) → kept_front kept ≡ 0 → kept.other ≡ 0 → IsCame last [] kept
+kept_none last kept front ahead none other = record {
+  firsts = first;
+  within = subst (λ n. n ≤ last) (sym none) (omega arith);
   next = λ lt. refl;
   other = ap (λ n. cond (n == 0) None (Some (n, kept.octets.now))) other;
 }
-
-pub some_kept : {X : Type 0} (o : Option (Bor X)) → is_some o ≡ true → is_some (option_copied o) ≡ true
-some_kept None e = cc
-some_kept (Some x) e = refl
+  where
+    first : (i : ℕ) → kept_first kept i ≡ None
+    first zero = ap option_copied (ahead 0)
+    first (suc i) = ap (λ xs. option_or (option_copied (slice_get xs i)) (option_copied (get nat_cmp kept.ahead (suc i)))) front ∙ ap option_copied (ahead (suc i))
 
 -- ---- what can be put together
 
 -- each fragment is there
-pub all_there : (last : ℕ) (came : List (ℕ × List ℕ)) (kept : Came) → IsCame last came kept → 0 < last → last ≤ kept.front → (parts : List (List ℕ)) × (firsts_of came last ≡ Some parts)
+pub all_there : (last : ℕ) (came : List (ℕ × List ℕ)) (kept : Came) → IsCame last came kept → 0 < last → last ≤ kept_front kept → (parts : List (List ℕ)) × (firsts_of came last ≡ Some parts)
 all_there zero came kept is some whole = absurd (omega arith)
-all_there (suc last) came kept is some whole = parts_exist (λ i. first_of came (suc i)) (suc last) (λ i lt. found (first_of came (suc i)) (is.there i (omega arith)))
+all_there (suc last) came kept is some whole = parts_exist (λ i. first_of came (suc i)) (suc last) (λ i lt. found (first_of came (suc i)) (ap is_some (sym (is.firsts (suc i))) ∙ front_there kept i (omega arith)))
   where
     found : (o : Option (List ℕ)) → is_some o ≡ true → (octets : List ℕ) × (o ≡ Some octets)
     found None e = cc
     found (Some octets) e = (octets, refl)
 
 -- some fragment is not there
-pub not_there : (last : ℕ) (came : List (ℕ × List ℕ)) (kept : Came) → IsCame last came kept → kept.front < last → firsts_of came last ≡ None
+pub not_there : (last : ℕ) (came : List (ℕ × List ℕ)) (kept : Came) → IsCame last came kept → kept_front kept < last → firsts_of came last ≡ None
 not_there last came kept is less = by (firsts_of came last) refl
   where
     by : (o : Option (List (List ℕ))) → firsts_of came last ≡ o → firsts_of came last ≡ None
@@ -181,32 +164,32 @@ not_there last came kept is less = by (firsts_of came last) refl
     by (Some parts) e = absurd (clash (firsts_get came last parts e).0 (firsts_get came last parts e).2)
       where
         clash : length parts ≡ last → ((i : ℕ) (octets : List ℕ) → slice_get parts i ≡ Some octets → first_of came (suc i) ≡ Some octets) → ⊥
-        clash count gets = elim (slice_get_cases parts kept.front).1 [
-          | inl found ↦ let no : None ≡ Some found.0 = sym (is.next less) ∙ gets kept.front found.0 found.2 in cc
+        clash count gets = elim (slice_get_cases parts (kept_front kept)).1 [
+          | inl found ↦ let no : None ≡ Some found.0 = sym (is.next less) ∙ gets (kept_front kept) found.0 found.2 in cc
           | inr past ↦ let le = past.0 in omega arith
         ]
 
+pub below : (a b : ℕ) → a < b → nat_lt a b ≡ true
+below a b lt = grind (arith, nat_tests)
+
+pub not_below : (a b : ℕ) → b ≤ a → nat_lt a b ≡ false
+not_below a b le = grind (arith, nat_tests)
+
 -- how many samples there are
 abbrev pub sample_count : ℕ → Came → ℕ
-sample_count last kept = cond (nat_lt kept.front last) 0 (cond (kept.other == 0) 1 2)
+sample_count last kept = cond (nat_lt (kept_front kept) last) 0 (cond (kept.other == 0) 1 2)
 
 pub samples_counted : (last : ℕ) (came : List (ℕ × List ℕ)) (kept : Came) → IsCame last came kept → 0 < last → length (samples_of last came) ≡ sample_count last kept
-samples_counted last came kept is some = elim (cases_lt kept.front last) [
+samples_counted last came kept is some = elim (cases_lt (kept_front kept) last) [
   | inl less ↦
       ap (λ o. length (samples_by o (find (is_other came) came))) (not_there last came kept is less)
-      ∙ ap (λ b. cond b 0 (cond (kept.other == 0) 1 2)) (sym (below kept.front last less))
+      ∙ ap (λ b. cond b 0 (cond (kept.other == 0) 1 2)) (sym (below (kept_front kept) last less))
   | inr whole ↦
       let (parts, all) = all_there last came kept is some whole in
       ap (λ o. length (samples_by o (find (is_other came) came))) all ∙ ap (λ o. length (samples_by (Some parts) o)) (sym is.other) ∙ by (kept.other == 0) parts
-      ∙ ap (λ b. cond b 0 (cond (kept.other == 0) 1 2)) (sym (not_below kept.front last whole))
+      ∙ ap (λ b. cond b 0 (cond (kept.other == 0) 1 2)) (sym (not_below (kept_front kept) last whole))
 ]
   where
-    below : (a b : ℕ) → a < b → nat_lt a b ≡ true
-    below a b lt = grind (arith, nat_tests)
-
-    not_below : (a b : ℕ) → b ≤ a → nat_lt a b ≡ false
-    not_below a b le = grind (arith, nat_tests)
-
     by : (b : Bool) (parts : List (List ℕ)) → length (samples_by (Some parts) (cond b None (Some (kept.other, kept.octets.now)))) ≡ cond b 1 2
     by true parts = refl
     by false parts = refl
@@ -386,24 +369,34 @@ module _ (last : ℕ) (came : List (ℕ × List ℕ)) (kept : Came) (parts : Lis
       not_same : (a b : ℕ) → (a ≡ b → ⊥) → (a == b) ≡ false
       not_same a b ne = grind (arith, nat_tests)
 
-  pub joined_none : kept_first kept (i + 1) ≡ None → ⊥
-  joined_none none =
-      let more : suc i ≡ i + 1 = omega arith in
-      let clash : None ≡ Some found.0 = sym none ∙ ap (kept_first kept) (sym more) ∙ found.2 in
-      cc
-
 -- ---- consecutive fragments, one after another
+
+pub came_step : (first count fragment place index : ℕ) (parts : List (List ℕ)) (rest octets : List ℕ) → drop place parts ≡ parts_in fragment (count - place) rest → place < count → index ≡ first + place → octets ≡ take fragment rest
+    → came_from first (take (place + 1) parts) ≡ came_from first (take place parts) ++ (index, octets) ∷ []
+came_step first count fragment place index parts rest octets left lt at is =
+    let one : ℕ → List ℕ → ℕ × List ℕ = λ n o. (n, o) in
+    let more : suc place ≡ place + 1 = omega arith in
+    let step = came_more first place parts (take fragment rest) (parts_in fragment (count - suc place) (drop fragment rest)) (left ∙ parts_next fragment count place rest lt) in
+    sym (ap (λ n. came_from first (take place parts) ++ one n octets ∷ []) at ∙ ap (λ o. came_from first (take place parts) ++ one (first + place) o ∷ []) is ∙ sym step ∙ ap (λ n. came_from first (take n parts)) more)
 
 pub piece_step : (last first count fragment place index : ℕ) (parts : List (List ℕ)) (rest octets : List ℕ) (came : List (ℕ × List ℕ)) (new : Came) → drop place parts ≡ parts_in fragment (count - place) rest → place < count
     → index ≡ first + place → octets ≡ take fragment rest → IsCame last ((came ++ came_from first (take place parts)) ++ (index, octets) ∷ []) new
     → IsCame last (came ++ came_from first (take (place + 1) parts)) new
 piece_step last first count fragment place index parts rest octets came new left lt at is kept =
-    let one : ℕ → List ℕ → ℕ × List ℕ = λ n o. (n, o) in
-    let more : suc place ≡ place + 1 = omega arith in
-    let step = came_more first place parts (take fragment rest) (parts_in fragment (count - suc place) (drop fragment rest)) (left ∙ parts_next fragment count place rest lt) in
-    let path : came_from first (take place parts) ++ (index, octets) ∷ [] ≡ came_from first (take (place + 1) parts) =
-    ap (λ n. came_from first (take place parts) ++ one n octets ∷ []) at ∙ ap (λ o. came_from first (take place parts) ++ one (first + place) o ∷ []) is ∙ sym step ∙ ap (λ n. came_from first (take n parts)) more in
-    subst (λ cs. IsCame last cs new) (append_assoc came (came_from first (take place parts)) ((index, octets) ∷ []) ∙ ap (λ cs. came ++ cs) path) kept
+    subst (λ cs. IsCame last cs new) (append_assoc came (came_from first (take place parts)) ((index, octets) ∷ []) ∙ ap (λ cs. came ++ cs) (sym (came_step first count fragment place index parts rest octets left lt at is))) kept
+
+-- all of them have a property where those so far do, and not where the next one does not
+pub all_step : (test : ℕ × List ℕ → Bool) (so_far : List (ℕ × List ℕ)) (one : ℕ × List ℕ) → list_all test so_far ≡ true → test one ≡ true → list_all test (so_far ++ one ∷ []) ≡ true
+all_step test so_far one each is = list_all-append test so_far (one ∷ []) ∙ ap (λ b. b && (test one && true)) each ∙ ap (λ b. b && true) is
+
+pub not_all : (test : ℕ × List ℕ → Bool) (first place : ℕ) (parts : List (List ℕ)) (so_far : List (ℕ × List ℕ)) (one : ℕ × List ℕ) → came_from first (take (place + 1) parts) ≡ so_far ++ one ∷ [] → test one ≡ false
+    → list_all test (came_from first parts) ≡ false
+not_all test first place parts so_far one step never =
+    let front = take (place + 1) parts in
+    let back = drop (place + 1) parts in
+    ap (λ ps. list_all test (came_from first ps)) (sym (take-append-drop (place + 1) parts)) ∙ ap (list_all test) (came-append first front back)
+    ∙ list_all-append test (came_from first front) (came_from (first + length front) back)
+    ∙ ap (λ b. b && list_all test (came_from (first + length front) back)) (ap (list_all test) step ∙ list_all-append test so_far (one ∷ []) ∙ ap (λ b. list_all test so_far && (b && true)) never ∙ and-false (list_all test so_far))
 
 pub length-parts_in : (fragment count : ℕ) (octets : List ℕ) → length (parts_in fragment count octets) ≡ count
 length-parts_in fragment zero octets = refl

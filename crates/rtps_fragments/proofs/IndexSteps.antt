@@ -1,5 +1,5 @@
 -- What an index takes in of a recording with its samples, with one datagram more.
-use Rattle.std.proofs.Common.{◌≡◌, ℕ, zero, suc, ◌+◌, ◌<◌, ◌≤◌, List, [], ◌∷◌, ◌++◌, drop, length, map, take, get_or, Bor, Option, Some, None, slice_get, refl, sym, ◌∙◌, ap, subst, arith, inl, inr, append_assoc, append-nil}
+use Rattle.std.proofs.Common.{◌≡◌, ℕ, ◌+◌, ◌<◌, ◌≤◌, List, [], ◌∷◌, ◌++◌, drop, length, map, take, get_or, Bor, Option, Some, None, slice_get, refl, sym, ◌∙◌, ap, subst, arith, inl, inr}
 use Rattle.std.specs.Prelude.{Contains}
 use Rattle.std.specs.Global.{Vec}
 use Rattle.std.proofs.lemmas.List.{length-map, length-take-le, map-append, take-map, take_more}
@@ -19,25 +19,25 @@ use Rattle.rtps_receiver.specs.declared.state.State.{State}
 use Rattle.rtps_audit.specs.Speech.{announced_of_body}
 use Rattle.rtps_audit.specs.Intake.{Intake, intake_more}
 use Rattle.rtps_audit.proofs.Offered.{contains_cases, contains_mapped, contains_none, get_mapped, if_some}
-use Rattle.rtps_fragments.specs.Announcing.{acts_and_notes, announcing_with, datagrams_and_notes}
+use Rattle.rtps_fragments.specs.Announcing.{announcing_with, notes_told}
 use Rattle.rtps_fragments.specs.FragmentDelivery.{Piece}
 use Rattle.rtps_fragments.specs.Laws.{ArePieceActs, IsPieceAct}
-use Rattle.rtps_fragments.proofs.CameLemmas.{length-parts_in}
 use Rattle.rtps_fragments.specs.Merging.{IsFragmentAct, merged_from, sents_from, sents_in}
-use Rattle.rtps_fragments.specs.Overheard.{overheard_by_datagram, overheard_in_turn}
-use Rattle.rtps_fragments.specs.RecordedSamples.{AreSamplesOf, tally_with, told_by_datagram}
-use Rattle.rtps_fragments.specs.SampleActs.{PieceAct, acts_and_samples, datagrams_and_samples, piece_acts_in}
+use Rattle.rtps_fragments.specs.RecordedSamples.{AreSamplesOf, by_datagram, tally_with}
+use Rattle.rtps_fragments.specs.SampleActs.{PieceAct, acts_and, acts_with_samples, piece_acts_in, samples_told}
 use Rattle.rtps_fragments.specs.Sending.{asks_at, fragments_at, piece_acts_of, piece_acts_of_item, piece_acts_with, piece_of, sending_of, skipped_acts, unusable_in}
-use Rattle.rtps_fragments.specs.Telling.{SentValue, ToldValue, told_in_turn, told_value}
+use Rattle.rtps_fragments.specs.Telling.{SentValue, ToldValue, in_turn, overheard_behind, told_behind, told_value}
+use Rattle.rtps_fragments.specs.Whole.{tally_left, tally_with_fragments}
+use Rattle.rtps_fragments.specs.declared.merging.SampleForm.{SampleForm}
+use Rattle.rtps_fragments.specs.declared.merging.SampleForm.TheVariants.{ForAudience, ForEveryone}
 use Rattle.rtps_fragments.specs.declared.samples.Samples.{Samples}
 use Rattle.rtps_fragments.specs.declared.told_sample.ToldSample.{ToldSample}
-use Rattle.rtps_fragments.specs.declared.merging.SampleForm.TheVariants.{ForAudience, ForEveryone}
-use Rattle.rtps_fragments.specs.Whole.{tally_left, tally_with_fragments}
+use Rattle.rtps_fragments.proofs.ActsAnd.{length-acts, next_acts}
 use Rattle.rtps_fragments.proofs.Audiences.{flat_from}
-use Rattle.rtps_fragments.proofs.MergingLemmas.{AreFragmentActs, matches_all, merged_is}
-use Rattle.rtps_fragments.proofs.NoteLemmas.{merged_notes_are, notes_next, overhears_all}
-use Rattle.rtps_fragments.proofs.OverheardLemmas.{length-overheard, overheard_there}
-use Rattle.rtps_fragments.proofs.SampleSteps.{octets_of, sending_next}
+use Rattle.rtps_fragments.proofs.CameLemmas.{length-parts_in}
+use Rattle.rtps_fragments.proofs.MergingLemmas.{AreFragmentActs, TellsAs, merged_is, sent_all, told_as_samples}
+use Rattle.rtps_fragments.proofs.NoteLemmas.{noted_as_samples, overhears}
+use Rattle.rtps_fragments.proofs.SampleSteps.{length-told, octets_of, sending_next, told_there}
 use Rattle.rtps_fragments.proofs.WholeLemmas.{all_alike, left_alike}
 
 -- ---- the pieces of a recording are of DATA_FRAG
@@ -134,44 +134,15 @@ fragments_of_recording recording one piece among is =
 
 -- ---- one datagram more
 
-pub samples_next : (all before : List PieceAct) (recording : List (List PieceAct)) (acts : List PieceAct)
-    → datagrams_and_samples all before (recording ++ acts ∷ []) ≡ datagrams_and_samples all before recording ++ acts_and_samples all (before ++ piece_acts_in recording) acts ∷ []
-samples_next all before [] acts = ap (λ bs. acts_and_samples all bs acts ∷ []) (sym (append-nil before))
-samples_next all before (first ∷ recording) acts =
-    ap (λ ds. acts_and_samples all before first ∷ ds) (samples_next all (before ++ first) recording acts)
-    ∙ ap (λ bs. datagrams_and_samples all before (first ∷ recording) ++ acts_and_samples all bs acts ∷ []) (append_assoc before first (piece_acts_in recording))
-
--- what one datagram of a recording tells
-pub told_there : (all before : List SentValue) (recording : List (List PieceAct)) (i : ℕ) (acts : List PieceAct) → slice_get recording i ≡ Some acts
-    → slice_get (told_by_datagram all before recording) i ≡ Some (told_in_turn all (before ++ sents_in (take i recording)) (sents_from 0 acts))
-told_there all before [] i acts e = cc
-told_there all before (first ∷ recording) zero acts e =
-    let is : first ≡ acts = (let h = e in cc) in
-    ap Some (ap (λ ss. told_in_turn all ss (sents_from 0 first)) (sym (append-nil before)) ∙ ap (λ a. told_in_turn all (before ++ []) (sents_from 0 a)) is)
-told_there all before (first ∷ recording) (suc i) acts e =
-    told_there all (before ++ sents_from 0 first) recording i acts e ∙ ap (λ ss. Some (told_in_turn all ss (sents_from 0 acts))) (append_assoc before (sents_from 0 first) (sents_in (take i recording)))
-
-pub length-told : (all before : List SentValue) (recording : List (List PieceAct)) → length (told_by_datagram all before recording) ≡ length recording
-length-told all before [] = refl
-length-told all before (acts ∷ recording) = ap suc (length-told all (before ++ sents_from 0 acts) recording)
-
-pub length-samples : (all before : List PieceAct) (recording : List (List PieceAct)) → length (datagrams_and_samples all before recording) ≡ length recording
-length-samples all before [] = refl
-length-samples all before (acts ∷ recording) = ap suc (length-samples all (before ++ acts) recording)
-
-length-notes : (before : List PieceAct) (recording : List (List PieceAct)) → length (datagrams_and_notes before recording) ≡ length recording
-length-notes before [] = refl
-length-notes before (acts ∷ recording) = ap suc (length-notes (before ++ acts) recording)
-
 -- there are samples for each datagram
 pub told_count : (recording : List (Bor (List ℕ))) (samples : Samples) → AreSamplesOf (octets_of recording) samples → length samples.told.items ≡ length recording
 told_count recording samples are =
-    sym (length-map samples.told.items (λ (t : Vec ToldSample). map told_value t.items)) ∙ ap length are.told ∙ length-told (sents_in (sending_of (octets_of recording))) [] (sending_of (octets_of recording))
+    sym (length-map samples.told.items (λ (t : Vec ToldSample). map told_value t.items)) ∙ ap length are.told ∙ length-told told_behind [] (sending_of (octets_of recording))
     ∙ length-map (octets_of recording) piece_acts_of ∙ length-map recording (λ datagram. datagram.now)
 
-pub overheard_count : (recording : List (Bor (List ℕ))) (samples : Samples) → AreSamplesOf (octets_of recording) samples → length samples.overheard.told.items ≡ length recording
+pub overheard_count : (recording : List (Bor (List ℕ))) (samples : Samples) → AreSamplesOf (octets_of recording) samples → length samples.overheard.items ≡ length recording
 overheard_count recording samples are =
-    sym (length-map samples.overheard.told.items (λ (t : Vec ToldSample). map told_value t.items)) ∙ ap length are.overheard ∙ length-overheard [] (sending_of (octets_of recording))
+    sym (length-map samples.overheard.items (λ (t : Vec ToldSample). map told_value t.items)) ∙ ap length are.overheard ∙ length-told overheard_behind [] (sending_of (octets_of recording))
     ∙ length-map (octets_of recording) piece_acts_of ∙ length-map recording (λ datagram. datagram.now)
 
 -- what is kept at a place is what is told there
@@ -186,14 +157,14 @@ abbrev pub taken : List (Bor (List ℕ)) → ℕ → Intake
 taken xs i =
     record {
       tallies = map (tally_with (piece_acts_in (sending_of (octets_of xs)))) (octets_of (take i xs));
-      acts = datagrams_and_samples (piece_acts_in (sending_of (octets_of xs))) [] (sending_of (octets_of (take i xs)));
+      acts = acts_with_samples (sending_of (octets_of (take i xs)));
       announcing = announcing_with (sending_of (octets_of (take i xs)));
     }
 
 -- how many datagrams have announced something of them
 pub announced_count : (xs : List (Bor (List ℕ))) (i : ℕ) → i ≤ length xs → length (taken xs i).announcing ≡ i
 announced_count xs i le =
-    length-notes [] (sending_of (octets_of (take i xs))) ∙ length-map (octets_of (take i xs)) piece_acts_of ∙ length-map (take i xs) (λ (datagram : Bor (List ℕ)). datagram.now) ∙ length-take-le i xs le
+    length-acts notes_told [] (sending_of (octets_of (take i xs))) ∙ length-map (octets_of (take i xs)) piece_acts_of ∙ length-map (take i xs) (λ (datagram : Bor (List ℕ)). datagram.now) ∙ length-take-le i xs le
 
 module _ (xs : List (Bor (List ℕ))) (i : ℕ) (d : Bor (List ℕ)) (lt : i < length xs) where
   abbrev octets : List ℕ
@@ -209,26 +180,13 @@ module _ (xs : List (Bor (List ℕ))) (i : ℕ) (d : Bor (List ℕ)) (lt : i < l
   so_far = take-map piece_acts_of i (octets_of xs) ∙ ap (map piece_acts_of) (take-map (λ (datagram : Bor (List ℕ)). datagram.now) i xs)
 
   -- the acts of a datagram with what they tell among them
-  pub merged_here : (told : List ToldValue) → slice_get (told_by_datagram (sents_in (sending_of (octets_of xs))) [] (sending_of (octets_of xs))) i ≡ Some told
-      → merged_from ForAudience 0 (map (λ one. one.act) (piece_acts_of (get_or xs i d).now)) told
-      ≡ acts_and_samples (piece_acts_in (sending_of (octets_of xs))) (piece_acts_in (sending_of (octets_of (take i xs)))) (piece_acts_of (get_or xs i d).now)
-  merged_here told at =
-      let same : told ≡ told_in_turn (sents_in sending) (sents_in (take i sending)) (sents_from 0 (piece_acts_of octets)) = one_item _ _ (sym at ∙ told_there (sents_in sending) [] sending i (piece_acts_of octets) there) in
-      ap (merged_from ForAudience 0 (map (λ (one : PieceAct). one.act) (piece_acts_of octets))) (same ∙ ap (λ (r : List (List PieceAct)). told_in_turn (sents_in sending) (sents_in r) (sents_from 0 (piece_acts_of octets))) so_far)
-      ∙ merged_is (piece_acts_in sending) (sents_in sending) (matches_all sending (fragments_of_recording (octets_of xs)))
-      (piece_acts_in (sending_of (octets_of (take i xs)))) (sents_in (sending_of (octets_of (take i xs)))) (matches_all (sending_of (octets_of (take i xs))) (fragments_of_recording (octets_of (take i xs))))
-      0 (piece_acts_of octets) (fragments_of_datagram octets)
-    where
-      one_item : {X : Type 0} (x y : X) → Some x ≡ Some y → x ≡ y
-      one_item x y e = cc
-
-  -- and with what they tell a reader that hears everything
-  pub noted_here : (noted : List ToldValue) → slice_get (overheard_by_datagram [] (sending_of (octets_of xs))) i ≡ Some noted
-      → merged_from ForEveryone 0 (map (λ one. one.act) (piece_acts_of (get_or xs i d).now)) noted ≡ acts_and_notes (piece_acts_in (sending_of (octets_of (take i xs)))) (piece_acts_of (get_or xs i d).now)
-  noted_here noted at =
-      let same : noted ≡ overheard_in_turn (sents_in (take i sending)) (sents_from 0 (piece_acts_of octets)) = one_item _ _ (sym at ∙ overheard_there [] sending i (piece_acts_of octets) there) in
-      ap (merged_from ForEveryone 0 (map (λ (one : PieceAct). one.act) (piece_acts_of octets))) (same ∙ ap (λ (r : List (List PieceAct)). overheard_in_turn (sents_in r) (sents_from 0 (piece_acts_of octets))) so_far)
-      ∙ merged_notes_are (piece_acts_in (sending_of (octets_of (take i xs)))) (sents_in (sending_of (octets_of (take i xs)))) (overhears_all (sending_of (octets_of (take i xs))) (fragments_of_recording (octets_of (take i xs))))
+  merged_here : (form : SampleForm) (tell : List SentValue → SentValue → List ToldValue) (others : List PieceAct → ActValue → Option Piece → List ActValue) → TellsAs form tell others → (told : List ToldValue)
+      → slice_get (by_datagram tell [] (sending_of (octets_of xs))) i ≡ Some told
+      → merged_from form 0 (map (λ one. one.act) (piece_acts_of (get_or xs i d).now)) told ≡ acts_and others (piece_acts_in (sending_of (octets_of (take i xs)))) (piece_acts_of (get_or xs i d).now)
+  merged_here form tell others tells told at =
+      let same : told ≡ in_turn tell (sents_in (take i sending)) (sents_from 0 (piece_acts_of octets)) = one_item _ _ (sym at ∙ told_there tell [] sending i (piece_acts_of octets) there) in
+      ap (merged_from form 0 (map (λ (one : PieceAct). one.act) (piece_acts_of octets))) (same ∙ ap (λ (r : List (List PieceAct)). in_turn tell (sents_in r) (sents_from 0 (piece_acts_of octets))) so_far)
+      ∙ merged_is form tell others tells (piece_acts_in (sending_of (octets_of (take i xs)))) (sents_in (sending_of (octets_of (take i xs)))) (sent_all (sending_of (octets_of (take i xs))) (fragments_of_recording (octets_of (take i xs))))
       0 (piece_acts_of octets) (fragments_of_datagram octets)
     where
       one_item : {X : Type 0} (x y : X) → Some x ≡ Some y → x ≡ y
@@ -238,17 +196,17 @@ module _ (xs : List (Bor (List ℕ))) (i : ℕ) (d : Bor (List ℕ)) (lt : i < l
   pub tallied_here : tally_left (sents_in (sending_of (octets_of xs))) (get_or xs i d).now ≡ tally_with (piece_acts_in (sending_of (octets_of xs))) (get_or xs i d).now
   tallied_here =
       let frags = fragments_of_recording (octets_of xs) in
-      let overhears = overhears_all sending frags in
+      let heard = overhears (piece_acts_in sending) (sents_in sending) (sent_all sending frags) in
       ap (λ n. tally_with_fragments (tally_of (reading_of octets)) (unusable_in octets + n))
-      (left_alike (piece_acts_in sending) (sents_in sending) overhears (λ number. all_alike (piece_acts_in sending) (sents_in sending) overhears number sending frags) 0 (piece_acts_of octets))
+      (left_alike (piece_acts_in sending) (sents_in sending) heard (λ number. all_alike (piece_acts_in sending) (sents_in sending) heard number sending frags) 0 (piece_acts_of octets))
 
   read_next : {Y : Type 0} (f : List ℕ → Y) → map f (octets_of (take (i + 1) xs)) ≡ map f (octets_of (take i xs)) ++ f (get_or xs i d).now ∷ []
   read_next f =
       ap (λ ys. map f (octets_of ys)) (take_more xs i d lt) ∙ ap (map f) (map-append (λ (datagram : Bor (List ℕ)). datagram.now) (take i xs) (get_or xs i d ∷ [])) ∙ map-append f (octets_of (take i xs)) (octets ∷ [])
 
   -- what is taken in, with one datagram more
-  pub taken_more : (told noted : List ToldValue) → slice_get (told_by_datagram (sents_in (sending_of (octets_of xs))) [] (sending_of (octets_of xs))) i ≡ Some told
-      → slice_get (overheard_by_datagram [] (sending_of (octets_of xs))) i ≡ Some noted
+  pub taken_more : (told noted : List ToldValue) → slice_get (by_datagram told_behind [] (sending_of (octets_of xs))) i ≡ Some told
+      → slice_get (by_datagram overheard_behind [] (sending_of (octets_of xs))) i ≡ Some noted
       → intake_more (taken xs i) (tally_left (sents_in (sending_of (octets_of xs))) (get_or xs i d).now) (merged_from ForAudience 0 (map (λ one. one.act) (piece_acts_of (get_or xs i d).now)) told) (merged_from ForEveryone 0 (map (λ one. one.act) (piece_acts_of (get_or xs i d).now)) noted) ≡ taken xs (i + 1)
   taken_more told noted at also =
       let announced = merged_from ForEveryone 0 (map (λ (one : PieceAct). one.act) (piece_acts_of octets)) noted in
@@ -256,5 +214,5 @@ module _ (xs : List (Bor (List ℕ))) (i : ℕ) (d : Bor (List ℕ)) (lt : i < l
       let two : List (List ActValue) → Intake = λ a. record { tallies = (taken xs (i + 1)).tallies; acts = a; announcing = (taken xs i).announcing ++ announced ∷ [] } in
       let three : List (List ActValue) → Intake = λ a. record { tallies = (taken xs (i + 1)).tallies; acts = (taken xs (i + 1)).acts; announcing = a } in
       ap one (ap (λ t. (taken xs i).tallies ++ t ∷ []) tallied_here ∙ sym (read_next (tally_with (piece_acts_in sending))))
-      ∙ ap two (ap (λ a. (taken xs i).acts ++ a ∷ []) (merged_here told at) ∙ sym (ap (datagrams_and_samples (piece_acts_in sending) []) (sending_next xs i d lt) ∙ samples_next (piece_acts_in sending) [] (sending_of (octets_of (take i xs))) (piece_acts_of octets)))
-      ∙ ap three (ap (λ a. (taken xs i).announcing ++ a ∷ []) (noted_here noted also) ∙ sym (ap announcing_with (sending_next xs i d lt) ∙ notes_next [] (sending_of (octets_of (take i xs))) (piece_acts_of octets)))
+      ∙ ap two (ap (λ a. (taken xs i).acts ++ a ∷ []) (merged_here ForAudience told_behind samples_told told_as_samples told at) ∙ sym (ap acts_with_samples (sending_next xs i d lt) ∙ next_acts samples_told [] (sending_of (octets_of (take i xs))) (piece_acts_of octets)))
+      ∙ ap three (ap (λ a. (taken xs i).announcing ++ a ∷ []) (merged_here ForEveryone overheard_behind notes_told noted_as_samples noted also) ∙ sym (ap announcing_with (sending_next xs i d lt) ∙ next_acts notes_told [] (sending_of (octets_of (take i xs))) (piece_acts_of octets)))

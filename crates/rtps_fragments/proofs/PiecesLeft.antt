@@ -19,7 +19,7 @@ use Rattle.rtps_audit.specs.Speech.{speech_by}
 use Rattle.rtps_fragments.specs.SampleActs.{PieceAct, fragment_speech_of, fragments_in, piece_acts_in}
 use Rattle.rtps_fragments.specs.SamplesSent.{is_left, is_some_payload, is_whole, sent_by}
 use Rattle.rtps_fragments.proofs.ActsTell.{fragment_bounds}
-use Rattle.rtps_fragments.proofs.Audiences.{flat_from}
+use Rattle.rtps_fragments.proofs.Audiences.{any_from, flat_from}
 use Rattle.rtps_fragments.proofs.HeardLemmas.{heard_from}
 use Rattle.rtps_fragments.proofs.PutTogether.{EachOf, IsWithin, put_of, some_of_shape}
 
@@ -36,21 +36,6 @@ verdict_stays of_acts stay from writer reader recording verdict none =
     (of_acts from writer reader recording verdict (no_parts recording none))
 
 -- ---- pieces of no sample
-
-pub any_from : {X : Type 0} (test : X → Bool) (xs : List X) (x : X) → Contains xs x → test x ≡ true → list_any test xs ≡ true
-any_from test [] x among is = absurd (contains_none x among)
-any_from test (y ∷ ys) x among is = elim (contains_cases y ys x among) [
-  | inl here ↦ first (test y) (ap test here ∙ is)
-  | inr there ↦ later (test y) (any_from test ys x there is)
-]
-  where
-    first : (b : Bool) → b ≡ true → (b || list_any test ys) ≡ true
-    first true e = refl
-    first false e = cc
-
-    later : (b : Bool) → list_any test ys ≡ true → (b || list_any test ys) ≡ true
-    later true e = refl
-    later false e = e
 
 none_from : {X : Type 0} (test : X → Bool) (xs : List X) → ((x : X) → Contains xs x → test x ≡ false) → list_any test xs ≡ false
 none_from test [] none = refl

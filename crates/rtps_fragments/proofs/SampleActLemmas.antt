@@ -1,27 +1,32 @@
 -- The samples that are told as acts of one datagram, for one writer and one reader.
-use Rattle.std.proofs.Common.{◌≡◌, ℕ, Bool, true, false, cond, ◌&&◌, List, [], ◌∷◌, ◌++◌, map, Option, Some, None, refl, sym, ◌∙◌, ap, subst, inl, inr, ◌⊎◌, append_assoc, append-nil}
+use Rattle.std.proofs.Common.{◌≡◌, ℕ, suc, Bool, true, false, cond, ◌&&◌, List, [], ◌∷◌, ◌++◌, map, filter, Option, Some, None, refl, sym, ◌∙◌, ap, subst, inl, inr, ◌⊎◌, append_assoc, append-nil}
 use Rattle.std.specs.Prelude.{Contains, ◌==◌}
-use Rattle.std.specs.List.{flat_map}
+use Rattle.std.specs.List.{cons_option, filter_map, flat_map}
 use Rattle.std.proofs.lemmas.Bool.Decides.{Decides-eqb}
-use Rattle.std.proofs.lemmas.List.Elements.{Contains-append_left, Contains-append_right, Contains-append_cases}
+use Rattle.std.proofs.lemmas.List.Concat.{flat_map-append}
+use Rattle.std.proofs.lemmas.List.Elements.{Contains-append_left, Contains-append_right, Contains-append_cases, filter-append, filter_map-append}
 use Rattle.std.proofs.lemmas.Bool.{and_from, and_parts}
+use Rattle.std.proofs.Math.Bool.{and-false}
 use Rattle.rtps_ids.specs.declared.identity.EntityId.{EntityId}
 use Rattle.rtps_ids.specs.declared.identity.Guid.{Guid}
 use Rattle.rtps_ids.specs.declared.identity.GuidPrefix.{GuidPrefix}
 use Rattle.rtps_wire.specs.Values.{PayloadValue}
-use Rattle.rtps_receiver.specs.Speech.{entity_from, is_among, is_heard_by, is_prefix, is_spoken_by, names, origin_of, writer_named}
+use Rattle.rtps_receiver.specs.Speech.{entity_from, is_among, is_heard_by, is_prefix, is_spoken_by, names, origin_of, reader_named, writer_named}
 use Rattle.rtps_receiver.specs.Values.{ActValue}
+use Rattle.rtps_receiver.specs.declared.speech.Audience.{Audience}
 use Rattle.rtps_audit.specs.Delivery.{Word}
 use Rattle.rtps_audit.specs.Delivery.Word.{Told}
 use Rattle.rtps_audit.specs.Speech.{word_for, word_of}
-use Rattle.rtps_audit.proofs.Offered.{contains_cases, contains_head, contains_mapped, contains_none, contains_tail, if_some, kept_if_passed, mapped_contains}
-use Rattle.rtps_fragments.specs.FragmentDelivery.{Fragment, Piece, Shape, fragments_of}
-use Rattle.rtps_fragments.specs.Samples.{payloads_of, told_by}
-use Rattle.rtps_receiver.specs.declared.speech.Audience.{Audience}
-use Rattle.rtps_fragments.specs.SampleActs.{PieceAct, acts_and_samples, audiences_among, fragments_in, is_piece_of, acts_of_sample, reaches, sample_act, samples_told, sent_to, told_to}
-use Rattle.rtps_fragments.proofs.Audiences.{entity_is, flat_from, flat_has, least_audience, prefix_is, reached_is_heard}
-use Rattle.rtps_fragments.proofs.HeardLemmas.{IsToldBy, came_alike, heard_from, heard_of, one_more, told_alike}
-use Rattle.rtps_fragments.proofs.ToldLemmas.{IsPut, if_then, own_shape, told_is_come}
+use Rattle.rtps_audit.proofs.Offered.{contains_cases, contains_head, contains_mapped, contains_none, contains_tail, if_some, kept_is_there, mapped_contains}
+use Rattle.rtps_fragments.specs.Came.{came_from}
+use Rattle.rtps_fragments.specs.FragmentDelivery.{Fragment, Piece, Shape, fragments_from, fragments_of, last_fragment, payload_by}
+use Rattle.rtps_fragments.specs.Listeners.{Offer, came_to, hearing_of, hears, is_for_audience, silence, tells}
+use Rattle.rtps_fragments.specs.Samples.{came_of, is_of, samples_of}
+use Rattle.rtps_fragments.specs.SampleActs.{PieceAct, act_of_told, acts_and_samples, acts_of_sample, fragments_in, is_piece_of, offered, offered_by, offers_of, sample_act, samples_told, sent_to_whom}
+use Rattle.rtps_fragments.proofs.Audiences.{entity_is, flat_from, hears-more, prefix_is, sound_of}
+use Rattle.rtps_fragments.proofs.HeardLemmas.{heard-cons, heard_of, heard_one}
+use Rattle.rtps_fragments.proofs.HearingLemmas.{AllTold, ToldNow, all_told, has_reader, heard_by, kept_passes, news_sent, told_is_put, wide_has}
+use Rattle.rtps_fragments.proofs.ToldLemmas.{IsPut, fragment_of, if_then, none_came, own_shape, same_sample}
 
 -- ---- who speaks
 
@@ -40,31 +45,139 @@ spoken_is_origin act writer named spoken =
 pub sample_spoken : (act : ActValue) (n : ℕ) (audience : Audience) (payload : PayloadValue) (writer : Guid) → NamesItsWriter act → is_spoken_by (sample_act act n audience payload) writer ≡ is_spoken_by act writer
 sample_spoken act n audience payload writer named = ap (λ o. is_prefix act.source writer.prefix && names o writer.entity) (sym named)
 
-and_if : (a b c : Bool) → (a ≡ true → b ≡ c) → (a && b) ≡ (a && c)
-and_if true b c e = e refl
-and_if false b c e = refl
+-- an act that names a reader is sent to it
+abbrev pub NamesItsReader : ActValue → Type 0
+NamesItsReader act = reader_named act.body ≡ Some (sent_to_whom act).reader
 
--- the same with the writer named, and not found from the act
-abbrev told_for : Guid → List PieceAct → ActValue → Piece → Audience → List ActValue
-told_for writer before act piece audience = cond (reaches act audience) (map (sample_act act piece.number audience) (told_by (sent_to writer audience before) piece)) []
+-- each act with a piece names its writer and its reader
+abbrev pub NamesAll : List PieceAct → Type 0
+NamesAll acts = (part : PieceAct) (piece : Piece) → Contains acts part → part.piece ≡ Some piece → NamesItsWriter part.act × NamesItsReader part.act
 
-abbrev samples_for : Guid → List PieceAct → List PieceAct → ActValue → Piece → List ActValue
-samples_for writer all before act piece = flat_map (told_for writer before act piece) (audiences_among (acts_of_sample writer piece.number piece.shape all))
+-- whom it is sent to has the reader just where the reader hears it
+pub heard_alike : (act : ActValue) (reader : Guid) → NamesItsReader act → has_reader (sent_to_whom act) reader ≡ is_heard_by act reader
+heard_alike act reader named = ap (λ o. is_among act.dest o reader) (sym named)
 
--- each act with a piece names its writer
-abbrev pub NameTheirWriters : List PieceAct → Type 0
-NameTheirWriters parts = (part : PieceAct) (piece : Piece) → Contains parts part → part.piece ≡ Some piece → NamesItsWriter part.act
+-- ---- what is sent of a sample
+
+pub offers-append : (writer : Guid) (n : ℕ) (shape : Shape) (xs ys : List PieceAct) → offers_of writer n shape (xs ++ ys) ≡ offers_of writer n shape xs ++ offers_of writer n shape ys
+offers-append writer n shape xs ys =
+    ap (flat_map (λ (one : PieceAct). offered_by one.act one.piece)) (filter-append (λ (one : PieceAct). is_spoken_by one.act writer && is_piece_of n shape one.piece) xs ys)
+    ∙ flat_map-append (λ (one : PieceAct). offered_by one.act one.piece) (acts_of_sample writer n shape xs) (acts_of_sample writer n shape ys)
+
+-- by one act
+pub offers_one : (writer : Guid) (n : ℕ) (shape : Shape) (part : PieceAct) (piece : Piece) → part.piece ≡ Some piece → offers_of writer n shape (part ∷ []) ≡ cond (is_spoken_by part.act writer && is_of n shape piece.number piece.shape) (offered part.act piece ∷ []) []
+offers_one writer n shape part piece is =
+    ap (λ o. flat_map (λ (one : PieceAct). offered_by one.act one.piece) (cond (is_spoken_by part.act writer && is_piece_of n shape o) (part ∷ []) [])) is ∙ by (is_spoken_by part.act writer && is_of n shape piece.number piece.shape)
+  where
+    by : (b : Bool) → flat_map (λ (one : PieceAct). offered_by one.act one.piece) (cond b (part ∷ []) []) ≡ cond b (offered part.act piece ∷ []) []
+    by true = ap (λ o. offered_by part.act o ++ []) is
+    by false = refl
+
+pub offers_none : (writer : Guid) (n : ℕ) (shape : Shape) (part : PieceAct) → part.piece ≡ None → offers_of writer n shape (part ∷ []) ≡ []
+offers_none writer n shape part is = ap (λ b. flat_map (λ (one : PieceAct). offered_by one.act one.piece) (cond b (part ∷ []) [])) (ap (λ o. is_spoken_by part.act writer && is_piece_of n shape o) is ∙ and-false (is_spoken_by part.act writer))
+
+-- what is sent was sent by an act
+pub offers_from : (writer : Guid) (n : ℕ) (shape : Shape) (acts : List PieceAct) (offer : Offer) → Contains (offers_of writer n shape acts) offer
+    → (part : PieceAct) × (piece : Piece) × Contains acts part × (part.piece ≡ Some piece) × (is_spoken_by part.act writer ≡ true) × (is_of n shape piece.number piece.shape ≡ true) × (offered part.act piece ≡ offer)
+offers_from writer n shape acts offer among =
+    let test : PieceAct → Bool = λ one. is_spoken_by one.act writer && is_piece_of n shape one.piece in
+    let (part, kept, made) = flat_from (λ (one : PieceAct). offered_by one.act one.piece) (acts_of_sample writer n shape acts) offer among in
+    let (spoken, its) = and_parts (is_spoken_by part.act writer) (is_piece_of n shape part.piece) (kept_passes test acts part kept) in
+    by part (kept_is_there test acts part kept) spoken part.piece refl its made
+  where
+    by : (part : PieceAct) → Contains acts part → is_spoken_by part.act writer ≡ true → (o : Option Piece) → part.piece ≡ o → is_piece_of n shape o ≡ true → Contains (offered_by part.act o) offer
+        → (part : PieceAct) × (piece : Piece) × Contains acts part × (part.piece ≡ Some piece) × (is_spoken_by part.act writer ≡ true) × (is_of n shape piece.number piece.shape ≡ true) × (offered part.act piece ≡ offer)
+    by part there spoken None is its made = absurd (contains_none offer made)
+    by part there spoken (Some piece) is its made = elim (contains_cases (offered part.act piece) [] offer made) [
+      | inl here ↦ (part, piece, there, is, spoken, its, here)
+      | inr nothing ↦ absurd (contains_none offer nothing)
+    ]
+
+only_here : {X : Type 0} (x : X) (xs : List X) (y : X) → Contains (x ∷ []) y → Contains (x ∷ xs) y
+only_here x xs y among = elim (contains_cases x [] y among) [
+  | inl here ↦ subst (Contains (x ∷ xs)) here (contains_head x xs)
+  | inr nothing ↦ absurd (contains_none y nothing)
+]
+
+-- ---- fragments of a sample
+
+own_came : (n : ℕ) (shape : Shape) (i : ℕ) (parts : List (List ℕ)) → filter_map (came_of n shape) (fragments_from n shape i parts) ≡ came_from i parts
+own_came n shape i [] = refl
+own_came n shape i (octets ∷ parts) =
+    let first : ℕ × List ℕ = (i, octets) in
+    ap (λ b. cons_option (cond b (Some first) None) (filter_map (came_of n shape) (fragments_from n shape (suc i) parts))) (own_shape n shape) ∙ ap (λ cs. first ∷ cs) (own_came n shape (suc i) parts)
+
+-- what came of the sample by a piece
+pub piece_came : (n : ℕ) (shape : Shape) (piece : Piece) (b : Bool) → is_of n shape piece.number piece.shape ≡ b → filter_map (came_of n shape) (fragments_of piece) ≡ cond b (came_from piece.first piece.parts) []
+piece_came n shape piece true its =
+    let (number, same) = same_sample n shape piece.number piece.shape its in
+    ap (λ m. filter_map (came_of m shape) (fragments_of piece)) (sym number) ∙ ap (λ s. filter_map (came_of piece.number s) (fragments_of piece)) (sym same) ∙ own_came piece.number piece.shape piece.first piece.parts
+piece_came n shape piece false apart = none_came n shape piece.number piece.shape piece.first piece.parts apart
+
+came_back : (n : ℕ) (shape : Shape) (came : List (ℕ × List ℕ)) → filter_map (came_of n shape) (map (fragment_of n shape) came) ≡ came
+came_back n shape [] = refl
+came_back n shape (one ∷ came) = ap (λ b. cons_option (cond b (Some one) None) (filter_map (came_of n shape) (map (fragment_of n shape) came))) (own_shape n shape) ∙ ap (λ cs. one ∷ cs) (came_back n shape came)
+
+came_fragment : (n : ℕ) (shape : Shape) (i : ℕ) (parts : List (List ℕ)) (one : ℕ × List ℕ) → Contains (came_from i parts) one → Contains (fragments_from n shape i parts) (fragment_of n shape one)
+came_fragment n shape i [] one among = absurd (contains_none one among)
+came_fragment n shape i (octets ∷ parts) one among = elim (contains_cases (i, octets) (came_from (suc i) parts) one among) [
+  | inl here ↦ subst (λ p. Contains (fragments_from n shape i (octets ∷ parts)) (fragment_of n shape p)) here (contains_head (fragment_of n shape (i, octets)) (fragments_from n shape (suc i) parts))
+  | inr there ↦ contains_tail (fragment_of n shape (i, octets)) (fragments_from n shape (suc i) parts) (fragment_of n shape one) (came_fragment n shape (suc i) parts one there)
+]
+
+-- what came of a sample by the acts that pass a test is what is offered to those whom it sends them to
+module _ (writer : Guid) (n : ℕ) (shape : Shape) (hears_part : PieceAct → Bool) (comes : Audience → Bool) where
+  -- the tests agree on the acts with pieces
+  abbrev pub AreHeardSo : List PieceAct → Type 0
+  AreHeardSo parts = (part : PieceAct) (piece : Piece) → Contains parts part → part.piece ≡ Some piece → hears_part part ≡ (is_spoken_by part.act writer && comes (sent_to_whom part.act))
+
+  abbrev pub offered_to : List Offer → List (ℕ × List ℕ)
+  offered_to offers = flat_map (λ offer. offer.came) (filter (λ offer. comes offer.audience) offers)
+
+  offered_to-append : (xs ys : List Offer) → offered_to (xs ++ ys) ≡ offered_to xs ++ offered_to ys
+  offered_to-append xs ys =
+      ap (flat_map (λ (o : Offer). o.came)) (filter-append (λ (o : Offer). comes o.audience) xs ys) ∙ flat_map-append (λ (o : Offer). o.came) (filter (λ (o : Offer). comes o.audience) xs) (filter (λ (o : Offer). comes o.audience) ys)
+
+  one_offered : (part : PieceAct) → AreHeardSo (part ∷ []) → filter_map (came_of n shape) (heard_one (hears_part part) part.piece) ≡ offered_to (offers_of writer n shape (part ∷ []))
+  one_offered part same = own part.piece refl
+    where
+      tests : (piece : Piece) (spoken its heard : Bool) → is_of n shape piece.number piece.shape ≡ its → comes (sent_to_whom part.act) ≡ heard
+          → filter_map (came_of n shape) (heard_one (spoken && heard) (Some piece)) ≡ offered_to (cond (spoken && its) (offered part.act piece ∷ []) [])
+      tests piece false its heard is has = refl
+      tests piece true true true is has = piece_came n shape piece true is ∙ sym (append-nil (came_from piece.first piece.parts)) ∙ ap (λ b. flat_map (λ (o : Offer). o.came) (cond b (offered part.act piece ∷ []) [])) (sym has)
+      tests piece true true false is has = ap (λ b. flat_map (λ (o : Offer). o.came) (cond b (offered part.act piece ∷ []) [])) (sym has)
+      tests piece true false true is has = piece_came n shape piece false is
+      tests piece true false false is has = refl
+
+      none : (b : Bool) → filter_map (came_of n shape) (heard_one b None) ≡ []
+      none true = refl
+      none false = refl
+
+      own : (o : Option Piece) → part.piece ≡ o → filter_map (came_of n shape) (heard_one (hears_part part) part.piece) ≡ offered_to (offers_of writer n shape (part ∷ []))
+      own None is = ap (λ o. filter_map (came_of n shape) (heard_one (hears_part part) o)) is ∙ none (hears_part part) ∙ ap offered_to (sym (offers_none writer n shape part is))
+      own (Some piece) is =
+          ap (λ o. filter_map (came_of n shape) (heard_one (hears_part part) o)) is ∙ ap (λ b. filter_map (came_of n shape) (heard_one b (Some piece))) (same part piece (contains_head part []) is)
+          ∙ tests piece (is_spoken_by part.act writer) (is_of n shape piece.number piece.shape) (comes (sent_to_whom part.act)) refl refl ∙ ap offered_to (sym (offers_one writer n shape part piece is))
+
+  pub came_is_offered : (parts : List PieceAct) → AreHeardSo parts → filter_map (came_of n shape) (heard_of hears_part parts) ≡ offered_to (offers_of writer n shape parts)
+  came_is_offered [] same = refl
+  came_is_offered (part ∷ parts) same =
+      ap (filter_map (came_of n shape)) (heard-cons hears_part part parts) ∙ filter_map-append (came_of n shape) (heard_one (hears_part part) part.piece) (heard_of hears_part parts)
+      ∙ ap (λ cs. cs ++ filter_map (came_of n shape) (heard_of hears_part parts)) (one_offered part (λ other piece among is. same other piece (only_here part parts other among) is))
+      ∙ ap (λ cs. offered_to (offers_of writer n shape (part ∷ [])) ++ cs) (came_is_offered parts (λ other piece among is. same other piece (contains_tail part parts other among) is))
+      ∙ sym (ap offered_to (offers-append writer n shape (part ∷ []) parts) ∙ offered_to-append (offers_of writer n shape (part ∷ [])) (offers_of writer n shape parts))
 
 module _ (writer reader : Guid) where
   -- the act is spoken by the writer and heard by the reader
-  abbrev pub hears : PieceAct → Bool
-  hears part = is_spoken_by part.act writer && is_heard_by part.act reader
+  abbrev pub hears_part : PieceAct → Bool
+  hears_part part = is_spoken_by part.act writer && is_heard_by part.act reader
 
-  -- and by all of an audience
-  abbrev all_hear : Audience → PieceAct → Bool
-  all_hear audience part = is_spoken_by part.act writer && reaches part.act audience
+  -- the fragments of a sample that the reader hears are those that are offered to it
+  pub heard_is : (n : ℕ) (shape : Shape) (parts : List PieceAct) → NamesAll parts → filter_map (came_of n shape) (heard_of hears_part parts) ≡ heard_by reader (offers_of writer n shape parts)
+  heard_is n shape parts names_all =
+      came_is_offered writer n shape hears_part (λ audience. has_reader audience reader) parts (λ part piece among is. ap (λ b. is_spoken_by part.act writer && b) (sym (heard_alike part.act reader (names_all part piece among is).1)))
 
-  -- ---- what the reader can put together is told to its audience
+  -- ---- what the reader can put together is told to it
 
   sample_word : (act : ActValue) (number : ℕ) (audience : Audience) (payload : PayloadValue) (n : ℕ) → is_spoken_by (sample_act act number audience payload) writer ≡ true
       → is_among audience.dest (Some audience.reader) reader ≡ true → number ≡ n → word_for writer reader (sample_act act number audience payload) n ≡ Some (Told payload)
@@ -72,58 +185,81 @@ module _ (writer reader : Guid) where
       ap (λ b. cond b (word_of (sample_act act number audience payload).body n) None) (and_from _ _ spoken heard)
       ∙ ap (λ b. cond b (Some (Told payload)) None) ((Decides-eqb n number).1 (sym same))
 
-  sample_there : (all before : List PieceAct) (part : PieceAct) (piece : Piece) (payload : PayloadValue) (n : ℕ) → part.piece ≡ Some piece → NamesItsWriter part.act → Contains all part
-      → ((other : PieceAct) → Contains before other → Contains all other) → hears part ≡ true → piece.number ≡ n → Contains (told_by (heard_of hears before) piece) payload
-      → (act : ActValue) × Contains (samples_told all before part.act part.piece) act × (word_for writer reader act n ≡ Some (Told payload))
-  sample_there all before part piece payload n is named among known passes number told =
-      let (spoken, heard) = and_parts (is_spoken_by part.act writer) (is_heard_by part.act reader) passes in
-      let origin = spoken_is_origin part.act writer named spoken in
-      let parts = acts_of_sample writer piece.number piece.shape all in
-      let (audience, least) = least_audience reader parts in
-      let reached = least.same part (in_parts part among spoken (subst (λ o. is_piece_of piece.number piece.shape o ≡ true) (sym is) (own_shape piece.number piece.shape))) ∙ heard in
-      let agree = came_alike piece.number piece.shape hears (all_hear audience) before (λ other there its.
-      and_if (is_spoken_by other.act writer) (is_heard_by other.act reader) (reaches other.act audience) (λ speaks. sym (least.same other (in_parts other (known other there) speaks its)))) in
-      let there = subst (λ xs. Contains xs payload) (told_alike (heard_of hears before) (sent_to writer audience before) piece agree) told in
-      let act = sample_act part.act piece.number audience payload in
-      let made = mapped_contains (sample_act part.act piece.number audience) (told_by (sent_to writer audience before) piece) payload there in
-      let one : Contains (told_for writer before part.act piece audience) act =
-      subst (λ b. Contains (cond b (map (sample_act part.act piece.number audience) (told_by (sent_to writer audience before) piece)) []) act) (sym reached) made in
-      let every = flat_has (told_for writer before part.act piece) (audiences_among parts) audience act least.among one in
-      let moved : Contains (samples_told all before part.act (Some piece)) act = subst (λ g. Contains (samples_for g all before part.act piece) act) (sym origin) every in (
-        act,
-        subst (λ o. Contains (samples_told all before part.act o) act) (sym is) moved,
-        sample_word part.act piece.number audience payload n (sample_spoken part.act piece.number audience payload writer named ∙ spoken) least.has number,
-      )
-    where
-      in_parts : (other : PieceAct) → Contains all other → is_spoken_by other.act writer ≡ true → is_piece_of piece.number piece.shape other.piece ≡ true → Contains (acts_of_sample writer piece.number piece.shape all) other
-      in_parts other there speaks its =
-          kept_if_passed (λ (p : PieceAct). is_spoken_by p.act writer && is_piece_of piece.number piece.shape p.piece) all other there (and_from (is_spoken_by other.act writer) _ speaks its)
-
   -- one of these acts has the payload of n as its word for the reader
   abbrev pub TellsReader : List ActValue → ℕ → PayloadValue → Type 0
   TellsReader acts n payload = (act : ActValue) × Contains acts act × (word_for writer reader act n ≡ Some (Told payload))
 
-  pub put_or_sample : (all : List PieceAct) → NameTheirWriters all → (n : ℕ) (shape : Shape) (payload : PayloadValue) (before parts : List PieceAct)
-      → ((part : PieceAct) → Contains (before ++ parts) part → Contains all part) → Contains (payloads_of n shape (heard_of hears (before ++ parts))) payload
-      → Contains (payloads_of n shape (heard_of hears before)) payload ⊎ TellsReader (acts_and_samples all before parts) n payload
-  put_or_sample all named n shape payload before [] known among = inl (subst (λ ps. Contains (payloads_of n shape (heard_of hears ps)) payload) (append-nil before) among)
-  put_or_sample all named n shape payload before (part ∷ parts) known among =
-      let assoc = append_assoc before (part ∷ []) parts in
-      elim (put_or_sample all named n shape payload (before ++ part ∷ []) parts (λ other there. known other (subst (λ ps. Contains ps other) assoc there)) (subst (λ ps. Contains (payloads_of n shape (heard_of hears ps)) payload) (sym assoc) among)) [
-        | inl earlier ↦ elim (one_more hears n shape before part payload earlier) [
-          | inl old ↦ inl old
-          | inr told ↦ inr (here told)
-        ]
-        | inr (act, there, says) ↦
-            inr (act, contains_tail part.act _ act (Contains-append_right (samples_told all before part.act part.piece) (acts_and_samples all (before ++ part ∷ []) parts) act there), says)
-      ]
+  -- what an act tells, as an act
+  own_told : (before : List PieceAct) (part : PieceAct) (piece : Piece) → NamesItsWriter part.act → is_spoken_by part.act writer ≡ true → (octets : List ℕ)
+      → ToldNow (last_fragment piece.shape) reader (hearing_of (offers_of writer piece.number piece.shape before)) (offered part.act piece) octets → TellsReader (samples_told before part.act (Some piece)) piece.number (payload_by piece.shape octets)
+  own_told before part piece named spoken octets (audience, has, among) =
+      let origin = spoken_is_origin part.act writer named spoken in
+      let made = mapped_contains (act_of_told part.act piece) (tells (last_fragment piece.shape) (hearing_of (offers_of writer piece.number piece.shape before)) (offered part.act piece)) (audience, octets) among in (
+        act_of_told part.act piece (audience, octets),
+        subst (λ g. Contains (map (act_of_told part.act piece) (tells (last_fragment piece.shape) (hearing_of (offers_of g piece.number piece.shape before)) (offered part.act piece))) (act_of_told part.act piece (audience, octets))) (sym origin) made,
+        sample_word part.act piece.number audience (payload_by piece.shape octets) piece.number (sample_spoken part.act piece.number audience (payload_by piece.shape octets) writer named ∙ spoken) has refl,
+      )
+
+  here_told : (n : ℕ) (shape : Shape) (before : List PieceAct) (part : PieceAct) (piece : Piece) → part.piece ≡ Some piece → NamesItsWriter part.act → is_spoken_by part.act writer ≡ true → is_of n shape piece.number piece.shape ≡ true → (octets : List ℕ)
+      → ToldNow (last_fragment shape) reader (hearing_of (offers_of writer n shape before)) (offered part.act piece) octets → TellsReader (samples_told before part.act part.piece) n (payload_by shape octets)
+  here_told n shape before part piece is named spoken its octets now =
+      let (number, same) = same_sample n shape piece.number piece.shape its in
+      let P : ℕ → Shape → Type 0 = λ m s. ToldNow (last_fragment s) reader (hearing_of (offers_of writer m s before)) (offered part.act piece) octets → TellsReader (samples_told before part.act (Some piece)) m (payload_by s octets) in
+      let told : P n shape = subst (P n) same (subst (λ m. P m piece.shape) number (own_told before part piece named spoken octets)) in
+      subst (λ o. TellsReader (samples_told before part.act o) n (payload_by shape octets)) (sym is) (told now)
+
+  -- what is told of a sample to the reader
+  abbrev pub IsAllTold : ℕ → Shape → List PieceAct → (List ℕ → Type 0) → Type 0
+  IsAllTold n shape before So = AllTold (last_fragment shape) reader (hearing_of (offers_of writer n shape before)) So
+
+  part_told : (n : ℕ) (shape : Shape) (before : List PieceAct) (part : PieceAct) → NamesAll (part ∷ []) → (So : List ℕ → Type 0) → IsAllTold n shape before So
+      → IsAllTold n shape (before ++ part ∷ []) (λ octets. So octets ⊎ TellsReader (samples_told before part.act part.piece) n (payload_by shape octets))
+  part_told n shape before part named So told = by part.piece refl
     where
-      here : IsToldBy hears before part n payload → TellsReader (acts_and_samples all before (part ∷ parts)) n payload
-      here (piece, is, passes, number, told) =
-          let among_all = known part (Contains-append_right before (part ∷ parts) part (contains_head part parts)) in
-          let before_all = λ (other : PieceAct) (there : Contains before other). known other (Contains-append_left before (part ∷ parts) other there) in
-          let (act, there, says) = sample_there all before part piece payload n is (named part piece among_all is) among_all before_all passes number told in
-          (act, contains_tail part.act _ act (Contains-append_left (samples_told all before part.act part.piece) (acts_and_samples all (before ++ part ∷ []) parts) act there), says)
+      Next : List Offer → Type 0
+      Next offers = AllTold (last_fragment shape) reader (hearing_of offers) (λ octets. So octets ⊎ TellsReader (samples_told before part.act part.piece) n (payload_by shape octets))
+
+      stays : offers_of writer n shape (part ∷ []) ≡ [] → AllTold (last_fragment shape) reader (hearing_of (offers_of writer n shape (before ++ part ∷ []))) (λ octets. So octets ⊎ TellsReader (samples_told before part.act part.piece) n (payload_by shape octets))
+      stays none =
+          subst (λ (os : List Offer). AllTold (last_fragment shape) reader (hearing_of os) (λ octets. So octets ⊎ TellsReader (samples_told before part.act part.piece) n (payload_by shape octets)))
+          (sym (offers-append writer n shape before (part ∷ []) ∙ ap (λ os. offers_of writer n shape before ++ os) none ∙ append-nil (offers_of writer n shape before)))
+          (λ audience among has octets there. inl (told audience among has octets there))
+
+      by : (o : Option Piece) → part.piece ≡ o → AllTold (last_fragment shape) reader (hearing_of (offers_of writer n shape (before ++ part ∷ []))) (λ octets. So octets ⊎ TellsReader (samples_told before part.act part.piece) n (payload_by shape octets))
+      by None is = stays (offers_none writer n shape part is)
+      by (Some piece) is = test (is_spoken_by part.act writer) (is_of n shape piece.number piece.shape) refl refl
+        where
+          test : (spoken its : Bool) → is_spoken_by part.act writer ≡ spoken → is_of n shape piece.number piece.shape ≡ its
+              → AllTold (last_fragment shape) reader (hearing_of (offers_of writer n shape (before ++ part ∷ []))) (λ octets. So octets ⊎ TellsReader (samples_told before part.act part.piece) n (payload_by shape octets))
+          test false its a b = stays (offers_one writer n shape part piece is ∙ ap (λ c. cond (c && is_of n shape piece.number piece.shape) (offered part.act piece ∷ []) []) a)
+          test true false a b = stays (offers_one writer n shape part piece is ∙ ap (λ c. cond (c && is_of n shape piece.number piece.shape) (offered part.act piece ∷ []) []) a ∙ ap (λ c. cond c (offered part.act piece ∷ []) []) b)
+          test true true a b =
+              let old = offers_of writer n shape before in
+              let sent : offers_of writer n shape (part ∷ []) ≡ offered part.act piece ∷ [] = offers_one writer n shape part piece is ∙ ap (λ c. cond (c && is_of n shape piece.number piece.shape) (offered part.act piece ∷ []) []) a ∙ ap (λ c. cond c (offered part.act piece ∷ []) []) b in
+              let next = offers-append writer n shape before (part ∷ []) ∙ ap (λ os. old ++ os) sent in
+              let more = all_told (last_fragment shape) reader (hearing_of old) (offered part.act piece) (sound_of old) So told in
+              subst (λ (os : List Offer). AllTold (last_fragment shape) reader (hearing_of os) (λ octets. So octets ⊎ TellsReader (samples_told before part.act part.piece) n (payload_by shape octets))) (sym next)
+              (subst (λ h. AllTold (last_fragment shape) reader h (λ octets. So octets ⊎ TellsReader (samples_told before part.act part.piece) n (payload_by shape octets))) (sym (hears-more silence old (offered part.act piece)))
+              (λ audience among has octets there. elim (more audience among has octets there) [
+                | inl so ↦ inl so
+                | inr now ↦ inr (here_told n shape before part piece is (named part piece (contains_head part []) is).0 a b octets now)
+              ]))
+
+  pub parts_told : (n : ℕ) (shape : Shape) (before parts : List PieceAct) → NamesAll parts → (So : List ℕ → Type 0) → IsAllTold n shape before So
+      → IsAllTold n shape (before ++ parts) (λ octets. So octets ⊎ TellsReader (acts_and_samples before parts) n (payload_by shape octets))
+  parts_told n shape before [] named So told =
+      subst (λ ps. IsAllTold n shape ps (λ octets. So octets ⊎ TellsReader [] n (payload_by shape octets))) (sym (append-nil before)) (λ audience among has octets there. inl (told audience among has octets there))
+  parts_told n shape before (part ∷ parts) named So told =
+      let first = part_told n shape before part (λ other piece among is. named other piece (only_here part parts other among) is) So told in
+      let rest = parts_told n shape (before ++ part ∷ []) parts (λ other piece among is. named other piece (contains_tail part parts other among) is) (λ octets. So octets ⊎ TellsReader (samples_told before part.act part.piece) n (payload_by shape octets)) first in
+      subst (λ ps. IsAllTold n shape ps (λ octets. So octets ⊎ TellsReader (acts_and_samples before (part ∷ parts)) n (payload_by shape octets))) (append_assoc before (part ∷ []) parts)
+      (λ audience among has octets there. join octets (rest audience among has octets there))
+    where
+      join : (octets : List ℕ) → (So octets ⊎ TellsReader (samples_told before part.act part.piece) n (payload_by shape octets)) ⊎ TellsReader (acts_and_samples (before ++ part ∷ []) parts) n (payload_by shape octets)
+          → So octets ⊎ TellsReader (acts_and_samples before (part ∷ parts)) n (payload_by shape octets)
+      join octets (inl (inl so)) = inl so
+      join octets (inl (inr (act, there, says))) = inr (act, contains_tail part.act _ act (Contains-append_left (samples_told before part.act part.piece) (acts_and_samples (before ++ part ∷ []) parts) act there), says)
+      join octets (inr (act, there, says)) = inr (act, contains_tail part.act _ act (Contains-append_right (samples_told before part.act part.piece) (acts_and_samples (before ++ part ∷ []) parts) act there), says)
 
 -- ---- where an act is from
 
@@ -132,34 +268,26 @@ pub record IsSampleOf (before parts : List PieceAct) (act : ActValue) : Type 0 w
   pub part : PieceAct
   pub piece : Piece
   pub audience : Audience
-  pub payload : PayloadValue
+  pub octets : List ℕ
   pub earlier : List PieceAct
   pub among : Contains parts part
   pub has : part.piece ≡ Some piece
-  pub reached : reaches part.act audience ≡ true
-  pub told : Contains (told_by (sent_to (origin_of part.act) audience earlier) piece) payload
-  pub is : sample_act part.act piece.number audience payload ≡ act
+  pub told : Contains (tells (last_fragment piece.shape) (hearing_of (offers_of (origin_of part.act) piece.number piece.shape earlier)) (offered part.act piece)) (audience, octets)
+  pub is : act_of_told part.act piece (audience, octets) ≡ act
   pub known : (other : PieceAct) → Contains earlier other → Contains (before ++ parts) other
 
-if_there : {X : Type 0} (b : Bool) (xs : List X) (x : X) → Contains (cond b xs []) x → (b ≡ true) × Contains xs x
-if_there true xs x among = (refl, among)
-if_there false xs x among = absurd (contains_none x among)
-
-sample_from : (all before : List PieceAct) (part : PieceAct) (parts : List PieceAct) (o : Option Piece) (act : ActValue) → part.piece ≡ o → Contains (samples_told all before part.act o) act → IsSampleOf before (part ∷ parts) act
-sample_from all before part parts None act is among = absurd (contains_none act among)
-sample_from all before part parts (Some piece) act is among =
-    let (audience, audiences, there) = flat_from (told_to before part.act piece) (audiences_among (acts_of_sample (origin_of part.act) piece.number piece.shape all)) act among in
-    let (reached, made) = if_there (reaches part.act audience) (map (sample_act part.act piece.number audience) (told_by (sent_to (origin_of part.act) audience before) piece)) act there in
-    let (payload, told, same) = contains_mapped (sample_act part.act piece.number audience) (told_by (sent_to (origin_of part.act) audience before) piece) act made in
+sample_from : (before : List PieceAct) (part : PieceAct) (parts : List PieceAct) (o : Option Piece) (act : ActValue) → part.piece ≡ o → Contains (samples_told before part.act o) act → IsSampleOf before (part ∷ parts) act
+sample_from before part parts None act is among = absurd (contains_none act among)
+sample_from before part parts (Some piece) act is among =
+    let (one, told, same) = contains_mapped (act_of_told part.act piece) (tells (last_fragment piece.shape) (hearing_of (offers_of (origin_of part.act) piece.number piece.shape before)) (offered part.act piece)) act among in
     record {
       part = part;
       piece = piece;
-      audience = audience;
-      payload = payload;
+      audience = one.0;
+      octets = one.1;
       earlier = before;
       among = contains_head part parts;
       has = is;
-      reached = reached;
       told = told;
       is = same;
       known = λ other there. Contains-append_left before (part ∷ parts) other there;
@@ -169,16 +297,16 @@ sample_from all before part parts (Some piece) act is among =
 abbrev pub IsActOf : List PieceAct → List PieceAct → ActValue → Type 0
 IsActOf before parts act = ((part : PieceAct) × Contains parts part × (part.act ≡ act)) ⊎ IsSampleOf before parts act
 
-pub act_or_sample : (all before parts : List PieceAct) (act : ActValue) → Contains (acts_and_samples all before parts) act → IsActOf before parts act
-act_or_sample all before [] act among = absurd (contains_none act among)
-act_or_sample all before (part ∷ parts) act among =
-    let samples = samples_told all before part.act part.piece in
-    let rest = acts_and_samples all (before ++ part ∷ []) parts in
+pub act_or_sample : (before parts : List PieceAct) (act : ActValue) → Contains (acts_and_samples before parts) act → IsActOf before parts act
+act_or_sample before [] act among = absurd (contains_none act among)
+act_or_sample before (part ∷ parts) act among =
+    let samples = samples_told before part.act part.piece in
+    let rest = acts_and_samples (before ++ part ∷ []) parts in
     elim (contains_cases part.act (samples ++ rest) act among) [
       | inl here ↦ inl (part, contains_head part parts, here)
       | inr behind ↦ elim (Contains-append_cases samples rest act behind) [
-        | inl sample ↦ inr (sample_from all before part parts part.piece act refl sample)
-        | inr later ↦ further (act_or_sample all (before ++ part ∷ []) parts act later)
+        | inl sample ↦ inr (sample_from before part parts part.piece act refl sample)
+        | inr later ↦ further (act_or_sample (before ++ part ∷ []) parts act later)
       ]
     ]
   where
@@ -188,25 +316,24 @@ act_or_sample all before (part ∷ parts) act among =
       part = sample.part;
       piece = sample.piece;
       audience = sample.audience;
-      payload = sample.payload;
+      octets = sample.octets;
       earlier = sample.earlier;
       among = contains_tail part parts sample.part sample.among;
       has = sample.has;
-      reached = sample.reached;
       told = sample.told;
       is = sample.is;
       known = λ other there. subst (λ ps. Contains ps other) (append_assoc before (part ∷ []) parts) (sample.known other there);
     })
 
 -- the acts themselves are among them
-pub act_there : (all before parts : List PieceAct) (part : PieceAct) → Contains parts part → Contains (acts_and_samples all before parts) part.act
-act_there all before [] part among = absurd (contains_none part among)
-act_there all before (first ∷ parts) part among =
-    let samples = samples_told all before first.act first.piece in
-    let rest = acts_and_samples all (before ++ first ∷ []) parts in
+pub act_there : (before parts : List PieceAct) (part : PieceAct) → Contains parts part → Contains (acts_and_samples before parts) part.act
+act_there before [] part among = absurd (contains_none part among)
+act_there before (first ∷ parts) part among =
+    let samples = samples_told before first.act first.piece in
+    let rest = acts_and_samples (before ++ first ∷ []) parts in
     elim (contains_cases first parts part among) [
       | inl here ↦ subst (λ (p : PieceAct). Contains (first.act ∷ (samples ++ rest)) p.act) here (contains_head first.act (samples ++ rest))
-      | inr there ↦ contains_tail first.act (samples ++ rest) part.act (Contains-append_right samples rest part.act (act_there all (before ++ first ∷ []) parts part there))
+      | inr there ↦ contains_tail first.act (samples ++ rest) part.act (Contains-append_right samples rest part.act (act_there (before ++ first ∷ []) parts part there))
     ]
 
 module _ (writer reader : Guid) where
@@ -215,40 +342,62 @@ module _ (writer reader : Guid) where
   IsPutOf there n word = (payload : PayloadValue) × (word ≡ Told payload) × ((fragments : List Fragment) × IsPut n fragments payload × ((f : Fragment) → Contains fragments f → there f))
 
   -- what a sample tells the reader is put together of fragments that the reader hears
-  pub sample_is_put : (before parts : List PieceAct) → NameTheirWriters parts → (there : Fragment → Type 0)
-      → ((part : PieceAct) → Contains (before ++ parts) part → hears writer reader part ≡ true → (f : Fragment) → Contains (fragments_in part.piece) f → there f)
+  pub sample_is_put : (before parts : List PieceAct) → NamesAll (before ++ parts) → (there : Fragment → Type 0)
+      → ((part : PieceAct) → Contains (before ++ parts) part → hears_part writer reader part ≡ true → (f : Fragment) → Contains (fragments_in part.piece) f → there f)
       → (act : ActValue) (n : ℕ) (word : Word) → IsSampleOf before parts act → word_for writer reader act n ≡ Some word → IsPutOf there n word
   sample_is_put before parts named there sent act n word sample says =
-      let own = named sample.part sample.piece sample.among sample.has in
-      let made = sample_act sample.part.act sample.piece.number sample.audience sample.payload in
+      let piece = sample.piece in
+      let shape = piece.shape in
+      let offers = offers_of (origin_of sample.part.act) piece.number shape sample.earlier in
+      let offer = offered sample.part.act piece in
+      let payload = payload_by shape sample.octets in
+      let known_part = Contains-append_right before parts sample.part sample.among in
+      let own = (named sample.part piece known_part sample.has).0 in
+      let made = sample_act sample.part.act piece.number sample.audience payload in
       let (test, value) = if_some _ (word_of made.body n) word (subst (λ (a : ActValue). word_for writer reader a n ≡ Some word) (sym sample.is) says) in
       let (spoken, has) = and_parts (is_spoken_by made writer) (is_heard_by made reader) test in
-      let speaks = sym (sample_spoken sample.part.act sample.piece.number sample.audience sample.payload writer own) ∙ spoken in
+      let speaks = sym (sample_spoken sample.part.act piece.number sample.audience payload writer own) ∙ spoken in
       let origin = spoken_is_origin sample.part.act writer own speaks in
-      let told = subst (λ g. Contains (told_by (sent_to g sample.audience sample.earlier) sample.piece) sample.payload) origin sample.told in
-      let (number, is) = if_then (n == sample.piece.number) (Told sample.payload) word value in
-      let same = sym ((Decides-eqb n sample.piece.number).0 number) in (
-        sample.payload,
+      let (number, is) = if_then (n == piece.number) (Told payload) word value in
+      let same = sym ((Decides-eqb n piece.number).0 number) in
+      let came = came_to sample.audience (hears (hearing_of offers) offer).news in
+      let put = mapped_contains (payload_by shape) (samples_of (last_fragment shape) came) sample.octets (told_is_put (last_fragment shape) (hearing_of offers) offer sample.audience sample.octets sample.told) in
+      let put_there = subst (λ cs. Contains (map (payload_by shape) (samples_of (last_fragment shape) cs)) payload) (sym (came_back piece.number shape came)) put in
+      let is_put : IsPut piece.number (map (fragment_of piece.number shape) came) payload = (shape, put_there) in (
+        payload,
         sym is,
         (
-          sent_to writer sample.audience sample.earlier ++ fragments_of sample.piece,
-          told_is_come n (sent_to writer sample.audience sample.earlier) sample.piece sample.payload same told,
-          λ f among. elim (Contains-append_cases (sent_to writer sample.audience sample.earlier) (fragments_of sample.piece) f among) [
-            | inl early ↦ before_it has f early
-            | inr now ↦ by_it speaks has f now
-          ],
+          map (fragment_of piece.number shape) came,
+          subst (λ m. IsPut m (map (fragment_of piece.number shape) came) payload) same is_put,
+          λ f among.
+              let (one, in_came, equal) = contains_mapped (fragment_of piece.number shape) came f among in
+              let (other, kept, its) = flat_from (λ (o : Offer). o.came) (filter (λ (o : Offer). is_for_audience o.audience sample.audience) (hears (hearing_of offers) offer).news) one in_came in
+              let reached = kept_passes (λ (o : Offer). is_for_audience o.audience sample.audience) (hears (hearing_of offers) offer).news other kept in
+              let news = kept_is_there (λ (o : Offer). is_for_audience o.audience sample.audience) (hears (hearing_of offers) offer).news other kept in
+              let heard = wide_has other.audience sample.audience reader reached has in
+              let all_offers = news_sent silence (offers ++ offer ∷ []) other (subst (λ h. Contains h.news other) (sym (hears-more silence offers offer)) news) in
+              subst there equal (fragment_sent origin speaks has other one its heard all_offers),
         ),
       )
     where
-      heard : (part : PieceAct) → is_spoken_by part.act writer ≡ true → reaches part.act sample.audience ≡ true → is_among sample.audience.dest (Some sample.audience.reader) reader ≡ true → hears writer reader part ≡ true
-      heard part spoken reached has = and_from (is_spoken_by part.act writer) (is_heard_by part.act reader) spoken (reached_is_heard part.act sample.audience reader reached has)
+      of_part : (part : PieceAct) (piece : Piece) → Contains (before ++ parts) part → part.piece ≡ Some piece → is_spoken_by part.act writer ≡ true → is_of sample.piece.number sample.piece.shape piece.number piece.shape ≡ true → (other : Offer) → offered part.act piece ≡ other
+          → (one : ℕ × List ℕ) → Contains other.came one → has_reader other.audience reader ≡ true → there (fragment_of sample.piece.number sample.piece.shape one)
+      of_part part piece known is spoken its other same one among heard =
+          let (number, shape) = same_sample sample.piece.number sample.piece.shape piece.number piece.shape its in
+          let hears_it = sym (heard_alike part.act reader (named part piece known is).1) ∙ subst (λ (o : Offer). has_reader o.audience reader ≡ true) (sym same) heard in
+          let own = came_fragment piece.number piece.shape piece.first piece.parts one (subst (λ (o : Offer). Contains o.came one) (sym same) among) in
+          let made : there (fragment_of piece.number piece.shape one) = sent part known (and_from _ _ spoken hears_it) (fragment_of piece.number piece.shape one) (subst (λ o. Contains (fragments_in o) (fragment_of piece.number piece.shape one)) (sym is) own) in
+          subst (λ s. there (fragment_of sample.piece.number s one)) shape (subst (λ m. there (fragment_of m piece.shape one)) number made)
 
-      before_it : is_among sample.audience.dest (Some sample.audience.reader) reader ≡ true → (f : Fragment) → Contains (sent_to writer sample.audience sample.earlier) f → there f
-      before_it has f early =
-          let (part, among, passes, in_it) = heard_from (λ (p : PieceAct). is_spoken_by p.act writer && reaches p.act sample.audience) sample.earlier f early in
-          let (spoken, reached) = and_parts (is_spoken_by part.act writer) (reaches part.act sample.audience) passes in
-          sent part (sample.known part among) (heard part spoken reached has) f in_it
-
-      by_it : is_spoken_by sample.part.act writer ≡ true → is_among sample.audience.dest (Some sample.audience.reader) reader ≡ true → (f : Fragment) → Contains (fragments_of sample.piece) f → there f
-      by_it spoken has f now =
-          sent sample.part (Contains-append_right before parts sample.part sample.among) (heard sample.part spoken sample.reached has) f (subst (λ o. Contains (fragments_in o) f) (sym sample.has) now)
+      fragment_sent : origin_of sample.part.act ≡ writer → is_spoken_by sample.part.act writer ≡ true → has_reader sample.audience reader ≡ true → (other : Offer) (one : ℕ × List ℕ) → Contains other.came one → has_reader other.audience reader ≡ true
+          → Contains [] other ⊎ Contains (offers_of (origin_of sample.part.act) sample.piece.number sample.piece.shape sample.earlier ++ offered sample.part.act sample.piece ∷ []) other → there (fragment_of sample.piece.number sample.piece.shape one)
+      fragment_sent origin speaks has other one among heard (inl nothing) = absurd (contains_none other nothing)
+      fragment_sent origin speaks has other one among heard (inr all) = elim (Contains-append_cases (offers_of (origin_of sample.part.act) sample.piece.number sample.piece.shape sample.earlier) (offered sample.part.act sample.piece ∷ []) other all) [
+        | inl early ↦
+            let (part, piece, in_earlier, is, spoken, its, same) = offers_from (origin_of sample.part.act) sample.piece.number sample.piece.shape sample.earlier other early in
+            of_part part piece (sample.known part in_earlier) is (subst (λ g. is_spoken_by part.act g ≡ true) origin spoken) its other same one among heard
+        | inr now ↦ elim (contains_cases (offered sample.part.act sample.piece) [] other now) [
+          | inl same ↦ of_part sample.part sample.piece (Contains-append_right before parts sample.part sample.among) sample.has speaks (own_shape sample.piece.number sample.piece.shape) other same one among heard
+          | inr nothing ↦ absurd (contains_none other nothing)
+        ]
+      ]

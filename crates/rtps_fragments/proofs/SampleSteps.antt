@@ -1,17 +1,12 @@
 -- What the datagrams of a recording send and tell, with one datagram more.
-use Rattle.std.proofs.Common.{◌≡◌, ℕ, ◌+◌, ◌<◌, List, [], ◌∷◌, ◌++◌, length, map, take, get_or, Bor, sym, ◌∙◌, ap, append_assoc, append-nil}
-use Rattle.std.specs.Prelude.{Contains}
-use Rattle.std.specs.List.{All}
+use Rattle.std.proofs.Common.{◌≡◌, ℕ, zero, suc, ◌+◌, ◌<◌, List, [], ◌∷◌, ◌++◌, length, map, take, get_or, Some, slice_get, Bor, refl, sym, ◌∙◌, ap, append_assoc, append-nil}
 use Rattle.std.proofs.lemmas.Grind.{flat_map-append}
-use Rattle.std.proofs.lemmas.List.{get_or_default, map-append, take_more}
-use Rattle.std.proofs.lemmas.List.Elements.{All-contains, All-contains_itself, All-weaker}
-use Rattle.rtps_audit.proofs.Offered.{mapped_contains}
+use Rattle.std.proofs.lemmas.List.{map-append, take_more}
 use Rattle.rtps_fragments.specs.Merging.{sents_from, sents_in}
-use Rattle.rtps_fragments.specs.RecordedSamples.{told_by_datagram}
+use Rattle.rtps_fragments.specs.RecordedSamples.{by_datagram}
 use Rattle.rtps_fragments.specs.SampleActs.{PieceAct}
 use Rattle.rtps_fragments.specs.Sending.{piece_acts_of, sending_of}
-use Rattle.rtps_fragments.specs.Telling.{SentValue, told_in_turn}
-use Rattle.rtps_fragments.proofs.Audiences.{flat_has}
+use Rattle.rtps_fragments.specs.Telling.{SentValue, ToldValue, in_turn}
 
 -- the octets of datagrams
 abbrev pub octets_of : List (Bor (List ℕ)) → List (List ℕ)
@@ -26,21 +21,25 @@ sending_next xs i d lt =
 pub sents_next : (recording : List (List PieceAct)) (acts : List PieceAct) → sents_in (recording ++ acts ∷ []) ≡ sents_in recording ++ sents_from 0 acts
 sents_next recording acts = flat_map-append (sents_from 0) recording (acts ∷ []) ∙ ap (λ ss. sents_in recording ++ ss) (append-nil (sents_from 0 acts))
 
-pub told_next_datagram : (all before : List SentValue) (recording : List (List PieceAct)) (acts : List PieceAct)
-    → told_by_datagram all before (recording ++ acts ∷ []) ≡ told_by_datagram all before recording ++ told_in_turn all (before ++ sents_in recording) (sents_from 0 acts) ∷ []
-told_next_datagram all before [] acts = ap (λ ss. told_in_turn all ss (sents_from 0 acts) ∷ []) (sym (append-nil before))
-told_next_datagram all before (first ∷ recording) acts =
-    ap (λ ts. told_in_turn all before (sents_from 0 first) ∷ ts) (told_next_datagram all (before ++ sents_from 0 first) recording acts)
-    ∙ ap (λ ss. told_by_datagram all before (first ∷ recording) ++ told_in_turn all ss (sents_from 0 acts) ∷ []) (append_assoc before (sents_from 0 first) (sents_in recording))
+-- what the datagrams tell, with one more
+module _ (tell : List SentValue → SentValue → List ToldValue) where
+  pub next_datagram : (before : List SentValue) (recording : List (List PieceAct)) (acts : List PieceAct)
+      → by_datagram tell before (recording ++ acts ∷ []) ≡ by_datagram tell before recording ++ in_turn tell (before ++ sents_in recording) (sents_from 0 acts) ∷ []
+  next_datagram before [] acts = ap (λ ss. in_turn tell ss (sents_from 0 acts) ∷ []) (sym (append-nil before))
+  next_datagram before (first ∷ recording) acts =
+      ap (λ ts. in_turn tell before (sents_from 0 first) ∷ ts) (next_datagram (before ++ sents_from 0 first) recording acts)
+      ∙ ap (λ ss. by_datagram tell before (first ∷ recording) ++ in_turn tell ss (sents_from 0 acts) ∷ []) (append_assoc before (sents_from 0 first) (sents_in recording))
 
--- what a datagram sends is among all that is sent
-pub all_sent : (xs : List (Bor (List ℕ))) (i : ℕ) (d : Bor (List ℕ)) → i < length xs → All (Contains (sents_in (sending_of (octets_of xs)))) (sents_from 0 (piece_acts_of (get_or xs i d).now))
-all_sent xs i d lt =
-    let sents = sents_from 0 (piece_acts_of (get_or xs i d).now) in
-    let here : Contains xs (get_or xs i d) = (i, lt, get_or_default xs i (get_or xs i d) d lt) in
-    let there = mapped_contains piece_acts_of (octets_of xs) (get_or xs i d).now (mapped_contains (λ (datagram : Bor (List ℕ)). datagram.now) xs (get_or xs i d) here) in
-    All-weaker (Contains sents) (Contains (sents_in (sending_of (octets_of xs)))) (λ s among. flat_has (sents_from 0) (sending_of (octets_of xs)) (piece_acts_of (get_or xs i d).now) s there among) sents (All-contains_itself sents)
+  -- what one of them tells
+  pub told_there : (before : List SentValue) (recording : List (List PieceAct)) (i : ℕ) (acts : List PieceAct) → slice_get recording i ≡ Some acts
+      → slice_get (by_datagram tell before recording) i ≡ Some (in_turn tell (before ++ sents_in (take i recording)) (sents_from 0 acts))
+  told_there before [] i acts e = cc
+  told_there before (first ∷ recording) zero acts e =
+      let is : first ≡ acts = (let h = e in cc) in
+      ap Some (ap (λ ss. in_turn tell ss (sents_from 0 first)) (sym (append-nil before)) ∙ ap (λ a. in_turn tell (before ++ []) (sents_from 0 a)) is)
+  told_there before (first ∷ recording) (suc i) acts e =
+      told_there (before ++ sents_from 0 first) recording i acts e ∙ ap (λ ss. Some (in_turn tell ss (sents_from 0 acts))) (append_assoc before (sents_from 0 first) (sents_in (take i recording)))
 
--- what is so of each that a function makes is so of what it makes of each
-pub all_unmapped : {X Y : Type 0} (P : Y → Type 0) (f : X → Y) (xs : List X) → All P (map f xs) → All (λ x. P (f x)) xs
-all_unmapped P f xs all = All-weaker (Contains xs) (λ x. P (f x)) (λ x among. All-contains P (map f xs) (f x) all (mapped_contains f xs x among)) xs (All-contains_itself xs)
+  pub length-told : (before : List SentValue) (recording : List (List PieceAct)) → length (by_datagram tell before recording) ≡ length recording
+  length-told before [] = refl
+  length-told before (acts ∷ recording) = ap suc (length-told (before ++ sents_from 0 acts) recording)

@@ -6,7 +6,7 @@ use Rattle.std.proofs.lemmas.List.{map-append}
 use Rattle.rtps_receiver.specs.declared.speech.Audience.{Audience}
 use Rattle.rtps_fragments.specs.FragmentDelivery.{Shape, payload_by}
 use Rattle.rtps_fragments.specs.Samples.{samples_of}
-use Rattle.rtps_fragments.specs.Telling.{SentValue, ToldValue, samples_more, sent_value, told_as, told_behind, told_in_turn}
+use Rattle.rtps_fragments.specs.Telling.{SentValue, ToldValue, in_turn, samples_more, sent_value, told_as}
 use Rattle.rtps_fragments.specs.declared.piece.SentFragments.{SentFragments}
 
 pub drop_at : {X : Type 0} (xs : List X) (i : ℕ) (x : X) → slice_get xs i ≡ Some x → drop i xs ≡ x ∷ drop (suc i) xs
@@ -34,18 +34,15 @@ module _ (act : ℕ) (audience : Audience) (shape : Shape) where
   told_all told samples place le = ap (λ xs. told ++ told_as act audience shape xs) (drop_of_length-le samples le) ∙ append-nil told
 
 -- what one act more tells
-pub told-more : (all before sents : List SentValue) (sent : SentValue) → told_in_turn all before (sents ++ sent ∷ []) ≡ told_in_turn all before sents ++ told_behind all (before ++ sents) sent
-told-more all before [] sent = append-nil (told_behind all before sent) ∙ ap (λ ss. told_behind all ss sent) (sym (append-nil before))
-told-more all before (first ∷ sents) sent =
-    ap (λ ts. told_behind all before first ++ ts) (told-more all (before ++ first ∷ []) sents sent)
-    ∙ sym (append_assoc (told_behind all before first) (told_in_turn all (before ++ first ∷ []) sents) (told_behind all ((before ++ first ∷ []) ++ sents) sent))
-    ∙ ap (λ ss. told_in_turn all before (first ∷ sents) ++ told_behind all ss sent) (append_assoc before (first ∷ []) sents)
+pub in_turn-more : (tell : List SentValue → SentValue → List ToldValue) (before sents : List SentValue) (sent : SentValue) → in_turn tell before (sents ++ sent ∷ []) ≡ in_turn tell before sents ++ tell (before ++ sents) sent
+in_turn-more tell before [] sent = append-nil (tell before sent) ∙ ap (λ ss. tell ss sent) (sym (append-nil before))
+in_turn-more tell before (first ∷ sents) sent =
+    ap (λ ts. tell before first ++ ts) (in_turn-more tell (before ++ first ∷ []) sents sent)
+    ∙ sym (append_assoc (tell before first) (in_turn tell (before ++ first ∷ []) sents) (tell ((before ++ first ∷ []) ++ sents) sent))
+    ∙ ap (λ ss. in_turn tell before (first ∷ sents) ++ tell ss sent) (append_assoc before (first ∷ []) sents)
 
 -- the elements up to one more
 pub sents-more : (sents : List SentFragments) (i : ℕ) (d : SentFragments) → i < length sents → map sent_value (take (i + 1) sents) ≡ map sent_value (take i sents) ++ sent_value (get_or sents i d) ∷ []
 sents-more sents i d lt =
     let more : i + 1 ≡ suc i = omega arith in
     ap (λ n. map sent_value (take n sents)) more ∙ ap (map sent_value) (take-suc sents i d lt) ∙ map-append sent_value (take i sents) (get_or sents i d ∷ [])
-
-pub told_after : (all before sents : List SentValue) (sent : SentValue) (told new : List ToldValue) → told ≡ told_in_turn all before sents → new ≡ told ++ told_behind all (before ++ sents) sent → new ≡ told_in_turn all before (sents ++ sent ∷ [])
-told_after all before sents sent told new so is = is ∙ ap (λ ts. ts ++ told_behind all (before ++ sents) sent) so ∙ sym (told-more all before sents sent)

@@ -1,13 +1,13 @@
 -- What a recording announces by its acts and by the samples of built-in writers. DDSI-RTPS 2.5, 8.5 "Discovery Module", by which anybody
 -- may note what a built-in writer announces, and 9.3.1.2 "Mapping of the EntityId_t". own: such a sample announces what a DATA with its
 -- payload would, and stands behind the act that completes it.
-use Rattle.std.specs.Prelude.{Bool, nat_le, get_or, if◌then◌else◌, List, [], ◌∷◌, ◌++◌, map, Option, Some, None}
+use Rattle.std.specs.Prelude.{Bool, nat_le, get_or, if◌then◌else◌, List, [], map, Option, Some, None}
 use Rattle.rtps_ids.specs.declared.identity.EntityId.{EntityId}
 use Rattle.rtps_receiver.specs.Speech.{entity_from, origin_of}
 use Rattle.rtps_receiver.specs.Values.{ActValue}
 use Rattle.rtps_fragments.specs.FragmentDelivery.{Piece}
 use Rattle.rtps_fragments.specs.Samples.{told_by}
-use Rattle.rtps_fragments.specs.SampleActs.{PieceAct}
+use Rattle.rtps_fragments.specs.SampleActs.{PieceAct, acts_and, datagrams_and}
 use Rattle.rtps_fragments.specs.SamplesSent.{noted_act, sent_by}
 
 -- the entity is a built-in one: the two highest bits of the last octet of its id are set (9.3.1.2)
@@ -21,13 +21,11 @@ notes_told before act None = []
 
 -- acts, each with these samples behind it
 abbrev pub acts_and_notes : List PieceAct → List PieceAct → List ActValue
-acts_and_notes before [] = []
-acts_and_notes before (one ∷ acts) = one.act ∷ (notes_told before one.act one.piece ++ acts_and_notes (before ++ one ∷ []) acts)
+acts_and_notes before acts = acts_and notes_told before acts
 
--- those of each datagram behind these
+-- those of each datagram
 abbrev pub datagrams_and_notes : List PieceAct → List (List PieceAct) → List (List ActValue)
-datagrams_and_notes before [] = []
-datagrams_and_notes before (datagram ∷ recording) = acts_and_notes before datagram ∷ datagrams_and_notes (before ++ datagram) recording
+datagrams_and_notes before recording = datagrams_and notes_told before recording
 
 -- the acts of which a directory notes what they announce: those of a recording with the samples of built-in writers among them
 abbrev pub announcing_with : List (List PieceAct) → List (List ActValue)

@@ -1,15 +1,21 @@
 -- What is kept of the fragments of one sample that came. own: of each fragment the octets that came first, and the first fragment that
 -- came with others, are all that the samples are put together of.
-use Rattle.std.specs.Prelude.{ℕ, zero, suc, ◌<◌, ◌≤◌, ◌≡◌, ◌==◌, if◌then◌else◌, true, List, [], ◌∷◌, Option, Some, None, is_some, slice_set, option_copied}
+use Rattle.std.specs.Prelude.{ℕ, zero, suc, ◌<◌, ◌≤◌, ◌≡◌, ◌==◌, if◌then◌else◌, List, [], ◌∷◌, Option, Some, None, length, option_copied, slice_get, slice_set}
 use Rattle.std.specs.BTreeMap.{get}
 use Rattle.std.specs.List.{find}
+use Rattle.std.specs.Option.{option_or}
 use Rattle.std.specs.Ordering.{nat_cmp}
 use Rattle.rtps_fragments.specs.Samples.{first_of, is_other}
 use Rattle.rtps_fragments.specs.declared.came.Came.{Came}
 
 -- the octets that are kept for a fragment
 abbrev pub kept_first : Came → ℕ → Option (List ℕ)
-kept_first kept i = option_copied (get nat_cmp kept.firsts i)
+kept_first kept zero = option_copied (get nat_cmp kept.ahead zero)
+kept_first kept (suc i) = option_or (option_copied (slice_get kept.front.items i)) (option_copied (get nat_cmp kept.ahead (suc i)))
+
+-- each fragment up to this one came
+abbrev pub kept_front : Came → ℕ
+kept_front kept = length kept.front.items
 
 -- the fragment that is kept with other octets
 abbrev pub kept_other : Came → Option (ℕ × List ℕ)
@@ -18,9 +24,8 @@ kept_other kept = if kept.other == 0 then None else Some (kept.other, kept.octet
 -- What is kept is what came, of a sample with so many fragments.
 pub record IsCame (last : ℕ) (came : List (ℕ × List ℕ)) (kept : Came) : Type 0 where
   pub firsts : (i : ℕ) → kept_first kept i ≡ first_of came i
-  pub within : kept.front ≤ last
-  pub there : (i : ℕ) → i < kept.front → is_some (first_of came (suc i)) ≡ true
-  pub next : kept.front < last → first_of came (suc kept.front) ≡ None
+  pub within : kept_front kept ≤ last
+  pub next : kept_front kept < last → first_of came (suc (kept_front kept)) ≡ None
   pub other : kept_other kept ≡ find (is_other came) came
 
 -- consecutive fragments with these octets, from this one on

@@ -25,7 +25,7 @@ use Rattle.rtps_fragments.specs.FragmentVerdict.{IsPayloadBefore, IsWordBefore, 
 use Rattle.rtps_fragments.specs.RecordedSamples.{IsWithoutFragments, fragments_left, intake_with}
 use Rattle.rtps_fragments.specs.Samples.{payloads_of, told_in}
 use Rattle.rtps_fragments.specs.Sending.{all_acts_in, is_skipped_data_frag, sending_of, unusable_in}
-use Rattle.rtps_fragments.specs.SampleActs.{PieceAct, acts_with_samples, datagrams_and_samples, fragment_speech_of, piece_acts_in, acts_of_sample, samples_told}
+use Rattle.rtps_fragments.specs.SampleActs.{PieceAct, acts_with_samples, fragment_speech_of, piece_acts_in, acts_of_sample, samples_told}
 use Rattle.rtps_fragments.specs.SamplesSent.{acts_to_note, is_left, noted_act, pieces_left, samples_sent, sent_by}
 
 -- of all that is given, two different payloads are told or can be put together for n
@@ -83,7 +83,7 @@ FragmentVerdictOfActs =
     (from : ℕ) (writer reader : Guid) (recording : List (List PieceAct)) (verdict : Verdict) → ArePieceActs recording
     → IsFragmentVerdictFrom from (fragment_speech_of writer reader recording) verdict ↔ IsVerdictFrom from (speech_by writer reader (acts_with_samples recording)) verdict
 
--- the same of the first datagrams, with the samples of the whole recording: to whom a sample is told does not depend on what is sent later
+-- the same of the first datagrams, with the samples of the whole recording
 abbrev pub FirstDatagramsTellAlike : Type 0
 FirstDatagramsTellAlike =
     (from : ℕ) (writer reader : Guid) (until : Option ℕ) (recording : List (List PieceAct)) → ArePieceActs recording
@@ -96,10 +96,9 @@ FirstDatagramsDecideSamples =
     → IsFragmentVerdictFrom from (fragment_speech_of writer reader (sending_of (datagrams_until until recording))) verdict
     ↔ IsVerdictFrom from (speech_by writer reader (datagrams_until until (intake_with recording).acts)) verdict
 
--- the acts of the first datagrams, each with the samples that it tells by what was sent before it. They are told to the audiences that
--- they have in the whole recording
+-- the acts of the first datagrams, each with the samples that it tells by what was sent before it
 abbrev pub first_acts_with_samples : Option ℕ → List (List ℕ) → List (List ActValue)
-first_acts_with_samples until recording = datagrams_and_samples (piece_acts_in (sending_of recording)) [] (sending_of (datagrams_until until recording))
+first_acts_with_samples until recording = acts_with_samples (sending_of (datagrams_until until recording))
 
 -- the first datagrams of what is taken in with samples have these acts
 abbrev pub FirstDatagramsTellTheSame : Type 0
@@ -172,8 +171,8 @@ FewFragmentsMakeNoSample = (n : ℕ) (shape : Shape) (fragments : List Fragment)
 -- what an act tells of a sample depends on the acts with its pieces alone
 abbrev pub SamplesStandAlone : Type 0
 SamplesStandAlone =
-    (all before : List PieceAct) (act : ActValue) (piece : Piece)
-    → samples_told all before act (Some piece) ≡ samples_told (acts_of_sample (origin_of act) piece.number piece.shape all) (acts_of_sample (origin_of act) piece.number piece.shape before) act (Some piece)
+    (before : List PieceAct) (act : ActValue) (piece : Piece)
+    → samples_told before act (Some piece) ≡ samples_told (acts_of_sample (origin_of act) piece.number piece.shape before) act (Some piece)
 
 -- of any writer and reader of a recording, the verdict by runs that take fragments one by one is that of the acts with the samples among
 -- them

@@ -11,6 +11,6 @@ pub mod Telling
 pub mod Merging
 pub mod Sending
 pub mod RecordedSamples
-pub mod Overheard
+pub mod Listeners
 pub mod Whole
-pub mod Survey
+pub mod Making

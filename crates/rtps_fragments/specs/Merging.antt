@@ -1,14 +1,13 @@
 -- The samples that acts tell, by what is sent of them, and these samples as acts among the acts of a datagram. DDSI-RTPS 2.5, 8.3.8.3
 -- "DataFrag". own: a sample stands behind the act that completes it.
-use Rattle.std.specs.Prelude.{ℕ, suc, ◌==◌, ◌≡◌, if◌then◌else◌, List, [], ◌∷◌, ◌++◌, map, Option, Some, None, unwrap_or}
+use Rattle.std.specs.Prelude.{ℕ, suc, ◌==◌, ◌≡◌, if◌then◌else◌, List, [], ◌∷◌, ◌++◌, map, Option, Some, None}
 use Rattle.std.specs.List.{flat_map}
-use Rattle.rtps_receiver.specs.Speech.{origin_of, reader_named, unknown_entity}
+use Rattle.rtps_receiver.specs.Speech.{origin_of}
 use Rattle.rtps_receiver.specs.Values.{ActBodyValue, ActValue, FragmentValue}
 use Rattle.rtps_receiver.specs.Values.ActBodyValue.{Data, Heartbeat, AckNack, Gap, DataFrag, NackFrag}
-use Rattle.rtps_receiver.specs.declared.speech.Audience.{Audience}
 use Rattle.rtps_fragments.specs.Came.{came_from}
 use Rattle.rtps_fragments.specs.FragmentDelivery.{Piece}
-use Rattle.rtps_fragments.specs.SampleActs.{PieceAct, sample_act}
+use Rattle.rtps_fragments.specs.SampleActs.{PieceAct, sample_act, sent_to_whom}
 use Rattle.rtps_fragments.specs.SamplesSent.{noted_act}
 use Rattle.rtps_fragments.specs.Telling.{SentValue, ToldValue}
 use Rattle.rtps_fragments.specs.declared.merging.SampleForm.{SampleForm}
@@ -19,10 +18,6 @@ use Rattle.rtps_fragments.specs.declared.piece.SampleKey.{SampleKey}
 abbrev pub key_of : ActValue → Piece → SampleKey
 key_of act piece =
     record { writer = origin_of act; number = piece.number; sample = piece.shape.sample; fragment = piece.shape.fragment; is_key = piece.shape.is_key }
-
--- to whom an act is sent
-abbrev pub sent_to_whom : ActValue → Audience
-sent_to_whom act = record { dest = act.dest; reader = unwrap_or (reader_named act.body) unknown_entity }
 
 -- what an act at this place sends, where it has a piece
 abbrev pub sent_in : ℕ → ActValue → Option Piece → List SentValue

@@ -6,26 +6,25 @@ use Rattle.rtps_wire.specs.Tally.{tally_of}
 use Rattle.rtps_wire.specs.declared.counts.Tally.{Tally}
 use Rattle.rtps_audit.specs.Intake.{Intake, intake_of}
 use Rattle.rtps_fragments.specs.Announcing.{announcing_with}
-use Rattle.rtps_fragments.specs.Merging.{sents_from, sents_in}
-use Rattle.rtps_fragments.specs.Overheard.{AreOverheardOf}
+use Rattle.rtps_fragments.specs.Merging.{sents_from}
 use Rattle.rtps_fragments.specs.SampleActs.{PieceAct, acts_with_samples, piece_acts_in}
 use Rattle.rtps_fragments.specs.SamplesSent.{pieces_left}
 use Rattle.rtps_fragments.specs.Sending.{piece_acts_of, sending_of, unusable_in}
-use Rattle.rtps_fragments.specs.Telling.{SentValue, ToldValue, told_in_turn, told_value}
+use Rattle.rtps_fragments.specs.Telling.{SentValue, ToldValue, in_turn, overheard_behind, told_behind, told_value}
 use Rattle.rtps_fragments.specs.Whole.{AreWholeOf, tally_with_fragments}
 use Rattle.rtps_fragments.specs.declared.fragments.Fragments.{Fragments}
 use Rattle.rtps_fragments.specs.declared.fragments.Fragments.TheVariants as fragments
 use Rattle.rtps_fragments.specs.declared.samples.Samples.{Samples}
 
 -- what the acts of each datagram tell, behind what was sent before
-abbrev pub told_by_datagram : List SentValue → List SentValue → List (List PieceAct) → List (List ToldValue)
-told_by_datagram all before [] = []
-told_by_datagram all before (acts ∷ recording) = told_in_turn all before (sents_from 0 acts) ∷ told_by_datagram all (before ++ sents_from 0 acts) recording
+abbrev pub by_datagram : (List SentValue → SentValue → List ToldValue) → List SentValue → List (List PieceAct) → List (List ToldValue)
+by_datagram tell before [] = []
+by_datagram tell before (acts ∷ recording) = in_turn tell before (sents_from 0 acts) ∷ by_datagram tell (before ++ sents_from 0 acts) recording
 
 -- These are the samples of a recording, which is the octets of its datagrams in the order of sending.
 pub record AreSamplesOf (recording : List (List ℕ)) (samples : Samples) : Type 0 where
-  pub told : map (λ told. map told_value told.items) samples.told.items ≡ told_by_datagram (sents_in (sending_of recording)) [] (sending_of recording)
-  pub overheard : AreOverheardOf recording samples.overheard
+  pub told : map (λ told. map told_value told.items) samples.told.items ≡ by_datagram told_behind [] (sending_of recording)
+  pub overheard : map (λ told. map told_value told.items) samples.overheard.items ≡ by_datagram overheard_behind [] (sending_of recording)
   pub whole : AreWholeOf recording samples.whole
 
 -- how many DATA_FRAG of a datagram are of no sample that is ever whole, among all acts of a recording: those that have no fragments that can

@@ -1,18 +1,19 @@
 -- The samples of a recording, told as acts. DDSI-RTPS 2.5, 8.3.4 "The RTPS Message Receiver" and 8.3.8.3 "DataFrag". own: the
--- fragments of one sample may be for several audiences, and a reader hears those that are for it; a sample is told to each audience
--- that hears all of it, so that the same acts serve every reader.
-use Rattle.std.specs.Prelude.{ℕ, Bool, false, true, not, ◌&&◌, ◌||◌, if◌then◌else◌, List, [], ◌∷◌, ◌++◌, filter, map, Option, Some, None}
+-- fragments of one sample may be for several audiences, and a reader hears those that are for it; a sample is told to audiences, so that
+-- the same acts serve every reader.
+use Rattle.std.specs.Prelude.{ℕ, Bool, false, ◌&&◌, if◌then◌else◌, List, [], ◌∷◌, ◌++◌, filter, map, Option, Some, None, unwrap_or}
 use Rattle.std.specs.List.{filter_map, flat_map}
 use Rattle.rtps_ids.specs.declared.identity.Guid.{Guid}
-use Rattle.rtps_ids.specs.declared.identity.GuidPrefix.{GuidPrefix}
 use Rattle.rtps_wire.specs.Values.{PayloadValue}
-use Rattle.rtps_receiver.specs.Speech.{entity_from, is_entity, is_for_all, is_heard_by, is_prefix, is_spoken_by, names, origin_of, reader_named, unknown_entity}
+use Rattle.rtps_receiver.specs.Speech.{entity_from, is_heard_by, is_spoken_by, origin_of, reader_named, unknown_entity}
 use Rattle.rtps_receiver.specs.Values.{ActValue}
 use Rattle.rtps_receiver.specs.Values.ActBodyValue.{DataFrag}
 use Rattle.rtps_receiver.specs.declared.speech.Audience.{Audience}
 use Rattle.rtps_audit.specs.Speech.{said_by}
-use Rattle.rtps_fragments.specs.FragmentDelivery.{Fragment, FragmentSpeech, Piece, Shape, fragments_of}
-use Rattle.rtps_fragments.specs.Samples.{is_of, told_by}
+use Rattle.rtps_fragments.specs.FragmentDelivery.{Fragment, FragmentSpeech, Piece, Shape, fragments_of, last_fragment, payload_by}
+use Rattle.rtps_fragments.specs.Listeners.{Offer, hearing_of, tells}
+use Rattle.rtps_fragments.specs.Samples.{is_of}
+use Rattle.rtps_fragments.specs.Came.{came_from}
 
 -- an act with its piece, where it is a DATA_FRAG that is one
 pub record PieceAct : Type 0 where
@@ -34,33 +35,6 @@ abbrev pub fragment_speech_of : Guid → Guid → List (List PieceAct) → Fragm
 fragment_speech_of writer reader recording =
     map (λ datagram. record { said = said_by writer reader (map (λ one. one.act) datagram); pieces = filter_map (piece_for writer reader) datagram }) recording
 
--- ---- audiences
-
--- two destinations are the same
-abbrev pub is_same_dest : Option GuidPrefix → Option GuidPrefix → Bool
-is_same_dest (Some one) (Some other) = is_prefix one other
-is_same_dest (Some one) None = false
-is_same_dest None (Some other) = false
-is_same_dest None None = true
-
--- all of the audience hear the act
-abbrev pub reaches : ActValue → Audience → Bool
-reaches act audience =
-    (is_for_all act.dest || is_same_dest act.dest audience.dest) && (names (reader_named act.body) unknown_entity || names (reader_named act.body) audience.reader)
-
--- a list without what is the same as something before it
-abbrev pub once : {X : Type 0} → (X → X → Bool) → List X → List X
-once same [] = []
-once same (x ∷ xs) = x ∷ filter (λ y. not (same x y)) (once same xs)
-
--- the audiences to which a sample may be told: everyone and each destination of its acts, and in each every reader and each one that
--- they name
-abbrev pub audiences_among : List PieceAct → List Audience
-audiences_among acts =
-    flat_map
-    (λ dest. map (λ reader. record { dest = dest; reader = reader }) (once is_entity (unknown_entity ∷ filter_map (λ one. reader_named one.act.body) acts)))
-    (once is_same_dest (None ∷ map (λ one. one.act.dest) acts))
-
 -- ---- samples
 
 -- the piece is one of the sample of number n in this shape
@@ -77,35 +51,56 @@ abbrev pub fragments_in : Option Piece → List Fragment
 fragments_in (Some piece) = fragments_of piece
 fragments_in None = []
 
--- the fragments that a writer sends to all of an audience
-abbrev pub sent_to : Guid → Audience → List PieceAct → List Fragment
-sent_to writer audience acts = flat_map (λ one. fragments_in one.piece) (filter (λ one. is_spoken_by one.act writer && reaches one.act audience) acts)
+-- to whom an act is sent
+abbrev pub sent_to_whom : ActValue → Audience
+sent_to_whom act = record { dest = act.dest; reader = unwrap_or (reader_named act.body) unknown_entity }
+
+-- what an act with this piece sends of its sample
+abbrev pub offered : ActValue → Piece → Offer
+offered act piece = record { audience = sent_to_whom act; came = came_from piece.first piece.parts }
+
+-- the same, where it has one
+abbrev pub offered_by : ActValue → Option Piece → List Offer
+offered_by act (Some piece) = offered act piece ∷ []
+offered_by act None = []
+
+-- what acts send of a sample
+abbrev pub offers_of : Guid → ℕ → Shape → List PieceAct → List Offer
+offers_of writer n shape acts = flat_map (λ one. offered_by one.act one.piece) (acts_of_sample writer n shape acts)
 
 -- a sample as a DATA_FRAG that tells it to an audience, from where this act is from
 abbrev pub sample_act : ActValue → ℕ → Audience → PayloadValue → ActValue
 sample_act act n audience payload =
     record act { dest = audience.dest; body = DataFrag (record { reader = audience.reader; writer = entity_from act.body; number = n; told = Some payload }) }
 
--- the samples that an act with this piece tells an audience, behind these
-abbrev pub told_to : List PieceAct → ActValue → Piece → Audience → List ActValue
-told_to before act piece audience =
-    if reaches act audience then map (sample_act act piece.number audience) (told_by (sent_to (origin_of act) audience before) piece) else []
+-- a sample that is told, as an act
+abbrev pub act_of_told : ActValue → Piece → Audience × List ℕ → ActValue
+act_of_told act piece one = sample_act act piece.number one.0 (payload_by piece.shape one.1)
 
--- the samples that an act tells: to each audience of the sample among all acts of the recording
-abbrev pub samples_told : List PieceAct → List PieceAct → ActValue → Option Piece → List ActValue
-samples_told all before act (Some piece) = flat_map (told_to before act piece) (audiences_among (acts_of_sample (origin_of act) piece.number piece.shape all))
-samples_told all before act None = []
+-- the samples that an act tells behind these, each to an audience
+abbrev pub samples_told : List PieceAct → ActValue → Option Piece → List ActValue
+samples_told before act (Some piece) =
+    map (act_of_told act piece) (tells (last_fragment piece.shape) (hearing_of (offers_of (origin_of act) piece.number piece.shape before)) (offered act piece))
+samples_told before act None = []
 
--- acts, each with the samples that it tells behind it
-abbrev pub acts_and_samples : List PieceAct → List PieceAct → List PieceAct → List ActValue
-acts_and_samples all before [] = []
-acts_and_samples all before (one ∷ acts) = one.act ∷ (samples_told all before one.act one.piece ++ acts_and_samples all (before ++ one ∷ []) acts)
+-- acts, each with others behind it that it stands for, by those before it
+abbrev pub acts_and : (List PieceAct → ActValue → Option Piece → List ActValue) → List PieceAct → List PieceAct → List ActValue
+acts_and others before [] = []
+acts_and others before (one ∷ acts) = one.act ∷ (others before one.act one.piece ++ acts_and others (before ++ one ∷ []) acts)
 
 -- those of each datagram behind these
-abbrev pub datagrams_and_samples : List PieceAct → List PieceAct → List (List PieceAct) → List (List ActValue)
-datagrams_and_samples all before [] = []
-datagrams_and_samples all before (datagram ∷ recording) = acts_and_samples all before datagram ∷ datagrams_and_samples all (before ++ datagram) recording
+abbrev pub datagrams_and : (List PieceAct → ActValue → Option Piece → List ActValue) → List PieceAct → List (List PieceAct) → List (List ActValue)
+datagrams_and others before [] = []
+datagrams_and others before (datagram ∷ recording) = acts_and others before datagram ∷ datagrams_and others (before ++ datagram) recording
+
+-- acts, each with the samples that it tells behind it
+abbrev pub acts_and_samples : List PieceAct → List PieceAct → List ActValue
+acts_and_samples before acts = acts_and samples_told before acts
+
+-- those of each datagram
+abbrev pub datagrams_and_samples : List PieceAct → List (List PieceAct) → List (List ActValue)
+datagrams_and_samples before recording = datagrams_and samples_told before recording
 
 -- the acts of a recording with its samples among them
 abbrev pub acts_with_samples : List (List PieceAct) → List (List ActValue)
-acts_with_samples recording = datagrams_and_samples (piece_acts_in recording) [] recording
+acts_with_samples recording = datagrams_and_samples [] recording

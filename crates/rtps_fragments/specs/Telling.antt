@@ -1,25 +1,19 @@
--- What fragments tell, one act after another, to each audience of their samples. DDSI-RTPS 2.5, 8.3.8.3 "DataFrag". own: it is worked out
+-- What fragments tell, one act after another, to the listeners of their samples. DDSI-RTPS 2.5, 8.3.8.3 "DataFrag". own: it is worked out
 -- of what is known of the fragments alone: their sample, whom they are for, and their octets.
-use Rattle.std.specs.Prelude.{ℕ, Bool, ◌<◌, ◌≡◌, ◌&&◌, ◌||◌, if◌then◌else◌, List, [], ◌∷◌, ◌++◌, drop, filter, length, map, nat_lt, ◌==◌, slice_get, Option, Some, None}
-use Rattle.std.specs.BTreeMap.{BTreeMap, get}
-use Rattle.std.specs.List.{flat_map, list_any}
+use Rattle.std.specs.Prelude.{ℕ, Bool, ◌<◌, if◌then◌else◌, List, [], ◌∷◌, ◌++◌, drop, filter, length, map}
+use Rattle.std.specs.List.{flat_map}
 use Rattle.std.specs.Ordering.{bool_cmp, is_eq, nat_cmp, ordering_then}
 use Rattle.std.specs.declared.cmp.Ordering.{Ordering}
-use Rattle.rtps_ids.specs.declared.identity.EntityId.{EntityId}
-use Rattle.rtps_ids.specs.declared.identity.GuidPrefix.{GuidPrefix}
 use Rattle.rtps_discovery.specs.GuidOrder.{guid_cmp}
-use Rattle.rtps_receiver.specs.Speech.{is_entity, is_for_all, unknown_entity}
 use Rattle.rtps_receiver.specs.declared.speech.Audience.{Audience}
+use Rattle.rtps_wire.specs.DataFrag.{parts_in}
 use Rattle.rtps_wire.specs.Values.{PayloadValue}
 use Rattle.rtps_wire.specs.Values.PayloadValue.{Whole, Key}
+use Rattle.rtps_fragments.specs.Announcing.{is_built_in}
+use Rattle.rtps_fragments.specs.Came.{came_from}
 use Rattle.rtps_fragments.specs.FragmentDelivery.{Shape, last_fragment, payload_by}
-use Rattle.rtps_fragments.specs.Came.{IsCame, came_from}
-use Rattle.rtps_wire.specs.DataFrag.{parts_in}
+use Rattle.rtps_fragments.specs.Listeners.{Offer, everyone, hearing_of, tells}
 use Rattle.rtps_fragments.specs.Samples.{samples_of}
-use Rattle.rtps_fragments.specs.SampleActs.{is_same_dest, once}
-use Rattle.rtps_fragments.specs.declared.addressed.Addressed.{Addressed}
-use Rattle.rtps_fragments.specs.declared.came.Came.{Came}
-use Rattle.rtps_fragments.specs.declared.hearing.Hearing.{Hearing}
 use Rattle.rtps_fragments.specs.declared.piece.SampleKey.{SampleKey}
 use Rattle.rtps_fragments.specs.declared.piece.SentFragments.{SentFragments}
 use Rattle.rtps_fragments.specs.declared.told_sample.ToldSample.{ToldSample}
@@ -69,43 +63,17 @@ pub record IsSent (sent : SentFragments) : Type 0 where
 abbrev pub sent_of : SampleKey → List SentValue → List SentValue
 sent_of key all = filter (λ sent. is_sample key sent.key) all
 
--- all of the other audience hear what is for this one
-abbrev pub is_for_audience : Audience → Audience → Bool
-is_for_audience one other = (is_for_all one.dest || is_same_dest one.dest other.dest) && (is_entity one.reader unknown_entity || is_entity one.reader other.reader)
+-- what is sent of its sample
+abbrev pub offer_of : SentValue → Offer
+offer_of sent = record { audience = sent.audience; came = sent.came }
 
--- the fragments of a sample that come to all of an audience
-abbrev pub came_to : SampleKey → Audience → List SentValue → List (ℕ × List ℕ)
-came_to key audience sents = flat_map (λ sent. sent.came) (filter (λ sent. is_sample key sent.key && is_for_audience sent.audience audience) sents)
+-- what is sent of a sample
+abbrev pub offers : SampleKey → List SentValue → List Offer
+offers key sents = map offer_of (sent_of key sents)
 
--- ---- audiences
-
--- everyone, and each destination of the fragments of a sample
-abbrev pub dests_of : SampleKey → List SentValue → List (Option GuidPrefix)
-dests_of key all = once is_same_dest (None ∷ map (λ sent. sent.audience.dest) (sent_of key all))
-
--- every reader, and each one that they name
-abbrev pub readers_of : SampleKey → List SentValue → List EntityId
-readers_of key all = once is_entity (unknown_entity ∷ map (λ sent. sent.audience.reader) (sent_of key all))
-
--- one more, if none that is there is the same
-abbrev pub added : {X : Type 0} → (X → X → Bool) → List X → X → List X
-added same xs x = if list_any (λ y. same y x) xs then xs else xs ++ x ∷ []
-
--- the destinations that are kept of a sample
-abbrev pub kept_dests : Option Addressed → List (Option GuidPrefix)
-kept_dests (Some addressed) = addressed.dests.items
-kept_dests None = None ∷ []
-
--- the readers
-abbrev pub kept_readers : Option Addressed → List EntityId
-kept_readers (Some addressed) = addressed.readers.items
-kept_readers None = unknown_entity ∷ []
-
--- Of each sample those are kept to whom its fragments are sent.
-pub record AreAddressed (all : List SentValue) (kept : BTreeMap SampleKey Addressed) : Type 0 where
-  pub dests : (key : SampleKey) → kept_dests (get sample_cmp kept key) ≡ dests_of key all
-  pub readers : (key : SampleKey) → kept_readers (get sample_cmp kept key) ≡ readers_of key all
-  pub none : (key : SampleKey) → get sample_cmp kept key ≡ None → sent_of key all ≡ []
+-- the fragments of a sample, whoever hears them
+abbrev pub overheard : SampleKey → List SentValue → List (ℕ × List ℕ)
+overheard key sents = flat_map (λ sent. sent.came) (sent_of key sents)
 
 -- ---- what is told
 
@@ -131,55 +99,35 @@ samples_more last before more = drop (length (samples_of last before)) (samples_
 abbrev pub told_by_sent : SentValue → Audience → List (ℕ × List ℕ) → List ToldValue
 told_by_sent sent audience before = told_as sent.act audience (shape_of sent.key) (samples_more (last_fragment (shape_of sent.key)) before sent.came)
 
--- where all of it hear them
-abbrev pub told_to_audience : List SentValue → SentValue → Audience → List ToldValue
-told_to_audience before sent audience = if is_for_audience sent.audience audience then told_by_sent sent audience (came_to sent.key audience before) else []
+-- samples of this shape that the act at this place tells, each to an audience
+abbrev pub told_each : ℕ → Shape → List (Audience × List ℕ) → List ToldValue
+told_each act shape samples = map (λ one. record { act = act; audience = one.0; payload = payload_by shape one.1 }) samples
 
--- to one destination's audiences
-abbrev pub told_to_dest : List SentValue → List SentValue → SentValue → Option GuidPrefix → List ToldValue
-told_to_dest all before sent dest = flat_map (λ reader. told_to_audience before sent (record { dest = dest; reader = reader })) (readers_of sent.key all)
+-- to the listeners of their sample, by these fragments, behind what was sent of it before
+abbrev pub told_by_offers : List Offer → SentValue → List ToldValue
+told_by_offers before sent = told_each sent.act (shape_of sent.key) (tells (last_fragment (shape_of sent.key)) (hearing_of before) (offer_of sent))
 
--- to each audience of the sample among all that is sent
-abbrev pub told_behind : List SentValue → List SentValue → SentValue → List ToldValue
-told_behind all before sent = flat_map (told_to_dest all before sent) (dests_of sent.key all)
+-- behind all that was sent before
+abbrev pub told_behind : List SentValue → SentValue → List ToldValue
+told_behind before sent = told_by_offers (offers sent.key before) sent
 
--- what these tell, one after another
-abbrev pub told_in_turn : List SentValue → List SentValue → List SentValue → List ToldValue
-told_in_turn all before [] = []
-told_in_turn all before (sent ∷ sents) = told_behind all before sent ++ told_in_turn all (before ++ sent ∷ []) sents
+-- to a listener that hears everything, of a built-in writer, behind what was sent of the sample before
+abbrev pub overheard_by_offers : List Offer → SentValue → List ToldValue
+overheard_by_offers before sent = if is_built_in sent.key.writer.entity then told_by_sent sent everyone (flat_map (λ offer. offer.came) before) else []
 
--- ---- what is kept of all that came
+-- behind all that was sent before
+abbrev pub overheard_behind : List SentValue → SentValue → List ToldValue
+overheard_behind before sent = if is_built_in sent.key.writer.entity then told_by_sent sent everyone (overheard sent.key before) else []
 
--- the place of an audience among those of a sample
-abbrev pub hearing_cmp : Hearing → Hearing → Ordering
-hearing_cmp a b = ordering_then (sample_cmp a.sample b.sample) (ordering_then (nat_cmp a.dest b.dest) (nat_cmp a.reader b.reader))
+-- what these tell, one after another, each behind those before it
+abbrev pub in_turn : (List SentValue → SentValue → List ToldValue) → List SentValue → List SentValue → List ToldValue
+in_turn tell before [] = []
+in_turn tell before (sent ∷ sents) = tell before sent ++ in_turn tell (before ++ sent ∷ []) sents
 
--- what is kept of a sample, if something came
-abbrev pub HasCame : ℕ → List (ℕ × List ℕ) → Option Came → Type 0
-HasCame last came None = came ≡ []
-HasCame last came (Some kept) = IsCame last came kept
+-- to listeners
+abbrev pub told_in_turn : List SentValue → List SentValue → List ToldValue
+told_in_turn before sents = in_turn told_behind before sents
 
--- For each audience of each sample among all that is sent, what came by these is kept.
-pub record AreHeard (all before : List SentValue) (kept : BTreeMap Hearing Came) : Type 0 where
-  pub each : (hearing : Hearing) (dest : Option GuidPrefix) (reader : EntityId) → slice_get (dests_of hearing.sample all) hearing.dest ≡ Some dest
-      → slice_get (readers_of hearing.sample all) hearing.reader ≡ Some reader
-      → HasCame (last_fragment (shape_of hearing.sample)) (came_to hearing.sample (record { dest = dest; reader = reader }) before) (get hearing_cmp kept hearing)
-
--- What is kept of one sample is to whom its fragments are sent.
-pub record IsKeptAs (addressed : Addressed) (key : SampleKey) (all : List SentValue) : Type 0 where
-  pub dests : addressed.dests.items ≡ dests_of key all
-  pub readers : addressed.readers.items ≡ readers_of key all
-
--- The same, where these fragments came to some audiences, and not yet to the others.
-pub record AreHeardSo (all before : List SentValue) (sent : SentValue) (done : Hearing → Bool) (kept : BTreeMap Hearing Came) : Type 0 where
-  pub each : (hearing : Hearing) (dest : Option GuidPrefix) (reader : EntityId) → slice_get (dests_of hearing.sample all) hearing.dest ≡ Some dest
-      → slice_get (readers_of hearing.sample all) hearing.reader ≡ Some reader
-      → HasCame (last_fragment (shape_of hearing.sample)) (came_to hearing.sample (record { dest = dest; reader = reader }) (if done hearing then before ++ sent ∷ [] else before)) (get hearing_cmp kept hearing)
-
--- the audience is one of a destination before this place
-abbrev pub is_above : ℕ → Hearing → Bool
-is_above dest hearing = nat_lt hearing.dest dest
-
--- or of this destination, and of a reader before this place
-abbrev pub is_above_reader : ℕ → ℕ → Hearing → Bool
-is_above_reader dest reader hearing = nat_lt hearing.dest dest || (hearing.dest == dest && nat_lt hearing.reader reader)
+-- to one that hears everything
+abbrev pub overheard_in_turn : List SentValue → List SentValue → List ToldValue
+overheard_in_turn before sents = in_turn overheard_behind before sents

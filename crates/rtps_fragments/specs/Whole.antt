@@ -1,8 +1,7 @@
 -- The numbers of which a sample is ever whole. DDSI-RTPS 2.5, 8.3.8.3 "DataFrag". own: fragments of other numbers are counted, since what
 -- they would tell is not known; whoever hears which of them, and of whatever shape the sample is.
-use Rattle.std.specs.Prelude.{ℕ, Bool, false, ◌≡◌, ◌+◌, ◌&&◌, List, count_by, not}
-use Rattle.std.specs.BTreeMap.{BTreeMap, get}
-use Rattle.std.specs.BTreeSet.{BTreeSet, contains}
+use Rattle.std.specs.Prelude.{ℕ, Bool, ◌≡◌, ◌+◌, ◌&&◌, List, count_by, not}
+use Rattle.std.specs.BTreeSet.{contains}
 use Rattle.std.specs.List.{list_any}
 use Rattle.std.specs.Ordering.{is_eq, nat_cmp, ordering_then}
 use Rattle.std.specs.declared.cmp.Ordering.{Ordering}
@@ -12,11 +11,9 @@ use Rattle.rtps_wire.specs.declared.counts.Tally.{Tally}
 use Rattle.rtps_discovery.specs.GuidOrder.{guid_cmp}
 use Rattle.rtps_fragments.specs.FragmentDelivery.{last_fragment}
 use Rattle.rtps_fragments.specs.Merging.{sents_from, sents_in}
-use Rattle.rtps_fragments.specs.Overheard.{overheard}
 use Rattle.rtps_fragments.specs.Samples.{has_sample}
 use Rattle.rtps_fragments.specs.Sending.{piece_acts_of, sending_of, unusable_in}
-use Rattle.rtps_fragments.specs.Telling.{HasCame, SentValue, sample_cmp, shape_of}
-use Rattle.rtps_fragments.specs.declared.came.Came.{Came}
+use Rattle.rtps_fragments.specs.Telling.{SentValue, overheard, shape_of}
 use Rattle.rtps_fragments.specs.declared.piece.SampleKey.{SampleKey}
 use Rattle.rtps_fragments.specs.declared.whole.SampleNumber.{SampleNumber}
 use Rattle.rtps_fragments.specs.declared.whole.WholeNumbers.{WholeNumbers}
@@ -52,11 +49,6 @@ tally_with_fragments plain count = record { refused = plain.refused; skipped = p
 -- the tally of a datagram of these octets, of which those DATA_FRAG are counted as fragments that are of no sample, of all that is sent
 abbrev pub tally_left : List SentValue → List ℕ → Tally
 tally_left all octets = tally_with_fragments (tally_of (reading_of octets)) (unusable_in octets + left_among all (sents_from 0 (piece_acts_of octets)))
-
--- The numbers of which some sample can be put together of these are kept, and what came of each sample of another number.
-pub record AreTracked (before : List SentValue) (kept : BTreeMap SampleKey Came) (numbers : BTreeSet SampleNumber) : Type 0 where
-  pub came : (key : SampleKey) → has_whole before (key_number key) ≡ false → HasCame (last_fragment (shape_of key)) (overheard key before) (get sample_cmp kept key)
-  pub whole : (number : SampleNumber) → contains number_cmp numbers number ≡ has_whole before number
 
 -- these are the numbers of which some sample can be put together of all that is sent
 abbrev pub AreWholeIn : List SentValue → WholeNumbers → Type 0

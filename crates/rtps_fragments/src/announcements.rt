@@ -2,11 +2,11 @@ ghost use Rattle.std.specs.Prelude.{◌≡◌, ◌+◌, ◌<◌, ◌^◌, ◌++�
 ghost use Rattle.rtps_receiver.specs.Values.{act_body_value, act_value};
 ghost use Rattle.rtps_audit.specs.Intake.{Intake, intake_more, no_intake};
 ghost use Rattle.rtps_audit.specs.Placed.{placed_at, placed_value};
+ghost use Rattle.rtps_fragments.specs.Announcing.{is_built_in as is_built_in_lem};
 ghost use Rattle.rtps_fragments.specs.Announcements.{IsIndexedBy, is_announcement, is_of_built_in as is_of_built_in_lem};
 
-use crate::overheard::is_built_in;
 use rtps_audit::{Index, Placed, place};
-use rtps_ids::Memory;
+use rtps_ids::{EntityId, Memory};
 use rtps_receiver::{Act, ActBody};
 use rtps_wire::Tally;
 use std::alloc::Global;
@@ -28,6 +28,17 @@ pub(crate) struct DatagramActs<'r, 's> {
     pub(crate) acts: &'r [Act<'s>],
     /// Those of which it is noted what they announce.
     pub(crate) announcing: &'r [Act<'s>],
+}
+
+/// The least last octet of the entity id of a built-in entity: its two highest bits are set (DDSI-RTPS 2.5, 9.3.1.2 "Mapping of
+/// the EntityId_t").
+const BUILT_IN: u8 = 0xc0;
+
+/// Whether an entity is a built-in one.
+pub(crate) fn is_built_in(entity: EntityId) -> bool
+    ensures { result ≡ is_built_in_lem entity }
+{
+    entity.0[3] >= BUILT_IN
 }
 
 /// Whether an act is a DATA of a built-in writer: no other announces something.

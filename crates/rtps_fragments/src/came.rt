@@ -1,9 +1,9 @@
-ghost use Rattle.std.specs.Prelude.{ℕ, ◌≡◌, ◌<◌, ◌≤◌, ◌+◌, ◌++◌, ◌∷◌, [], true, is_some, length, map, slice_get, suc, List, IfOk, OnOk, Some, None};
-ghost use Rattle.std.specs.BTreeMap.{get};
-ghost use Rattle.std.specs.List.{concat};
-ghost use Rattle.std.specs.Ordering.{nat_cmp};
-ghost use Rattle.rtps_fragments.specs.Came.{IsCame, came_from, with_part};
+ghost use Rattle.std.specs.Prelude.{ℕ, ◌≡◌, ◌==◌, ◌<◌, ◌≤◌, ◌++◌, ◌∷◌, [], if◌then◌else◌, length, map, option_copied, slice_get, suc, List, IfOk, OnOk, Some, None};
+ghost use Rattle.std.specs.List.{concat, list_all, list_any};
+ghost use Rattle.std.specs.Str.{bytes_eq};
+ghost use Rattle.rtps_fragments.specs.Came.{IsCame, came_from, kept_first, kept_front, kept_other, with_part};
 ghost use Rattle.rtps_fragments.specs.FragmentDelivery.{last_fragment};
+ghost use Rattle.rtps_fragments.specs.Listeners.{came_first, is_octets};
 ghost use Rattle.rtps_wire.specs.DataFrag.{parts_in};
 ghost use Rattle.rtps_fragments.specs.Samples.{firsts_of, has_sample, samples_of};
 ghost use Rattle.rtps_fragments.specs.Telling.{IsSent, sent_value, shape_of, told_by_sent, told_value};
@@ -19,29 +19,15 @@ use std::collections::BTreeMap;
 /// What came of one sample: of each fragment the octets that came first, and the first fragment that came with others.
 #[derive(Drop)]
 pub(crate) struct Came<'a> {
-    /// The octets of each fragment, by its number.
-    pub(crate) firsts: BTreeMap<u64, &'a [u8]>,
-    /// Each fragment up to this one came, and the next one did not.
-    pub(crate) front: u64,
+    /// The octets of each fragment from the first one on, up to one that did not come.
+    pub(crate) front: Vec<&'a [u8]>,
+    /// Those of each fragment behind that one, by its number.
+    pub(crate) ahead: BTreeMap<u64, &'a [u8]>,
     /// The first fragment that came with other octets than at first; 0 where none did.
     pub(crate) other: u64,
     /// Its other octets.
     pub(crate) octets: &'a [u8],
     pub(crate) alloc: Global,
-}
-
-/// The last fragment up to which each one is there, from this one on.
-fn front_from(firsts: &BTreeMap<u64, &[u8]>, start: u64, last: u64) -> u64
-    ensures onward { start ≤ result }
-    ensures within { start ≤ last → result ≤ last }
-    ensures there { (i : ℕ) → start ≤ i → i < result → is_some (get nat_cmp firsts.now (suc i)) ≡ true }
-    ensures next { result < last → get nat_cmp firsts.now (suc result) ≡ None }
-{
-    let mut front = start;
-    while front < last && firsts.contains_key(&(front + 1)) {
-        front += 1;
-    }
-    front
 }
 
 impl<'a> Came<'a> {
@@ -50,44 +36,135 @@ impl<'a> Came<'a> {
         ensures { (last : ℕ) → IsCame last [] result }
     {
         Came {
-            firsts: BTreeMap::new(alloc),
-            front: 0,
+            front: Vec::new(alloc),
+            ahead: BTreeMap::new(alloc),
             other: 0,
             octets: &[],
             alloc,
         }
     }
 
-    /// Takes a fragment more of a sample with so many fragments. After `Memory` nothing is changed.
+    /// The same once more.
+    pub(crate) fn copy(&self) -> Result<Came<'a>, Memory>
+        ensures { IfOk result (λ copy. (last : ℕ) (came : List (ℕ × List ℕ)) → IsCame last came self.now → IsCame last came copy) }
+    {
+        let mut front = Vec::with_capacity(self.alloc, self.front.len())?;
+        front.extend_from_slice(&self.front)?;
+        let ahead = self.ahead.clone()?;
+        Ok(Came {
+            front,
+            ahead,
+            other: self.other,
+            octets: self.octets,
+            alloc: self.alloc,
+        })
+    }
+
+    /// How many fragments came from the first one on.
+    fn front(&self) -> u64
+        ensures { result ≡ kept_front self.now }
+    {
+        self.front.len() as u64
+    }
+
+    /// The octets that came first for a fragment.
+    fn first(&self, index: u64) -> Option<&'a [u8]>
+        requires { 0 < index }
+        ensures { option_copied result ≡ kept_first self.now index }
+    {
+        if index <= self.front() {
+            Some(self.front[index as usize - 1])
+        } else {
+            self.ahead.get(&index).copied()
+        }
+    }
+
+    /// Moves those to the front that follow there. After `Memory` it is of no use.
+    fn advance(&mut self, last: u64) -> Result<(), Memory>
+        ensures firsts { OnOk result ((i : ℕ) → kept_first self.new i ≡ kept_first self.old i) }
+        ensures within { OnOk result (kept_front self.old ≤ last → kept_front self.new ≤ last) }
+        ensures next { OnOk result (kept_front self.new < last → kept_first self.new (suc (kept_front self.new)) ≡ None) }
+        ensures other { OnOk result (kept_other self.new ≡ kept_other self.old) }
+    {
+        while self.front() < last {
+            let next = self.front() + 1;
+            match self.ahead.remove(&next) {
+                Some(octets) => self.front.push(octets)?,
+                None => return Ok(()),
+            }
+        }
+        Ok(())
+    }
+
+    /// Keeps the octets of a fragment that did not come before. After `Memory` it is of no use.
+    fn put(&mut self, last: u64, index: u64, octets: &'a [u8]) -> Result<(), Memory>
+        requires some { 0 < index }
+        requires absent { kept_first self.old index ≡ None }
+        ensures firsts { OnOk result ((i : ℕ) → kept_first self.new i ≡ (if i == index then Some octets.now else kept_first self.old i)) }
+        ensures within { OnOk result (kept_front self.old ≤ last → kept_front self.new ≤ last) }
+        ensures other { OnOk result (kept_other self.new ≡ kept_other self.old) }
+    {
+        if self.front() < last && index == self.front() + 1 {
+            self.front.push(octets)?;
+        } else {
+            self.ahead.insert(index, octets)?;
+        }
+        Ok(())
+    }
+
+    /// Takes a fragment more of a sample with so many fragments. After `Memory` it is of no use.
     pub(crate) fn take(&mut self, last: u64, index: u64, octets: &'a [u8]) -> Result<(), Memory>
         requires { 0 < index }
         ensures { OnOk result ((came : List (ℕ × List ℕ)) → IsCame last came self.old → IsCame last (came ++ (index, octets.now) ∷ []) self.new) }
     {
-        if self.front < last && index == self.front + 1 {
-            // The next one after those that came: it did not come before.
-            self.firsts.insert(index, octets)?;
-            self.front = front_from(&self.firsts, index, last);
-            return Ok(());
-        }
-        if let Some(first) = self.firsts.get(&index) {
-            if self.other == 0 && *first != octets {
+        if let Some(first) = self.first(index) {
+            if self.other == 0 && first != octets {
                 self.other = index;
                 self.octets = octets;
             }
             return Ok(());
         }
-        self.firsts.insert(index, octets)?;
-        self.front = front_from(&self.firsts, self.front, last);
-        Ok(())
+        self.put(last, index, octets)?;
+        self.advance(last)
+    }
+
+    /// Whether these octets came first for a fragment.
+    fn has_first(&self, index: u64, octets: &[u8]) -> bool
+        requires { 0 < index }
+        ensures { result ≡ is_octets (kept_first self.now index) octets.now }
+    {
+        match self.first(index) {
+            Some(first) => first == octets,
+            None => false,
+        }
+    }
+
+    /// Whether these came first for each of consecutive fragments of a sample of this shape.
+    pub(crate) fn knows(&self, shape: Shape, fragments: &FragmentRun<'_>) -> bool
+        requires size { 0 < shape.fragment }
+        requires first { 0 < fragments.now.first }
+        ensures { (last : ℕ) (came : List (ℕ × List ℕ)) → IsCame last came self.now
+            → result ≡ list_all (came_first came) (came_from fragments.now.first (parts_in shape.fragment fragments.now.count fragments.now.octets.now)) }
+    {
+        let size = usize::from(shape.fragment);
+        let mut rest = fragments.octets;
+        for place in 0..fragments.count {
+            let (octets, behind) = rest.split_at(size.min(rest.len()));
+            if !self.has_first(u64::from(fragments.first) + u64::from(place), octets) {
+                return false;
+            }
+            rest = behind;
+        }
+        true
     }
 
     /// How many samples can be put together: none where some fragment did not come, two where one came with other octets.
     pub(crate) fn count(&self, last: u64) -> usize
         requires { 0 < last }
         ensures samples { (came : List (ℕ × List ℕ)) → IsCame last came self.now → result ≡ length (samples_of last came) }
-        ensures whole { 0 < result → last ≤ self.now.front }
+        ensures whole { 0 < result → last ≤ kept_front self.now }
     {
-        if self.front < last {
+        if self.front() < last {
             0
         } else if self.other == 0 {
             1
@@ -100,7 +177,7 @@ impl<'a> Came<'a> {
     /// so there are as many octets as the sample has, and room for them is asked for at once.
     fn joined(&self, shape: Shape, index: u64, octets: &[u8]) -> Result<Vec<u8>, Memory>
         requires size { 0 < shape.fragment }
-        requires whole { last_fragment shape ≤ self.now.front }
+        requires whole { last_fragment shape ≤ kept_front self.now }
         ensures { IfOk result (λ sample. (came : List (ℕ × List ℕ)) (parts : List (List ℕ)) → IsCame (last_fragment shape) came self.now
             → firsts_of came (last_fragment shape) ≡ Some parts → sample.items ≡ concat (with_part parts index octets.now)) }
     {
@@ -108,8 +185,8 @@ impl<'a> Came<'a> {
         for place in 0..shape.last_fragment() {
             if place + 1 == index {
                 sample.extend_from_slice(octets)?;
-            } else if let Some(first) = self.firsts.get(&(place + 1)) {
-                sample.extend_from_slice(*first)?;
+            } else {
+                sample.extend_from_slice(self.front[place as usize])?;
             }
         }
         Ok(sample)
@@ -117,9 +194,9 @@ impl<'a> Came<'a> {
 
     /// The sample at a place of those that can be put together: the octets that came first for each fragment; at place 1 with
     /// the other octets of the fragment that came with others.
-    fn sample(&self, shape: Shape, place: usize) -> Result<Vec<u8>, Memory>
+    pub(crate) fn sample(&self, shape: Shape, place: usize) -> Result<Vec<u8>, Memory>
         requires size { 0 < shape.fragment }
-        requires whole { last_fragment shape ≤ self.now.front }
+        requires whole { last_fragment shape ≤ kept_front self.now }
         ensures { IfOk result (λ sample. (came : List (ℕ × List ℕ)) → IsCame (last_fragment shape) came self.now
             → place < length (samples_of (last_fragment shape) came) → slice_get (samples_of (last_fragment shape) came) place ≡ Some sample.items) }
     {
@@ -148,19 +225,36 @@ impl<'a> Came<'a> {
         Ok(())
     }
 
-    /// Takes fragments that are sent, and says whether their sample can be put together of all that came. After `Memory` it is of no
-    /// use.
-    pub(crate) fn take_sent(&mut self, sent: &SentFragments<'a>) -> Result<bool, Memory>
+    /// Takes fragments that are sent. After `Memory` it is of no use.
+    pub(crate) fn take_sent(&mut self, sent: &SentFragments<'a>) -> Result<(), Memory>
         requires { IsSent sent.now }
-        ensures came { OnOk result ((came : List (ℕ × List ℕ)) → IsCame (last_fragment (shape_of sent.now.key)) came self.old
+        ensures { OnOk result ((came : List (ℕ × List ℕ)) → IsCame (last_fragment (shape_of sent.now.key)) came self.old
             → IsCame (last_fragment (shape_of sent.now.key)) (came ++ (sent_value sent.now).came) self.new) }
-        ensures whole { IfOk result (λ whole. (came : List (ℕ × List ℕ)) → IsCame (last_fragment (shape_of sent.now.key)) came self.old
-            → whole ≡ has_sample (last_fragment (shape_of sent.now.key)) (came ++ (sent_value sent.now).came)) }
     {
-        let shape = sent.key.shape();
-        let last = shape.last_fragment();
-        self.take_all(shape, &sent.fragments)?;
-        Ok(self.count(last) > 0)
+        self.take_all(sent.key.shape(), &sent.fragments)
+    }
+
+    /// Whether a sample of so many fragments can be put together.
+    pub(crate) fn is_whole(&self, last: u64) -> bool
+        requires { 0 < last }
+        ensures { (came : List (ℕ × List ℕ)) → IsCame last came self.now → result ≡ has_sample last came }
+    {
+        self.count(last) > 0
+    }
+
+    /// Whether the octets are those of a sample of this shape that can be put together.
+    pub(crate) fn has(&self, shape: Shape, octets: &[u8]) -> Result<bool, Memory>
+        requires size { 0 < shape.fragment }
+        requires some { 0 < last_fragment shape }
+        ensures { IfOk result (λ has. (came : List (ℕ × List ℕ)) → IsCame (last_fragment shape) came self.now → has ≡ list_any (bytes_eq octets.now) (samples_of (last_fragment shape) came)) }
+    {
+        for place in 0..self.count(shape.last_fragment()) {
+            let sample = self.sample(shape, place)?;
+            if octets == sample.as_slice() {
+                return Ok(true);
+            }
+        }
+        Ok(false)
     }
 
     /// Takes fragments that are sent to this audience, and appends the samples that they tell: those that could not be put

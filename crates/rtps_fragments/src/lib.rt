@@ -1,21 +1,18 @@
 //! What a reader is told by samples that are sent in fragments (DDSI-RTPS 2.5, 8.3.8.3 "DataFrag").
 #![tactic(auto)]
 
-mod addressed;
 mod announcements;
 mod came;
 mod fragments;
-mod hearing;
 pub mod laws;
 mod layout;
+mod listeners;
+mod making;
 mod merging;
-mod overheard;
 mod piece;
 mod sample_index;
 mod samples;
 mod sending;
-mod survey;
-mod telling;
 mod told_sample;
 mod whole;
 

@@ -106,7 +106,7 @@ pub fn index_with<'s>(
         let told = DatagramSamples {
             datagram: place + 1,
             told: &samples.told[place],
-            overheard: &samples.overheard.told[place],
+            overheard: &samples.overheard[place],
             whole: &samples.whole,
         };
         note_datagram(&mut indexed, &mut reading, recording[place], &told)?;

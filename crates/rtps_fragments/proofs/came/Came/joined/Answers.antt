@@ -1,14 +1,20 @@
-use Rattle.std.proofs.Common.{◌≡◌, ◌<◌, ℕ, ◌∙◌, ap, arith, subst, sym}
-use Rattle.std.specs.Prelude.{option_copied, length}
+use Rattle.std.proofs.Common.{◌≡◌, ◌+◌, ◌<◌, ◌∙◌, ℕ, List, Some, ap, arith, slice_get, suc, refl, subst}
+use Rattle.std.specs.Prelude.{length}
 use Rattle.std.specs.Global.{Vec}
 use Rattle.std.specs.List.{concat}
 use Rattle.std.proofs.lemmas.List.{take_all}
-use Rattle.rtps_fragments.specs.Came.{with_part}
+use Rattle.std.proofs.lemmas.Option.{slice_get_read}
+use Rattle.std.specs.Borrow.{Bor}
+use Rattle.rtps_fragments.specs.Came.{kept_first, with_part}
+use Rattle.rtps_fragments.specs.declared.came.Came.{Came}
 use Rattle.rtps_fragments.specs.FragmentDelivery.{last_fragment}
-use Rattle.rtps_fragments.proofs.CameLemmas.{joined_first, joined_none, joined_with, length-with_part}
+use Rattle.rtps_fragments.proofs.CameLemmas.{front_first, joined_first, joined_with, length-with_part}
 use Rattle.rtps_fragments.proofs.SampleLemmas.{firsts_get}
 use Rattle.rtps_fragments.proofs.came.Came.joined.Goals as goal
-use Rattle.rtps_fragments.proofs.came.Came.joined.Goals.{then-place-index+in_ok-extend_from_slice, else-place-index+in-Some+in_ok-extend_from_slice-2, else-place-index+in_default}
+use Rattle.rtps_fragments.proofs.came.Came.joined.Goals.{then-place-index+in_ok-extend_from_slice, else-place-index+in_ok-extend_from_slice-2}
+
+front : (kept : Came) (i : ℕ) (octets : Bor (List ℕ)) → slice_get kept.front.items i ≡ Some octets → kept_first kept (i + 1) ≡ Some octets.now
+front kept i octets e = let more : i + 1 ≡ suc i = omega arith in ap (kept_first kept) more ∙ front_first kept i octets e
 
 pub loop-place-preserved : goal.loop-place-preserved
 loop-place-preserved c = λ came parts is all.
@@ -22,11 +28,9 @@ loop-place-preserved c = λ came parts is all.
     elim c.if-place-index.branch [
       | then-place-index+in_ok-extend_from_slice w ↦
           ap (λ (v : Vec ℕ). v.items) w.sample-is ∙ w.in_ok-extend_from_slice.ensures.items ∙ joined_with last came c.args.self.now parts index place octets so_far is all lt so w.if-place-index.true
-      | else-place-index+in-Some+in_ok-extend_from_slice-2 w ↦
+      | else-place-index+in_ok-extend_from_slice-2 w ↦
           ap (λ (v : Vec ℕ). v.items) w.sample-is ∙ w.in_ok-extend_from_slice-2.ensures.items
-          ∙ joined_first last came c.args.self.now parts index place octets so_far is all lt so w.if-place-index.false w.in-Some.first.now.now (ap option_copied (sym w.in-Some.ensures.value))
-      | else-place-index+in_default w ↦
-          absurd (joined_none last came c.args.self.now parts index place octets so_far is all lt so (ap option_copied (sym w.get.ensures.value ∙ ap option_copied w.in_default.is)))
+          ∙ joined_first last came c.args.self.now parts index place octets so_far is all lt so w.if-place-index.false w.index.result.now.now (front c.args.self.now place w.index.result.now (slice_get_read c.args.self.now.front.items (length c.args.self.now.front.items) place w.index.result.now refl (let whole = c.requires.whole in omega arith) w.index.ensures))
     ]
 
 pub returns : goal.returns

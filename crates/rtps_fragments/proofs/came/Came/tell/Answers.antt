@@ -1,7 +1,7 @@
 use Rattle.std.proofs.Common.{◌≡◌, ◌≤◌, ◌<◌, ℕ, List, [], ◌∷◌, ◌++◌, ◌∙◌, ap, arith, length, map, subst, sym}
 use Rattle.std.specs.Prelude.{Some, slice_get}
 use Rattle.std.proofs.lemmas.List.{map-append}
-use Rattle.rtps_fragments.specs.Came.{IsCame, came_from}
+use Rattle.rtps_fragments.specs.Came.{IsCame, came_from, kept_front}
 use Rattle.rtps_fragments.specs.FragmentDelivery.{Shape, last_fragment}
 use Rattle.rtps_wire.specs.DataFrag.{parts_in}
 use Rattle.rtps_fragments.specs.Samples.{samples_of}
@@ -58,4 +58,4 @@ returns-clause-told c = λ came is.
 
 pub sample-requires-clause-whole : goal.sample-requires-clause-whole
 sample-requires-clause-whole c =
-    subst (λ n. n ≤ c.take_all.new.self.front) c.last_fragment-last.ensures (c.count-after.ensures.whole (omega (arith, c.loop-place-test.true)))
+    subst (λ n. n ≤ kept_front c.take_all.new.self) c.last_fragment-last.ensures (c.count-after.ensures.whole (omega (arith, c.loop-place-test.true)))

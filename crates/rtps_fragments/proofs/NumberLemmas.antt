@@ -1,0 +1,121 @@
+-- The numbers of which some sample can be put together, with fragments more.
+use Rattle.std.proofs.Common.{◌≡◌, ℕ, ◌+◌, ◌≤◌, Bool, true, false, cond, ◌&&◌, nat_lt, List, [], ◌∷◌, ◌++◌, length, refl, sym, ◌∙◌, ap, subst, arith, inl, inr, ◌⊎◌}
+use Rattle.std.specs.Prelude.{Contains, ◌||◌}
+use Rattle.std.specs.Cmp.{IsTotalOrder, both_ways}
+use Rattle.std.specs.List.{list_any}
+use Rattle.std.proofs.lemmas.Bool.{cases_Bool, and_from, and_parts}
+use Rattle.std.proofs.lemmas.Bool.Decides.{nat_tests}
+use Rattle.std.proofs.lemmas.Cmp.{nat_cmp_total, on_total, then_total}
+use Rattle.std.proofs.lemmas.List.{length-append}
+use Rattle.std.proofs.lemmas.List.Elements.{Contains-append_cases, Contains-append_left, Contains-append_right}
+use Rattle.rtps_ids.specs.declared.identity.Guid.{Guid}
+use Rattle.rtps_audit.proofs.Offered.{contains_cases, contains_head, contains_none, contains_tail}
+use Rattle.rtps_fragments.specs.FragmentDelivery.{last_fragment}
+use Rattle.rtps_fragments.specs.Samples.{has_sample, samples_of}
+use Rattle.rtps_fragments.specs.Telling.{SentValue, is_sample, overheard, shape_of}
+use Rattle.rtps_fragments.specs.Whole.{has_whole, is_number, is_put, number_cmp, key_number}
+use Rattle.rtps_fragments.specs.declared.piece.SampleKey.{SampleKey}
+use Rattle.rtps_fragments.specs.declared.whole.SampleNumber.{SampleNumber}
+use Rattle.rtps_fragments.proofs.Audiences.{any_from}
+use Rattle.rtps_fragments.proofs.OverheardLemmas.{other_sample, overheard-more}
+use Rattle.rtps_fragments.proofs.SampleLemmas.{samples_grow}
+use Rattle.rtps_fragments.proofs.TellingLemmas.{eq_then, guid_is, guids_total, number_is, own_eq, own_sample, sample_is}
+
+-- ---- numbers
+
+pub same_number : (a b : SampleNumber) → is_number a b ≡ true → a ≡ b
+same_number a b e =
+    let (number, writer) = eq_then _ _ e in
+    let one : Guid → SampleNumber = λ w. record { writer = w; number = a.number } in
+    let two : ℕ → SampleNumber = λ n. record { writer = b.writer; number = n } in
+    ap one (guid_is a.writer b.writer writer) ∙ ap two (number_is a.number b.number number)
+
+numbers_total : IsTotalOrder number_cmp
+numbers_total = then_total (on_total (λ (n : SampleNumber). n.number) nat_cmp_total) (on_total (λ (n : SampleNumber). n.writer) guids_total)
+
+pub own_number : (a : SampleNumber) → is_number a a ≡ true
+own_number a = own_eq (number_cmp a a) (numbers_total.antisymm a a)
+
+-- ---- what passes a test
+
+any_has : {X : Type 0} (test : X → Bool) (xs : List X) → list_any test xs ≡ true → (x : X) × Contains xs x × (test x ≡ true)
+any_has test [] e = cc
+any_has test (x ∷ xs) e = by (test x) refl e (any_has test xs)
+  where
+    by : (b : Bool) → test x ≡ b → (b || list_any test xs) ≡ true → (list_any test xs ≡ true → (y : _) × Contains xs y × (test y ≡ true)) → (y : _) × Contains (x ∷ xs) y × (test y ≡ true)
+    by true is e behind = (x, contains_head x xs, is)
+    by false is e behind = let (y, among, passes) = behind e in (y, contains_tail x xs y among, passes)
+
+-- ---- fragments more
+
+more_samples : (last : ℕ) (came more : List (ℕ × List ℕ)) → has_sample last came ≡ true → has_sample last (came ++ more) ≡ true
+more_samples last came more e =
+    let (rest, is) = samples_grow last came more in
+    let count : length (samples_of last (came ++ more)) ≡ length (samples_of last came) + length rest = ap length is ∙ length-append (samples_of last came) rest in
+    grows (length (samples_of last came)) (length (samples_of last (came ++ more))) e (omega (arith, count))
+  where
+    grows : (a b : ℕ) → nat_lt 0 a ≡ true → a ≤ b → nat_lt 0 b ≡ true
+    grows a b e le = grind (arith, nat_tests)
+
+put_stays : (before : List SentValue) (sent : SentValue) (key : SampleKey) → is_put before key ≡ true → is_put (before ++ sent ∷ []) key ≡ true
+put_stays before sent key e =
+    ap (has_sample (last_fragment (shape_of key))) (overheard-more key before sent) ∙ more_samples (last_fragment (shape_of key)) (overheard key before) (cond (is_sample key sent.key) sent.came []) e
+
+module _ (before : List SentValue) (sent : SentValue) (number : SampleNumber) where
+  -- the test by all fragments
+  abbrev passes : SentValue → Bool
+  passes one = is_number number (key_number one.key) && is_put (before ++ sent ∷ []) one.key
+
+  whole_stays : has_whole before number ≡ true → has_whole (before ++ sent ∷ []) number ≡ true
+  whole_stays e =
+      let (one, among, has) = any_has (λ (s : SentValue). is_number number (key_number s.key) && is_put before s.key) before e in
+      let (same, put) = and_parts (is_number number (key_number one.key)) (is_put before one.key) has in
+      any_from passes (before ++ sent ∷ []) one (Contains-append_left before (sent ∷ []) one among) (and_from _ _ same (put_stays before sent one.key put))
+
+  -- a sample that can be put together now is the one of these fragments, or could be before
+  whole_from : has_whole (before ++ sent ∷ []) number ≡ true → ((is_number number (key_number sent.key) ≡ true) × (is_put (before ++ sent ∷ []) sent.key ≡ true)) ⊎ (has_whole before number ≡ true)
+  whole_from e =
+      let (one, among, has) = any_has passes (before ++ sent ∷ []) e in
+      let (same, put) = and_parts (is_number number (key_number one.key)) (is_put (before ++ sent ∷ []) one.key) has in
+      elim (cases_Bool (is_sample one.key sent.key)) [
+        | inl is ↦
+            let key = sample_is one.key sent.key is in
+            inl (subst (λ k. is_number number (key_number k) ≡ true) key same, subst (λ k. is_put (before ++ sent ∷ []) k ≡ true) key put)
+        | inr apart ↦ elim (Contains-append_cases before (sent ∷ []) one among) [
+          | inl there ↦ inr (any_from (λ (s : SentValue). is_number number (key_number s.key) && is_put before s.key) before one there (and_from _ _ same (sym (ap (has_sample (last_fragment (shape_of one.key))) (other_sample one.key before sent apart)) ∙ put)))
+          | inr here ↦ elim (contains_cases sent [] one here) [
+            | inl is ↦ absurd (let clash : true ≡ false = sym (own_sample sent.key) ∙ ap (λ (s : SentValue). is_sample s.key sent.key) is ∙ apart in cc)
+            | inr none ↦ absurd (contains_none one none)
+          ]
+        ]
+      ]
+
+  -- with fragments by which a sample can be put together
+  pub whole_here : is_put (before ++ sent ∷ []) sent.key ≡ true → has_whole (before ++ sent ∷ []) number ≡ cond (is_number (key_number sent.key) number) true (has_whole before number)
+  whole_here put = both_ways _ _ to (from (is_number (key_number sent.key) number) refl)
+    where
+      to : has_whole (before ++ sent ∷ []) number ≡ true → cond (is_number (key_number sent.key) number) true (has_whole before number) ≡ true
+      to e = elim (whole_from e) [
+        | inl (same, put) ↦ ap (λ n. cond (is_number (key_number sent.key) n) true (has_whole before number)) (same_number number (key_number sent.key) same) ∙ ap (λ b. cond b true (has_whole before number)) (own_number (key_number sent.key))
+        | inr old ↦ ap (cond (is_number (key_number sent.key) number) true) old ∙ either (is_number (key_number sent.key) number)
+      ]
+        where
+          either : (b : Bool) → cond b true true ≡ true
+          either true = refl
+          either false = refl
+
+      from : (b : Bool) → is_number (key_number sent.key) number ≡ b → cond b true (has_whole before number) ≡ true → has_whole (before ++ sent ∷ []) number ≡ true
+      from true is e =
+          let same : is_number number (key_number sent.key) ≡ true = ap (λ n. is_number n (key_number sent.key)) (sym (same_number (key_number sent.key) number is)) ∙ own_number (key_number sent.key) in
+          any_from passes (before ++ sent ∷ []) sent (Contains-append_right before (sent ∷ []) sent (contains_head sent [])) (and_from _ _ same put)
+      from false is e = whole_stays e
+
+  -- with others
+  pub whole_not_here : is_put (before ++ sent ∷ []) sent.key ≡ false → has_whole (before ++ sent ∷ []) number ≡ has_whole before number
+  whole_not_here none = both_ways _ _ to whole_stays
+    where
+      to : has_whole (before ++ sent ∷ []) number ≡ true → has_whole before number ≡ true
+      to e = elim (whole_from e) [
+        | inl (same, put) ↦ absurd (let clash : true ≡ false = sym put ∙ none in cc)
+        | inr old ↦ old
+      ]
