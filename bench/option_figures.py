@@ -107,6 +107,14 @@ def sent_again(readers=10, sample=4 * MIB):
     yield from (header(host) + to(A) + ack_nack(reader_at(k), WRITER, 2) for k, host in enumerate(hosts))
 
 
+def of_audiences(count):
+    """fragments of one sample, each for another host and another reader"""
+    yield announcement('writer', A, WRITER)
+    for k in range(count):
+        sent = piece(1, 1 + k, bytes(FRAGMENT), sample=4 * MIB)
+        yield header(A) + to(b'\xb0' + k.to_bytes(4, 'big') + bytes(7)) + sent[:8] + reader_at(k) + sent[12:]
+
+
 def of_pieces(count, one):
     """so many DATA_FRAG, each by its place"""
     return three_readers(count, (header(A) + piece(*one(place)) for place in range(count)))
@@ -147,6 +155,7 @@ ROWS = {
     'many_numbers': hostile('many_numbers', 999994, NUMBERS),
     'promises': hostile('promises', 999994, PROMISES),
     'many_shapes': hostile('many_shapes', 65535, SHAPES),
+    'many_audiences': tuple(Run(FRAGMENTS, f'many_audiences_{count}', lambda count=count: of_audiences(count)) for count in (200, 400)),
     'many_variants': hostile('many_variants', 65535, VARIANTS),
 }
 
