@@ -34,7 +34,7 @@ use Rattle.rtps_fragments.specs.declared.samples.Samples.{Samples}
 use Rattle.rtps_fragments.specs.declared.told_sample.ToldSample.{ToldSample}
 use Rattle.rtps_fragments.proofs.ActsAnd.{length-acts, next_acts}
 use Rattle.rtps_fragments.proofs.Audiences.{flat_from}
-use Rattle.rtps_fragments.proofs.CameLemmas.{length-parts_in}
+use Rattle.rtps_fragments.proofs.KeptLemmas.{length-parts_in}
 use Rattle.rtps_fragments.proofs.MergingLemmas.{AreFragmentActs, TellsAs, merged_is, sent_all, told_as_samples}
 use Rattle.rtps_fragments.proofs.NoteLemmas.{noted_as_samples, overhears}
 use Rattle.rtps_fragments.proofs.SampleSteps.{length-told, octets_of, sending_next, told_there}

@@ -111,7 +111,8 @@ hears_all hearing (offer ∷ offers) = hears_all (hears hearing offer) offers
 abbrev pub hearing_of : List Offer → Hearing
 hearing_of offers = hears_all silence offers
 
--- ---- what they are told
+-- ---- what they are told. A reader hears what the narrowest of its audiences hears, and besides what is known. Each sample of that audience
+-- is told to it or to a wider one, of which the reader is, too; and what came to an audience each of its readers heard.
 
 -- the samples of so many fragments that an audience can put together
 abbrev pub samples_for : ℕ → Hearing → Audience → List (List ℕ)

@@ -10,7 +10,7 @@ use Rattle.rtps_wire.specs.Values.BodyValue.{Skipped}
 use Rattle.rtps_wire.specs.declared.header.Header.{Header}
 use Rattle.rtps_wire.specs.declared.nack_frag.NackFrag.{NackFrag as NackFragBody}
 use Rattle.rtps_receiver.specs.Acts.{act_at, act_body, gathered, state_at_start}
-use Rattle.rtps_receiver.specs.Values.{ActBodyValue, ActValue, act_value}
+use Rattle.rtps_receiver.specs.Values.{ActBodyValue, ActValue, spoken_value}
 use Rattle.rtps_receiver.specs.Values.ActBodyValue.{DataFrag, NackFrag}
 use Rattle.rtps_receiver.specs.declared.state.State.{State}
 use Rattle.rtps_fragments.specs.FragmentDelivery.{Piece}
@@ -96,7 +96,7 @@ sending_of recording = map piece_acts_of recording
 
 -- these acts are kept, with what they send and how many DATA_FRAG are no act
 pub record IsSending (ones : List PieceAct) (count : ℕ) (sending : Sending) : Type 0 where
-  pub acts : map act_value sending.acts.items ≡ map (λ one. one.act) ones
+  pub acts : map spoken_value sending.acts.items ≡ map (λ one. one.act) ones
   pub sents : map sent_value sending.sents.items ≡ sents_from 0 ones
   pub well : All IsSent sending.sents.items
   pub unusable : sending.unusable ≡ count
@@ -104,7 +104,7 @@ pub record IsSending (ones : List PieceAct) (count : ℕ) (sending : Sending) : 
 
 -- what is kept grew by these acts, with what they send, and by so many DATA_FRAG that are no act
 pub record AddsActs (old new : Sending) (ones : List PieceAct) (count : ℕ) : Type 0 where
-  pub acts : map act_value new.acts.items ≡ map act_value old.acts.items ++ map (λ one. one.act) ones
+  pub acts : map spoken_value new.acts.items ≡ map spoken_value old.acts.items ++ map (λ one. one.act) ones
   pub sents : map sent_value new.sents.items ≡ map sent_value old.sents.items ++ sents_from (length old.acts.items) ones
   pub well : All IsSent old.sents.items → All IsSent new.sents.items
   pub unusable : new.unusable ≡ old.unusable + count

@@ -1,3 +1,6 @@
+ghost use Rattle.std.specs.Prelude.{◌≡◌, ◌↔◌, IsTrue};
+ghost use Rattle.rtps_fragments.specs.declared.fragments.Fragments.TheVariants.{Read};
+
 /// What becomes of samples that come in fragments (DDSI-RTPS 2.5, 8.3.8.3 "DataFrag").
 #[derive(Clone, Copy, Debug, PartialEq, Eq)]
 pub enum Fragments {
@@ -5,4 +8,15 @@ pub enum Fragments {
     Skipped,
     /// Each DATA_FRAG with fragments that can be used is read.
     Read,
+}
+
+impl Fragments {
+    pub(crate) fn are_read(self) -> bool
+        ensures { IsTrue result ↔ self ≡ Read }
+    {
+        match self {
+            Fragments::Skipped => false,
+            Fragments::Read => true,
+        }
+    }
 }

@@ -2,8 +2,8 @@
 #![tactic(auto)]
 
 mod announcements;
-mod came;
 mod fragments;
+mod heard;
 pub mod laws;
 mod layout;
 mod listeners;
@@ -18,8 +18,6 @@ mod whole;
 
 pub use announcements::Indexed;
 pub use fragments::Fragments;
-pub use piece::{FragmentRun, SampleKey, SentFragments};
 pub use sample_index::{index_as, index_with, judge_with_samples};
 pub use samples::Samples;
 pub use sending::Sending;
-pub use told_sample::ToldSample;

@@ -1,4 +1,4 @@
-ghost use Rattle.std.specs.Prelude.{ℕ, ◌≡◌, ◌+◌, ◌<◌, ◌^◌, length, map, IfOk, IfSome, List, OnOk};
+ghost use Rattle.std.specs.Prelude.{ℕ, ◌≡◌, ◌+◌, ◌<◌, ◌^◌, length, map, IfOk, List, MatchOption, OnOk};
 ghost use Rattle.rtps_audit.specs.Index.{IsIndexBy};
 ghost use Rattle.rtps_audit.specs.Intake.{Intake, intake_more, intake_of};
 ghost use Rattle.rtps_fragments.specs.Announcements.{IsIndexedBy};
@@ -9,6 +9,7 @@ ghost use Rattle.rtps_fragments.specs.SampleActs.{fragment_speech_of};
 ghost use Rattle.rtps_fragments.specs.Sending.{piece_acts_of, sending_of};
 ghost use Rattle.rtps_fragments.specs.Telling.{SentValue, told_value};
 ghost use Rattle.rtps_fragments.specs.Whole.{AreWholeIn, tally_left};
+ghost use Rattle.rtps_fragments.specs.declared.fragments.Fragments.TheVariants.{Read};
 ghost use Rattle.rtps_fragments.specs.declared.merging.SampleForm.TheVariants.{ForAudience, ForEveryone};
 
 use crate::announcements::{DatagramActs, Indexed};
@@ -22,7 +23,7 @@ use crate::whole::WholeNumbers;
 use rtps_audit::{Index, Verdict};
 use rtps_discovery::Pair;
 use rtps_ids::{Memory, SeqNum};
-use rtps_receiver::{Act, Walk};
+use rtps_receiver::{Spoken, Walk};
 use rtps_wire::tally;
 use std::alloc::Global;
 
@@ -44,9 +45,9 @@ struct DatagramSamples<'s> {
 struct Reading<'s> {
     sending: Sending<'s>,
     /// Its acts, and behind each the samples that it tells.
-    acts: Vec<Act<'s>>,
+    acts: Vec<Spoken<'s>>,
     /// Its acts, and behind each the samples that it tells a reader which hears everything.
-    announcing: Vec<Act<'s>>,
+    announcing: Vec<Spoken<'s>>,
 }
 
 /// Takes in one datagram more, and behind each of its acts the samples that it tells. After `Memory` the index is of no use.
@@ -114,34 +115,21 @@ pub fn index_with<'s>(
     Ok(indexed)
 }
 
-/// The index of a recording whose fragments are skipped, and its announcements. `Memory` is answered where there is none for it.
-fn index_without<'s>(alloc: Global, recording: &[&'s [u8]]) -> Result<Indexed<'s>, Memory>
-    ensures { IfOk result (IsIndexedBy (intake_of (map (λ datagram. datagram.now) recording.now))) }
+/// The index of a recording without its samples, and its announcements; none where they are to be read, as some submessage belongs to
+/// fragments. `Memory` is answered where there is none for it.
+fn plain_index<'s>(
+    alloc: Global,
+    recording: &[&'s [u8]],
+    fragments: Fragments,
+) -> Result<Option<Indexed<'s>>, Memory>
+    ensures { IfOk result (λ found. MatchOption found (fragments ≡ Read) (λ indexed. IsIndexedBy (intake_of (map (λ datagram. datagram.now) recording.now)) indexed
+        × (fragments ≡ Read → IsWithoutFragments (map (λ datagram. datagram.now) recording.now)))) }
 {
     let mut indexed = Indexed::new(alloc);
     let mut walk = Walk::new(alloc);
     for place in 0..recording.len() {
         let tally = walk.read(recording[place])?;
-        let noted = DatagramActs {
-            datagram: place + 1,
-            acts: walk.acts(),
-            announcing: walk.acts(),
-        };
-        indexed.note(tally, &noted)?;
-    }
-    Ok(indexed)
-}
-
-/// The same where no submessage belongs to fragments; none where one does.
-fn plain_index<'s>(alloc: Global, recording: &[&'s [u8]]) -> Result<Option<Indexed<'s>>, Memory>
-    ensures { IfOk result (λ found. IfSome found (λ indexed. IsIndexedBy (intake_of (map (λ datagram. datagram.now) recording.now)) indexed
-        × IsWithoutFragments (map (λ datagram. datagram.now) recording.now))) }
-{
-    let mut indexed = Indexed::new(alloc);
-    let mut walk = Walk::new(alloc);
-    for place in 0..recording.len() {
-        let tally = walk.read(recording[place])?;
-        if tally.fragments > 0 {
+        if fragments.are_read() && tally.fragments > 0 {
             return Ok(None);
         }
         let noted = DatagramActs {
@@ -155,8 +143,8 @@ fn plain_index<'s>(alloc: Global, recording: &[&'s [u8]]) -> Result<Option<Index
 }
 
 /// The index of a recording, with its samples where fragments are read, and its announcements. The samples are put where the index may
-/// borrow them; where no submessage belongs to fragments they stay as they are, and the octets of each datagram are read once. `Memory`
-/// is answered where there is none for it, and then `samples` is of no use.
+/// borrow them. The octets of each datagram are read once where no submessage belongs to fragments, and then the samples stay as they
+/// are; else at most three times. `Memory` is answered where there is none for it, and then `samples` is of no use.
 pub fn index_as<'s>(
     alloc: Global,
     recording: &[&'s [u8]],
@@ -165,15 +153,12 @@ pub fn index_as<'s>(
 ) -> Result<Indexed<'s>, Memory>
     ensures { IfOk result (IsIndexedBy (intake_as fragments (map (λ datagram. datagram.now) recording.now))) }
 {
-    match fragments {
-        Fragments::Skipped => index_without(alloc, recording),
-        Fragments::Read => match plain_index(alloc, recording)? {
-            Some(indexed) => Ok(indexed),
-            None => {
-                *samples = Samples::of(alloc, recording)?;
-                index_with(alloc, recording, samples)
-            }
-        },
+    match plain_index(alloc, recording, fragments)? {
+        Some(indexed) => Ok(indexed),
+        None => {
+            *samples = Samples::of(alloc, recording)?;
+            index_with(alloc, recording, samples)
+        }
     }
 }
 

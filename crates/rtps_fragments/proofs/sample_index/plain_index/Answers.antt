@@ -1,4 +1,4 @@
-use Rattle.std.proofs.Common.{◌+◌, ◌∙◌, ap, arith, subst, sym, take}
+use Rattle.std.proofs.Common.{◌≡◌, true, false, ◌+◌, ◌∙◌, ap, arith, subst, sym, take}
 use Rattle.rtps_audit.specs.Intake.{intake_of}
 use Rattle.rtps_audit.specs.declared.report.Counts.{Counts}
 use Rattle.rtps_audit.proofs.Offered.{intake_on}
@@ -6,6 +6,7 @@ use Rattle.rtps_fragments.specs.Announcements.{IsIndexedBy}
 use Rattle.rtps_fragments.proofs.SampleSteps.{octets_of}
 use Rattle.rtps_fragments.proofs.WithoutFragments.{plain_count, without_more}
 use Rattle.rtps_fragments.proofs.sample_index.plain_index.Goals as goal
+use Rattle.rtps_fragments.proofs.sample_index.plain_index.Goals.{else-are_read-via-then-are_read+else-tally-gt0, else-are_read-via-else-are_read}
 
 pub note-requires : goal.note-requires
 note-requires c =
@@ -23,5 +24,8 @@ loop-place-preserved c =
       indexed = subst (λ intake. IsIndexedBy intake c.note.new.self)
           (intake_on recording i _ _ _ _ lt c.in_ok-tally.ensures.tally (c.acts.ensures ∙ c.in_ok-tally.ensures.acts) (c.acts-in-loop-place.ensures ∙ c.in_ok-tally.ensures.acts))
           (c.in_ok-note.ensures (intake_of (octets_of (take i recording))) (ap (λ n. n + 1) (sym (plain_count recording i (omega (arith, lt))))) c.loop-place.invariant.indexed);
-      without = without_more recording i _ c.in_ok-tally.tally lt c.loop-place.invariant.without c.in_ok-tally.ensures.tally (omega (arith, c.if-tally-gt0.false));
+      without = λ read. elim c.else-are_read.branch [
+        | else-are_read-via-then-are_read+else-tally-gt0 w ↦ without_more recording i _ c.in_ok-tally.tally lt (c.loop-place.invariant.without read) c.in_ok-tally.ensures.tally (omega (arith, w.if-tally-gt0.false))
+        | else-are_read-via-else-are_read w ↦ absurd (let clash : true ≡ false = sym (c.are_read.ensures.1 read) ∙ w.if-are_read.false in cc)
+      ];
     }
