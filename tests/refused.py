@@ -31,6 +31,10 @@ OF_NAMED = ['judge_plain', 'judge_merged']
 # Any request may go on.
 ALL = 1 << 62
 
+# How many samples of the recording of in_fragments become whole for a listener. Room that it does not need is then given back; a refusal of
+# that changes nothing.
+WHOLE = 10
+
 # The size of the requests between which CALLS has its requests counted, as in its source.
 MARK = 7654321
 
@@ -62,19 +66,23 @@ def requests_of(library, words):
     return request - 1
 
 
-def sweep(library, words, text, wanted, may_go_on, mark=0):
+def sweep(library, words, text, wanted, may_go_on, mark=0, given_back=0):
     """Refuses each request in turn: how many times that is answered as wanted, how many times as with ample memory, which
-    so many of the first may do, and how often otherwise."""
+    so many of the first may do, and so many behind them, and how often otherwise."""
     ample, _ = run(library, words, 0, text, mark)
     told = went_on = failed = request = 0
+    behind = given_back
     while True:
         request += 1
         answer, refused = run(library, words, request, text, mark)
         if not refused:
-            return told, went_on, failed + (answer != ample)
+            return told, went_on, failed + behind + (answer != ample)
         if answer == wanted:
             told += 1
         elif answer == ample and request <= may_go_on:
+            went_on += 1
+        elif answer == ample and behind:
+            behind -= 1
             went_on += 1
         else:
             failed += 1
@@ -183,7 +191,8 @@ def of_program(library, program, recording):
     runs.append((' of packets in fragments', ['show', '--any', '-'], packets_in_fragments(recording_of(recording))))
     for name, words, text in runs:
         of_words = requests_of(library, [program, *words[:-1], 'absent.rec'])
-        yield f"rtps-audit {' '.join(words)}{name}", [program, *words], text, nothing, of_words
+        given_back = WHOLE if text == in_fragments() and words[0] != 'show' else 0
+        yield f"rtps-audit {' '.join(words)}{name}", [program, *words], text, nothing, of_words, 0, given_back
 
 
 def main():

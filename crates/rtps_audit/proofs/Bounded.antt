@@ -14,13 +14,14 @@ use Rattle.rtps_wire.specs.Values.BodyValue.{Data, Heartbeat, AckNack, Gap, Info
 use Rattle.rtps_wire.specs.declared.body.GapBody.{GapBody}
 use Rattle.rtps_wire.specs.declared.header.Header.{Header}
 use Rattle.rtps_receiver.specs.Acts.{act_at, act_body, acts_behind, acts_of, acts_of_item, acts_with, state_at_start, state_behind}
+use Rattle.rtps_receiver.specs.Said.{is_in_gap}
 use Rattle.rtps_receiver.specs.declared.state.State.{State}
 use Rattle.rtps_receiver.specs.Values.{ActBodyValue, ActValue}
 use Rattle.rtps_receiver.specs.Values.ActBodyValue.{Data as DataAct, Heartbeat as HeartbeatAct, AckNack as AckNackAct, Gap as GapAct, DataFrag as DataFragAct, NackFrag as NackFragAct}
 use Rattle.rtps_audit.specs.Delivery.{Word, Datagram, greatest}
 use Rattle.rtps_audit.specs.Delivery.Word.{Told}
 use Rattle.rtps_audit.specs.FullRun.{IsBoundedBy}
-use Rattle.rtps_audit.specs.Speech.{acts_by_datagram, is_in_gap, said_by, speech_by, word_for, word_of}
+use Rattle.rtps_audit.specs.Speech.{acts_by_datagram, said_by, speech_by, word_for, word_of}
 use Rattle.rtps_audit.specs.Laws.{RecordingsAreBounded}
 use Rattle.rtps_audit.proofs.Greatest.{greatest_below}
 

@@ -1,12 +1,10 @@
 -- Lemmas about the definitions of this crate, for the crates above it: who an act is from, and that what stands among the
 -- acts of a recording is what its speech has.
-use Rattle.std.proofs.Common.{◌≡◌, ℕ, ◌+◌, ◌-◌, ◌<◌, ◌∙◌, Bool, true, false, ◌&&◌, max, filter, List, Option, Some, sym, refl, subst, arith, ◌≤◌, zero, suc}
+use Rattle.std.proofs.Common.{◌≡◌, ℕ, ◌+◌, ◌-◌, ◌<◌, ◌∙◌, true, max, filter, List, Some, sym, subst, arith, ◌≤◌, zero, suc}
 use Rattle.std.specs.Prelude.{Contains}
 use Rattle.rtps_ids.specs.declared.identity.Guid.{Guid}
-use Rattle.rtps_ids.specs.declared.identity.GuidPrefix.{GuidPrefix}
-use Rattle.rtps_receiver.specs.Speech.{entity_from, is_answer, is_entity, is_for, is_prefix, is_spoken_by, names_pair}
-use Rattle.rtps_receiver.specs.Values.{ActBodyValue, ActValue}
-use Rattle.rtps_receiver.specs.Values.ActBodyValue.{Data, Heartbeat, AckNack, Gap, DataFrag, NackFrag}
+use Rattle.rtps_receiver.specs.Speech.{is_spoken_by}
+use Rattle.rtps_receiver.specs.Values.{ActValue}
 use Rattle.rtps_audit.specs.Delivery.{Claims, Datagram, DeliveryState, Ends, Gives, HasRun, Holds, IsAsked, Speech, Word, greatest, last_announced_from}
 use Rattle.rtps_audit.specs.PlainVerdict.{IsFounded, IsSpoken, IsUnclaimed}
 use Rattle.rtps_audit.specs.RunVerdict.{EndsWithout}
@@ -22,8 +20,8 @@ use Rattle.rtps_audit.proofs.PlacedActs.{stands_there, stands_where}
 pub use Rattle.rtps_audit.proofs.DeliveryRuns.{Follows-append, place_within}
 pub use Rattle.rtps_audit.proofs.Sound.{reached-sound}
 pub use Rattle.rtps_audit.proofs.Verdicts.{runs_exist_where_founded}
--- the numbers of a GAP, range by range; what is taken in of a datagram more
-pub use Rattle.rtps_audit.proofs.WordLemmas.{gap_end, gap_range, is_in_gap_below}
+-- which numbers have a word; what is taken in of a datagram more
+pub use Rattle.rtps_audit.proofs.WordLemmas.{word_is}
 pub use Rattle.rtps_audit.proofs.IntakeLemmas.{intake_on}
 -- lists: what stands first or behind, what stands among what a function gives, what is below the greatest; tests of equal parts
 pub use Rattle.rtps_audit.proofs.PlacedActs.{placed_push, contains_cases, contains_head, contains_none, contains_tail, kept_if_passed, kept_is_there, made_from, makes}
@@ -38,31 +36,6 @@ pub use Rattle.rtps_audit.proofs.IndexSpeech.{if_some, contains_mapped, get_mapp
 
 pub speaker_is_origin : (writer : Guid) (placed : PlacedValue) → is_spoken_by placed.act writer ≡ true → is_from writer placed ≡ true
 speaker_is_origin writer placed e = spoken_is_from writer placed e
-
-pub answerer_is_origin : (reader writer : Guid) (placed : PlacedValue) → is_answer placed.act reader writer ≡ true → is_from reader placed ≡ true
-answerer_is_origin reader writer placed e = by_body placed.act.source placed.act.dest placed.act.body e
-  where
-    parts : (a c b d : Bool) → (a && (c && (b && d))) ≡ true → (a && b) ≡ true
-    parts true true true d e = refl
-    parts true true false d e = cc
-    parts true false b d e = cc
-    parts false c b d e = cc
-
-    never : (a c : Bool) → (a && (c && false)) ≡ true → false ≡ true
-    never true true e = e
-    never true false e = e
-    never false c e = e
-
-    by_body : (source : GuidPrefix) (dest : Option GuidPrefix) (body : ActBodyValue) → (is_prefix source reader.prefix && (is_for dest writer.prefix && names_pair body reader.entity writer.entity)) ≡ true
-        → (is_prefix reader.prefix source && is_entity reader.entity (entity_from body)) ≡ true
-    by_body source dest (AckNack value) e =
-        both (bytes_eq-sym reader.prefix.0 source.0) (bytes_eq-sym reader.entity.0 value.reader.0)
-        ∙ parts (is_prefix source reader.prefix) (is_for dest writer.prefix) (is_entity value.reader reader.entity) (is_entity value.writer writer.entity) e
-    by_body source dest (Data value) e = let no = never _ _ e in cc
-    by_body source dest (Heartbeat value) e = let no = never _ _ e in cc
-    by_body source dest (Gap value) e = let no = never _ _ e in cc
-    by_body source dest (DataFrag value) e = let no = never _ _ e in cc
-    by_body source dest (NackFrag value) e = let no = never _ _ e in cc
 
 -- ---- what a speech has
 

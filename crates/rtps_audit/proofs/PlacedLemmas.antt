@@ -19,10 +19,10 @@ use Rattle.std.proofs.lemmas.Slice.Eq.{bytes_eq-Decides}
 use Rattle.rtps_ids.specs.declared.identity.Guid.{Guid}
 use Rattle.rtps_ids.specs.declared.identity.GuidPrefix.{GuidPrefix}
 use Rattle.rtps_receiver.specs.Speech.{answered_at, entity_from, is_entity, is_for, is_prefix, names_pair, origin_of, writer_answered}
-use Rattle.rtps_receiver.specs.Values.{ActBodyValue, ActValue, act_value}
+use Rattle.rtps_receiver.specs.Values.{ActBodyValue, ActValue, spoken_value}
 use Rattle.rtps_receiver.specs.Values.ActBodyValue.{AckNack}
 use Rattle.rtps_wire.specs.declared.body.AckNackBody.{AckNackBody}
-use Rattle.rtps_receiver.specs.declared.act.Act.{Act}
+use Rattle.rtps_receiver.specs.declared.spoken.Spoken.{Spoken}
 use Rattle.rtps_discovery.specs.GuidOrder.{guid_cmp}
 use Rattle.rtps_discovery.specs.Listings.{pair_cmp}
 use Rattle.rtps_discovery.specs.declared.matching.Pair.{Pair}
@@ -135,30 +135,30 @@ no_pair =
     record { writer = none; reader = none }
 
 -- acts of one GUID in a datagram are all of its acts or none
-pub run_filtered : (datagram : ℕ) (origin other : Guid) (acts : List Act) → All (λ act. origin_of (act_value act) ≡ origin) acts
-    → filter (is_from other) (placed_at datagram (map act_value acts)) ≡ cond (is_eq (guid_cmp other origin)) (placed_at datagram (map act_value acts)) []
+pub run_filtered : (datagram : ℕ) (origin other : Guid) (acts : List Spoken) → All (λ act. origin_of (spoken_value act) ≡ origin) acts
+    → filter (is_from other) (placed_at datagram (map spoken_value acts)) ≡ cond (is_eq (guid_cmp other origin)) (placed_at datagram (map spoken_value acts)) []
 run_filtered datagram origin other [] from = none (is_eq (guid_cmp other origin))
   where
     none : (b : Bool) → [] ≡ cond b (placed_at datagram []) []
     none true = refl
     none false = refl
 run_filtered datagram origin other (act ∷ acts) from =
-    ap (λ b. cond b (first ∷ filter (is_from other) later) (filter (is_from other) later)) (ap (is_guid other) (All-head (λ (a : Act). origin_of (act_value a) ≡ origin) act acts from) ∙ sym (is_eq-guid_cmp other origin))
-    ∙ ap (λ l. cond (is_eq (guid_cmp other origin)) (first ∷ l) l) (run_filtered datagram origin other acts (All-tail (λ (a : Act). origin_of (act_value a) ≡ origin) act acts from))
+    ap (λ b. cond b (first ∷ filter (is_from other) later) (filter (is_from other) later)) (ap (is_guid other) (All-head (λ (a : Spoken). origin_of (spoken_value a) ≡ origin) act acts from) ∙ sym (is_eq-guid_cmp other origin))
+    ∙ ap (λ l. cond (is_eq (guid_cmp other origin)) (first ∷ l) l) (run_filtered datagram origin other acts (All-tail (λ (a : Spoken). origin_of (spoken_value a) ≡ origin) act acts from))
     ∙ by_test (is_eq (guid_cmp other origin))
   where
     first : PlacedValue
-    first = record { datagram = datagram; act = act_value act }
+    first = record { datagram = datagram; act = spoken_value act }
 
     later : List PlacedValue
-    later = placed_at datagram (map act_value acts)
+    later = placed_at datagram (map spoken_value acts)
 
     by_test : (b : Bool) → cond b (first ∷ cond b later []) (cond b later []) ≡ cond b (first ∷ later) []
     by_test true = refl
     by_test false = refl
 
-pub placed_both : (datagram : ℕ) (xs ys : List Act) → placed_at datagram (map act_value (xs ++ ys)) ≡ placed_at datagram (map act_value xs) ++ placed_at datagram (map act_value ys)
-placed_both datagram xs ys = ap (placed_at datagram) (map-append act_value xs ys) ∙ map-append _ (map act_value xs) _
+pub placed_both : (datagram : ℕ) (xs ys : List Spoken) → placed_at datagram (map spoken_value (xs ++ ys)) ≡ placed_at datagram (map spoken_value xs) ++ placed_at datagram (map spoken_value ys)
+placed_both datagram xs ys = ap (placed_at datagram) (map-append spoken_value xs ys) ∙ map-append _ (map spoken_value xs) _
 
 -- lists with some acts more, and with some more behind these
 pub acts_joined : (origin : Guid) (old mid new : List PlacedValue) (xs ys : List PlacedValue) → mid ≡ old ++ filter (is_from origin) xs → new ≡ mid ++ filter (is_from origin) ys → new ≡ old ++ filter (is_from origin) (xs ++ ys)
@@ -170,10 +170,10 @@ answers_joined pair old mid new xs ys one two =
     two ∙ ap (λ l. l ++ answers_among pair ys) one ∙ append_assoc old (answers_among pair xs) (answers_among pair ys) ∙ ap (λ l. old ++ l) (sym (filter_map-append (answer_of pair) xs ys))
 
 -- the acts of a datagram, with one more of it
-pub placed_more : (datagram : ℕ) (acts : List Act) (i : ℕ) (act : Act) → i < length acts → act ≡ get_or acts i act
-    → placed_at datagram (map act_value (take (i + 1) acts)) ≡ placed_at datagram (map act_value (take i acts)) ++ placed_at datagram (act_value act ∷ [])
+pub placed_more : (datagram : ℕ) (acts : List Spoken) (i : ℕ) (act : Spoken) → i < length acts → act ≡ get_or acts i act
+    → placed_at datagram (map spoken_value (take (i + 1) acts)) ≡ placed_at datagram (map spoken_value (take i acts)) ++ placed_at datagram (spoken_value act ∷ [])
 placed_more datagram acts i act lt at =
-    ap (λ l. placed_at datagram (map act_value l)) (take_more acts i act lt ∙ ap (λ a. take i acts ++ a ∷ []) (sym at)) ∙ ap (placed_at datagram) (map-append act_value (take i acts) _) ∙ map-append _ (map act_value (take i acts)) _
+    ap (λ l. placed_at datagram (map spoken_value l)) (take_more acts i act lt ∙ ap (λ a. take i acts ++ a ∷ []) (sym at)) ∙ ap (placed_at datagram) (map-append spoken_value (take i acts) _) ∙ map-append _ (map spoken_value (take i acts)) _
 
 -- ---- answers of one reader
 
@@ -224,8 +224,8 @@ one_between xs i x lt at = ap (λ n. take n (drop i xs)) one ∙ ap (take 1) (dr
     one : i + 1 - i ≡ 1
     one = omega arith
 
-pub placed_up_to : (datagram : ℕ) (acts : List Act) (start end : ℕ) → start ≤ end → placed_at datagram (map act_value (take end acts)) ≡ placed_at datagram (map act_value (take start acts)) ++ placed_at datagram (map act_value (slice_range acts start end))
-placed_up_to datagram acts start end le = ap (λ l. placed_at datagram (map act_value l)) (sym (sym (take-add start (end - start) acts) ∙ ap (λ n. take n acts) whole)) ∙ placed_both datagram (take start acts) (slice_range acts start end)
+pub placed_up_to : (datagram : ℕ) (acts : List Spoken) (start end : ℕ) → start ≤ end → placed_at datagram (map spoken_value (take end acts)) ≡ placed_at datagram (map spoken_value (take start acts)) ++ placed_at datagram (map spoken_value (slice_range acts start end))
+placed_up_to datagram acts start end le = ap (λ l. placed_at datagram (map spoken_value l)) (sym (sym (take-add start (end - start) acts) ∙ ap (λ n. take n acts) whole)) ∙ placed_both datagram (take start acts) (slice_range acts start end)
   where
     whole : start + (end - start) ≡ end
     whole = omega arith

@@ -10,7 +10,7 @@ use Rattle.std.specs.Ordering.{is_eq}
 use Rattle.std.specs.declared.cmp.Ordering.{Ordering}
 use Rattle.rtps_ids.specs.declared.identity.Guid.{Guid}
 use Rattle.rtps_receiver.specs.Speech.{is_entity, is_prefix, origin_of}
-use Rattle.rtps_receiver.specs.Values.{ActValue, act_value}
+use Rattle.rtps_receiver.specs.Values.{ActValue, spoken_value}
 use Rattle.rtps_discovery.specs.GuidOrder.{guid_cmp}
 use Rattle.rtps_discovery.specs.Endpoint.{EndpointValue}
 use Rattle.rtps_discovery.specs.Notice.{announcement_of, endpoint_in}
@@ -37,7 +37,7 @@ pub record PlacedValue : Type 0 where
 
 -- an act in its place, with lists of octets where the type holds parts of the caller's datagrams
 abbrev pub placed_value : Placed → PlacedValue
-placed_value placed = record { datagram = placed.datagram; act = act_value placed.act }
+placed_value placed = record { datagram = placed.datagram; act = spoken_value placed.act }
 
 -- acts of one datagram
 abbrev pub placed_at : ℕ → List ActValue → List PlacedValue

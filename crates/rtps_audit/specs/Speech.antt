@@ -1,36 +1,31 @@
 -- What a recording says of one writer and one reader. DDSI-RTPS 2.5, 8.3.8.1 "AckNack", 8.3.8.2 "Data", 8.3.8.3
 -- "DataFrag", 8.3.8.4 "Gap" and 8.3.8.6 "Heartbeat", by the datagrams' acts (8.3.4 "The RTPS Message Receiver").
-use Rattle.std.specs.Prelude.{ℕ, ℤ, pos, negsuc, Bool, ◌==◌, ◌&&◌, ◌||◌, nat_le, nat_lt, if◌then◌else◌, List, map, Option, Some, None}
+use Rattle.std.specs.Prelude.{ℕ, Bool, false, ◌==◌, ◌&&◌, if◌then◌else◌, List, map, Option, Some, None}
 use Rattle.std.specs.List.{filter_map}
 use Rattle.std.specs.Option.{option_map}
-use Rattle.rtps_ids.specs.NumberSet.{is_member}
 use Rattle.rtps_ids.specs.declared.identity.Guid.{Guid}
 use Rattle.rtps_wire.specs.Reading.{reading_of}
-use Rattle.rtps_wire.specs.declared.body.GapBody.{GapBody}
 use Rattle.rtps_receiver.specs.Acts.{acts_of}
+use Rattle.rtps_receiver.specs.Said.{SaidValue, said}
+pub use Rattle.rtps_receiver.specs.Said.{natural}
 use Rattle.rtps_receiver.specs.Speech.{is_answer, is_heard_by, is_spoken_by}
 use Rattle.rtps_receiver.specs.Values.{ActBodyValue, ActValue}
 use Rattle.rtps_receiver.specs.Values.ActBodyValue.{Data, Heartbeat, AckNack, Gap, DataFrag, NackFrag}
 use Rattle.rtps_audit.specs.Delivery.{Word, Datagram, Speech}
 use Rattle.rtps_audit.specs.Delivery.Word.{Told, Gone}
 
--- a GAP says that the numbers from its start on and below the base of its list will not come, nor those of the list
-abbrev pub is_below_list : GapBody → ℕ → Bool
-is_below_list gap n = nat_le gap.start n && nat_lt n gap.list.base
+-- the number is there, and is n
+abbrev pub is_number : ℕ → Option ℕ → Bool
+is_number n None = false
+is_number n (Some number) = n == number
 
--- the GAP tells that this number is gone
-abbrev pub is_in_gap : GapBody → ℕ → Bool
-is_in_gap gap n = is_below_list gap n || is_member gap.list n
+-- what is said of a number from 1 on: that it will not come, or its payload
+abbrev pub word_in : SaidValue → ℕ → Option Word
+word_in value n = if value.gone n then Some Gone else if is_number n value.brought then option_map Told value.payload else None
 
--- what an act says of a number from 1 on. A HEARTBEAT says that the numbers below its first will not come; that of its
--- last says nothing, since it may still come. A DATA_FRAG says what its sample is, where that was put together
+-- what an act says of it. A DATA_FRAG says what its sample is, where that was put together
 abbrev pub word_of : ActBodyValue → ℕ → Option Word
-word_of (Data value) n = if n == value.number then Some (Told value.payload) else None
-word_of (Heartbeat value) n = if nat_lt n value.first then Some Gone else None
-word_of (Gap value) n = if is_in_gap value n then Some Gone else None
-word_of (DataFrag value) n = if n == value.number then option_map Told value.told else None
-word_of (AckNack value) n = None
-word_of (NackFrag value) n = None
+word_of body n = word_in (said body) n
 
 -- for the reader, if it hears the act from the writer
 abbrev pub word_for : Guid → Guid → ActValue → ℕ → Option Word
@@ -49,19 +44,9 @@ base_of_body (NackFrag value) = None
 abbrev pub base_for : Guid → Guid → ActValue → Option ℕ
 base_for writer reader act = if is_answer act reader writer then base_of_body act.body else None
 
--- a number that is not below 0, and 0 for one that is
-abbrev pub natural : ℤ → ℕ
-natural (pos n) = n
-natural (negsuc n) = 0
-
 -- the number that the writer announces by an act, whoever hears it
 abbrev pub announced_of_body : ActBodyValue → Option ℕ
-announced_of_body (Data value) = Some value.number
-announced_of_body (Heartbeat value) = Some (natural value.last)
-announced_of_body (AckNack value) = None
-announced_of_body (NackFrag value) = None
-announced_of_body (Gap value) = None
-announced_of_body (DataFrag value) = Some value.number
+announced_of_body body = (said body).announced
 
 -- the number that an act announces, where this writer speaks it
 abbrev pub announced_for : Guid → ActValue → Option ℕ

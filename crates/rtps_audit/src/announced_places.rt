@@ -2,13 +2,13 @@ ghost use Rattle.std.specs.Prelude.{◌≡◌, [], ◌∷◌, cond, map, Some, N
 ghost use Rattle.std.specs.Ordering.{is_eq};
 ghost use Rattle.rtps_ids.specs.declared.identity.Guid.{Guid as GuidValue};
 ghost use Rattle.rtps_discovery.specs.GuidOrder.{guid_cmp};
-ghost use Rattle.rtps_receiver.specs.Values.{act_value};
+ghost use Rattle.rtps_receiver.specs.Values.{spoken_value};
 ghost use Rattle.rtps_audit.specs.Placed.{AddsAnnounced, announced_of, placed_at};
 
 use crate::groups::Groups;
 use rtps_discovery::announced_endpoint;
 use rtps_ids::{Guid, Memory};
-use rtps_receiver::Act;
+use rtps_receiver::Spoken;
 
 /// Where an act announces an endpoint: the datagram that it stands in, counted from 1, and the place of its first octet there,
 /// from 0.
@@ -19,10 +19,10 @@ pub struct AnnouncedPlace {
 }
 
 /// The GUID of the endpoint that an act of a datagram announces, and where. None where it announces none.
-fn announced_in(datagram: usize, act: &Act<'_>) -> Option<(Guid, AnnouncedPlace)>
+fn announced_in(datagram: usize, act: &Spoken<'_>) -> Option<(Guid, AnnouncedPlace)>
     ensures { MatchOption result
-        ((guid : GuidValue) → announced_of guid (record { datagram = datagram; act = act_value act.now }) ≡ None)
-        (λ found. (guid : GuidValue) → announced_of guid (record { datagram = datagram; act = act_value act.now })
+        ((guid : GuidValue) → announced_of guid (record { datagram = datagram; act = spoken_value act.now }) ≡ None)
+        (λ found. (guid : GuidValue) → announced_of guid (record { datagram = datagram; act = spoken_value act.now })
         ≡ cond (is_eq (guid_cmp guid found.0)) (Some found.1) None) }
 {
     match announced_endpoint(act) {
@@ -41,9 +41,9 @@ fn announced_in(datagram: usize, act: &Act<'_>) -> Option<(Guid, AnnouncedPlace)
 fn note_place(
     places: &mut Groups<Guid, AnnouncedPlace>,
     datagram: usize,
-    act: &Act<'_>,
+    act: &Spoken<'_>,
 ) -> Result<(), Memory>
-    ensures { OnOk result (AddsAnnounced places.old.map places.new.map (placed_at datagram (act_value act.now ∷ []))) }
+    ensures { OnOk result (AddsAnnounced places.old.map places.new.map (placed_at datagram (spoken_value act.now ∷ []))) }
 {
     if let Some((guid, place)) = announced_in(datagram, act) {
         places.push(guid, place)?;
@@ -55,9 +55,9 @@ fn note_place(
 pub(crate) fn note_places(
     places: &mut Groups<Guid, AnnouncedPlace>,
     datagram: usize,
-    acts: &[Act<'_>],
+    acts: &[Spoken<'_>],
 ) -> Result<(), Memory>
-    ensures { OnOk result (AddsAnnounced places.old.map places.new.map (placed_at datagram (map act_value acts.now))) }
+    ensures { OnOk result (AddsAnnounced places.old.map places.new.map (placed_at datagram (map spoken_value acts.now))) }
 {
     for act in acts {
         note_place(places, datagram, act)?;

@@ -5,14 +5,14 @@ ghost use Rattle.rtps_ids.specs.declared.identity.Guid.{Guid as GuidValue};
 ghost use Rattle.rtps_receiver.specs.Speech.{origin_of};
 ghost use Rattle.rtps_discovery.specs.Listings.{pair_cmp};
 ghost use Rattle.rtps_discovery.specs.declared.matching.Pair.{Pair as PairValue};
-ghost use Rattle.rtps_receiver.specs.Values.{act_value};
+ghost use Rattle.rtps_receiver.specs.Values.{spoken_value};
 ghost use Rattle.rtps_audit.specs.Placed.{AddsAnswers, AddsAnswersOf, answer_of, placed_at};
 
 use crate::groups::Groups;
 use crate::placed::run_end;
 use rtps_discovery::Pair;
 use rtps_ids::{Guid, Memory};
-use rtps_receiver::{Act, ActBody};
+use rtps_receiver::{ActBody, Spoken, SpokenBody};
 use std::alloc::Global;
 use std::collections::BTreeMap;
 
@@ -49,7 +49,7 @@ pub(crate) struct Answers {
 impl Answers {
     ghost use Rattle.std.specs.Prelude.{◌≡◌, [], map, All, OnOk};
     ghost use Rattle.rtps_receiver.specs.Speech.{origin_of};
-    ghost use Rattle.rtps_receiver.specs.Values.{act_value};
+    ghost use Rattle.rtps_receiver.specs.Values.{spoken_value};
     ghost use Rattle.rtps_discovery.specs.declared.matching.Pair.{Pair as PairValue};
     ghost use Rattle.rtps_audit.specs.Placed.{AddsAnswers, answers_kept, placed_at};
 
@@ -64,9 +64,9 @@ impl Answers {
     }
 
     /// Adds the answers among acts of a reader in a datagram. After `Memory` the answers are of no use.
-    fn note_run(&mut self, reader: Guid, datagram: usize, run: &[Act<'_>]) -> Result<(), Memory>
-        requires { All (λ act. origin_of (act_value act) ≡ reader) run.now }
-        ensures { OnOk result (AddsAnswers self.old.readers self.new.readers (placed_at datagram (map act_value run.now))) }
+    fn note_run(&mut self, reader: Guid, datagram: usize, run: &[Spoken<'_>]) -> Result<(), Memory>
+        requires { All (λ act. origin_of (spoken_value act) ≡ reader) run.now }
+        ensures { OnOk result (AddsAnswers self.old.readers self.new.readers (placed_at datagram (map spoken_value run.now))) }
     {
         let found = self
             .readers
@@ -88,14 +88,14 @@ impl Answers {
 }
 
 /// The answer that an act of a datagram is, and the pair that it is of. None where the act answers nobody.
-fn answer_in(datagram: usize, act: &Act<'_>) -> Option<(Pair, Answer)>
+fn answer_in(datagram: usize, act: &Spoken<'_>) -> Option<(Pair, Answer)>
     ensures answer { MatchOption result
-        ((pair : PairValue) → answer_of pair (record { datagram = datagram; act = act_value act.now }) ≡ None)
-        (λ found. (pair : PairValue) → answer_of pair (record { datagram = datagram; act = act_value act.now })
+        ((pair : PairValue) → answer_of pair (record { datagram = datagram; act = spoken_value act.now }) ≡ None)
+        (λ found. (pair : PairValue) → answer_of pair (record { datagram = datagram; act = spoken_value act.now })
         ≡ cond (is_eq (pair_cmp pair found.0)) (Some found.1) None) }
-    ensures reader { IfSome result (λ found. found.0.reader ≡ origin_of (act_value act.now)) }
+    ensures reader { IfSome result (λ found. found.0.reader ≡ origin_of (spoken_value act.now)) }
 {
-    let ActBody::AckNack(ack_nack) = &act.body else {
+    let SpokenBody::Act(ActBody::AckNack(ack_nack)) = &act.body else {
         return None;
     };
     let pair = Pair {
@@ -114,10 +114,10 @@ fn answer_in(datagram: usize, act: &Act<'_>) -> Option<(Pair, Answer)>
 fn note_answer(
     answers: &mut Groups<Guid, Answer>,
     datagram: usize,
-    act: &Act<'_>,
+    act: &Spoken<'_>,
 ) -> Result<(), Memory>
-    ensures { OnOk result (AddsAnswersOf (origin_of (act_value act.now)) answers.old.map answers.new.map
-        (placed_at datagram (act_value act.now ∷ []))) }
+    ensures { OnOk result (AddsAnswersOf (origin_of (spoken_value act.now)) answers.old.map answers.new.map
+        (placed_at datagram (spoken_value act.now ∷ []))) }
 {
     if let Some((pair, answer)) = answer_in(datagram, act) {
         answers.push(pair.writer, answer)?;
@@ -130,10 +130,10 @@ fn note_answers_of(
     answers: &mut Groups<Guid, Answer>,
     reader: Guid,
     datagram: usize,
-    run: &[Act<'_>],
+    run: &[Spoken<'_>],
 ) -> Result<(), Memory>
-    requires { All (λ act. origin_of (act_value act) ≡ reader) run.now }
-    ensures { OnOk result (AddsAnswersOf reader answers.old.map answers.new.map (placed_at datagram (map act_value run.now))) }
+    requires { All (λ act. origin_of (spoken_value act) ≡ reader) run.now }
+    ensures { OnOk result (AddsAnswersOf reader answers.old.map answers.new.map (placed_at datagram (map spoken_value run.now))) }
 {
     for act in run {
         note_answer(answers, datagram, act)?;
@@ -146,13 +146,13 @@ fn note_answers_of(
 fn note_next(
     answers: &mut Answers,
     datagram: usize,
-    acts: &[Act<'_>],
+    acts: &[Spoken<'_>],
     start: usize,
 ) -> Result<usize, Memory>
     requires { start < length acts.now }
     ensures end { IfOk result (λ end. (start < end) × (end ≤ length acts.now)) }
     ensures added { IfOk result (λ end. AddsAnswers answers.old.readers answers.new.readers
-        (placed_at datagram (map act_value (slice_range acts.now start end)))) }
+        (placed_at datagram (map spoken_value (slice_range acts.now start end)))) }
 {
     let Some((pair, _)) = answer_in(datagram, &acts[start]) else {
         return Ok(start + 1);
@@ -167,9 +167,9 @@ fn note_next(
 pub(crate) fn note_answers(
     answers: &mut Answers,
     datagram: usize,
-    acts: &[Act<'_>],
+    acts: &[Spoken<'_>],
 ) -> Result<(), Memory>
-    ensures { OnOk result (AddsAnswers answers.old.readers answers.new.readers (placed_at datagram (map act_value acts.now))) }
+    ensures { OnOk result (AddsAnswers answers.old.readers answers.new.readers (placed_at datagram (map spoken_value acts.now))) }
 {
     let mut start = 0;
     'runs: while start < acts.len() {

@@ -1,5 +1,5 @@
 ghost use Rattle.std.specs.Prelude.{◌≡◌, ◌+◌, ◌<◌, ◌^◌, count_by, filter, map, IfOk, OnOk};
-ghost use Rattle.rtps_receiver.specs.Values.{act_value};
+ghost use Rattle.rtps_receiver.specs.Values.{spoken_value};
 ghost use Rattle.rtps_discovery.specs.Directory.{IsMapOf};
 ghost use Rattle.rtps_audit.specs.Delivered.{IsExactVerdict, IsExactVerdictFrom};
 ghost use Rattle.rtps_audit.specs.Index.{IsIndexBy, IsIndexOf};
@@ -21,7 +21,7 @@ use crate::verdict::Verdict;
 use rtps_coverage::MergedRanges;
 use rtps_discovery::{Directory, Pair};
 use rtps_ids::{Guid, Memory, SeqNum};
-use rtps_receiver::{Act, ActBody, Walk};
+use rtps_receiver::{ActBody, Spoken, SpokenBody, Walk};
 use rtps_wire::Tally;
 use std::alloc::Global;
 
@@ -58,12 +58,12 @@ impl<'a> Index<'a> {
     pub fn note(
         &mut self,
         tally: Tally,
-        acts: &[Act<'a>],
-        announcing: &[Act<'a>],
+        acts: &[Spoken<'a>],
+        announcing: &[Spoken<'a>],
     ) -> Result<(), Memory>
         requires { self.old.tallies.datagrams + 1 < 2 ^ 64 }
         ensures { OnOk result ((intake : Intake) → IsIndexBy intake self.old
-            → IsIndexBy (intake_more intake tally (map act_value acts.now) (map act_value announcing.now)) self.new) }
+            → IsIndexBy (intake_more intake tally (map spoken_value acts.now) (map spoken_value announcing.now)) self.new) }
     {
         let place = self.tallies.datagrams as usize + 1;
         note_acts(&mut self.acts, place, acts)?;
@@ -156,22 +156,22 @@ impl<'a> Index<'a> {
 }
 
 /// Whether an act is an ACKNACK for everyone.
-fn is_undirected(act: &Act<'_>) -> bool
-    ensures { result ≡ is_undirected_lem (act_value act.now) }
+fn is_undirected(act: &Spoken<'_>) -> bool
+    ensures { result ≡ is_undirected_lem (spoken_value act.now) }
 {
     match &act.body {
-        ActBody::AckNack(_) => act.dest.is_none(),
-        ActBody::Data(_)
-        | ActBody::Heartbeat(_)
-        | ActBody::Gap(_)
-        | ActBody::DataFrag(_)
-        | ActBody::NackFrag(_) => false,
+        SpokenBody::Act(ActBody::AckNack(_)) => act.dest.is_none(),
+        SpokenBody::Act(ActBody::Data(_))
+        | SpokenBody::Act(ActBody::Heartbeat(_))
+        | SpokenBody::Act(ActBody::Gap(_))
+        | SpokenBody::DataFrag(_)
+        | SpokenBody::NackFrag(_) => false,
     }
 }
 
 /// How many ACKNACKs for everyone are among acts.
-fn undirected_among(acts: &[Act<'_>]) -> u64
-    ensures { result ≡ count_by is_undirected_lem (map act_value acts.now) }
+fn undirected_among(acts: &[Spoken<'_>]) -> u64
+    ensures { result ≡ count_by is_undirected_lem (map spoken_value acts.now) }
 {
     let mut undirected = 0u64;
     for act in acts {

@@ -3,7 +3,7 @@ ghost use Rattle.std.specs.List.{AllWithin, HoldsAt};
 ghost use Rattle.std.specs.List.Sorted.{IsNonDecreasingBy};
 ghost use Rattle.std.specs.Option.{ForSome};
 ghost use Rattle.rtps_ids.specs.declared.identity.Guid.{Guid as GuidValue};
-ghost use Rattle.rtps_receiver.specs.Values.{act_value};
+ghost use Rattle.rtps_receiver.specs.Values.{spoken_value};
 ghost use Rattle.rtps_wire.specs.Values.{PayloadValue, payload_value};
 ghost use Rattle.rtps_audit.specs.Delivery.{IsAsked, Word};
 ghost use Rattle.rtps_audit.specs.Answered.{HearsTwo, last_among};
@@ -15,7 +15,7 @@ ghost use Rattle.rtps_audit.specs.Speech.{word_of};
 use crate::placed::Placed;
 use crate::word::announced_number;
 use rtps_ids::{EntityId, Guid, GuidPrefix, Memory};
-use rtps_receiver::{Act, ActBody, Audience};
+use rtps_receiver::{Audience, Spoken};
 use rtps_wire::Payload;
 use std::alloc::Global;
 
@@ -51,21 +51,15 @@ fn is_same_payload(one: Payload<'_>, other: Payload<'_>) -> bool
 
 /// The payload that an act tells, where its number is `from` or a greater one; None of any other act. A DATA tells one, and a
 /// DATA_FRAG at which a sample was put together.
-fn addressed<'x, 'a>(act: &'x Act<'a>, from: u64) -> Option<AddressedPayload<'x, 'a>>
+fn addressed<'x, 'a>(act: &'x Spoken<'a>, from: u64) -> Option<AddressedPayload<'x, 'a>>
     ensures { MatchOption result
-        ((n : ℕ) (x : PayloadValue) → IsAsked from n → word_of (act_value act.now).body n ≢ Some (Word.Told x))
-        (λ entry. IsSentBy (act_value act.now) entry × IsAsked from entry.number × IsInRange entry) }
+        ((n : ℕ) (x : PayloadValue) → IsAsked from n → word_of (spoken_value act.now).body n ≢ Some (Word.Told x))
+        (λ entry. IsSentBy (spoken_value act.now) entry × IsAsked from entry.number × IsInRange entry) }
 {
-    let (number, reader, payload) = match &act.body {
-        ActBody::Data(data) => (data.number, data.reader, &data.payload),
-        ActBody::DataFrag(fragment) => match &fragment.told {
-            Some(payload) => (fragment.number, fragment.reader, payload),
-            None => return None,
-        },
-        ActBody::Heartbeat(_) | ActBody::AckNack(_) | ActBody::NackFrag(_) | ActBody::Gap(_) =>
-            return None,
-    };
-    let number = number.get().cast_unsigned();
+    let said = act.said();
+    let number = said.told?;
+    let payload = said.payload?;
+    let reader = act.audience()?.reader;
     if number < from {
         return None;
     }

@@ -3,56 +3,46 @@ ghost use Rattle.std.specs.List.{AllWithin};
 ghost use Rattle.std.specs.Ordering.{is_eq};
 ghost use Rattle.rtps_ids.specs.declared.identity.Guid.{Guid as GuidValue};
 ghost use Rattle.rtps_receiver.specs.Speech.{origin_of};
-ghost use Rattle.rtps_receiver.specs.Values.{act_body_value, act_value};
+ghost use Rattle.rtps_receiver.specs.Values.{spoken_body_value, spoken_value};
 ghost use Rattle.rtps_discovery.specs.GuidOrder.{guid_cmp};
 ghost use Rattle.rtps_audit.specs.Placed.{AddsActs, placed_at, placed_value, values_at};
 
 use crate::groups::Groups;
 use rtps_ids::{Guid, Memory};
-use rtps_receiver::{Act, ActBody, FragmentBody};
-use rtps_wire::DataBody;
+use rtps_receiver::{FragmentBody, Spoken, SpokenBody};
 use std::slice;
 
 /// An act, and the datagram of a recording that it stands in, counted from 1.
 #[derive(Clone, Copy, PartialEq, Eq, Debug)]
 pub struct Placed<'a> {
     pub datagram: usize,
-    pub act: Act<'a>,
+    pub act: Spoken<'a>,
 }
 
 /// A copy of a body.
-fn body_of<'a>(body: &ActBody<'a>) -> ActBody<'a>
-    ensures { act_body_value result ≡ act_body_value body.now }
+fn body_of<'a>(body: &SpokenBody<'a>) -> SpokenBody<'a>
+    ensures { spoken_body_value result ≡ spoken_body_value body.now }
 {
     match body {
-        ActBody::Data(data) => ActBody::Data(DataBody {
-            reader: data.reader,
-            writer: data.writer,
-            number: data.number,
-            qos: data.qos,
-            payload: data.payload,
-        }),
-        ActBody::Heartbeat(heartbeat) => ActBody::Heartbeat(*heartbeat),
-        ActBody::AckNack(ack_nack) => ActBody::AckNack(*ack_nack),
-        ActBody::Gap(gap) => ActBody::Gap(*gap),
-        ActBody::DataFrag(fragment) => ActBody::DataFrag(FragmentBody {
+        SpokenBody::Act(body) => SpokenBody::Act(body.copied()),
+        SpokenBody::DataFrag(fragment) => SpokenBody::DataFrag(FragmentBody {
             reader: fragment.reader,
             writer: fragment.writer,
             number: fragment.number,
             told: fragment.told,
         }),
-        ActBody::NackFrag(nack_frag) => ActBody::NackFrag(*nack_frag),
+        SpokenBody::NackFrag(nack_frag) => SpokenBody::NackFrag(*nack_frag),
     }
 }
 
 /// A copy of an act, in its datagram.
-pub fn place<'a>(datagram: usize, act: &Act<'a>) -> Placed<'a>
+pub fn place<'a>(datagram: usize, act: &Spoken<'a>) -> Placed<'a>
     ensures datagram { result.datagram ≡ datagram }
-    ensures act { act_value result.act ≡ act_value act.now }
+    ensures act { spoken_value result.act ≡ spoken_value act.now }
 {
     Placed {
         datagram,
-        act: Act {
+        act: Spoken {
             at: act.at,
             source: act.source,
             version: act.version,
@@ -69,10 +59,10 @@ pub fn place<'a>(datagram: usize, act: &Act<'a>) -> Placed<'a>
 fn append_placed<'a>(
     placed: &mut Vec<Placed<'a>>,
     datagram: usize,
-    acts: &[Act<'a>],
+    acts: &[Spoken<'a>],
 ) -> Result<(), Memory>
     ensures { OnOk result (map placed_value placed.new.items
-        ≡ map placed_value placed.old.items ++ placed_at datagram (map act_value acts.now)) }
+        ≡ map placed_value placed.old.items ++ placed_at datagram (map spoken_value acts.now)) }
 {
     if placed.is_empty() {
         // Many lists stay at their first acts.
@@ -85,11 +75,11 @@ fn append_placed<'a>(
 }
 
 /// The first place from this one on whose act is from another GUID; the end, where none is.
-pub(crate) fn run_end(acts: &[Act<'_>], start: usize, origin: Guid) -> usize
+pub(crate) fn run_end(acts: &[Spoken<'_>], start: usize, origin: Guid) -> usize
     requires { start ≤ length acts.now }
     ensures onward { start ≤ result }
     ensures within { result ≤ length acts.now }
-    ensures run { AllWithin (λ act. origin_of (act_value act) ≡ origin) acts.now start result }
+    ensures run { AllWithin (λ act. origin_of (spoken_value act) ≡ origin) acts.now start result }
 {
     for place in start..acts.len() {
         if acts[place].origin() != origin {
@@ -104,11 +94,11 @@ fn note_run<'a>(
     origins: &mut Groups<Guid, Placed<'a>>,
     origin: Guid,
     datagram: usize,
-    run: &[Act<'a>],
+    run: &[Spoken<'a>],
 ) -> Result<(), Memory>
     ensures { OnOk result ((other : GuidValue) → map placed_value (values_at guid_cmp origins.new.map other)
         ≡ map placed_value (values_at guid_cmp origins.old.map other)
-        ++ cond (is_eq (guid_cmp other origin)) (placed_at datagram (map act_value run.now)) []) }
+        ++ cond (is_eq (guid_cmp other origin)) (placed_at datagram (map spoken_value run.now)) []) }
 {
     if let Some(placed) = origins.map.get_mut(&origin) {
         append_placed(placed, datagram, run)?;
@@ -125,9 +115,9 @@ fn note_run<'a>(
 pub(crate) fn note_acts<'a>(
     origins: &mut Groups<Guid, Placed<'a>>,
     datagram: usize,
-    acts: &[Act<'a>],
+    acts: &[Spoken<'a>],
 ) -> Result<(), Memory>
-    ensures { OnOk result (AddsActs origins.old.map origins.new.map (placed_at datagram (map act_value acts.now))) }
+    ensures { OnOk result (AddsActs origins.old.map origins.new.map (placed_at datagram (map spoken_value acts.now))) }
 {
     let mut start = 0;
     'runs: while start < acts.len() {

@@ -13,7 +13,7 @@ use crate::word::{add_range, add_told};
 use rtps_coverage::{Coverage, MergedRanges};
 use rtps_discovery::Pair;
 use rtps_ids::{Guid, Memory, SeqNum};
-use rtps_receiver::Act;
+use rtps_receiver::Spoken;
 use std::alloc::Global;
 
 /// A reader, and what it was told so far by the acts of a writer, in the order of sending.
@@ -32,7 +32,7 @@ impl<C: Coverage> ToldReader<C> {
     ghost use Rattle.rtps_ids.specs.declared.identity.Guid.{Guid as GuidValue};
     ghost use Rattle.rtps_coverage.specs.Coverage.{TellsMore};
     ghost use Rattle.rtps_receiver.specs.Speech.{is_heard_by};
-    ghost use Rattle.rtps_receiver.specs.Values.{act_value};
+    ghost use Rattle.rtps_receiver.specs.Values.{spoken_value};
     ghost use Rattle.rtps_audit.specs.Placed.{is_from, placed_value};
     ghost use Rattle.rtps_audit.specs.Speech.{word_of};
     ghost use Rattle.rtps_audit.specs.Sweep.{AreBehind, HasHeardOrUnasked, IsToldUpTo};
@@ -53,14 +53,14 @@ impl<C: Coverage> ToldReader<C> {
     }
 
     /// Tells the next act. After `Memory` the set is of no use.
-    fn note(&mut self, act: &Act<'_>) -> Result<(), Memory>
+    fn note(&mut self, act: &Spoken<'_>) -> Result<(), Memory>
         ensures guid { self.new.guid ≡ self.old.guid }
         ensures place { self.new.place ≡ self.old.place }
         ensures told { OnOk result (TellsMore (C.covered self.old.told) (C.covered self.new.told)
-            (λ n. is_heard_by (act_value act.now) self.old.guid && is_some (word_of (act_value act.now).body n))) }
+            (λ n. is_heard_by (spoken_value act.now) self.old.guid && is_some (word_of (spoken_value act.now).body n))) }
     {
         if act.heard_by(self.guid) {
-            add_told(&mut self.told, &act.body)?;
+            add_told(&mut self.told, act)?;
         }
         Ok(())
     }

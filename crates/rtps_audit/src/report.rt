@@ -29,8 +29,8 @@ pub struct Counts {
     pub refused: u64,
     /// Submessages that are skipped and are no fragments.
     pub skipped: u128,
-    /// NACK_FRAG, HEARTBEAT_FRAG and DATA_FRAG, but those DATA_FRAG by which the index was told a sample: numbers that
-    /// they tell count as not told.
+    /// Where fragments are skipped, all NACK_FRAG, HEARTBEAT_FRAG and DATA_FRAG. Where samples are put together, the
+    /// DATA_FRAG that have no fragments that can be used, and those of a number of which no sample is whole.
     pub fragments: u128,
     /// ACKNACKs for everyone, which answer nobody.
     pub undirected: u128,

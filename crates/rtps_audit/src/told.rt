@@ -4,7 +4,7 @@ ghost use Rattle.rtps_audit.specs.Sweep.{audiences_of as audiences_of_lem};
 use crate::word::add_told;
 use rtps_coverage::{Coverage, MergedRanges, least_outside};
 use rtps_ids::{Guid, Memory};
-use rtps_receiver::{Act, Audience, EVERY_READER};
+use rtps_receiver::{Audience, EVERY_READER, Spoken};
 use std::alloc::Global;
 use std::collections::BTreeMap;
 
@@ -44,7 +44,7 @@ impl Told {
     ghost use Rattle.std.specs.Prelude.{◌≡◌, ◌≤◌, ◌<◌, ◌^◌, ◌&&◌, ℕ, false, is_some, OnOk};
     ghost use Rattle.rtps_ids.specs.declared.identity.Guid.{Guid as GuidValue};
     ghost use Rattle.rtps_receiver.specs.Speech.{is_heard_by};
-    ghost use Rattle.rtps_receiver.specs.Values.{act_value};
+    ghost use Rattle.rtps_receiver.specs.Values.{spoken_value};
     ghost use Rattle.rtps_coverage.specs.Coverage.{IsLeastFrom, TellsMore};
     ghost use Rattle.rtps_coverage.specs.MergedRanges.{covered_of};
     ghost use Rattle.rtps_audit.specs.Speech.{word_of};
@@ -61,19 +61,19 @@ impl Told {
     }
 
     /// Tells those who hear it what the writer says next. After `Memory` the sets are of no use.
-    pub(crate) fn note(&mut self, act: &Act<'_>) -> Result<(), Memory>
+    pub(crate) fn note(&mut self, act: &Spoken<'_>) -> Result<(), Memory>
         ensures { OnOk result ((reader : GuidValue) → TellsMore (is_told self.old reader) (is_told self.new reader)
-            (λ n. is_heard_by (act_value act.now) reader && is_some (word_of (act_value act.now).body n))) }
+            (λ n. is_heard_by (spoken_value act.now) reader && is_some (word_of (spoken_value act.now).body n))) }
     {
         let Some(audience) = act.audience() else {
             return Ok(());
         };
         if let Some(set) = self.sets.get_mut(&audience) {
-            add_told(set, &act.body)?;
+            add_told(set, act)?;
             return Ok(());
         }
         let mut set = MergedRanges::empty(self.alloc);
-        add_told(&mut set, &act.body)?;
+        add_told(&mut set, act)?;
         self.sets.insert(audience, set)?;
         Ok(())
     }

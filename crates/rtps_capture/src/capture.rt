@@ -42,7 +42,7 @@ pub struct CaptureReading {
 }
 
 /// Why a capture is not read. Frames count from 1.
-#[derive(Clone, Copy, PartialEq, Eq, Debug)]
+#[derive(Clone, Copy)]
 pub enum CaptureFault {
     /// It is no capture that is read, or has a block that cannot be.
     BadCapture,

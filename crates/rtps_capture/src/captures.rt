@@ -1,5 +1,5 @@
 /// Which captures are read, and what of them.
-#[derive(Clone, Copy, Debug, PartialEq, Eq)]
+#[derive(Clone, Copy)]
 pub enum Captures {
     /// Classic ones whose frames are Ethernet frames or IP packets: the UDP datagrams of IPv4 that were sent in one packet.
     Classic,

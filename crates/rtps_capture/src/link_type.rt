@@ -5,7 +5,7 @@ use crate::captures::Captures;
 use crate::layout::link_type;
 
 /// What the frames of an interface are, of those that are read from any capture.
-#[derive(Clone, Copy, PartialEq, Eq, Debug)]
+#[derive(Clone, Copy)]
 pub enum LinkType {
     /// Four octets, and behind them a packet of IP.
     Loopback,

@@ -2,9 +2,9 @@
 use Rattle.std.proofs.Common.{◌≡◌, ◌+◌, ◌≤◌, ℕ, List, [], ◌∷◌, ◌++◌, ◌<◌, ◌∙◌, ap, arith, get_or, length, map, take}
 use Rattle.std.proofs.lemmas.List.{map-append, take_more}
 use Rattle.std.proofs.lemmas.List.Sums.{sum_by-cons}
-use Rattle.rtps_receiver.specs.Values.{ActValue, act_value}
+use Rattle.rtps_receiver.specs.Values.{ActValue, spoken_value}
 use Rattle.std.specs.Prelude.{if◌then◌else◌}
-use Rattle.rtps_receiver.specs.declared.act.Act.{Act}
+use Rattle.rtps_receiver.specs.declared.spoken.Spoken.{Spoken}
 use Rattle.rtps_discovery.specs.Notice.{announcement_of, answer_of, faults_in, is_fault}
 use Rattle.rtps_discovery.specs.declared.notice.Noted.{Noted}
 use Rattle.rtps_discovery.specs.declared.notice.Noted.TheVariants.{Nothing, Kept, Fault}
@@ -28,5 +28,5 @@ faults_more (first ∷ acts) act =
     )
 
 -- the first acts of a list, one more
-pub acts_more : (acts : List Act) (i : ℕ) (d : Act) → i < length acts → map act_value (take (i + 1) acts) ≡ map act_value (take i acts) ++ act_value (get_or acts i d) ∷ []
-acts_more acts i d lt = ap (map act_value) (take_more acts i d lt) ∙ map-append act_value (take i acts) (get_or acts i d ∷ [])
+pub acts_more : (acts : List Spoken) (i : ℕ) (d : Spoken) → i < length acts → map spoken_value (take (i + 1) acts) ≡ map spoken_value (take i acts) ++ spoken_value (get_or acts i d) ∷ []
+acts_more acts i d lt = ap (map spoken_value) (take_more acts i d lt) ∙ map-append spoken_value (take i acts) (get_or acts i d ∷ [])

@@ -1,7 +1,7 @@
 ghost use Rattle.std.specs.Prelude.{◌≡◌, ◌≢◌, ◌∷◌, [], ◌++◌, if◌then◌else◌, List, IfOk, OnOk, OnErr, length, map};
 ghost use Rattle.rtps_receiver.specs.Acts.{data_among};
 ghost use Rattle.std.specs.Option.{option_map};
-ghost use Rattle.rtps_receiver.specs.Values.{ActValue, act_value};
+ghost use Rattle.rtps_receiver.specs.Values.{ActValue, act_value, spoken_value};
 ghost use Rattle.rtps_discovery.specs.Directory.{HasNotedSome, IsMapOf, settled_at, settled_in, unsettled_in};
 ghost use Rattle.rtps_discovery.specs.Endpoint.{endpoint_value};
 ghost use Rattle.rtps_discovery.specs.Matching.{matches_among, reliable_pairs};
@@ -14,7 +14,7 @@ use crate::matching::{Match, Pair, reliable_among, reliable_pairs};
 use crate::notice::{Noted, Subject, notice};
 use crate::topic_index::matches_among;
 use rtps_ids::{Guid, Memory};
-use rtps_receiver::Act;
+use rtps_receiver::{Act, Spoken, SpokenBody};
 use std::alloc::Global;
 use std::collections::{BTreeMap, BTreeSet};
 use std::marker::Model;
@@ -69,6 +69,33 @@ impl<'a> Directory<'a> {
             answer ≢ Noted.Kept → (result ≡ Ok answer) × (self.new ≡ self.old) }
         ensures again { let answer = answer_of (announcement_of (act_value act.now)) in
             (acts : List ActValue) → IsMapOf acts self.old → RepeatsOneOf acts (act_value act.now)
+            → (result ≡ Ok answer) × (self.new ≡ self.old) }
+    {
+        let spoken = Spoken {
+            at: act.at,
+            source: act.source,
+            version: act.version,
+            vendor: act.vendor,
+            dest: act.dest,
+            stamp: act.stamp,
+            order: act.order,
+            body: SpokenBody::Act(act.body.copied()),
+        };
+        self.note_spoken(&spoken)
+    }
+
+    /// The same of what a walk hands on.
+    pub fn note_spoken(&mut self, act: &Spoken<'a>) -> Result<Noted, Memory>
+        ensures map { OnOk result ((acts : List ActValue)
+            → IsMapOf acts self.old → IsMapOf (acts ++ spoken_value act.now ∷ []) self.new) }
+        ensures noted { IfOk result (λ noted. noted ≡ answer_of (announcement_of (spoken_value act.now))) }
+        ensures err { OnErr result (self.new ≡ self.old) }
+
+        // With nothing to keep, it does not fail.
+        ensures unkept { let answer = answer_of (announcement_of (spoken_value act.now)) in
+            answer ≢ Noted.Kept → (result ≡ Ok answer) × (self.new ≡ self.old) }
+        ensures again { let answer = answer_of (announcement_of (spoken_value act.now)) in
+            (acts : List ActValue) → IsMapOf acts self.old → RepeatsOneOf acts (spoken_value act.now)
             → (result ≡ Ok answer) × (self.new ≡ self.old) }
     {
         let Some((subject, payload)) = notice(act) else {
@@ -146,32 +173,32 @@ impl<'a> Directory<'a> {
     /// Notes acts in their order, as [`Directory::note`] does, and says how many are announcements with a fault. Only
     /// DATA can be announcements, so the DATA of a recording are enough. After `Memory` the acts before one of them are
     /// noted.
-    pub fn note_all(&mut self, acts: &[Act<'a>]) -> Result<u64, Memory>
+    pub fn note_all(&mut self, acts: &[Spoken<'a>]) -> Result<u64, Memory>
         ensures map { OnOk result ((before : List ActValue)
-            → IsMapOf before self.old → IsMapOf (before ++ map act_value acts.now) self.new) }
-        ensures faults { IfOk result (λ faults. faults ≡ faults_in (map act_value acts.now)) }
+            → IsMapOf before self.old → IsMapOf (before ++ map spoken_value acts.now) self.new) }
+        ensures faults { IfOk result (λ faults. faults ≡ faults_in (map spoken_value acts.now)) }
 
         // The same, if these are the DATA among other acts.
-        ensures data_map { OnOk result ((before all : List ActValue) → map act_value acts.now ≡ data_among all
+        ensures data_map { OnOk result ((before all : List ActValue) → map spoken_value acts.now ≡ data_among all
             → IsMapOf before self.old → IsMapOf (before ++ all) self.new) }
-        ensures data_faults { (all : List ActValue) → map act_value acts.now ≡ data_among all
+        ensures data_faults { (all : List ActValue) → map spoken_value acts.now ≡ data_among all
             → IfOk result (λ faults. faults ≡ faults_in all) }
-        ensures err { OnErr result (HasNotedSome (map act_value acts.now) self.old self.new) }
+        ensures err { OnErr result (HasNotedSome (map spoken_value acts.now) self.old self.new) }
     {
         let faults = self.note_each(acts)?;
         Ok(faults)
     }
 
     /// Notes acts in their order, and says how many are announcements with a fault.
-    fn note_each(&mut self, acts: &[Act<'a>]) -> Result<u64, Memory>
+    fn note_each(&mut self, acts: &[Spoken<'a>]) -> Result<u64, Memory>
         ensures map { OnOk result ((before : List ActValue)
-            → IsMapOf before self.old → IsMapOf (before ++ map act_value acts.now) self.new) }
-        ensures faults { IfOk result (λ faults. faults ≡ faults_in (map act_value acts.now)) }
-        ensures err { OnErr result (HasNotedSome (map act_value acts.now) self.old self.new) }
+            → IsMapOf before self.old → IsMapOf (before ++ map spoken_value acts.now) self.new) }
+        ensures faults { IfOk result (λ faults. faults ≡ faults_in (map spoken_value acts.now)) }
+        ensures err { OnErr result (HasNotedSome (map spoken_value acts.now) self.old self.new) }
     {
         let mut faults = 0u64;
         for act in acts {
-            let noted = self.note(act)?;
+            let noted = self.note_spoken(act)?;
             faults += fault_count(noted);
         }
         Ok(faults)

@@ -3,7 +3,7 @@ ghost use Rattle.std.specs.Option.{option_copied, option_map};
 ghost use Rattle.rtps_params.specs.Lists.{list_value};
 ghost use Rattle.rtps_params.specs.Values.{guid_of};
 ghost use Rattle.rtps_receiver.specs.Speech.{origin_of};
-ghost use Rattle.rtps_receiver.specs.Values.{ActValue, act_value};
+ghost use Rattle.rtps_receiver.specs.Values.{ActValue, spoken_value};
 ghost use Rattle.rtps_wire.specs.Values.{data_value, payload_value};
 ghost use Rattle.rtps_discovery.specs.Leaving.{guid_in_payload as guid_in_payload_lem, has_key_of as has_key_of_lem, inline_value as inline_value_lem, is_one_of, is_ending as is_ending_lem, key_of as key_of_lem, leaves as leaves_lem};
 ghost use Rattle.rtps_discovery.specs.Notice.{subject_of as subject_of_lem};
@@ -15,7 +15,7 @@ use crate::layout::{entity, status};
 use crate::notice::{Subject, subject_of};
 use rtps_ids::Guid;
 use rtps_params::ParamList;
-use rtps_receiver::{Act, ActBody};
+use rtps_receiver::{ActBody, Spoken, SpokenBody};
 use rtps_wire::{DataBody, Payload};
 
 /// The value of a parameter of one sample alone.
@@ -83,22 +83,22 @@ fn has_key_of(body: &DataBody<'_>, reader: Guid) -> bool
 
 /// Whether an act says that this reader leaves: its participant disposes or unregisters the reader, or itself, to whomever
 /// (DDSI-RTPS 2.5, 9.6.4.9 "StatusInfo_t (PID_STATUS_INFO)").
-pub fn leaves(act: &Act<'_>, reader: Guid) -> bool
-    ensures { result ≡ leaves_lem reader (act_value act.now) }
+pub fn leaves(act: &Spoken<'_>, reader: Guid) -> bool
+    ensures { result ≡ leaves_lem reader (spoken_value act.now) }
 {
     if act.source != reader.prefix {
         return false;
     }
     match &act.body {
         // Most DATA have no status.
-        ActBody::Data(data) => {
+        SpokenBody::Act(ActBody::Data(data)) => {
             is_ending(inline_value(&data.qos, STATUS_INFO)) && has_key_of(data, reader)
         }
-        ActBody::Heartbeat(_) => false,
-        ActBody::AckNack(_) => false,
-        ActBody::Gap(_) => false,
-        ActBody::DataFrag(_) => false,
-        ActBody::NackFrag(_) => false,
+        SpokenBody::Act(ActBody::Heartbeat(_)) => false,
+        SpokenBody::Act(ActBody::AckNack(_)) => false,
+        SpokenBody::Act(ActBody::Gap(_)) => false,
+        SpokenBody::DataFrag(_) => false,
+        SpokenBody::NackFrag(_) => false,
     }
 }
 

@@ -1,13 +1,13 @@
 ghost use Rattle.std.specs.Prelude.{◌≡◌};
 ghost use Rattle.std.specs.Option.{option_map};
 ghost use Rattle.rtps_discovery.specs.Notice.{notice_in, subject_of as subject_of_lem};
-ghost use Rattle.rtps_receiver.specs.Values.{act_value};
+ghost use Rattle.rtps_receiver.specs.Values.{spoken_value};
 
 use crate::endpoint::Side;
 use crate::fault::NoticeFault;
 use crate::layout::entity;
 use rtps_ids::EntityId;
-use rtps_receiver::{Act, ActBody};
+use rtps_receiver::{ActBody, Spoken, SpokenBody};
 use rtps_wire::Payload;
 
 /// What a directory did with an act.
@@ -29,10 +29,10 @@ pub(crate) enum Subject {
 }
 
 /// What an act announces, and the payload that does so. None if it is no announcement.
-pub(crate) fn notice<'a>(act: &Act<'a>) -> Option<(Subject, &'a [u8])>
-    ensures { option_map (λ notice. (notice.0, notice.1.now)) result ≡ notice_in (act_value act.now).body }
+pub(crate) fn notice<'a>(act: &Spoken<'a>) -> Option<(Subject, &'a [u8])>
+    ensures { option_map (λ notice. (notice.0, notice.1.now)) result ≡ notice_in (spoken_value act.now).body }
 {
-    let ActBody::Data(data) = &act.body else {
+    let SpokenBody::Act(ActBody::Data(data)) = &act.body else {
         return None;
     };
     let subject = subject_of(data.writer)?;

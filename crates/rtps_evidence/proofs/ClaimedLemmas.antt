@@ -1,5 +1,5 @@
 -- What is claimed up to a datagram, and what is received by that.
-use Rattle.std.proofs.Common.{◌≡◌, ◌∙◌, ℕ, ◌<◌, ◌≤◌, ◌==◌, ◌&&◌, ◌||◌, Bool, true, false, nat_le, nat_lt, not, max, map, filter, List, [], ◌∷◌, ◌++◌, Option, Some, None, refl, sym, ap, arith, inl, inr}
+use Rattle.std.proofs.Common.{◌≡◌, ◌∙◌, ℕ, ◌<◌, ◌≤◌, ◌&&◌, ◌||◌, Bool, true, false, nat_le, nat_lt, not, max, map, filter, List, [], ◌∷◌, ◌++◌, Option, Some, None, refl, sym, ap, arith, inl, inr}
 use Rattle.std.specs.Prelude.{Contains, is_some, unwrap_or, if◌then◌else◌}
 use Rattle.std.specs.List.{cons_option, list_any}
 use Rattle.std.specs.Option.{option_map}
@@ -52,13 +52,6 @@ pub has_one_more : (old new : List Stretch) (lo hi n : ℕ) → new ≡ old ++ r
 has_one_more old new lo hi n is =
     ap (λ l. stretches_have l n) is ∙ list_any-append (λ (s : Stretch). nat_le s.lo n && nat_lt n s.hi) old (record { lo = lo; hi = hi } ∷ [])
     ∙ ap (λ b. stretches_have old n || b) (or_false (nat_le lo n && nat_lt n hi))
-
-pub none_received : (old : Bool) (certain : ℕ → Bool) (m n : ℕ) (sent : Bool) → certain m ≡ false → sent ≡ (m == n) → old ≡ (old || (certain n && sent))
-none_received old certain m n sent uncovered e = sym (or_false old) ∙ ap (λ b. old || b) (same (m == n) refl ∙ ap (λ b. certain n && b) (sym e))
-  where
-    same : (b : Bool) → (m == n) ≡ b → false ≡ (certain n && b)
-    same true at = let one : m ≡ n = grind (arith, nat_tests, at) in sym (ap (λ k. certain k && true) (sym one) ∙ ap (λ b. b && true) uncovered)
-    same false at = sym (and-false (certain n))
 
 -- ---- what is claimed
 

@@ -5,6 +5,7 @@ pub mod MadeLemmas
 pub mod OriginLemmas
 pub mod Shown
 pub mod RowLemmas
+pub mod SaidLemmas
 pub mod HeardLemmas
 pub mod OneSpan
 pub mod OneExplanation

@@ -1,15 +1,12 @@
 -- The numbers that are asked for and missed.
-use Rattle.std.proofs.Common.{◌≡◌, ◌∙◌, ℕ, ◌+◌, ◌<◌, ◌≤◌, ◌&&◌, ◌||◌, Bool, true, false, cond, nat_le, nat_lt, not, filter, get_or, length, take, List, [], ◌∷◌, Option, Some, None, refl, sym, ap, arith, inl, inr}
+use Rattle.std.proofs.Common.{◌≡◌, ◌∙◌, ℕ, ◌+◌, ◌<◌, ◌≤◌, ◌&&◌, ◌||◌, Bool, true, false, cond, not, filter, get_or, length, take, List, [], ◌∷◌, Option, Some, None, refl, sym, ap, arith}
 use Rattle.std.specs.List.{cons_option, find, last_or, list_any}
 use Rattle.std.specs.Option.{option_map}
 use Rattle.std.specs.Prelude.{if◌then◌else◌}
-use Rattle.std.proofs.lemmas.Bool.{cases_lt, and_parts}
-use Rattle.std.proofs.lemmas.Bool.Decides.{nat_tests}
+use Rattle.std.proofs.lemmas.Bool.{and_parts}
 use Rattle.rtps_ids.specs.declared.identity.Guid.{Guid}
-use Rattle.rtps_ids.specs.NumberSet.{NumberSetValue, is_member}
-use Rattle.rtps_ids.specs.Ranges.{IsRangeFrom, HasNoneFrom}
-use Rattle.rtps_ids.proofs.Offered.{member_decides, not_member}
 use Rattle.rtps_discovery.specs.declared.matching.Pair.{Pair}
+use Rattle.rtps_receiver.specs.Said.{said}
 use Rattle.rtps_receiver.specs.Speech.{is_heard_by, is_request, is_spoken_by}
 use Rattle.rtps_discovery.specs.Endpoint.{EndpointValue}
 use Rattle.rtps_discovery.specs.Notice.{announcement_of as notice_of, endpoint_in}
@@ -20,7 +17,7 @@ use Rattle.rtps_evidence.proofs.AskingLemmas.{requester_is_origin}
 use Rattle.rtps_evidence.specs.Amount.{count_in, stretches_have}
 use Rattle.rtps_evidence.specs.Claimed.{is_at}
 use Rattle.rtps_evidence.specs.Locations.{find_last, is_before, is_behind, location_of, teller_at}
-use Rattle.rtps_evidence.specs.Missed.{AreMissed, again_behind, announces, asks_for, brings, brings_before, brings_behind, first_place, gone_behind, has_guid, is_asked_in_vain, is_in_set, is_missed, is_wanting, missed_at, missed_by, place_announced, sample_number, withdraws_behind}
+use Rattle.rtps_evidence.specs.Missed.{AreMissed, again_behind, announces, asks_for, brings, brings_before, brings_behind, first_place, gone_behind, has_guid, is_asked_in_vain, is_missed, is_wanting, missed_at, missed_by, place_announced, withdraws_behind}
 use Rattle.rtps_evidence.specs.Received.{is_received, withdraws}
 use Rattle.rtps_evidence.specs.Requests.{is_in_vain, met_among, new_request, requested}
 use Rattle.rtps_evidence.specs.WriterSummary.{option_any}
@@ -33,67 +30,6 @@ use Rattle.rtps_evidence.proofs.CountLemmas.{count_same}
 use Rattle.rtps_evidence.proofs.FindLemmas.{any_filter, find_filter}
 use Rattle.rtps_evidence.proofs.NotReceivedLemmas.{least_found, least_none}
 use Rattle.rtps_evidence.proofs.QuestionLemmas.{filter_filter}
-
--- ---- the members of a set, range by range
-
-pub set_range : (set : NumberSetValue) (at first past : ℕ) → IsRangeFrom set at first past → (n : ℕ) → (is_member set n && nat_lt n past) ≡ ((is_member set n && nat_lt n at) || (nat_le first n && nat_lt n past))
-set_range set at first past range n = elim (cases_lt n first) [
-  | inl lt ↦ elim (cases_lt n at) [
-    | inl early ↦ let some = range.some in let onward = range.onward in
-        let one : nat_lt n past ≡ true = grind (arith, nat_tests) in
-        let two : nat_lt n at ≡ true = grind (arith, nat_tests) in
-        let three : nat_le first n ≡ false = grind (arith, nat_tests) in
-        rw (one, two, three) (or_no (is_member set n && true))
-    | inr le ↦
-        let none : is_member set n ≡ false = not_member set n (λ member. range.before n le lt member) in
-        let three : nat_le first n ≡ false = grind (arith, nat_tests) in
-        rw (none, three) refl
-  ]
-  | inr le ↦ elim (cases_lt n past) [
-    | inl lt ↦
-        let there : is_member set n ≡ true = (member_decides set n).1 (range.members n le lt) in
-        let one : nat_lt n past ≡ true = grind (arith, nat_tests) in
-        let two : nat_le first n ≡ true = grind (arith, nat_tests) in
-        rw (there, one, two) (sym (or_yes (nat_lt n at)))
-    | inr ge ↦ let some = range.some in let onward = range.onward in
-        let one : nat_lt n past ≡ false = grind (arith, nat_tests) in
-        let two : nat_lt n at ≡ false = grind (arith, nat_tests) in
-        rw (one, two) (all_no (is_member set n) (nat_le first n))
-  ]
-]
-  where
-    or_no : (b : Bool) → b ≡ (b || false)
-    or_no true = refl
-    or_no false = refl
-
-    or_yes : (b : Bool) → (b || true) ≡ true
-    or_yes true = refl
-    or_yes false = refl
-
-    all_no : (a b : Bool) → (a && false) ≡ ((a && false) || (b && false))
-    all_no true true = refl
-    all_no true false = refl
-    all_no false true = refl
-    all_no false false = refl
-
-pub set_end : (set : NumberSetValue) (at : ℕ) → HasNoneFrom set at → (n : ℕ) → is_member set n ≡ (is_member set n && nat_lt n at)
-set_end set at none n = elim (cases_lt n at) [
-  | inl lt ↦ let one : nat_lt n at ≡ true = grind (arith, nat_tests) in rw one (and_yes (is_member set n))
-  | inr le ↦ let out : is_member set n ≡ false = not_member set n (λ member. none n le member) in rw out refl
-]
-  where
-    and_yes : (b : Bool) → b ≡ (b && true)
-    and_yes true = refl
-    and_yes false = refl
-
-pub none_yet_in : (set : NumberSetValue) (n : ℕ) (old : Bool) → old ≡ (old || (is_member set n && nat_lt n 0))
-none_yet_in set n old = let none : nat_lt n 0 ≡ false = grind (arith, nat_tests) in rw none (nothing (is_member set n) old)
-  where
-    nothing : (a b : Bool) → b ≡ (b || (a && false))
-    nothing true true = refl
-    nothing true false = refl
-    nothing false true = refl
-    nothing false false = refl
 
 -- ---- stretches one after another
 
@@ -113,7 +49,7 @@ received_not_missed since writer reader placed n received = sym (ap (λ b. b && 
 -- what the reader hears of a payload is said by the writer's acts
 bringer : (writer reader : Guid) (n : ℕ) (at : PlacedValue) → brings writer reader n at ≡ true → is_from writer at ≡ true
 bringer writer reader n at is =
-    let said = (and_parts (is_spoken_by at.act writer && is_heard_by at.act reader) (is_at n (sample_number at.act.body)) is).0 in
+    let said = (and_parts (is_spoken_by at.act writer && is_heard_by at.act reader) (is_at n (said at.act.body).brought) is).0 in
     speaker_is_origin writer at (and_parts (is_spoken_by at.act writer) (is_heard_by at.act reader) said).0
 
 -- what the writer's acts bring is what all acts do
@@ -136,7 +72,7 @@ again_same place writer reader n placed =
 pub last_asking_same : (writer reader : Guid) (n : ℕ) (placed : List PlacedValue) → find_last (asks_for writer reader n) (filter (is_from reader) placed) ≡ find_last (asks_for writer reader n) placed
 last_asking_same writer reader n placed =
     ap (λ l. last_or None l) (filter_filter (asks_for writer reader n) (is_from reader)
-    (λ at passes. requester_is_origin reader writer at (and_parts (is_request at.act reader writer) (is_in_set at.act.body n) passes).0) placed)
+    (λ at passes. requester_is_origin reader writer at (and_parts (is_request at.act reader writer) ((said at.act.body).lacked n) passes).0) placed)
 
 -- the last request for a number that is lacking, behind what the writer's acts bring, tells whether it is missed
 pub missed_by_request : (since : Option Location) (pair : Pair) (placed : List PlacedValue) (n : ℕ) (lacking : ℕ → Bool) → lacking n ≡ not (is_received pair.writer pair.reader placed n)

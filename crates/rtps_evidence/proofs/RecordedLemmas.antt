@@ -1,6 +1,6 @@
 -- What a recording has of a writer and a reader of best effort, by the acts of the writer alone.
 use Rattle.std.proofs.Common.{◌≡◌, ◌∙◌, ◌+◌, ◌-◌, ℕ, Bool, true, false, ◌≤◌, List, filter, length, max, not, take, refl, sym, ap, arith}
-use Rattle.std.specs.Prelude.{if◌then◌else◌}
+use Rattle.std.specs.Prelude.{if◌then◌else◌, unwrap_or}
 use Rattle.std.specs.List.{range_with_len}
 use Rattle.rtps_ids.specs.declared.identity.Guid.{Guid}
 use Rattle.rtps_discovery.specs.declared.matching.Pair.{Pair}
@@ -9,7 +9,8 @@ use Rattle.rtps_audit.specs.Placed.{PlacedValue, is_from}
 use Rattle.rtps_audit.proofs.Offered.{speaker_is_origin}
 use Rattle.rtps_evidence.specs.Amount.{count_in, is_sent, stretches_have}
 use Rattle.rtps_evidence.specs.FirstNumbers.{first_ten, kept}
-use Rattle.rtps_evidence.specs.Recorded.{AreRecordedIn, IsArrivedAmong, greatest_sent, number_of_payload, number_sent}
+use Rattle.rtps_receiver.specs.Said.{said}
+use Rattle.rtps_evidence.specs.Recorded.{AreRecordedIn, IsArrivedAmong, greatest_sent, number_sent}
 use Rattle.rtps_evidence.specs.declared.amount.Stretch.{Stretch}
 use Rattle.rtps_evidence.specs.declared.recorded.ArrivedNumbers.{ArrivedNumbers}
 use Rattle.rtps_evidence.specs.declared.recorded.Recorded.{Recorded}
@@ -22,7 +23,7 @@ use Rattle.rtps_evidence.proofs.SpanLemmas.{greatest_filter}
 greatest_same : (writer : Guid) (acts : List PlacedValue) → greatest_sent writer (filter (is_from writer) acts) ≡ greatest_sent writer acts
 greatest_same writer acts = greatest_filter (number_sent writer) (is_from writer) (λ x kept. by x (is_spoken_by x.act writer) refl kept) acts
   where
-    by : (x : PlacedValue) (spoken : Bool) → is_spoken_by x.act writer ≡ spoken → is_from writer x ≡ false → (if spoken then number_of_payload x.act.body else 0) ≡ 0
+    by : (x : PlacedValue) (spoken : Bool) → is_spoken_by x.act writer ≡ spoken → is_from writer x ≡ false → (if spoken then unwrap_or (said x.act.body).brought 0 else 0) ≡ 0
     by x false e kept = refl
     by x true e kept = absurd (let yes = speaker_is_origin writer x e in let no : true ≡ false = sym yes ∙ kept in cc)
 

@@ -160,31 +160,6 @@ none_requested pair lacks n = by (lacks n)
 
 -- ---- what a writer's acts bring
 
-pub unmet : (since : Option Location) (pair : Pair) (n : ℕ) (x : PlacedValue) (old : Option Request) → brings pair.writer pair.reader n x ≡ false → old ≡ option_map (met_by since pair n x) old
-unmet since pair n x None out = refl
-unmet since pair n x (Some request) out = ap (λ b. Some (cond b (met_at since x request) request)) (sym out)
-
-pub met_here : (since : Option Location) (pair : Pair) (number n : ℕ) (x : PlacedValue) (get old_get : ℕ → Option Request) (request met : Request) → brings pair.writer pair.reader n x ≡ (number == n) → old_get number ≡ Some request
-    → met ≡ met_at since x request → get n ≡ cond (is_eq (nat_cmp number n)) (Some met) (old_get n) → get n ≡ option_map (met_by since pair n x) (old_get n)
-met_here since pair number n x get old_get request met brought was is put = put ∙ ap (λ b. cond b (Some met) (old_get n)) (is_key number n) ∙ by (number == n) refl
-  where
-    by : (b : Bool) → (number == n) ≡ b → cond b (Some met) (old_get n) ≡ option_map (met_by since pair n x) (old_get n)
-    by true at =
-        let same : number ≡ n = grind (arith, nat_tests, at) in
-        let here : old_get n ≡ Some request = sym (ap old_get same) ∙ was in
-        ap Some is ∙ sym (ap (option_map (met_by since pair n x)) here ∙ ap (λ b. Some (cond b (met_at since x request) request)) (brought ∙ at))
-    by false at = unmet since pair n x (old_get n) (brought ∙ at)
-
-pub met_none : (since : Option Location) (pair : Pair) (number n : ℕ) (x : PlacedValue) (old_get : ℕ → Option Request) → brings pair.writer pair.reader n x ≡ (number == n) → old_get number ≡ None → old_get n ≡ option_map (met_by since pair n x) (old_get n)
-met_none since pair number n x old_get brought was = by (number == n) refl
-  where
-    by : (b : Bool) → (number == n) ≡ b → old_get n ≡ option_map (met_by since pair n x) (old_get n)
-    by true at =
-        let same : number ≡ n = grind (arith, nat_tests, at) in
-        let here : old_get n ≡ None = sym (ap old_get same) ∙ was in
-        here ∙ sym (ap (option_map (met_by since pair n x)) here)
-    by false at = unmet since pair n x (old_get n) (brought ∙ at)
-
 or_no : (b : Bool) → (b || false) ≡ b
 or_no true = refl
 or_no false = refl
@@ -330,7 +305,3 @@ vain_pushed missed new entry left rest all n is in_vain pushed so_far =
     grouped : (a b c : Bool) → ((a || b) || c) ≡ (a || (b || c))
     grouped true b c = refl
     grouped false b c = refl
-
-pub vain_passed : (missed : Bool) (entry : ℕ × Request) (left rest : List (ℕ × Request)) (all : Bool) (n : ℕ) → left ≡ entry ∷ rest → is_in_vain entry.1 ≡ false → (missed || some_in_vain left n) ≡ all → (missed || some_in_vain rest n) ≡ all
-vain_passed missed entry left rest all n is not_in_vain so_far =
-    ap (λ b. missed || ((b && (entry.0 == n)) || some_in_vain rest n)) (sym not_in_vain) ∙ ap (λ l. missed || some_in_vain l n) (sym is) ∙ so_far

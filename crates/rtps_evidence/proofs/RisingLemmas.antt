@@ -3,7 +3,6 @@ use Rattle.std.proofs.Common.{◌≡◌, ℕ, ◌+◌, ◌-◌, ◌<◌, ◌≤�
 use Rattle.std.specs.Prelude.{Contains}
 use Rattle.std.specs.List.{list_any}
 use Rattle.std.specs.List.Sorted.{IsNonDecreasingBy, IsPartitionPoint}
-use Rattle.std.proofs.Math.Bool.{and-false}
 use Rattle.std.proofs.lemmas.Bool.{cases_lt, and_parts, false_from_ne_true}
 use Rattle.std.proofs.lemmas.Bool.Decides.{nat_tests}
 use Rattle.std.proofs.lemmas.List.{get_or_default, length-append, take_more, get_or_push}
@@ -154,24 +153,3 @@ last_reaches stretches key place d rising point some within n =
     let up = rising.hi at.0 (place - 1) d (omega arith) (omega arith) in
     let reached : n < (get_or stretches (place - 1) d).hi = omega arith in
     grind (arith, nat_tests, reached))
-
--- ---- the numbers up to an end
-
--- what is reached from a key on is reached from a later one
-pub reached_on : (stretches : List Stretch) (key later n : ℕ) → key ≤ later → some_reaches stretches key n ≡ true → some_reaches stretches later n ≡ true
-reached_on stretches key later n le some =
-    let at = some_passes (reaches key n) stretches some in
-    let tests = and_parts (nat_le at.0.lo key) (nat_lt n at.0.hi) at.2 in
-    let lower : at.0.lo ≤ key = (let t = tests.0 in grind (arith, nat_tests, t)) in
-    let begins : nat_le at.0.lo later ≡ true = grind (arith, nat_tests, lower, le) in
-    list_any-from_Any (reaches later n) stretches (at.1.0, at.0, at.1.1, at.1.2, ap (λ b. b && nat_lt n at.0.hi) begins ∙ tests.1)
-
--- a stretch has no number in common with those that end up to its beginning where they begin up to its end
-pub none_in_common : (old : Bool) (stretches : List Stretch) (x : Stretch) (end n : ℕ) → end ≤ x.lo → ((m : ℕ) → nat_lt m end ≡ some_reaches stretches x.hi m) → some_reaches stretches n n ≡ true → old ≡ (old || (nat_le x.lo n && nat_lt n x.hi))
-none_in_common old stretches x end n le reach there = elim (cases_lt n x.hi) [
-  | inl before ↦
-      let ends = reach n ∙ reached_on stretches n x.hi n (omega arith) there in
-      let early : nat_le x.lo n ≡ false = grind (arith, nat_tests, ends, le) in
-      sym (ap (λ b. old || (b && nat_lt n x.hi)) early ∙ or_false old)
-  | inr past ↦ let late : nat_lt n x.hi ≡ false = grind (arith, nat_tests) in sym (ap (λ b. old || (nat_le x.lo n && b)) late ∙ ap (λ b. old || b) (and-false (nat_le x.lo n)) ∙ or_false old)
-]

@@ -5,23 +5,20 @@ use Rattle.std.specs.List.{cons_option, find, list_any}
 use Rattle.std.specs.Option.{option_map}
 use Rattle.std.proofs.lemmas.Bool.{and_parts, cases_lt}
 use Rattle.std.proofs.lemmas.Bool.Decides.{nat_tests}
-use Rattle.rtps_ids.specs.NumberSet.{NumberSetValue, is_member}
-use Rattle.rtps_ids.specs.Ranges.{HasNoneFrom, IsRangeFrom}
 use Rattle.rtps_ids.specs.declared.identity.Guid.{Guid}
-use Rattle.rtps_ids.proofs.Offered.{member_decides, not_member}
-use Rattle.rtps_wire.specs.declared.body.AckNackBody.{AckNackBody}
 use Rattle.rtps_discovery.specs.Leaving.{is_one_of, leaves}
 use Rattle.rtps_discovery.specs.declared.matching.Pair.{Pair}
 use Rattle.rtps_receiver.specs.Speech.{is_request, is_spoken_by, origin_of}
 use Rattle.rtps_receiver.specs.Values.{ActValue}
-use Rattle.rtps_receiver.specs.Values.ActBodyValue.{AckNack}
+use Rattle.rtps_receiver.specs.Said.{IsRangeOf, numbers_have, said}
+use Rattle.rtps_receiver.specs.declared.said.Numbers.{Numbers}
 use Rattle.rtps_audit.specs.Delivery.{greatest}
 use Rattle.rtps_audit.specs.Placed.{PlacedValue, answer_at, answers_among, is_from}
 use Rattle.rtps_audit.specs.Speech.{announced_of_body, base_for}
 use Rattle.rtps_audit.proofs.Offered.{speaker_is_origin}
 use Rattle.rtps_evidence.proofs.AskingLemmas.{requester_is_origin}
 use Rattle.rtps_evidence.specs.Locations.{is_before, is_behind}
-use Rattle.rtps_evidence.specs.Missed.{asks_for, brings_behind, is_in_set}
+use Rattle.rtps_evidence.specs.Missed.{asks_for, brings_behind}
 use Rattle.rtps_evidence.specs.Spans.{IsLeastFrom, announced_before, claims_at_before, claims_before, is_for_reader, leaves_behind, lesser_of, number_before}
 use Rattle.rtps_evidence.specs.declared.location.Location.{Location}
 use Rattle.rtps_evidence.proofs.MissedLemmas.{brought_same}
@@ -76,18 +73,15 @@ lesser_below one other found low under is = subst (λ o. IfSome o (λ number. nu
     by (Some one) None low under = low
     by (Some one) (Some other) low under = omega arith
 
--- ---- the members of a set
+-- ---- the numbers that an act asks for
 
-pub least_of_range : (set : NumberSetValue) (lo start end : ℕ) → IsRangeFrom set lo start end → IsLeastFrom (is_member set) lo (Some start)
-least_of_range set lo start end range = (range.onward, (member_decides set start).1 (range.members start (omega arith) range.some), λ n le lt. not_member set n (λ member. range.before n le lt member))
+pub least_of_range : (numbers : Numbers) (lo start end : ℕ) → IsRangeOf numbers lo start end → IsLeastFrom (numbers_have numbers) lo (Some start)
+least_of_range numbers lo start end range = (range.onward, range.within start (omega arith) range.some, range.before)
 
-pub none_of_range : (set : NumberSetValue) (lo : ℕ) → HasNoneFrom set lo → IsLeastFrom (is_member set) lo None
-none_of_range set lo none = λ n le. not_member set n (λ member. none n le member)
-
-pub asked_least : (pair : Pair) (placed : PlacedValue) (ack_nack : AckNackBody) (lo : ℕ) (o : Option ℕ) → is_request placed.act pair.reader pair.writer ≡ true → placed.act.body ≡ AckNack ack_nack
-    → IsLeastFrom (is_member ack_nack.set) lo o → IsLeastFrom (λ n. asks_for pair.writer pair.reader n placed) lo o
-asked_least pair placed ack_nack lo o answers body least =
-    least_same (λ n. asks_for pair.writer pair.reader n placed) (is_member ack_nack.set) lo o (λ n. ap (λ b. b && is_in_set placed.act.body n) answers ∙ ap (λ b. is_in_set b n) body) least
+pub asked_least : (pair : Pair) (placed : PlacedValue) (lacked : Numbers) (lo : ℕ) (o : Option ℕ) → is_request placed.act pair.reader pair.writer ≡ true → ((n : ℕ) → numbers_have lacked n ≡ (said placed.act.body).lacked n)
+    → IsLeastFrom (numbers_have lacked) lo o → IsLeastFrom (λ n. asks_for pair.writer pair.reader n placed) lo o
+asked_least pair placed lacked lo o answers are least =
+    least_same (λ n. asks_for pair.writer pair.reader n placed) (numbers_have lacked) lo o (λ n. ap (λ b. b && (said placed.act.body).lacked n) answers ∙ sym (are n)) least
 
 -- ---- the same by the acts of one
 
@@ -111,7 +105,7 @@ claims_same pair place (x ∷ placed) = by (base_for pair.writer pair.reader x.a
 
 pub asked_same : (pair : Pair) (n : ℕ) (placed : List PlacedValue) → list_any (asks_for pair.writer pair.reader n) (filter (is_from pair.reader) placed) ≡ list_any (asks_for pair.writer pair.reader n) placed
 asked_same pair n placed = any_filter (asks_for pair.writer pair.reader n) (is_from pair.reader) (λ at h.
-    requester_is_origin pair.reader pair.writer at (and_parts (is_request at.act pair.reader pair.writer) (is_in_set at.act.body n) h).0) placed
+    requester_is_origin pair.reader pair.writer at (and_parts (is_request at.act pair.reader pair.writer) ((said at.act.body).lacked n) h).0) placed
 
 -- the greatest of what is 0 for all that are left out
 pub greatest_filter : (number : PlacedValue → ℕ) (keeps : PlacedValue → Bool) → ((x : PlacedValue) → keeps x ≡ false → number x ≡ 0) → (placed : List PlacedValue) → greatest (map number (filter keeps placed)) ≡ greatest (map number placed)

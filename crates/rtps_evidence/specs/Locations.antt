@@ -8,6 +8,8 @@ use Rattle.std.specs.Str.{bytes_eq}
 use Rattle.rtps_ids.specs.declared.identity.Guid.{Guid}
 use Rattle.rtps_wire.specs.Values.{PayloadValue}
 use Rattle.rtps_wire.specs.Values.PayloadValue.{Absent, Whole, Key}
+use Rattle.rtps_receiver.specs.Said.{SaidValue, nothing, said}
+use Rattle.rtps_receiver.specs.Speech.{is_heard_by, is_spoken_by}
 use Rattle.rtps_receiver.specs.Values.{ActBodyValue}
 use Rattle.rtps_receiver.specs.Values.ActBodyValue.{Data as DataAct, Heartbeat as HeartbeatAct, AckNack as AckNackAct, Gap as GapAct, DataFrag as DataFragAct, NackFrag as NackFragAct}
 use Rattle.rtps_audit.specs.Delivery.{Word, greatest, is_asked}
@@ -49,6 +51,10 @@ kind_of (AckNackAct value) = AckNack
 kind_of (GapAct value) = Gap
 kind_of (DataFragAct value) = DataFrag
 kind_of (NackFragAct value) = NackFrag
+
+-- what an act says of numbers to the reader, where it hears the act from the writer
+abbrev pub said_to : Guid → Guid → PlacedValue → SaidValue
+said_to writer reader placed = if is_spoken_by placed.act writer && is_heard_by placed.act reader then said placed.act.body else nothing
 
 -- the number that the writer announces by an act, whoever hears it, or 0
 abbrev pub number_said : Guid → PlacedValue → ℕ

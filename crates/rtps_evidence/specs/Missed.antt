@@ -1,14 +1,12 @@
 -- Which numbers a reader missed. DDSI-RTPS 2.5, 8.3.8.1 "AckNack": the set of an ACKNACK names the numbers that the reader lacks.
 -- own: a number that is not received mostly came all the same; one that was asked for and not sent, or sent and asked for again, is the
 -- alarm. Acts are those of the datagrams that a row is by; `since` is the place behind which the reader is there (None: everywhere).
-use Rattle.std.specs.Prelude.{ℕ, Bool, false, ◌+◌, ◌≡◌, ◌==◌, ◌&&◌, ◌||◌, not, List, [], ◌∷◌, Option, Some, None}
+use Rattle.std.specs.Prelude.{ℕ, Bool, false, ◌+◌, ◌≡◌, ◌&&◌, ◌||◌, not, List, [], ◌∷◌, Option, Some, None}
 use Rattle.std.specs.List.{find, list_any}
 use Rattle.std.specs.Option.{option_map}
-use Rattle.rtps_ids.specs.NumberSet.{is_member}
 use Rattle.rtps_ids.specs.declared.identity.Guid.{Guid}
+use Rattle.rtps_receiver.specs.Said.{said}
 use Rattle.rtps_receiver.specs.Speech.{is_heard_by, is_request, is_spoken_by}
-use Rattle.rtps_receiver.specs.Values.{ActBodyValue}
-use Rattle.rtps_receiver.specs.Values.ActBodyValue.{Data, Heartbeat, AckNack, Gap, DataFrag, NackFrag}
 use Rattle.rtps_discovery.specs.Endpoint.{EndpointValue}
 use Rattle.rtps_discovery.specs.Notice.{announcement_of as notice_of, endpoint_in}
 use Rattle.rtps_audit.specs.Placed.{PlacedValue, is_guid}
@@ -22,18 +20,9 @@ use Rattle.rtps_evidence.specs.declared.first_missed.FirstMissed.{FirstMissed}
 use Rattle.rtps_evidence.specs.declared.missed.Missed.{Missed}
 use Rattle.rtps_evidence.specs.declared.teller.Teller.{Teller}
 
--- the set of an ACKNACK has n, or a NACK_FRAG is about it
-abbrev pub is_in_set : ActBodyValue → ℕ → Bool
-is_in_set (AckNack value) n = is_member value.set n
-is_in_set (Data value) n = false
-is_in_set (Heartbeat value) n = false
-is_in_set (Gap value) n = false
-is_in_set (DataFrag value) n = false
-is_in_set (NackFrag value) n = value.number == n
-
 -- the reader says to the writer that it lacks n
 abbrev pub asks_for : Guid → Guid → ℕ → PlacedValue → Bool
-asks_for writer reader n placed = is_request placed.act reader writer && is_in_set placed.act.body n
+asks_for writer reader n placed = is_request placed.act reader writer && (said placed.act.body).lacked n
 
 -- the endpoint, if there is one, has this GUID
 abbrev pub has_guid : Guid → Option EndpointValue → Bool
@@ -53,18 +42,9 @@ abbrev pub first_place : List AnnouncedPlace → Option Location
 first_place [] = None
 first_place (place ∷ places) = Some (record { datagram = place.datagram; at = place.at })
 
--- the number of the sample of which an act has the payload, or fragments
-abbrev pub sample_number : ActBodyValue → Option ℕ
-sample_number (Data value) = Some value.number
-sample_number (DataFrag value) = Some value.number
-sample_number (Heartbeat value) = None
-sample_number (AckNack value) = None
-sample_number (Gap value) = None
-sample_number (NackFrag value) = None
-
 -- the reader hears from the writer a payload for n, or fragments of one
 abbrev pub brings : Guid → Guid → ℕ → PlacedValue → Bool
-brings writer reader n placed = (is_spoken_by placed.act writer && is_heard_by placed.act reader) && is_at n (sample_number placed.act.body)
+brings writer reader n placed = (is_spoken_by placed.act writer && is_heard_by placed.act reader) && is_at n (said placed.act.body).brought
 
 -- the same behind a place
 abbrev pub brings_behind : Option Location → Guid → Guid → ℕ → PlacedValue → Bool

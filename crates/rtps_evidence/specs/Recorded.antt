@@ -1,12 +1,11 @@
 -- What a recording has of a writer and a reader of best effort. DDSI-RTPS 2.5, 8.4.2.3 "Required RTPS Reader Behavior": such a reader sends
 -- nothing, so nobody asks for what it lacks.
 -- own: how much of what the writer sent is here for the reader is all that a recording tells of the two.
-use Rattle.std.specs.Prelude.{ℕ, Bool, true, false, ◌≡◌, ◌+◌, ◌-◌, not, if◌then◌else◌, List, map, Option, MatchOption}
+use Rattle.std.specs.Prelude.{ℕ, Bool, true, false, ◌≡◌, ◌+◌, ◌-◌, not, if◌then◌else◌, List, map, Option, MatchOption, unwrap_or}
 use Rattle.rtps_ids.specs.declared.identity.Guid.{Guid}
 use Rattle.rtps_discovery.specs.declared.matching.Pair.{Pair}
+use Rattle.rtps_receiver.specs.Said.{said}
 use Rattle.rtps_receiver.specs.Speech.{is_spoken_by}
-use Rattle.rtps_receiver.specs.Values.{ActBodyValue}
-use Rattle.rtps_receiver.specs.Values.ActBodyValue.{Data, Heartbeat, AckNack, Gap, DataFrag, NackFrag}
 use Rattle.rtps_audit.specs.Delivery.{greatest}
 use Rattle.rtps_audit.specs.Intake.{Intake}
 use Rattle.rtps_audit.specs.Placed.{PlacedValue, placed_in}
@@ -19,18 +18,9 @@ use Rattle.rtps_evidence.specs.declared.recorded.ArrivedNumbers.{ArrivedNumbers}
 use Rattle.rtps_evidence.specs.declared.recorded.Recorded.{Recorded}
 use Rattle.rtps_evidence.specs.declared.span.Span.{Span}
 
--- the number of a payload, or of a part of one
-abbrev pub number_of_payload : ActBodyValue → ℕ
-number_of_payload (Data value) = value.number
-number_of_payload (DataFrag value) = value.number
-number_of_payload (Heartbeat value) = 0
-number_of_payload (AckNack value) = 0
-number_of_payload (Gap value) = 0
-number_of_payload (NackFrag value) = 0
-
--- the number that the writer sends by an act, to whomever; or 0
+-- the number of which the writer sends a payload, or a part of one, by an act, to whomever; or 0
 abbrev pub number_sent : Guid → PlacedValue → ℕ
-number_sent writer placed = if is_spoken_by placed.act writer then number_of_payload placed.act.body else 0
+number_sent writer placed = if is_spoken_by placed.act writer then unwrap_or (said placed.act.body).brought 0 else 0
 
 -- the greatest of them, or 0
 abbrev pub greatest_sent : Guid → List PlacedValue → ℕ

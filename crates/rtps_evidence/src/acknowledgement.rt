@@ -12,7 +12,7 @@ use rtps_audit::Answer;
 use rtps_ids::SeqNum;
 
 /// An answer of the reader to the writer.
-#[derive(Clone, Copy, PartialEq, Eq, Debug)]
+#[derive(Clone, Copy)]
 pub struct Claim {
     /// Its base: it claims each number below.
     pub below: i64,

@@ -1,20 +1,21 @@
 ghost use Rattle.std.specs.Prelude.{ℕ, true, false, ◌≡◌, ◌-◌, ◌<◌, ◌≤◌, ◌||◌, ◌^◌, IfOk, IfSome, List, OnOk};
 ghost use Rattle.std.specs.List.Sorted.{IsNonDecreasingBy};
+ghost use Rattle.rtps_receiver.specs.Said.{numbers_have};
 ghost use Rattle.rtps_audit.specs.Placed.{placed_value};
-ghost use Rattle.rtps_audit.specs.Speech.{is_in_gap};
 ghost use Rattle.rtps_evidence.specs.Amount.{AreAmounts, count_in, is_sent, is_told, stretch_has, stretches_have};
+ghost use Rattle.rtps_evidence.specs.Claimed.{is_at};
 ghost use Rattle.rtps_evidence.specs.Locations.{sends, tells};
 
+use crate::heard::heard;
 use crate::withdrawal::{Withdrawal, push_withdrawn};
 use rtps_audit::Placed;
 use rtps_discovery::Pair;
 use rtps_ids::{Memory, SeqNum};
-use rtps_receiver::ActBody;
-use rtps_wire::GapBody;
+use rtps_receiver::Numbers;
 use std::alloc::Global;
 
 /// The numbers that are asked for: those from `from` to the last announced one. There are none where `last` is `from` - 1.
-#[derive(Clone, Copy, Debug)]
+#[derive(Clone, Copy)]
 pub(crate) struct AskedNumbers {
     pub(crate) from: SeqNum,
     pub(crate) last: u64,
@@ -22,7 +23,7 @@ pub(crate) struct AskedNumbers {
 }
 
 /// Of the numbers that are asked for: how many have a payload, are gone without one, and have no word.
-#[derive(Clone, Copy, Debug)]
+#[derive(Clone, Copy)]
 pub(crate) struct Amounts {
     pub(crate) payloads: u64,
     pub(crate) gone: u64,
@@ -30,7 +31,7 @@ pub(crate) struct Amounts {
 }
 
 /// The numbers from `lo` on and below `hi`; there may be none.
-#[derive(Clone, Copy, Debug)]
+#[derive(Clone, Copy)]
 pub(crate) struct Stretch {
     pub(crate) lo: u64,
     pub(crate) hi: u64,
@@ -142,81 +143,28 @@ fn push_all(alloc: Global, stretches: &[Stretch]) -> Result<Vec<Stretch>, Memory
     Ok(few)
 }
 
-/// Appends the numbers that a GAP says will not come. After `Memory` the stretches are of no use.
-fn push_gap(stretches: &mut Vec<Stretch>, gap: &GapBody) -> Result<(), Memory>
-    ensures { OnOk result ((n : ℕ) → stretches_have stretches.new.items n ≡ (stretches_have stretches.old.items n || is_in_gap gap.now n)) }
+/// Appends these numbers, range by range. After `Memory` the stretches are of no use.
+fn push_numbers(stretches: &mut Vec<Stretch>, numbers: &Numbers<'_>) -> Result<(), Memory>
+    ensures { OnOk result ((n : ℕ) → stretches_have stretches.new.items n ≡ (stretches_have stretches.old.items n || numbers_have numbers.now n)) }
 {
-    let lo = gap.start.get().cast_unsigned();
-    let hi = gap.list.base().cast_unsigned();
-    push(stretches, Stretch { lo, hi })?;
-    let mut at = hi;
-    'apart: while let Some(members) = gap.list.range_from(at) {
-        let (lo, hi) = (members.start, members.end);
+    let mut at = 0;
+    'apart: while let Some(range) = numbers.range_from(at) {
+        let (lo, hi) = (range.start, range.end);
         push(stretches, Stretch { lo, hi })?;
-        at = members.end;
+        at = hi;
     }
     Ok(())
 }
 
-/// Appends the numbers that have a word by an act which the pair's reader hears from its writer. After `Memory` the stretches
-/// are of no use.
-fn push_told(stretches: &mut Vec<Stretch>, placed: &Placed<'_>, pair: Pair) -> Result<(), Memory>
-    ensures { OnOk result ((n : ℕ) → stretches_have stretches.new.items n
-        ≡ (stretches_have stretches.old.items n || tells pair.writer pair.reader n (placed_value placed.now))) }
+/// Appends a number, if there is one. After `Memory` the stretches are of no use.
+pub(crate) fn push_number(stretches: &mut Vec<Stretch>, number: Option<u64>) -> Result<(), Memory>
+    requires { IfSome number (λ n. n < 2 ^ 63) }
+    ensures { OnOk result ((n : ℕ) → stretches_have stretches.new.items n ≡ (stretches_have stretches.old.items n || is_at n number)) }
 {
-    if !placed.act.spoken_by(pair.writer) || !placed.act.heard_by(pair.reader) {
+    let Some(lo) = number else {
         return Ok(());
-    }
-    match &placed.act.body {
-        ActBody::Data(data) => {
-            let lo = data.number.get().cast_unsigned();
-            push(stretches, Stretch { lo, hi: lo + 1 })
-        }
-        ActBody::Heartbeat(heartbeat) => {
-            let hi = heartbeat.first.get().cast_unsigned();
-            push(stretches, Stretch { lo: 0, hi })
-        }
-        ActBody::Gap(gap) => push_gap(stretches, gap),
-        ActBody::DataFrag(fragment) => match fragment.told {
-            Some(_) => {
-                let lo = fragment.number.get().cast_unsigned();
-                push(stretches, Stretch { lo, hi: lo + 1 })
-            }
-            None => Ok(()),
-        },
-        ActBody::AckNack(_) | ActBody::NackFrag(_) => Ok(()),
-    }
-}
-
-/// Appends the number that has a payload by an act which the pair's reader hears from its writer. After `Memory` the stretches
-/// are of no use.
-pub(crate) fn push_sent(
-    stretches: &mut Vec<Stretch>,
-    placed: &Placed<'_>,
-    pair: Pair,
-) -> Result<(), Memory>
-    ensures { OnOk result ((n : ℕ) → stretches_have stretches.new.items n
-        ≡ (stretches_have stretches.old.items n || sends pair.writer pair.reader n (placed_value placed.now))) }
-{
-    if !placed.act.spoken_by(pair.writer) || !placed.act.heard_by(pair.reader) {
-        return Ok(());
-    }
-    match &placed.act.body {
-        ActBody::Data(data) => {
-            let lo = data.number.get().cast_unsigned();
-            push(stretches, Stretch { lo, hi: lo + 1 })
-        }
-        ActBody::DataFrag(fragment) => match fragment.told {
-            Some(_) => {
-                let lo = fragment.number.get().cast_unsigned();
-                push(stretches, Stretch { lo, hi: lo + 1 })
-            }
-            None => Ok(()),
-        },
-        ActBody::Heartbeat(_) | ActBody::Gap(_) | ActBody::AckNack(_) | ActBody::NackFrag(_) => Ok(
-            (),
-        ),
-    }
+    };
+    push(stretches, Stretch { lo, hi: lo + 1 })
 }
 
 impl HeardNumbers {
@@ -246,9 +194,11 @@ impl HeardNumbers {
             (λ n. stretches_have self.old.sent.items n || sends pair.writer pair.reader n (placed_value placed.now))
             (λ n datagram. some_withdrawn self.old.gone.items n datagram || withdraws_before pair.writer pair.reader n datagram (placed_value placed.now)) self.new) }
     {
-        push_told(&mut self.told, placed, pair)?;
-        push_sent(&mut self.sent, placed, pair)?;
-        push_withdrawn(&mut self.gone, placed, pair)
+        let said = heard(placed, pair);
+        push_numbers(&mut self.told, &said.gone)?;
+        push_number(&mut self.told, said.told)?;
+        push_number(&mut self.sent, said.told)?;
+        push_withdrawn(&mut self.gone, &said.gone, placed.datagram as u64)
     }
 
     /// Puts them in order, in as few stretches as they make. After `Memory` they are of no use.

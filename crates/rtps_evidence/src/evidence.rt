@@ -29,7 +29,7 @@ use std::alloc::Global;
 
 /// The verdict on a writer and a reader, by the writer's numbers from some number on, and what it rests on. Acts are those of
 /// the recording, or of a row's span, by datagram and then by place.
-#[derive(Clone, Copy, PartialEq, Eq, Debug)]
+#[derive(Clone, Copy)]
 pub struct Evidence<'a> {
     pub verdict: Verdict,
     /// The first act by which the writer announces the last announced number; None where no number that is asked for is

@@ -10,7 +10,7 @@ use rtps_discovery::Pair;
 use rtps_ids::SeqNum;
 
 /// Which numbers and which datagrams rows are by.
-#[derive(Clone, Copy, PartialEq, Eq, Debug)]
+#[derive(Clone, Copy)]
 pub struct Extent {
     /// The numbers from this one on.
     pub from: SeqNum,

@@ -19,7 +19,7 @@ use rtps_ids::{Guid, Memory};
 use std::alloc::Global;
 
 /// A reliable writer and reader that match, and why they have their verdict.
-#[derive(Clone, Copy, Debug)]
+#[derive(Clone, Copy)]
 pub struct Explanation<'a> {
     pub pair: Pair,
     /// The topic of both.

@@ -14,10 +14,9 @@ use crate::not_received::withdraws;
 use crate::teller::{Teller, teller_at};
 use rtps_audit::Placed;
 use rtps_discovery::Pair;
-use rtps_receiver::ActBody;
 
 /// A number that the reader missed.
-#[derive(Clone, Copy, PartialEq, Eq, Debug)]
+#[derive(Clone, Copy)]
 pub struct FirstMissed {
     pub number: u64,
     /// The last act by which the reader asks for it.
@@ -38,14 +37,7 @@ fn asks(placed: &Placed<'_>, pair: Pair, number: u64) -> bool
     if !placed.act.asks(pair.reader, pair.writer) {
         return false;
     }
-    match &placed.act.body {
-        ActBody::AckNack(ack_nack) => ack_nack.set.contains(number.cast_signed()),
-        ActBody::NackFrag(nack) => nack.number.get().cast_unsigned() == number,
-        ActBody::Data(_) => false,
-        ActBody::Heartbeat(_) => false,
-        ActBody::Gap(_) => false,
-        ActBody::DataFrag(_) => false,
-    }
+    placed.act.said().lacked.has(number)
 }
 
 /// Where the last of these acts stands by which the pair's reader asks its writer for the number.

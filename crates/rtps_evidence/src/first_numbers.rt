@@ -8,7 +8,7 @@ use rtps_ids::Memory;
 use std::alloc::Global;
 
 /// The first of some numbers, in their order: ten at most.
-#[derive(Clone, Copy, PartialEq, Eq, Debug)]
+#[derive(Clone, Copy)]
 pub struct FirstNumbers {
     /// The numbers, and zeros behind them.
     places: [u64; 10],

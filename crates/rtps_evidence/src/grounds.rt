@@ -18,7 +18,7 @@ use rtps_audit::{Answer, Placed, Verdict};
 use rtps_discovery::Pair;
 
 /// What a verdict rests on, beside what all rows have.
-#[derive(Clone, Copy, PartialEq, Eq, Debug)]
+#[derive(Clone, Copy)]
 pub enum Grounds<'a> {
     Complete,
     Open {

@@ -23,7 +23,7 @@ use rtps_ids::Memory;
 use std::alloc::Global;
 
 /// What a row in the span of its pair has beside what all rows have.
-#[derive(Clone, Copy, PartialEq, Eq, Debug)]
+#[derive(Clone, Copy)]
 pub struct InSpan {
     /// Where the reader joins: the first act that announces it; None where none does.
     pub joined: Option<Location>,

@@ -11,7 +11,7 @@ use rtps_discovery::Pair;
 use rtps_ids::{Memory, SeqNum};
 
 /// The verdict on a pair, and what its row is by.
-#[derive(Clone, Copy, Debug)]
+#[derive(Clone, Copy)]
 pub(crate) struct Judgement {
     pub(crate) pair: Pair,
     /// The span of the pair, where rows are in spans, or else the whole recording.

@@ -10,7 +10,7 @@ use rtps_audit::{Placed, announced_number};
 use rtps_ids::{Guid, SeqNum};
 
 /// The submessage that announces a number first.
-#[derive(Clone, Copy, PartialEq, Eq, Debug)]
+#[derive(Clone, Copy)]
 pub struct Announcement {
     /// The last number that the writer announces.
     pub number: i64,

@@ -11,6 +11,7 @@ mod explanation;
 mod first_missed;
 mod first_numbers;
 mod grounds;
+mod heard;
 mod in_span;
 mod judgement;
 mod lacking;

@@ -3,40 +3,25 @@ ghost use Rattle.rtps_audit.specs.Placed.{placed_value};
 ghost use Rattle.rtps_evidence.specs.Claimed.{is_at};
 ghost use Rattle.rtps_evidence.specs.Missed.{brings as brings_lem, brings_behind};
 
+use crate::heard::heard;
 use crate::location::{Location, is_behind};
 use rtps_audit::Placed;
 use rtps_discovery::Pair;
-use rtps_receiver::ActBody;
 
 /// A writer and a reader, and the place behind which the reader is there; None where it always is.
-#[derive(Clone, Copy, Debug)]
+#[derive(Clone, Copy)]
 pub(crate) struct Listener {
     pub(crate) pair: Pair,
     pub(crate) since: Option<Location>,
 }
 
-/// The number of the payload that the pair's reader hears by an act, or of which it hears fragments.
-pub(crate) fn number_brought(placed: &Placed<'_>, pair: Pair) -> Option<u64>
-    ensures in_range { IfSome result (λ number. number < 2 ^ 63) }
-    ensures brought { (n : ℕ) → brings_lem pair.writer pair.reader n (placed_value placed.now) ≡ is_at n result }
-{
-    if !placed.act.spoken_by(pair.writer) || !placed.act.heard_by(pair.reader) {
-        return None;
-    }
-    match &placed.act.body {
-        ActBody::Data(data) => Some(data.number.get().cast_unsigned()),
-        ActBody::DataFrag(fragment) => Some(fragment.number.get().cast_unsigned()),
-        _ => None,
-    }
-}
-
-/// The same of an act since the reader is there.
+/// The number of the payload that the pair's reader hears by an act since it is there, or of which it hears fragments.
 pub(crate) fn number_behind(placed: &Placed<'_>, listener: &Listener) -> Option<u64>
     ensures in_range { IfSome result (λ number. number < 2 ^ 63) }
     ensures brought { (n : ℕ) → brings_behind listener.now.since listener.now.pair.writer listener.now.pair.reader n (placed_value placed.now) ≡ is_at n result }
 {
     if is_behind(listener.since, placed) {
-        number_brought(placed, listener.pair)
+        heard(placed, listener.pair).brought
     } else {
         None
     }
@@ -46,8 +31,5 @@ pub(crate) fn number_behind(placed: &Placed<'_>, listener: &Listener) -> Option<
 pub(crate) fn brings(placed: &Placed<'_>, pair: Pair, number: u64) -> bool
     ensures { result ≡ brings_lem pair.writer pair.reader number (placed_value placed.now) }
 {
-    match number_brought(placed, pair) {
-        Some(brought) => brought == number,
-        None => false,
-    }
+    heard(placed, pair).brought == Some(number)
 }

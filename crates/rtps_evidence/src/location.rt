@@ -1,13 +1,13 @@
 ghost use Rattle.std.specs.Prelude.{◌≡◌};
-ghost use Rattle.rtps_receiver.specs.Values.{act_body_value};
+ghost use Rattle.rtps_receiver.specs.Values.{spoken_body_value};
 ghost use Rattle.rtps_audit.specs.Placed.{placed_value};
 ghost use Rattle.rtps_evidence.specs.Locations.{is_before as is_before_lem, is_behind as is_behind_lem, kind_of as kind_of_lem, location_of as location_of_lem};
 
 use rtps_audit::Placed;
-use rtps_receiver::ActBody;
+use rtps_receiver::{ActBody, SpokenBody};
 
 /// The place of a submessage in a recording: its datagram, and where it stands in that.
-#[derive(Clone, Copy, PartialEq, Eq, PartialOrd, Ord, Debug)]
+#[derive(Clone, Copy)]
 pub struct Location {
     /// Its datagram, counted from 1.
     pub datagram: u64,
@@ -16,7 +16,7 @@ pub struct Location {
 }
 
 /// Which submessage an act is.
-#[derive(Clone, Copy, PartialEq, Eq, Debug)]
+#[derive(Clone, Copy)]
 pub enum Kind {
     Data,
     Heartbeat,
@@ -57,15 +57,15 @@ pub(crate) fn is_before(place: Location, placed: &Placed<'_>) -> bool
 }
 
 /// Which submessage an act is.
-pub(crate) fn kind_of(body: &ActBody<'_>) -> Kind
-    ensures { result ≡ kind_of_lem (act_body_value body.now) }
+pub(crate) fn kind_of(body: &SpokenBody<'_>) -> Kind
+    ensures { result ≡ kind_of_lem (spoken_body_value body.now) }
 {
     match body {
-        ActBody::Data(_) => Kind::Data,
-        ActBody::Heartbeat(_) => Kind::Heartbeat,
-        ActBody::AckNack(_) => Kind::AckNack,
-        ActBody::NackFrag(_) => Kind::NackFrag,
-        ActBody::Gap(_) => Kind::Gap,
-        ActBody::DataFrag(_) => Kind::DataFrag,
+        SpokenBody::Act(ActBody::Data(_)) => Kind::Data,
+        SpokenBody::Act(ActBody::Heartbeat(_)) => Kind::Heartbeat,
+        SpokenBody::Act(ActBody::AckNack(_)) => Kind::AckNack,
+        SpokenBody::NackFrag(_) => Kind::NackFrag,
+        SpokenBody::Act(ActBody::Gap(_)) => Kind::Gap,
+        SpokenBody::DataFrag(_) => Kind::DataFrag,
     }
 }

@@ -12,7 +12,7 @@ use crate::first_missed::{FirstMissed, first_missed_at};
 use rtps_ids::Memory;
 
 /// Of the numbers that are asked for: how many are missed, and the least of them.
-#[derive(Clone, Copy, Debug)]
+#[derive(Clone, Copy)]
 pub(crate) struct Missed {
     pub(crate) count: u64,
     pub(crate) first: Option<FirstMissed>,

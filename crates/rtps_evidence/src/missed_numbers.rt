@@ -2,7 +2,7 @@ ghost use Rattle.std.specs.Prelude.{ℕ, ◌≡◌, ◌==◌, ◌≤◌, ◌<◌
 ghost use Rattle.std.specs.BTreeMap.{get};
 ghost use Rattle.std.specs.Ordering.{nat_cmp};
 ghost use Rattle.std.specs.Option.{option_map};
-ghost use Rattle.rtps_ids.specs.NumberSet.{is_member};
+ghost use Rattle.rtps_receiver.specs.Said.{numbers_have};
 ghost use Rattle.rtps_receiver.specs.Values.{ActValue};
 ghost use Rattle.rtps_audit.specs.Placed.{placed_in, placed_value};
 ghost use Rattle.rtps_audit.specs.Said.{IsSaid};
@@ -17,18 +17,19 @@ ghost use Rattle.rtps_evidence.specs.WriterSummary.{option_any};
 
 use crate::amount::{Stretch, push};
 use crate::exchange::Exchange;
-use crate::listener::{Listener, number_brought};
+use crate::heard::heard;
+use crate::listener::Listener;
 use crate::location::{Location, is_before, is_behind, location_of};
 use crate::rising::end_at;
 use rtps_audit::Placed;
-use rtps_ids::{Memory, NumberSet};
-use rtps_receiver::ActBody;
+use rtps_ids::Memory;
+use rtps_receiver::Numbers;
 use std::alloc::Global;
 use std::collections::BTreeMap;
 use std::ops::Range;
 
 /// What became of the last request for a number.
-#[derive(Clone, Copy, PartialEq, Eq, Debug, Drop)]
+#[derive(Clone, Copy, Drop)]
 struct Request {
     /// Where it stands.
     place: Location,
@@ -85,21 +86,21 @@ fn note_range(
     Ok(())
 }
 
-/// The same of the numbers of a set.
-fn note_set(
+/// The same of numbers that an act names.
+fn note_numbers(
     requests: &mut BTreeMap<u64, Request>,
-    set: &NumberSet,
+    numbers: &Numbers<'_>,
     place: Location,
     lacking: &[Stretch],
 ) -> Result<(), Memory>
     requires { AreRising lacking.now }
     ensures { OnOk result ((n : ℕ) → get nat_cmp requests.new n
-        ≡ (if is_member set.now n && stretches_have lacking.now n then Some (new_request_lem place) else get nat_cmp requests.old n)) }
+        ≡ (if numbers_have numbers.now n && stretches_have lacking.now n then Some (new_request_lem place) else get nat_cmp requests.old n)) }
 {
-    let mut at = 0u64;
-    'apart: while let Some(members) = set.range_from(at) {
-        note_range(requests, &members, place, lacking)?;
-        at = members.end;
+    let mut at = 0;
+    'apart: while let Some(range) = numbers.range_from(at) {
+        note_range(requests, &range, place, lacking)?;
+        at = range.end;
     }
     Ok(())
 }
@@ -120,19 +121,8 @@ fn note_asking(
     if !placed.act.asks(exchange.pair.reader, exchange.pair.writer) {
         return Ok(());
     }
-    match &placed.act.body {
-        ActBody::AckNack(ack_nack) => {
-            note_set(requests, &ack_nack.set, location_of(placed), lacking)
-        }
-        ActBody::NackFrag(nack) => {
-            let number = nack.number.get().cast_unsigned();
-            note_number(requests, number, location_of(placed), lacking)
-        }
-        ActBody::Data(_) => Ok(()),
-        ActBody::Heartbeat(_) => Ok(()),
-        ActBody::Gap(_) => Ok(()),
-        ActBody::DataFrag(_) => Ok(()),
-    }
+    let said = placed.act.said();
+    note_numbers(requests, &said.lacked, location_of(placed), lacking)
 }
 
 /// The last request for each number that the pair's reader asks for and lacks.
@@ -183,7 +173,7 @@ fn note_bringing(
     ensures { OnOk result ((n : ℕ) → get nat_cmp requests.new n
         ≡ option_map (met_by listener.now.since listener.now.pair n (placed_value placed.now)) (get nat_cmp requests.old n)) }
 {
-    let Some(number) = number_brought(placed, listener.pair) else {
+    let Some(number) = heard(placed, listener.pair).brought else {
         return Ok(());
     };
     let met = match requests.get(&number) {

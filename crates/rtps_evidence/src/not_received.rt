@@ -9,14 +9,14 @@ ghost use Rattle.rtps_evidence.specs.Received.{first_claiming, gone_before, kept
 
 use crate::acknowledgement::{Claim, claim_in};
 use crate::exchange::Exchange;
+use crate::heard::heard;
 use crate::location::Location;
-use crate::teller::{Teller, gap_has, teller_at};
+use crate::teller::{Teller, teller_at};
 use rtps_audit::{Answer, Placed};
 use rtps_discovery::Pair;
-use rtps_receiver::ActBody;
 
 /// A number that may not be received, and what keeps it from being certain.
-#[derive(Clone, Copy, PartialEq, Eq, Debug)]
+#[derive(Clone, Copy)]
 pub struct NotReceived {
     pub number: u64,
     /// The first act in a datagram before that of the claim by which the reader hears that the number will not come; None where
@@ -43,16 +43,8 @@ pub(crate) fn withdraws(placed: &Placed<'_>, pair: Pair, number: u64) -> bool
     requires { number < 2 ^ 63 }
     ensures { result ≡ withdraws_lem pair.writer pair.reader number (placed_value placed.now) }
 {
-    if !placed.act.spoken_by(pair.writer) || !placed.act.heard_by(pair.reader) {
-        return false;
-    }
-    match &placed.act.body {
-        ActBody::Heartbeat(heartbeat) => number < heartbeat.first.get().cast_unsigned(),
-        ActBody::Gap(gap) => gap_has(gap, number),
-        ActBody::Data(_) => false,
-        ActBody::DataFrag(_) => false,
-        ActBody::AckNack(_) | ActBody::NackFrag(_) => false,
-    }
+    let said = heard(placed, pair);
+    said.gone.has(number)
 }
 
 /// Whether the reader hears that in a datagram before this one.

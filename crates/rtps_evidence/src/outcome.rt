@@ -22,7 +22,7 @@ use rtps_ids::Memory;
 use std::alloc::Global;
 
 /// What became of a number that is asked about: the first of these that fits.
-#[derive(Clone, Copy, PartialEq, Eq, Debug)]
+#[derive(Clone, Copy)]
 pub enum Outcome {
     /// For certain: where there is a run, every run ends with a payload for it.
     Received,
@@ -41,7 +41,7 @@ pub enum Outcome {
 }
 
 /// How many numbers have each outcome.
-#[derive(Clone, Copy, PartialEq, Eq, Debug)]
+#[derive(Clone, Copy)]
 pub struct Outcomes {
     pub received: u64,
     pub arrived: u64,
@@ -53,7 +53,7 @@ pub struct Outcomes {
 }
 
 /// The numbers that a reader may not have received, and those of them that it missed. Other numbers may be among them.
-#[derive(Clone, Copy, Debug)]
+#[derive(Clone, Copy)]
 pub(crate) struct Unreceived<'n> {
     pub(crate) numbers: &'n [Stretch],
     pub(crate) missed: &'n [Stretch],

@@ -1,17 +1,17 @@
 ghost use Rattle.std.specs.Prelude.{ℕ, ◌≡◌, ◌-◌, ◌<◌, ◌≤◌, filter, length, map, slice_get, IfSome, List, None};
 ghost use Rattle.std.specs.List.{last_or};
 ghost use Rattle.std.specs.Option.{option_map};
-ghost use Rattle.rtps_receiver.specs.Values.{ActValue, act_body_value};
+ghost use Rattle.rtps_receiver.specs.Values.{ActValue, spoken_body_value};
 ghost use Rattle.rtps_audit.specs.Placed.{answers_among, is_from, placed_in, placed_value};
 ghost use Rattle.rtps_evidence.specs.Questions.{AreAsked, AreQuestions, is_question as is_question_lem, place_of as place_of_lem, questions_behind};
 
 use crate::location::{Location, is_behind, location_of};
 use rtps_audit::{Answer, Placed};
 use rtps_discovery::Pair;
-use rtps_receiver::ActBody;
+use rtps_receiver::{ActBody, SpokenBody};
 
 /// HEARTBEATs that ask for an answer.
-#[derive(Clone, Copy, Debug)]
+#[derive(Clone, Copy)]
 pub(crate) struct Questions {
     pub(crate) count: u64,
     /// Where the last of them stands.
@@ -19,20 +19,20 @@ pub(crate) struct Questions {
 }
 
 /// Whether an act is a HEARTBEAT that asks for an answer.
-fn is_question(body: &ActBody<'_>) -> bool
-    ensures { result ≡ is_question_lem (act_body_value body.now) }
+fn is_question(body: &SpokenBody<'_>) -> bool
+    ensures { result ≡ is_question_lem (spoken_body_value body.now) }
 {
     match body {
-        ActBody::Heartbeat(heartbeat) => !heartbeat.is_final,
-        ActBody::Data(_) => false,
-        ActBody::AckNack(_) | ActBody::NackFrag(_) => false,
-        ActBody::Gap(_) => false,
-        ActBody::DataFrag(_) => false,
+        SpokenBody::Act(ActBody::Heartbeat(heartbeat)) => !heartbeat.is_final,
+        SpokenBody::Act(ActBody::Data(_)) => false,
+        SpokenBody::Act(ActBody::AckNack(_)) | SpokenBody::NackFrag(_) => false,
+        SpokenBody::Act(ActBody::Gap(_)) => false,
+        SpokenBody::DataFrag(_) => false,
     }
 }
 
 /// Whether the pair's writer asks its reader by an act, behind a place.
-fn asks_behind(placed: &Placed<'_>, pair: Pair, place: Option<Location>) -> bool
+pub(crate) fn asks_behind(placed: &Placed<'_>, pair: Pair, place: Option<Location>) -> bool
     ensures { result ≡ questions_behind place pair.writer pair.reader (placed_value placed.now) }
 {
     is_behind(place, placed)

@@ -4,7 +4,7 @@ ghost use Rattle.rtps_receiver.specs.Values.{ActValue};
 ghost use Rattle.rtps_audit.specs.Placed.{placed_in, placed_value};
 ghost use Rattle.rtps_audit.specs.Said.{IsSaid};
 ghost use Rattle.rtps_evidence.specs.Amount.{stretches_have};
-ghost use Rattle.rtps_evidence.specs.Claimed.{AreLacking, certain_at, is_at};
+ghost use Rattle.rtps_evidence.specs.Claimed.{AreLacking, certain_at};
 ghost use Rattle.rtps_evidence.specs.Locations.{sends};
 ghost use Rattle.rtps_evidence.specs.Received.{AreReceived};
 ghost use Rattle.rtps_evidence.specs.Rising.{AreRising};
@@ -12,30 +12,12 @@ ghost use Rattle.rtps_evidence.specs.Rising.{AreRising};
 use crate::amount::{AskedNumbers, Stretch, count_of, least_inside, push};
 use crate::claimed::Certainty;
 use crate::exchange::Exchange;
+use crate::heard::heard;
 use crate::not_received::{NotReceived, not_received_at};
 use rtps_audit::Placed;
 use rtps_discovery::Pair;
 use rtps_ids::Memory;
-use rtps_receiver::ActBody;
 use std::alloc::Global;
-
-/// The number of the payload that the pair's reader hears by an act.
-fn number_sent(placed: &Placed<'_>, pair: Pair) -> Option<u64>
-    ensures number { (n : ℕ) → sends pair.writer pair.reader n (placed_value placed.now) ≡ is_at n result }
-    ensures in_range { IfSome result (λ number. number < 2 ^ 63) }
-{
-    if !placed.act.spoken_by(pair.writer) || !placed.act.heard_by(pair.reader) {
-        return None;
-    }
-    match &placed.act.body {
-        ActBody::Data(data) => Some(data.number.get().cast_unsigned()),
-        ActBody::DataFrag(fragment) => match fragment.told {
-            Some(_) => Some(fragment.number.get().cast_unsigned()),
-            None => None,
-        },
-        _ => None,
-    }
-}
 
 /// Appends the number of the payload that the pair's reader hears by an act, where it is certain to be received. After `Memory`
 /// the numbers are of no use.
@@ -51,7 +33,7 @@ fn push_received(
         ≡ (stretches_have received.old.items n
         || (certain_at certainty.now placed.now.datagram n && sends pair.writer pair.reader n (placed_value placed.now)))) }
 {
-    let Some(number) = number_sent(placed, pair) else {
+    let Some(number) = heard(placed, pair).told else {
         return Ok(());
     };
     if certainty.covers(placed.datagram as u64, number) {
@@ -81,7 +63,7 @@ pub(crate) fn received_among(
 }
 
 /// Of the numbers that are asked for: how many are received, and the least one that is not.
-#[derive(Clone, Copy, Debug)]
+#[derive(Clone, Copy)]
 pub(crate) struct Received {
     pub(crate) count: u64,
     pub(crate) not_received: Option<NotReceived>,

@@ -7,27 +7,27 @@ ghost use Rattle.rtps_evidence.specs.Amount.{is_sent, stretches_have};
 ghost use Rattle.rtps_evidence.specs.OtherSide.{AreSides, Beside};
 ghost use Rattle.rtps_evidence.specs.Recorded.{IsArrivedBy, IsRecordedBy, number_sent as number_sent_lem};
 
-use crate::amount::{AskedNumbers, Stretch, count_of, push_sent};
+use crate::amount::{AskedNumbers, Stretch, count_of, push_number};
 use crate::exchange::Extent;
 use crate::first_numbers::FirstNumbers;
+use crate::heard::heard;
 use crate::judgement::span_of;
 use crate::other_side::{Arrivals, Sides};
 use rtps_audit::{Index, Placed, Said};
 use rtps_discovery::Pair;
 use rtps_ids::{Guid, Memory, SeqNum};
-use rtps_receiver::ActBody;
 use std::alloc::Global;
 
 /// Of a pair of best effort: how many numbers its writer sent, to whomever, and of how many of them the recording has a payload
 /// that its reader hears.
-#[derive(Clone, Copy, PartialEq, Eq, Debug)]
+#[derive(Clone, Copy)]
 pub struct Recorded {
     pub numbers: u64,
     pub recorded: u64,
 }
 
 /// Of a pair of best effort that is held against another recording: what arrived of the same numbers.
-#[derive(Clone, Copy, PartialEq, Eq, Debug)]
+#[derive(Clone, Copy)]
 pub struct ArrivedNumbers {
     /// Of how many of them the other recording has a payload that the reader hears.
     pub arrived: u64,
@@ -40,13 +40,10 @@ fn number_sent(placed: &Placed<'_>, writer: Guid) -> u64
     ensures value { result ≡ number_sent_lem writer (placed_value placed.now) }
     ensures in_range { result < 2 ^ 63 }
 {
-    if !placed.act.spoken_by(writer) {
-        return 0;
-    }
-    match &placed.act.body {
-        ActBody::Data(data) => data.number.get().cast_unsigned(),
-        ActBody::DataFrag(fragment) => fragment.number.get().cast_unsigned(),
-        ActBody::Heartbeat(_) | ActBody::AckNack(_) | ActBody::Gap(_) | ActBody::NackFrag(_) => 0,
+    if placed.act.spoken_by(writer) {
+        placed.act.said().brought.unwrap_or(0)
+    } else {
+        0
     }
 }
 
@@ -72,7 +69,7 @@ pub(crate) fn sent_among(
 {
     let mut sent = Vec::new(alloc);
     for placed in acts {
-        push_sent(&mut sent, placed, pair)?;
+        push_number(&mut sent, heard(placed, pair).told)?;
     }
     Ok(sent)
 }

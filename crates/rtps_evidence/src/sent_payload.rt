@@ -5,14 +5,14 @@ ghost use Rattle.rtps_wire.specs.Values.{payload_value};
 ghost use Rattle.rtps_audit.specs.Placed.{placed_value};
 ghost use Rattle.rtps_evidence.specs.Locations.{differs, first_sent as first_sent_lem, is_same as is_same_lem, other_sent as other_sent_lem, payload_for as payload_for_lem, sent_at, sent_value};
 
+use crate::heard::heard;
 use crate::location::{Location, location_of};
 use rtps_audit::Placed;
 use rtps_discovery::Pair;
-use rtps_receiver::ActBody;
 use rtps_wire::Payload;
 
 /// A payload that was sent for a number, and the DATA that it stands in.
-#[derive(Clone, Copy, PartialEq, Eq, Debug)]
+#[derive(Clone, Copy)]
 pub struct Sent<'a> {
     pub payload: Payload<'a>,
     pub place: Location,
@@ -22,15 +22,11 @@ pub struct Sent<'a> {
 fn payload_for<'a>(placed: &Placed<'a>, pair: Pair, number: u64) -> Option<Payload<'a>>
     ensures { option_map payload_value result ≡ payload_for_lem pair.writer pair.reader number (placed_value placed.now) }
 {
-    if !placed.act.spoken_by(pair.writer) || !placed.act.heard_by(pair.reader) {
-        return None;
-    }
-    match &placed.act.body {
-        ActBody::Data(data) if data.number.get().cast_unsigned() == number => Some(data.payload),
-        ActBody::DataFrag(fragment) if fragment.number.get().cast_unsigned() == number => {
-            fragment.told
-        }
-        _ => None,
+    let said = heard(placed, pair);
+    if said.told == Some(number) {
+        said.payload.copied()
+    } else {
+        None
     }
 }
 

@@ -1,24 +1,25 @@
 ghost use Rattle.std.specs.Prelude.{ℕ, true, ◌≡◌, ◌≤◌, ◌<◌, ◌&&◌, ◌||◌, not, nat_le, nat_lt, drop, length, if◌then◌else◌, IfOk, OnOk, List};
+ghost use Rattle.rtps_receiver.specs.Said.{numbers_have};
 ghost use Rattle.rtps_receiver.specs.Values.{ActValue};
 ghost use Rattle.rtps_audit.specs.Placed.{placed_in, placed_value};
 ghost use Rattle.rtps_audit.specs.Said.{IsSaid};
-ghost use Rattle.rtps_audit.specs.Speech.{is_in_gap};
 ghost use Rattle.rtps_evidence.specs.Amount.{stretches_have};
 ghost use Rattle.rtps_evidence.specs.Locations.{location_of as location_of_lem};
-ghost use Rattle.rtps_evidence.specs.Outcomes.{Silence, answered, answers_before as answers_before_lem, answers_left, asked_about, heard, is_answered, is_unanswered, told_gone};
+ghost use Rattle.rtps_evidence.specs.Outcomes.{Silence, answered, answers_before as answers_before_lem, answers_left, asked_about, heard as heard_lem, is_answered, is_unanswered, told_gone};
 ghost use Rattle.rtps_evidence.specs.Outcomes.Silence.{Unasked};
 ghost use Rattle.rtps_evidence.specs.Silences.{IsAfter, IsAt};
 ghost use Rattle.rtps_evidence.specs.Spans.{since_of};
 
 use crate::amount::{AskedNumbers, Stretch, push};
 use crate::exchange::Exchange;
+use crate::heard::heard;
 use crate::lacking::others_of;
 use crate::listener::Listener;
-use crate::location::{Location, is_behind, location_of};
+use crate::location::{Location, location_of};
+use crate::questions::asks_behind;
 use rtps_audit::{Answer, Placed};
 use rtps_ids::Memory;
-use rtps_receiver::ActBody;
-use rtps_wire::GapBody;
+use rtps_receiver::Numbers;
 use std::alloc::Global;
 
 /// How far a walk over what a pair said came: which numbers the writer asked the reader about, and which were told gone in silence.
@@ -108,16 +109,15 @@ impl Walk {
         Ok(())
     }
 
-    /// The same of the numbers of a GAP.
-    fn withdraw_gap(&mut self, gap: &GapBody) -> Result<(), Memory>
+    /// The same of numbers that an act names.
+    fn withdraw_all(&mut self, numbers: &Numbers<'_>) -> Result<(), Memory>
         ensures { OnOk result ((n : ℕ) (silence : Silence) → IsAt n silence self.old
-            → IsAt n (if is_in_gap gap.now n then told_gone silence else silence) self.new) }
+            → IsAt n (if numbers_have numbers.now n then told_gone silence else silence) self.new) }
     {
-        let mut at = gap.list.base().cast_unsigned();
-        self.withdraw(gap.start.get().cast_unsigned(), at)?;
-        'apart: while let Some(members) = gap.list.range_from(at) {
-            self.withdraw(members.start, members.end)?;
-            at = members.end;
+        let mut at = 0;
+        'apart: while let Some(range) = numbers.range_from(at) {
+            self.withdraw(range.start, range.end)?;
+            at = range.end;
         }
         Ok(())
     }
@@ -125,25 +125,14 @@ impl Walk {
     /// Goes on where the reader hears an act of the writer. After `Memory` it is of no use.
     fn hear(&mut self, placed: &Placed<'_>, listener: &Listener) -> Result<(), Memory>
         ensures { OnOk result ((n : ℕ) (silence : Silence) → IsAt n silence self.old
-            → IsAt n (heard listener.now.since listener.now.pair n (placed_value placed.now) silence) self.new) }
+            → IsAt n (heard_lem listener.now.since listener.now.pair n (placed_value placed.now) silence) self.new) }
     {
-        let pair = listener.pair;
-        if !placed.act.spoken_by(pair.writer) || !placed.act.heard_by(pair.reader) {
-            return Ok(());
+        let said = heard(placed, listener.pair);
+        self.withdraw_all(&said.gone)?;
+        if asks_behind(placed, listener.pair, listener.since) {
+            self.ask(said.announced + 1);
         }
-        match &placed.act.body {
-            ActBody::Heartbeat(heartbeat) => {
-                self.withdraw(0, heartbeat.first.get().cast_unsigned())?;
-                if !heartbeat.is_final && is_behind(listener.since, placed) {
-                    self.ask(heartbeat.last.max(0).cast_unsigned() + 1);
-                }
-                Ok(())
-            }
-            ActBody::Gap(gap) => self.withdraw_gap(gap),
-            ActBody::Data(_) => Ok(()),
-            ActBody::AckNack(_) | ActBody::NackFrag(_) => Ok(()),
-            ActBody::DataFrag(_) => Ok(()),
-        }
+        Ok(())
     }
 }
 

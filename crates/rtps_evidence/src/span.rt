@@ -1,7 +1,7 @@
 ghost use Rattle.std.specs.Prelude.{ℕ, ◌≡◌, ◌==◌, ◌≤◌, ◌<◌, ◌^◌, map, IfSome};
 ghost use Rattle.std.specs.List.{find, list_any};
 ghost use Rattle.std.specs.Option.{option_map};
-ghost use Rattle.rtps_ids.specs.NumberSet.{is_member};
+ghost use Rattle.rtps_receiver.specs.Said.{numbers_have};
 ghost use Rattle.rtps_audit.specs.Index.{IsIndexBy};
 ghost use Rattle.rtps_audit.specs.Intake.{Intake};
 ghost use Rattle.rtps_audit.specs.Placed.{placed_in, placed_value};
@@ -12,11 +12,11 @@ use crate::listener::{Listener, number_behind};
 use crate::location::{Location, is_before, is_behind};
 use rtps_audit::{AnnouncedPlace, Answer, Index, Placed, announced_number};
 use rtps_discovery::{Durability, Pair, leaves, leaving_writers};
-use rtps_ids::{Guid, NumberSet, SeqNum};
-use rtps_receiver::ActBody;
+use rtps_ids::{Guid, SeqNum};
+use rtps_receiver::Numbers;
 
 /// How much of a recording the row of a pair is by: what is owed to its reader.
-#[derive(Clone, Copy, PartialEq, Eq, Debug)]
+#[derive(Clone, Copy)]
 pub struct Span {
     /// Where the reader joins: the first act that announces it; None where none does.
     pub joined: Option<Location>,
@@ -96,23 +96,15 @@ fn brought_from(placed: &Placed<'_>, listener: &Listener, lo: u64) -> Option<u64
     }
 }
 
-/// The least number of a set from `lo` on.
-fn first_member(set: &NumberSet, lo: u64) -> Option<u64>
-    ensures least { IsLeastFrom (is_member set.now) lo result }
+/// The least of these numbers from `lo` on.
+fn first_number_from(numbers: &Numbers<'_>, lo: u64) -> Option<u64>
+    ensures least { IsLeastFrom (numbers_have numbers.now) lo result }
     ensures in_range { IfSome result (λ number. number < 2 ^ 63) }
 {
-    match set.range_from(lo) {
+    match numbers.range_from(lo) {
         Some(range) => Some(range.start),
         None => None,
     }
-}
-
-/// This number, if it is not below `lo`.
-fn not_below(number: u64, lo: u64) -> Option<u64>
-    ensures least { IsLeastFrom (λ n. number == n) lo result }
-    ensures in_range { number < 2 ^ 63 → IfSome result (λ number. number < 2 ^ 63) }
-{
-    if lo <= number { Some(number) } else { None }
 }
 
 /// The least number from `lo` on that the pair's reader asks its writer for by an act.
@@ -124,14 +116,8 @@ fn asked_from(placed: &Placed<'_>, pair: Pair, lo: u64) -> Option<u64>
     if !placed.act.asks(pair.reader, pair.writer) {
         return None;
     }
-    match &placed.act.body {
-        ActBody::AckNack(ack_nack) => first_member(&ack_nack.set, lo),
-        ActBody::NackFrag(nack) => not_below(nack.number.get().cast_unsigned(), lo),
-        ActBody::Data(_) => None,
-        ActBody::Heartbeat(_) => None,
-        ActBody::Gap(_) => None,
-        ActBody::DataFrag(_) => None,
-    }
+    let said = placed.act.said();
+    first_number_from(&said.lacked, lo)
 }
 
 /// The least number from `lo` on that one of these acts brings behind the reader's joining.

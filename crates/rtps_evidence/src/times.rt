@@ -10,7 +10,7 @@ use std::marker::Model;
 const MILLISECOND: u64 = 1_000_000;
 
 /// A time as it is said, in milliseconds: cut off towards zero, with its sign. 0 has none.
-#[derive(Clone, Copy, PartialEq, Eq, Debug)]
+#[derive(Clone, Copy)]
 pub struct Seconds {
     pub negative: bool,
     pub milliseconds: u64,

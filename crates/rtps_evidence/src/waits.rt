@@ -7,17 +7,17 @@ ghost use Rattle.rtps_evidence.specs.Waits.{HasPassed, answered_at, answers_behi
 
 use crate::exchange::Exchange;
 use crate::listener::Listener;
-use crate::location::{Location, is_behind, location_of};
+use crate::location::{Location, location_of};
+use crate::questions::asks_behind;
 use crate::times::Times;
 use rtps_audit::{Answer, Placed, Said};
-use rtps_receiver::ActBody;
 use std::marker::Model;
 
 /// A wait that is not longer than this is not told.
 const MOST_WAIT: u64 = 1_000_000_000;
 
 /// How long a reader let a writer wait for an answer.
-#[derive(Clone, Copy, PartialEq, Eq, Debug)]
+#[derive(Clone, Copy)]
 pub struct Wait {
     pub nanoseconds: u64,
     /// Where the writer asks.
@@ -146,20 +146,6 @@ impl<'s> AnswerWalk<'s> {
     }
 }
 
-/// Whether the reader hears by an act, since it is there, that the writer asks for an answer.
-fn asks(placed: &Placed<'_>, listener: &Listener) -> bool
-    ensures { result ≡ questions_behind listener.now.since listener.now.pair.writer listener.now.pair.reader
-        (placed_value placed.now) }
-{
-    let ActBody::Heartbeat(heartbeat) = &placed.act.body else {
-        return false;
-    };
-    is_behind(listener.since, placed)
-        && placed.act.spoken_by(listener.pair.writer)
-        && placed.act.heard_by(listener.pair.reader)
-        && !heartbeat.is_final
-}
-
 /// The wait from a place to that of the answer, or to the end where there is none. There is none where a time is wanting.
 fn wait_between(
     times: &Times,
@@ -194,7 +180,7 @@ fn longest_among(
     let mut walk = AnswerWalk::new(said.answers);
     let mut found = None;
     for placed in said.acts {
-        if asks(placed, listener) {
+        if asks_behind(placed, listener.pair, listener.since) {
             let asked = location_of(placed);
             let answered = walk.first_behind(asked);
             found = longer(found, wait_between(times, end, asked, answered));

@@ -1,17 +1,12 @@
 ghost use Rattle.std.specs.Prelude.{ℕ, ◌≡◌, ◌&&◌, ◌||◌, nat_lt, IfSome, OnOk};
-ghost use Rattle.rtps_audit.specs.Placed.{placed_value};
-ghost use Rattle.rtps_audit.specs.Speech.{is_in_gap};
+ghost use Rattle.rtps_receiver.specs.Said.{numbers_have};
 ghost use Rattle.rtps_evidence.specs.Amount.{some_withdrawn, withdrawn_before};
-ghost use Rattle.rtps_evidence.specs.Received.{withdraws_before};
 
-use rtps_audit::Placed;
-use rtps_discovery::Pair;
 use rtps_ids::Memory;
-use rtps_receiver::ActBody;
-use rtps_wire::GapBody;
+use rtps_receiver::Numbers;
 
 /// Numbers that are told gone by an act: those from `lo` on and below `hi`; there may be none.
-#[derive(Clone, Copy, Debug)]
+#[derive(Clone, Copy)]
 pub(crate) struct Withdrawal {
     pub(crate) lo: u64,
     pub(crate) hi: u64,
@@ -58,52 +53,20 @@ fn push(withdrawals: &mut Vec<Withdrawal>, withdrawal: Withdrawal) -> Result<(),
     Ok(())
 }
 
-/// Appends the numbers that a GAP in a datagram says will not come. After `Memory` the withdrawals are of no use.
-fn push_gap(withdrawals: &mut Vec<Withdrawal>, gap: &GapBody, datagram: u64) -> Result<(), Memory>
-    ensures { OnOk result ((n before : ℕ) → some_withdrawn withdrawals.new.items n before
-        ≡ (some_withdrawn withdrawals.old.items n before || (nat_lt datagram before && is_in_gap gap.now n))) }
-{
-    let lo = gap.start.get().cast_unsigned();
-    let hi = gap.list.base().cast_unsigned();
-    push(withdrawals, Withdrawal { lo, hi, datagram })?;
-    let mut at = hi;
-    'apart: while let Some(members) = gap.list.range_from(at) {
-        let (lo, hi) = (members.start, members.end);
-        push(withdrawals, Withdrawal { lo, hi, datagram })?;
-        at = members.end;
-    }
-    Ok(())
-}
-
-/// Appends the numbers of which the pair's reader hears from its writer, by an act, that they will not come. After `Memory` the
-/// withdrawals are of no use.
+/// Appends these numbers, range by range, as told gone by an act of a datagram. After `Memory` the withdrawals are of no use.
 pub(crate) fn push_withdrawn(
     withdrawals: &mut Vec<Withdrawal>,
-    placed: &Placed<'_>,
-    pair: Pair,
+    numbers: &Numbers<'_>,
+    datagram: u64,
 ) -> Result<(), Memory>
-    ensures { OnOk result ((n datagram : ℕ) → some_withdrawn withdrawals.new.items n datagram
-        ≡ (some_withdrawn withdrawals.old.items n datagram || withdraws_before pair.writer pair.reader n datagram (placed_value placed.now))) }
+    ensures { OnOk result ((n before : ℕ) → some_withdrawn withdrawals.new.items n before
+        ≡ (some_withdrawn withdrawals.old.items n before || (nat_lt datagram before && numbers_have numbers.now n))) }
 {
-    if !placed.act.spoken_by(pair.writer) || !placed.act.heard_by(pair.reader) {
-        return Ok(());
+    let mut at = 0;
+    'apart: while let Some(range) = numbers.range_from(at) {
+        let (lo, hi) = (range.start, range.end);
+        push(withdrawals, Withdrawal { lo, hi, datagram })?;
+        at = hi;
     }
-    let datagram = placed.datagram as u64;
-    match &placed.act.body {
-        ActBody::Heartbeat(heartbeat) => {
-            let hi = heartbeat.first.get().cast_unsigned();
-            push(
-                withdrawals,
-                Withdrawal {
-                    lo: 0,
-                    hi,
-                    datagram,
-                },
-            )
-        }
-        ActBody::Gap(gap) => push_gap(withdrawals, gap, datagram),
-        ActBody::Data(_) => Ok(()),
-        ActBody::DataFrag(_) => Ok(()),
-        ActBody::AckNack(_) | ActBody::NackFrag(_) => Ok(()),
-    }
+    Ok(())
 }

@@ -1,5 +1,5 @@
 ghost use Rattle.std.specs.Prelude.{ℕ, ◌≡◌, map, IfOk, IfSome, List};
-ghost use Rattle.rtps_receiver.specs.Values.{ActValue, act_value};
+ghost use Rattle.rtps_receiver.specs.Values.{ActValue, spoken_value};
 ghost use Rattle.rtps_audit.specs.Index.{IsIndexBy};
 ghost use Rattle.rtps_audit.specs.Intake.{Intake};
 ghost use Rattle.rtps_audit.specs.Placed.{placed_value};
@@ -14,7 +14,7 @@ use crate::times::Times;
 use rtps_audit::{Index, Placed, Said};
 use rtps_discovery::Pair;
 use rtps_ids::{Guid, Memory};
-use rtps_receiver::{Act, EVERY_READER};
+use rtps_receiver::{EVERY_READER, Spoken};
 use std::alloc::Global;
 
 /// What a writer says of the numbers that are asked for, as far as it is one for all its readers.
@@ -32,8 +32,8 @@ pub(crate) struct WriterSummary {
 }
 
 /// Whether an act is for every reader of every participant.
-fn is_for_everyone(act: &Act<'_>) -> bool
-    ensures { result ≡ is_for_everyone_lem (act_value act.now) }
+fn is_for_everyone(act: &Spoken<'_>) -> bool
+    ensures { result ≡ is_for_everyone_lem (spoken_value act.now) }
 {
     match act.audience() {
         Some(audience) => audience.dest.is_none() && audience.reader == EVERY_READER,

@@ -8,7 +8,7 @@ use Rattle.std.proofs.lemmas.List.Elements.{Contains-append_left, Contains-appen
 use Rattle.std.proofs.lemmas.Slice.Eq.{bytes_eq-Decides}
 use Rattle.rtps_ids.specs.declared.identity.EntityId.{EntityId}
 use Rattle.rtps_ids.specs.declared.identity.GuidPrefix.{GuidPrefix}
-use Rattle.rtps_receiver.specs.Speech.{is_entity, is_for, is_for_all, is_prefix, names, unknown_entity}
+use Rattle.rtps_receiver.specs.Speech.{is_entity, is_for, is_for_all, is_prefix, unknown_entity}
 use Rattle.rtps_receiver.specs.declared.speech.Audience.{Audience}
 use Rattle.rtps_audit.proofs.Offered.{contains_cases, contains_head, contains_mapped, contains_none, contains_tail, kept_if_passed, kept_is_there, mapped_contains}
 use Rattle.rtps_fragments.specs.Listeners.{AreNamed, Hearing, Offer, begins, came_to, everyone, has_name, has_no_name, hearing_of, hears, hears_all, is_for_audience, is_known, is_same_dest, named_so, silence, with_news}
@@ -42,10 +42,6 @@ own_dest None = refl
 pub for_is : (dest : Option GuidPrefix) (prefix : GuidPrefix) → is_for dest prefix ≡ true → dest ≡ Some prefix
 for_is (Some dest) prefix e = ap Some (prefix_is dest prefix e)
 for_is None prefix e = cc
-
-names_is : (named : Option EntityId) (entity : EntityId) → names named entity ≡ true → named ≡ Some entity
-names_is (Some named) entity e = ap Some (entity_is named entity e)
-names_is None entity e = cc
 
 or_own : (a b : Bool) → b ≡ false → (a || a) ≡ (a || b)
 or_own true b e = refl
@@ -116,6 +112,12 @@ pub filter_alike : {X : Type 0} (test other : X → Bool) (xs : List X) → ((x 
 filter_alike test other [] agree = refl
 filter_alike test other (x ∷ xs) agree =
     ap (λ b. cond b (x ∷ filter test xs) (filter test xs)) (agree x (contains_head x xs)) ∙ ap (λ ys. cond (other x) (x ∷ ys) ys) (filter_alike test other xs (λ y among. agree y (contains_tail x xs y among)))
+
+pub any_of : {X : Type 0} (test : X → Bool) (xs : List X) → list_any test xs ≡ true → (x : X) × Contains xs x × (test x ≡ true)
+any_of test xs any = elim (any_or_none test xs) [
+  | inl found ↦ found
+  | inr none ↦ absurd (let clash : true ≡ false = sym any ∙ none_of_all test xs none in cc)
+]
 
 -- an element of a list with others behind it
 pub among_more : {X : Type 0} (b : Bool) (xs ys : List X) (x : X) → Contains xs x → Contains (cond b xs (xs ++ ys)) x

@@ -21,8 +21,8 @@ use Rattle.rtps_fragments.specs.Laws.{FragmentsAreCounted, NoMoreFragmentsAreCou
 use Rattle.rtps_fragments.specs.RecordedSamples.{tally_with}
 use Rattle.rtps_fragments.specs.SampleActs.{PieceAct, piece_acts_in}
 use Rattle.rtps_fragments.specs.SamplesSent.{is_left, pieces_left}
-use Rattle.rtps_fragments.specs.Sending.{asks_at, fragments_at, is_skipped_data_frag, one_unusable, piece_acts_of, piece_acts_of_item, piece_acts_with, sending_of, skipped_acts, unusable_among, unusable_in}
-use Rattle.rtps_fragments.specs.declared.layout.TheConstants.{DATA_FRAG}
+use Rattle.rtps_wire.specs.FragmentItem.{asks_at, fragments_at, is_skipped_data_frag}
+use Rattle.rtps_fragments.specs.Sending.{one_unusable, piece_acts_of, piece_acts_of_item, piece_acts_with, sending_of, skipped_acts, unusable_among, unusable_in}
 use Rattle.rtps_fragments.proofs.SendingLemmas.{at_most_one, one_of, unusable-item, unusable_act, unusable_some}
 
 -- ---- one item
@@ -32,7 +32,7 @@ frag_is_fragment (Skipped id) = by (is_skipped_data_frag (Skipped id)) refl
   where
     by : (b : Bool) → is_skipped_data_frag (Skipped id) ≡ b → one_of b ≤ one_of (is_fragment (Skipped id))
     by false e = omega arith
-    by true e = subst (λ n. 1 ≤ one_of (is_fragment (Skipped n))) (sym ((Decides-eqb id DATA_FRAG).0 e)) (omega arith)
+    by true e = subst (λ n. 1 ≤ one_of (is_fragment (Skipped n))) (sym ((Decides-eqb id 0x16).0 e)) (omega arith)
 frag_is_fragment (Data value) = omega arith
 frag_is_fragment (Heartbeat value) = omega arith
 frag_is_fragment (AckNack value) = omega arith
@@ -113,6 +113,6 @@ counted recording = each (piece_acts_in (sending_of recording)) recording
 
 pub only_data_frags : OnlyDataFragsHaveFragments
 only_data_frags datagram =
-    All-weaker (λ (item : ItemValue). (value : DataFragValue) → data_frag_at (drop item.at datagram) ≡ Some value → item.body ≡ Skipped DATA_FRAG)
+    All-weaker (λ (item : ItemValue). (value : DataFragValue) → data_frag_at (drop item.at datagram) ≡ Some value → item.body ≡ Skipped 0x16)
     (λ (item : ItemValue). (value : DataFragValue) → data_frag_at (drop item.at datagram) ≡ Some value → is_skipped_data_frag item.body ≡ true)
     (λ item is value e. ap is_skipped_data_frag (is value e)) (reading_of datagram).items (only_data_frags_have_fragments datagram)

@@ -1,17 +1,16 @@
 -- The fragments that are heard among acts, whoever hears them.
-use Rattle.std.proofs.Common.{◌≡◌, ℕ, Bool, true, false, cond, List, [], ◌∷◌, ◌++◌, length, map, drop, filter, Option, Some, None, refl, sym, ◌∙◌, ap, subst, inl, inr, ◌⊎◌, append-nil}
+use Rattle.std.proofs.Common.{◌≡◌, ℕ, Bool, true, false, cond, List, [], ◌∷◌, ◌++◌, map, filter, Option, Some, None, refl, ◌∙◌, ap, subst, inl, inr, ◌⊎◌, append-nil}
 use Rattle.std.specs.Prelude.{Contains}
-use Rattle.std.specs.List.{filter_map, flat_map}
-use Rattle.std.proofs.lemmas.Bool.{cases_Bool}
+use Rattle.std.specs.List.{flat_map}
 use Rattle.std.proofs.lemmas.List.Concat.{flat_map-append}
-use Rattle.std.proofs.lemmas.List.Elements.{All-contains, filter-append, filter_map-append, filter_passes}
+use Rattle.std.proofs.lemmas.List.Elements.{All-contains, filter-append, filter_passes}
 use Rattle.rtps_wire.specs.Values.{PayloadValue}
-use Rattle.rtps_audit.proofs.Offered.{contains_head, contains_tail, kept_if_passed, kept_is_there}
-use Rattle.rtps_fragments.specs.FragmentDelivery.{Shape, last_fragment, payload_by, Fragment, Piece, fragments_of}
-use Rattle.rtps_fragments.specs.Samples.{came_of, payloads_of, samples_of, told_by}
-use Rattle.rtps_fragments.specs.SampleActs.{PieceAct, fragments_in, is_piece_of}
+use Rattle.rtps_audit.proofs.Offered.{kept_if_passed, kept_is_there}
+use Rattle.rtps_fragments.specs.FragmentDelivery.{Shape, last_fragment, payload_by, Fragment, Piece}
+use Rattle.rtps_fragments.specs.Samples.{payloads_of, samples_of, told_by}
+use Rattle.rtps_fragments.specs.SampleActs.{PieceAct, fragments_in}
 use Rattle.rtps_fragments.proofs.Audiences.{flat_from, flat_has}
-use Rattle.rtps_fragments.proofs.ToldLemmas.{come_or_told, none_came}
+use Rattle.rtps_fragments.proofs.ToldLemmas.{come_or_told}
 
 -- the fragments of the acts that pass a test
 abbrev pub heard_of : (PieceAct → Bool) → List PieceAct → List Fragment
@@ -51,43 +50,8 @@ heard_has hears parts part f among passes has = flat_has (λ (p : PieceAct). fra
 
 -- ---- tests that agree on the parts of a sample
 
-pub none_of : (n : ℕ) (shape : Shape) (b : Bool) (piece : Option Piece) → is_piece_of n shape piece ≡ false → filter_map (came_of n shape) (heard_one b piece) ≡ []
-none_of n shape false piece e = refl
-none_of n shape true None e = refl
-none_of n shape true (Some piece) e = none_came n shape piece.number piece.shape piece.first piece.parts e
-
-pub came_alike : (n : ℕ) (shape : Shape) (hears other : PieceAct → Bool) (parts : List PieceAct) → ((part : PieceAct) → Contains parts part → is_piece_of n shape part.piece ≡ true → hears part ≡ other part)
-    → filter_map (came_of n shape) (heard_of hears parts) ≡ filter_map (came_of n shape) (heard_of other parts)
-came_alike n shape hears other [] agree = refl
-came_alike n shape hears other (part ∷ parts) agree =
-    let rest = came_alike n shape hears other parts (λ p among is. agree p (contains_tail part parts p among) is) in
-    split hears
-    ∙ ap (λ cs. cs ++ filter_map (came_of n shape) (heard_of hears parts)) (first (cases_Bool (is_piece_of n shape part.piece)))
-    ∙ ap (λ cs. filter_map (came_of n shape) (heard_one (other part) part.piece) ++ cs) rest
-    ∙ sym (split other)
-  where
-    split : (test : PieceAct → Bool) → filter_map (came_of n shape) (heard_of test (part ∷ parts)) ≡ filter_map (came_of n shape) (heard_one (test part) part.piece) ++ filter_map (came_of n shape) (heard_of test parts)
-    split test = ap (filter_map (came_of n shape)) (heard-cons test part parts) ∙ filter_map-append (came_of n shape) (heard_one (test part) part.piece) (heard_of test parts)
-
-    first : (is_piece_of n shape part.piece ≡ true) ⊎ (is_piece_of n shape part.piece ≡ false)
-        → filter_map (came_of n shape) (heard_one (hears part) part.piece) ≡ filter_map (came_of n shape) (heard_one (other part) part.piece)
-    first (inl is) = ap (λ b. filter_map (came_of n shape) (heard_one b part.piece)) (agree part (contains_head part parts) is)
-    first (inr apart) = none_of n shape (hears part) part.piece apart ∙ sym (none_of n shape (other part) part.piece apart)
-
 abbrev made : Shape → List (ℕ × List ℕ) → List PayloadValue
 made shape came = map (payload_by shape) (samples_of (last_fragment shape) came)
-
--- what a piece tells depends on what came of its sample alone
-pub told_alike : (before other : List Fragment) (piece : Piece) → filter_map (came_of piece.number piece.shape) before ≡ filter_map (came_of piece.number piece.shape) other → told_by before piece ≡ told_by other piece
-told_alike before other piece same =
-    ap (λ k. drop k (payloads_of piece.number piece.shape (before ++ fragments_of piece))) (ap (λ came. length (made piece.shape came)) same)
-    ∙ ap (drop (length (payloads_of piece.number piece.shape other))) (ap (made piece.shape) all)
-  where
-    all : filter_map (came_of piece.number piece.shape) (before ++ fragments_of piece) ≡ filter_map (came_of piece.number piece.shape) (other ++ fragments_of piece)
-    all =
-        filter_map-append (came_of piece.number piece.shape) before (fragments_of piece)
-        ∙ ap (λ cs. cs ++ filter_map (came_of piece.number piece.shape) (fragments_of piece)) same
-        ∙ sym (filter_map-append (came_of piece.number piece.shape) other (fragments_of piece))
 
 -- ---- one act more
 

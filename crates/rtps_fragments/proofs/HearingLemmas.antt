@@ -15,13 +15,14 @@ use Rattle.rtps_ids.specs.declared.identity.GuidPrefix.{GuidPrefix}
 use Rattle.rtps_receiver.specs.Speech.{is_among, is_entity, is_for, is_for_all, is_prefix, unknown_entity}
 use Rattle.rtps_receiver.specs.declared.speech.Audience.{Audience}
 use Rattle.rtps_audit.proofs.Offered.{both, contains_cases, contains_head, contains_mapped, contains_none, contains_tail, kept_if_passed, kept_is_there, mapped_contains}
+use Rattle.rtps_fragments.specs.Laws.{NoneIsToldAgain}
 use Rattle.rtps_fragments.specs.Listeners.{AreNamed, Hearing, Offer, begins, came_first, came_to, everyone, has_name, has_no_name, hears, hears_all, is_for_audience, is_had, is_known, is_octets, is_same_dest, is_wider, named_so, samples_for, silence, tells, told_by_audience, told_to, with_news}
 use Rattle.rtps_fragments.specs.Samples.{cons_some, differs, first_of, firsts_of, is_other, parts_by, samples_by, samples_of}
 use Rattle.rtps_fragments.specs.declared.listeners.Name.{Name}
 use Rattle.rtps_fragments.specs.declared.listeners.Name.TheVariants.{Dest, Reader}
-use Rattle.rtps_fragments.proofs.Audiences.{IsSound, any_or_none, came_named, came_to-more, entity_is, filter_alike, flat_from, flat_has, for_is, all_sound, none_of_all, silence_sound, own_entity, own_prefix, prefix_is, stays_among}
-use Rattle.rtps_fragments.proofs.CameLemmas.{first-append, first_again, other-append, other_again}
-use Rattle.rtps_fragments.proofs.SampleLemmas.{samples_grow}
+use Rattle.rtps_fragments.proofs.Audiences.{IsSound, any_of, any_or_none, came_named, came_to-more, entity_is, filter_alike, flat_from, flat_has, for_is, all_sound, silence_sound, own_entity, own_prefix, prefix_is, stays_among}
+use Rattle.rtps_fragments.proofs.KeptLemmas.{first-append, first_again, other-append, other_again}
+use Rattle.rtps_fragments.proofs.SampleLemmas.{none_yet, samples_grow}
 use Rattle.rtps_fragments.proofs.Variants.{first_is_there, first_of_all}
 
 -- ---- the readers of an audience
@@ -245,12 +246,6 @@ all_of test (y ∷ ys) all x among =
       | inr there ↦ all_of test ys rest x there
     ]
 
-any_of : {X : Type 0} (test : X → Bool) (xs : List X) → list_any test xs ≡ true → (x : X) × Contains xs x × (test x ≡ true)
-any_of test xs any = elim (any_or_none test xs) [
-  | inl found ↦ found
-  | inr none ↦ absurd (let clash : true ≡ false = sym any ∙ none_of_all test xs none in cc)
-]
-
 -- octets that came first came
 first_came : (came : List (ℕ × List ℕ)) (one : ℕ × List ℕ) → came_first came one ≡ true → Contains came one
 first_came came (i, octets) e = by (first_of came i) refl e
@@ -383,11 +378,7 @@ module _ (last : ℕ) (reader : Guid) where
             told_or_now (suc (rank audience)) audience (omega arith) among has octets there (ap (λ b. cond b hearing (with_news (begins (begins hearing (Dest offer.audience.dest)) (Reader offer.audience.reader)) offer)) new)
 
   pub silence_told : (Told : List ℕ → Type 0) → AllTold silence Told
-  silence_told Told audience among has octets there = absurd (contains_none octets (subst (λ xs. Contains xs octets) (none last) there))
-    where
-      none : (last : ℕ) → samples_of last [] ≡ []
-      none zero = refl
-      none (suc last) = refl
+  silence_told Told audience among has octets there = absurd (contains_none octets (subst (λ xs. Contains xs octets) (none_yet last) there))
 
   -- so the reader is told what it can put together of all that it hears
   pub reader_told : (offers : List Offer) (Told : List ℕ → Type 0) → AllTold (hears_all silence offers) Told → (octets : List ℕ) → Contains (samples_of last (heard_by reader offers)) octets → Told octets
@@ -397,6 +388,18 @@ module _ (last : ℕ) (reader : Guid) where
       told audience there has octets (subst (λ cs. Contains (samples_of last cs) octets) (sym same) (subst (λ xs. Contains xs octets) (samples_alike last (heard_by reader offers) (heard_by reader (hears_all silence offers).news) alike) among))
 
 -- ---- nothing else is told
+
+pub none_is_told_again : NoneIsToldAgain
+none_is_told_again last hearing offer audience octets among =
+    let now = hears hearing offer in
+    let (own, there, mine) = flat_from (told_by_audience last hearing now) now.audiences (audience, octets) among in
+    let (one, told, is) = contains_mapped (λ (o : List ℕ). let p : Audience × List ℕ = (own, o) in p) (told_to last hearing now own) (audience, octets) mine in
+    let fresh = kept_passes (λ o. not (is_had last now own o)) (drop (length (samples_for last hearing own)) (samples_for last now own)) one told in
+    subst (λ (p : Audience × List ℕ). is_had last (hears hearing offer) p.0 p.1 ≡ false) is (not_true _ fresh)
+  where
+    not_true : (b : Bool) → not b ≡ true → b ≡ false
+    not_true true e = cc
+    not_true false e = refl
 
 -- a sample that is told can be put together of what came to its audience
 pub told_is_put : (last : ℕ) (hearing : Hearing) (offer : Offer) (audience : Audience) (octets : List ℕ) → Contains (tells last hearing offer) (audience, octets)

@@ -23,21 +23,21 @@ use Rattle.rtps_fragments.specs.Announcing.{announcing_with, notes_told}
 use Rattle.rtps_fragments.specs.FragmentDelivery.{Piece}
 use Rattle.rtps_fragments.specs.Laws.{ArePieceActs, IsPieceAct}
 use Rattle.rtps_fragments.specs.Merging.{IsFragmentAct, merged_from, sents_from, sents_in}
-use Rattle.rtps_fragments.specs.RecordedSamples.{AreSamplesOf, by_datagram, tally_with}
+use Rattle.rtps_fragments.specs.RecordedSamples.{by_datagram, tally_with}
 use Rattle.rtps_fragments.specs.SampleActs.{PieceAct, acts_and, acts_with_samples, piece_acts_in, samples_told}
-use Rattle.rtps_fragments.specs.Sending.{asks_at, fragments_at, piece_acts_of, piece_acts_of_item, piece_acts_with, piece_of, sending_of, skipped_acts, unusable_in}
+use Rattle.rtps_wire.specs.FragmentItem.{asks_at, fragments_at}
+use Rattle.rtps_fragments.specs.Sending.{piece_acts_of, piece_acts_of_item, piece_acts_with, piece_of, sending_of, skipped_acts, unusable_in}
 use Rattle.rtps_fragments.specs.Telling.{SentValue, ToldValue, in_turn, overheard_behind, told_behind, told_value}
 use Rattle.rtps_fragments.specs.Whole.{tally_left, tally_with_fragments}
 use Rattle.rtps_fragments.specs.declared.merging.SampleForm.{SampleForm}
 use Rattle.rtps_fragments.specs.declared.merging.SampleForm.TheVariants.{ForAudience, ForEveryone}
-use Rattle.rtps_fragments.specs.declared.samples.Samples.{Samples}
 use Rattle.rtps_fragments.specs.declared.told_sample.ToldSample.{ToldSample}
 use Rattle.rtps_fragments.proofs.ActsAnd.{length-acts, next_acts}
 use Rattle.rtps_fragments.proofs.Audiences.{flat_from}
-use Rattle.rtps_fragments.proofs.CameLemmas.{length-parts_in}
+use Rattle.rtps_fragments.proofs.KeptLemmas.{length-parts_in}
 use Rattle.rtps_fragments.proofs.MergingLemmas.{AreFragmentActs, TellsAs, merged_is, sent_all, told_as_samples}
 use Rattle.rtps_fragments.proofs.NoteLemmas.{noted_as_samples, overhears}
-use Rattle.rtps_fragments.proofs.SampleSteps.{length-told, octets_of, sending_next, told_there}
+use Rattle.rtps_fragments.proofs.SampleSteps.{octets_of, sending_next, told_there}
 use Rattle.rtps_fragments.proofs.WholeLemmas.{all_alike, left_alike}
 
 -- ---- the pieces of a recording are of DATA_FRAG
@@ -133,17 +133,6 @@ fragments_of_recording recording one piece among is =
     fragments_of_datagram octets one piece (subst (λ (ones : List PieceAct). Contains ones one) (sym same) here) is
 
 -- ---- one datagram more
-
--- there are samples for each datagram
-pub told_count : (recording : List (Bor (List ℕ))) (samples : Samples) → AreSamplesOf (octets_of recording) samples → length samples.told.items ≡ length recording
-told_count recording samples are =
-    sym (length-map samples.told.items (λ (t : Vec ToldSample). map told_value t.items)) ∙ ap length are.told ∙ length-told told_behind [] (sending_of (octets_of recording))
-    ∙ length-map (octets_of recording) piece_acts_of ∙ length-map recording (λ datagram. datagram.now)
-
-pub overheard_count : (recording : List (Bor (List ℕ))) (samples : Samples) → AreSamplesOf (octets_of recording) samples → length samples.overheard.items ≡ length recording
-overheard_count recording samples are =
-    sym (length-map samples.overheard.items (λ (t : Vec ToldSample). map told_value t.items)) ∙ ap length are.overheard ∙ length-told overheard_behind [] (sending_of (octets_of recording))
-    ∙ length-map (octets_of recording) piece_acts_of ∙ length-map recording (λ datagram. datagram.now)
 
 -- what is kept at a place is what is told there
 pub kept_at : (kept : List (Vec ToldSample)) (all : List (List ToldValue)) (i : ℕ) (item : Vec ToldSample) (items : List ToldSample) → map (λ told. map told_value told.items) kept ≡ all → i < length kept → item ≡ get_or kept i item → items ≡ item.items

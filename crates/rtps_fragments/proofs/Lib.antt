@@ -19,7 +19,7 @@ pub mod PiecesLeft
 pub mod Noted
 pub mod FewFragments
 pub mod SamplesAlone
-pub mod CameLemmas
+pub mod KeptLemmas
 pub mod ListenerLemmas
 pub mod OkLemmas
 pub mod TellingLemmas
@@ -37,4 +37,5 @@ pub mod WholeLemmas
 pub mod IndexSteps
 pub mod FragmentCounts
 pub mod WithoutFragments
+pub mod PlainStarts
 pub mod AnnouncementLemmas

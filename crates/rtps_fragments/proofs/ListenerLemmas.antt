@@ -5,34 +5,29 @@ use Rattle.std.specs.List.{flat_map, list_any}
 use Rattle.std.proofs.Math.ListN.{drop_of_length-le}
 use Rattle.std.proofs.Math.Seq.{take-suc}
 use Rattle.std.proofs.lemmas.List.Concat.{flat_map-append}
-use Rattle.std.proofs.lemmas.List.{get_or_default, length-map, map-append, map-set, set-get_or, take_all}
+use Rattle.std.proofs.lemmas.List.{get_or-map, get_or_default, length-map, map-append, map-set, set-get_or, take_all}
 use Rattle.std.proofs.lemmas.Option.{get_or_from_slice_get, slice_get-get_or, slice_get-map, slice_get_read, slice_get_within}
 use Rattle.std.specs.Option.{option_map}
 use Rattle.std.proofs.lemmas.List.Elements.{All-append, All-cons, All-get_or, All-nil, All-same, filter-append}
 use Rattle.std.proofs.lemmas.List.Folds.{list_any_at, list_any_more}
 use Rattle.rtps_receiver.specs.declared.speech.Audience.{Audience}
-use Rattle.rtps_fragments.specs.Came.{IsCame}
+use Rattle.rtps_fragments.specs.Heard.{IsHeard}
 use Rattle.rtps_fragments.specs.Listeners.{AreNamed, Hearing, Offer, begins, came_to, everyone, has_name, has_no_name, hears, is_had, is_known, named_so, samples_for, silence, tells, told_between, told_by_audience, with_news}
 use Rattle.rtps_fragments.specs.Making.{AreListeners, AreSoFar, IsListener}
 use Rattle.rtps_fragments.specs.FragmentDelivery.{Shape, payload_by}
-use Rattle.rtps_fragments.specs.Samples.{samples_of}
 use Rattle.rtps_fragments.specs.Telling.{ToldValue, told_each}
 use Rattle.rtps_fragments.specs.declared.listeners.Listener.{Listener}
 use Rattle.rtps_fragments.specs.declared.listeners.Name.{Name}
 use Rattle.rtps_fragments.specs.declared.listeners.Name.TheVariants.{Dest, Reader}
 use Rattle.rtps_fragments.proofs.Audiences.{came_named}
+use Rattle.rtps_fragments.proofs.SampleLemmas.{none_yet}
 use Rattle.rtps_fragments.proofs.ToldSoFar.{drop_at}
 
 -- ---- tests of each
 
-get_mapped : {X Y : Type 0} (f : X → Y) (xs : List X) (i : ℕ) (x : X) → get_or (map f xs) i (f x) ≡ f (get_or xs i x)
-get_mapped f [] i x = refl
-get_mapped f (y ∷ ys) zero x = refl
-get_mapped f (y ∷ ys) (suc i) x = get_mapped f ys i x
-
 module _ {X Y : Type 0} (test : Y → Bool) (f : X → Y) (xs : List X) (i : ℕ) (x : X) (lt : i < length xs) (is : x ≡ get_or xs i x) where
   there : f x ≡ get_or (map f xs) i (f x)
-  there = ap f is ∙ sym (get_mapped f xs i x)
+  there = ap f is ∙ sym (get_or-map f xs i x (f x) lt)
 
   within : i < length (map f xs)
   within = subst (λ n. i < n) (sym (length-map xs f)) lt
@@ -49,18 +44,18 @@ module _ {X Y : Type 0} (test : Y → Bool) (f : X → Y) (xs : List X) (i : ℕ
 pub none_at_all : {X Y : Type 0} (test : Y → Bool) (f : X → Y) (xs : List X) (i : ℕ) → length xs ≤ i → list_any test (take i (map f xs)) ≡ false → list_any test (map f xs) ≡ false
 none_at_all test f xs i past none = ap (list_any test) (sym (take_all i (map f xs) (subst (λ n. n ≤ i) (sym (length-map xs f)) past))) ∙ none
 
+pub any_mapped : {X Y : Type 0} (test : Y → Bool) (f : X → Y) (xs : List X) → list_any test (map f xs) ≡ list_any (λ x. test (f x)) xs
+any_mapped test f [] = refl
+any_mapped test f (x ∷ xs) = ap (λ b. test (f x) || b) (any_mapped test f xs)
+
 -- one more
 pub taken_more : {X : Type 0} (xs : List X) (i : ℕ) (x : X) → i < length xs → x ≡ get_or xs i x → take (i + 1) xs ≡ take i xs ++ x ∷ []
 taken_more xs i x lt is = let more : i + 1 ≡ suc i = omega arith in ap (λ n. take n xs) more ∙ take-suc xs i x lt ∙ ap (λ y. take i xs ++ y ∷ []) (sym is)
 
 -- ---- listeners
 
-none_yet : (last : ℕ) → samples_of last [] ≡ []
-none_yet zero = refl
-none_yet (suc last) = refl
-
 -- the first one
-pub are_one : (last : ℕ) (one : Listener) (listeners : List Listener) → listeners ≡ one ∷ [] → one.audience ≡ everyone → IsCame last [] one.came → one.told ≡ 0 → AreListeners last silence silence listeners
+pub are_one : (last : ℕ) (one : Listener) (listeners : List Listener) → listeners ≡ one ∷ [] → one.audience ≡ everyone → IsHeard last [] one.heard → one.told ≡ 0 → AreListeners last silence silence listeners
 are_one last one listeners is audience came told = record {
   audiences = ap (map (λ (l : Listener). l.audience)) is ∙ ap (λ a. a ∷ []) audience;
   each = All-same (λ (l : Listener). IsListener last [] [] l) listeners (one ∷ []) is (All-cons (λ (l : Listener). IsListener last [] [] l) one [] (record { came = came; told = told ∙ sym (ap length (none_yet last)) }) (All-nil (λ (l : Listener). IsListener last [] [] l)));

@@ -12,7 +12,7 @@ use Rattle.rtps_receiver.specs.Values.{ActBodyValue, ActValue, FragmentValue}
 use Rattle.rtps_receiver.specs.Values.ActBodyValue.{Data, Heartbeat, AckNack, Gap, DataFrag, NackFrag}
 use Rattle.rtps_audit.specs.Speech.{announced_of_body}
 use Rattle.rtps_audit.proofs.Offered.{contains_cases, contains_head, contains_mapped, contains_none, contains_tail}
-use Rattle.rtps_fragments.specs.Came.{came_from}
+use Rattle.rtps_fragments.specs.Heard.{came_from}
 use Rattle.rtps_fragments.specs.FragmentDelivery.{Piece, Shape, last_fragment, payload_by}
 use Rattle.rtps_fragments.specs.Listeners.{Offer, hearing_of, tells}
 use Rattle.rtps_fragments.specs.Merging.{IsFragmentAct, act_as, acts_told, key_of, merged_from, run_of, run_past, sent_in, sents_from, sents_in}

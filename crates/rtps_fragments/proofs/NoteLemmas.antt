@@ -7,7 +7,7 @@ use Rattle.rtps_receiver.specs.Values.{ActValue}
 use Rattle.rtps_receiver.specs.Speech.{entity_from, is_spoken_by, origin_of}
 use Rattle.rtps_audit.proofs.Offered.{contains_mapped}
 use Rattle.rtps_fragments.specs.Announcing.{announcing_with, is_built_in, notes_told}
-use Rattle.rtps_fragments.specs.Came.{came_from}
+use Rattle.rtps_fragments.specs.Heard.{came_from}
 use Rattle.rtps_fragments.specs.FragmentDelivery.{Fragment, Piece, fragments_of, last_fragment, payload_by}
 use Rattle.rtps_fragments.specs.Laws.{HasNoPieces}
 use Rattle.rtps_fragments.specs.Listeners.{Offer, everyone}

@@ -1,22 +1,20 @@
 -- The numbers of which some sample can be put together, with fragments more.
 use Rattle.std.proofs.Common.{◌≡◌, ℕ, ◌+◌, ◌≤◌, Bool, true, false, cond, ◌&&◌, nat_lt, List, [], ◌∷◌, ◌++◌, length, refl, sym, ◌∙◌, ap, subst, arith, inl, inr, ◌⊎◌}
-use Rattle.std.specs.Prelude.{Contains, ◌||◌}
 use Rattle.std.specs.Cmp.{IsTotalOrder, both_ways}
-use Rattle.std.specs.List.{list_any}
 use Rattle.std.proofs.lemmas.Bool.{cases_Bool, and_from, and_parts}
 use Rattle.std.proofs.lemmas.Bool.Decides.{nat_tests}
 use Rattle.std.proofs.lemmas.Cmp.{nat_cmp_total, on_total, then_total}
 use Rattle.std.proofs.lemmas.List.{length-append}
 use Rattle.std.proofs.lemmas.List.Elements.{Contains-append_cases, Contains-append_left, Contains-append_right}
 use Rattle.rtps_ids.specs.declared.identity.Guid.{Guid}
-use Rattle.rtps_audit.proofs.Offered.{contains_cases, contains_head, contains_none, contains_tail}
+use Rattle.rtps_audit.proofs.Offered.{contains_cases, contains_head, contains_none}
 use Rattle.rtps_fragments.specs.FragmentDelivery.{last_fragment}
 use Rattle.rtps_fragments.specs.Samples.{has_sample, samples_of}
 use Rattle.rtps_fragments.specs.Telling.{SentValue, is_sample, overheard, shape_of}
 use Rattle.rtps_fragments.specs.Whole.{has_whole, is_number, is_put, number_cmp, key_number}
 use Rattle.rtps_fragments.specs.declared.piece.SampleKey.{SampleKey}
 use Rattle.rtps_fragments.specs.declared.whole.SampleNumber.{SampleNumber}
-use Rattle.rtps_fragments.proofs.Audiences.{any_from}
+use Rattle.rtps_fragments.proofs.Audiences.{any_from, any_of}
 use Rattle.rtps_fragments.proofs.OverheardLemmas.{other_sample, overheard-more}
 use Rattle.rtps_fragments.proofs.SampleLemmas.{samples_grow}
 use Rattle.rtps_fragments.proofs.TellingLemmas.{eq_then, guid_is, guids_total, number_is, own_eq, own_sample, sample_is}
@@ -35,16 +33,6 @@ numbers_total = then_total (on_total (λ (n : SampleNumber). n.number) nat_cmp_t
 
 pub own_number : (a : SampleNumber) → is_number a a ≡ true
 own_number a = own_eq (number_cmp a a) (numbers_total.antisymm a a)
-
--- ---- what passes a test
-
-any_has : {X : Type 0} (test : X → Bool) (xs : List X) → list_any test xs ≡ true → (x : X) × Contains xs x × (test x ≡ true)
-any_has test [] e = cc
-any_has test (x ∷ xs) e = by (test x) refl e (any_has test xs)
-  where
-    by : (b : Bool) → test x ≡ b → (b || list_any test xs) ≡ true → (list_any test xs ≡ true → (y : _) × Contains xs y × (test y ≡ true)) → (y : _) × Contains (x ∷ xs) y × (test y ≡ true)
-    by true is e behind = (x, contains_head x xs, is)
-    by false is e behind = let (y, among, passes) = behind e in (y, contains_tail x xs y among, passes)
 
 -- ---- fragments more
 
@@ -68,14 +56,14 @@ module _ (before : List SentValue) (sent : SentValue) (number : SampleNumber) wh
 
   whole_stays : has_whole before number ≡ true → has_whole (before ++ sent ∷ []) number ≡ true
   whole_stays e =
-      let (one, among, has) = any_has (λ (s : SentValue). is_number number (key_number s.key) && is_put before s.key) before e in
+      let (one, among, has) = any_of (λ (s : SentValue). is_number number (key_number s.key) && is_put before s.key) before e in
       let (same, put) = and_parts (is_number number (key_number one.key)) (is_put before one.key) has in
       any_from passes (before ++ sent ∷ []) one (Contains-append_left before (sent ∷ []) one among) (and_from _ _ same (put_stays before sent one.key put))
 
   -- a sample that can be put together now is the one of these fragments, or could be before
   whole_from : has_whole (before ++ sent ∷ []) number ≡ true → ((is_number number (key_number sent.key) ≡ true) × (is_put (before ++ sent ∷ []) sent.key ≡ true)) ⊎ (has_whole before number ≡ true)
   whole_from e =
-      let (one, among, has) = any_has passes (before ++ sent ∷ []) e in
+      let (one, among, has) = any_of passes (before ++ sent ∷ []) e in
       let (same, put) = and_parts (is_number number (key_number one.key)) (is_put (before ++ sent ∷ []) one.key) has in
       elim (cases_Bool (is_sample one.key sent.key)) [
         | inl is ↦

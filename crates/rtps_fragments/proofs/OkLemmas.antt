@@ -1,5 +1,5 @@
 -- What an `Ok` says.
-use Rattle.std.specs.Prelude.{Err, IfOk, OnOk, Ok, Result}
+use Rattle.std.specs.Prelude.{Err, OnOk, Ok, Result}
 
 -- one step on
 pub on_ok : {X E : Type 0} (result : Result X E) (P Q : Type 0) → OnOk result P → (P → Q) → OnOk result Q
@@ -10,8 +10,3 @@ on_ok (Err e) P Q is says = tt
 pub both_ok : {X E : Type 0} (result : Result X E) (P Q : Type 0) → OnOk result P → OnOk result Q → OnOk result (P × Q)
 both_ok (Ok x) P Q one other = (one, other)
 both_ok (Err e) P Q one other = tt
-
--- of its value, one step on
-pub if_ok : {X E : Type 0} (result : Result X E) (P Q : X → Type 0) → IfOk result P → ((x : X) → P x → Q x) → IfOk result Q
-if_ok (Ok x) P Q is says = says x is
-if_ok (Err e) P Q is says = tt

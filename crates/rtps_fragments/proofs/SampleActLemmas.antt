@@ -18,7 +18,7 @@ use Rattle.rtps_audit.specs.Delivery.{Word}
 use Rattle.rtps_audit.specs.Delivery.Word.{Told}
 use Rattle.rtps_audit.specs.Speech.{word_for, word_of}
 use Rattle.rtps_audit.proofs.Offered.{contains_cases, contains_head, contains_mapped, contains_none, contains_tail, if_some, kept_is_there, mapped_contains}
-use Rattle.rtps_fragments.specs.Came.{came_from}
+use Rattle.rtps_fragments.specs.Heard.{came_from}
 use Rattle.rtps_fragments.specs.FragmentDelivery.{Fragment, Piece, Shape, fragments_from, fragments_of, last_fragment, payload_by}
 use Rattle.rtps_fragments.specs.Listeners.{Offer, came_to, hearing_of, hears, is_for_audience, silence, tells}
 use Rattle.rtps_fragments.specs.Samples.{came_of, is_of, samples_of}

@@ -20,6 +20,11 @@ grow_by (Some parts) b None d f g = by d
     by (Some one) = (concat (set parts (pred one.0) one.1) ∷ [], ap (λ o. samples_by o (Some one)) (f parts refl))
 grow_by (Some parts) b (Some one) d f g = ([], ap (λ o. samples_by o d) (f parts refl) ∙ ap (samples_by (Some parts)) (g one refl))
 
+-- of nothing
+pub none_yet : (last : ℕ) → samples_of last [] ≡ []
+none_yet zero = refl
+none_yet (suc last) = refl
+
 pub samples_grow : (last : ℕ) (came more : List (ℕ × List ℕ)) → (rest : List (List ℕ)) × (samples_of last (came ++ more) ≡ samples_of last came ++ rest)
 samples_grow last came more =
     grow_by (firsts_of came last) (firsts_of (came ++ more) last) (find (is_other came) came) (find (is_other (came ++ more)) (came ++ more)) (firsts_stay came more last) (other_stays came more)

@@ -10,8 +10,9 @@ use Rattle.rtps_audit.proofs.Offered.{contains_none, get_mapped, mapped_get}
 use Rattle.rtps_fragments.specs.FragmentDelivery.{last_fragment, payload_by, Fragment, fragments_of, FragmentDatagram, FragmentSpeech, said_in}
 use Rattle.rtps_fragments.specs.FragmentVerdict.{IsSaidBefore, IsSentBefore}
 use Rattle.rtps_fragments.specs.Laws.{HasFragmentsWithin, SamplesTellAlike}
-use Rattle.rtps_fragments.specs.Samples.{samples_of, acts_told, datagram_told, speech_told, told_in}
+use Rattle.rtps_fragments.specs.Samples.{acts_told, datagram_told, speech_told, told_in}
 use Rattle.rtps_fragments.proofs.FragmentRuns.{sent_later}
+use Rattle.rtps_fragments.proofs.SampleLemmas.{none_yet}
 use Rattle.rtps_fragments.proofs.ToldLemmas.{IsPut, Tells, acts_are_put, put_or_acts}
 use Rattle.rtps_fragments.proofs.FragmentsBefore.{all_sent, fragments_before, get_cases, get_left, place_of, sent_by}
 use Rattle.rtps_fragments.proofs.AlikeBySamples.{IsGivenBefore, IsHadBefore, put_together, samples_alike}
@@ -66,11 +67,7 @@ put_or_at n before (d ∷ speech) (suc j) payload put =
     ]
 
 pub none_put : (n : ℕ) (payload : PayloadValue) → IsPut n [] payload → ⊥
-none_put n payload (shape, among) = contains_none payload (subst (λ xs. Contains (map (payload_by shape) xs) payload) (none (last_fragment shape)) among)
-  where
-    none : (last : ℕ) → samples_of last [] ≡ []
-    none zero = refl
-    none (suc last) = refl
+none_put n payload (shape, among) = contains_none payload (subst (λ xs. Contains (map (payload_by shape) xs) payload) (none_yet (last_fragment shape)) among)
 
 -- ---- what is told, and what can be put together
 

@@ -1,11 +1,9 @@
 -- The acts of a datagram, one item after another.
-use Rattle.std.proofs.Common.{◌≡◌, ℕ, suc, ◌+◌, ◌<◌, ◌≤◌, ◌^◌, Bool, true, false, cond, ◌&&◌, List, [], ◌∷◌, ◌++◌, drop, length, map, Option, Some, None, refl, sym, ◌∙◌, ap, subst, arith, append_assoc, append-nil}
+use Rattle.std.proofs.Common.{◌≡◌, ℕ, suc, ◌+◌, ◌<◌, ◌≤◌, ◌^◌, Bool, true, false, cond, ◌&&◌, List, [], ◌∷◌, ◌++◌, length, map, Option, Some, None, refl, sym, ◌∙◌, ap, arith, append_assoc}
 use Rattle.std.specs.Prelude.{All, is_none}
-use Rattle.std.proofs.lemmas.Bool.Decides.{Decides-eqb}
 use Rattle.std.proofs.lemmas.List.{length-append, length-map, map-append}
 use Rattle.std.proofs.lemmas.List.Sums.{sum_by-cons}
 use Rattle.rtps_wire.specs.DataFrag.{DataFragValue}
-use Rattle.rtps_wire.specs.NackFrag.{nack_frag_at}
 use Rattle.rtps_wire.specs.Reading.{Outcome, items_among, reading_of, read_as, refused_with}
 use Rattle.rtps_wire.specs.Values.{BodyValue, ItemValue}
 use Rattle.rtps_wire.specs.Values.BodyValue.{Data, Heartbeat, AckNack, Gap, InfoTs, InfoDst, InfoSrc, Skipped}
@@ -13,15 +11,14 @@ use Rattle.rtps_wire.specs.declared.fault.WireFault.{WireFault}
 use Rattle.rtps_wire.specs.declared.header.Header.{Header}
 use Rattle.rtps_wire.specs.declared.nack_frag.NackFrag.{NackFrag}
 use Rattle.rtps_receiver.specs.Acts.{act_body, state_at_start, state_behind}
-use Rattle.rtps_receiver.specs.Values.{ActBodyValue, act_value}
+use Rattle.rtps_receiver.specs.Values.{ActBodyValue, spoken_value}
 use Rattle.rtps_receiver.specs.declared.state.State.{State}
 use Rattle.rtps_receiver.proofs.Offered.{gathered-one}
-use Rattle.rtps_audit.proofs.Offered.{if_some}
 use Rattle.rtps_fragments.specs.Merging.{sent_in, sents_from}
 use Rattle.rtps_fragments.specs.SampleActs.{PieceAct}
-use Rattle.rtps_fragments.specs.Sending.{AddsActs, IsSending, asks_at, fragments_at, is_skipped_data_frag, is_skipped_nack_frag, is_unusable, one_unusable, piece_acts_behind, piece_acts_of, piece_acts_of_item, piece_acts_with, skipped_acts, unusable_among, unusable_in}
+use Rattle.rtps_wire.specs.FragmentItem.{asks_at, fragments_at, is_skipped_data_frag}
+use Rattle.rtps_fragments.specs.Sending.{AddsActs, is_unusable, one_unusable, piece_acts_behind, piece_acts_of, piece_acts_of_item, piece_acts_with, skipped_acts, unusable_among, unusable_in}
 use Rattle.rtps_fragments.specs.Telling.{IsSent, sent_value}
-use Rattle.rtps_fragments.specs.declared.layout.TheConstants.{NACK_FRAG}
 use Rattle.rtps_fragments.specs.declared.sending.Sending.{Sending}
 
 -- the act of an item comes before those of the items behind it
@@ -64,26 +61,6 @@ unusable_some octets item value e = ap (λ (o : Option DataFragValue). one_of (i
     by true = refl
     by false = refl
 
-pub unusable_none : (octets : List ℕ) (item : ItemValue) → fragments_at octets item ≡ None → one_unusable octets item ≡ one_of (is_skipped_data_frag item.body)
-unusable_none octets item e = ap (λ (o : Option DataFragValue). one_of (is_skipped_data_frag item.body && is_none o)) e ∙ by (is_skipped_data_frag item.body)
-  where
-    by : (b : Bool) → one_of (b && true) ≡ one_of b
-    by true = refl
-    by false = refl
-
-asks_no_frag : (body : BodyValue) → is_skipped_nack_frag body ≡ true → is_skipped_data_frag body ≡ false
-asks_no_frag (Skipped id) e = subst (λ n. is_skipped_data_frag (Skipped n) ≡ false) (sym ((Decides-eqb id NACK_FRAG).0 e)) refl
-asks_no_frag (Data value) e = refl
-asks_no_frag (Heartbeat value) e = refl
-asks_no_frag (AckNack value) e = refl
-asks_no_frag (Gap value) e = refl
-asks_no_frag (InfoTs time) e = refl
-asks_no_frag (InfoDst prefix) e = refl
-asks_no_frag (InfoSrc version vendor prefix) e = refl
-
-pub unusable_asks : (octets : List ℕ) (item : ItemValue) (asks : NackFrag) → asks_at octets item ≡ Some asks → one_unusable octets item ≡ 0
-unusable_asks octets item asks e = ap (λ b. one_of (b && is_none (fragments_at octets item))) (asks_no_frag item.body (if_some (is_skipped_nack_frag item.body) (nack_frag_at (drop item.at octets)) asks e).0)
-
 pub at_most_one : (b : Bool) → one_of b ≤ 1
 at_most_one true = omega arith
 at_most_one false = omega arith
@@ -108,28 +85,18 @@ unusable-item octets item items = sum_by-cons (one_unusable octets) item items
 
 -- What is kept, with what these acts are and so many DATA_FRAG that are no act, is all that there is.
 pub record IsReading (left all : List PieceAct) (unusable_left unusable : ℕ) (sending : Sending) : Type 0 where
-  pub acts : map act_value sending.acts.items ++ map (λ one. one.act) left ≡ map (λ one. one.act) all
+  pub acts : map spoken_value sending.acts.items ++ map (λ one. one.act) left ≡ map (λ one. one.act) all
   pub sents : map sent_value sending.sents.items ++ sents_from (length sending.acts.items) left ≡ sents_from 0 all
   pub well : All IsSent sending.sents.items
   pub counted : sending.unusable + unusable_left ≡ unusable
-
-pub reading_begun : (all : List PieceAct) (unusable : ℕ) (sending : Sending) → IsSending [] 0 sending → IsReading all all unusable unusable sending
-reading_begun all unusable sending none =
-    let count : length sending.acts.items ≡ 0 = sym (length-map sending.acts.items act_value) ∙ ap length none.acts in
-    record {
-      acts = ap (λ xs. xs ++ map (λ (one : PieceAct). one.act) all) none.acts;
-      sents = ap (λ xs. xs ++ sents_from (length sending.acts.items) all) none.sents ∙ ap (λ n. sents_from n all) count;
-      well = none.well;
-      counted = (let zero = none.unusable in omega arith);
-    }
 
 pub reading_step : (gives left all : List PieceAct) (one unusable_left unusable : ℕ) (old new : Sending) → AddsActs old new gives one → IsReading (gives ++ left) all (one + unusable_left) unusable old → IsReading left all unusable_left unusable new
 reading_step gives left all one unusable_left unusable old new adds reading =
     let acts = λ (ones : List PieceAct). map (λ (one : PieceAct). one.act) ones in
     let count : length new.acts.items ≡ length old.acts.items + length gives =
-    sym (length-map new.acts.items act_value) ∙ ap length adds.acts ∙ length-append (map act_value old.acts.items) (acts gives) ∙ omega (arith, length-map old.acts.items act_value, length-map gives (λ (one : PieceAct). one.act)) in
+    sym (length-map new.acts.items spoken_value) ∙ ap length adds.acts ∙ length-append (map spoken_value old.acts.items) (acts gives) ∙ omega (arith, length-map old.acts.items spoken_value, length-map gives (λ (one : PieceAct). one.act)) in
     record {
-      acts = ap (λ xs. xs ++ acts left) adds.acts ∙ append_assoc (map act_value old.acts.items) (acts gives) (acts left) ∙ ap (λ xs. map act_value old.acts.items ++ xs) (sym (map-append (λ (one : PieceAct). one.act) gives left)) ∙ reading.acts;
+      acts = ap (λ xs. xs ++ acts left) adds.acts ∙ append_assoc (map spoken_value old.acts.items) (acts gives) (acts left) ∙ ap (λ xs. map spoken_value old.acts.items ++ xs) (sym (map-append (λ (one : PieceAct). one.act) gives left)) ∙ reading.acts;
       sents =
           ap (λ xs. xs ++ sents_from (length new.acts.items) left) adds.sents ∙ append_assoc (map sent_value old.sents.items) (sents_from (length old.acts.items) gives) (sents_from (length new.acts.items) left)
           ∙ ap (λ n. map sent_value old.sents.items ++ (sents_from (length old.acts.items) gives ++ sents_from n left)) count
@@ -149,15 +116,6 @@ few_more octets state item left old new adds few =
     let counted = adds.unusable in
     let one = one_at_most octets state item (length old.acts.items) in
     omega arith
-
-pub reading_done : (all : List PieceAct) (unusable : ℕ) (sending : Sending) → IsReading [] all 0 unusable sending → sending.unusable + length sending.sents.items < 2 ^ 64 → IsSending all unusable sending
-reading_done all unusable sending reading few = record {
-  acts = sym (append-nil (map act_value sending.acts.items)) ∙ reading.acts;
-  sents = sym (append-nil (map sent_value sending.sents.items)) ∙ reading.sents;
-  well = reading.well;
-  unusable = (let counted = reading.counted in omega arith);
-  few = few;
-}
 
 -- the acts of a datagram that is read, and of one that is refused at its header
 pub acts_read : (octets : List ℕ) (header : Header) (outcomes : List Outcome) (start : State) → reading_of octets ≡ read_as header outcomes → start ≡ state_at_start header → piece_acts_of octets ≡ piece_acts_behind octets start (items_among outcomes)

@@ -14,7 +14,7 @@ use Rattle.rtps_discovery.specs.GuidOrder.{guid_cmp}
 use Rattle.rtps_fragments.specs.Telling.{is_sample, sample_cmp}
 use Rattle.rtps_fragments.specs.declared.piece.SampleKey.{SampleKey}
 use Rattle.rtps_fragments.proofs.Audiences.{entity_is, prefix_is}
-use Rattle.rtps_fragments.proofs.CameLemmas.{at_number}
+use Rattle.rtps_fragments.proofs.KeptLemmas.{at_number}
 
 -- ---- orders
 

@@ -23,16 +23,16 @@ use Rattle.rtps_fragments.specs.Announcing.{announcing_with}
 use Rattle.rtps_fragments.specs.Laws.{ActsStayWithoutFragments, HasNoPieces, IntakeStaysWithoutFragments}
 use Rattle.rtps_fragments.specs.RecordedSamples.{IsWithoutFragments, fragments_left, tally_with}
 use Rattle.rtps_fragments.specs.SampleActs.{PieceAct, acts_with_samples, piece_acts_in}
-use Rattle.rtps_fragments.specs.Sending.{all_acts_in, asks_at, is_skipped_nack_frag, piece_acts_of, piece_acts_of_item, piece_acts_with, sending_of, skipped_acts}
+use Rattle.rtps_wire.specs.FragmentItem.{asks_at, is_skipped_nack_frag}
+use Rattle.rtps_fragments.specs.Sending.{all_acts_in, piece_acts_of, piece_acts_of_item, piece_acts_with, sending_of, skipped_acts}
 use Rattle.rtps_fragments.specs.Whole.{tally_with_fragments}
-use Rattle.rtps_fragments.specs.declared.layout.TheConstants.{NACK_FRAG}
 use Rattle.rtps_fragments.proofs.ActsTell.{acts_stay_without_pieces}
 use Rattle.rtps_fragments.proofs.NoteLemmas.{announcing_stays}
 use Rattle.rtps_fragments.proofs.FragmentCounts.{no_more}
 use Rattle.rtps_fragments.proofs.SampleSteps.{octets_of}
 
 -- an act without a piece
-abbrev plain : ActValue → PieceAct
+abbrev pub plain : ActValue → PieceAct
 plain act = record { act = act; piece = None }
 
 -- ---- one datagram
@@ -53,7 +53,7 @@ asks_is_fragment (Skipped id) e = by (is_skipped_nack_frag (Skipped id)) refl
   where
     by : (b : Bool) → is_skipped_nack_frag (Skipped id) ≡ b → is_skipped_nack_frag (Skipped id) ≡ false
     by false is = is
-    by true is = absurd (let clash : true ≡ false = subst (λ n. is_fragment (Skipped n) ≡ false) ((Decides-eqb id NACK_FRAG).0 is) e in cc)
+    by true is = absurd (let clash : true ≡ false = subst (λ n. is_fragment (Skipped n) ≡ false) ((Decides-eqb id 0x12).0 is) e in cc)
 asks_is_fragment (Data value) e = refl
 asks_is_fragment (Heartbeat value) e = refl
 asks_is_fragment (AckNack value) e = refl
@@ -82,7 +82,7 @@ with_plain : (octets : List ℕ) (header : Option Header) (items : List ItemValu
 with_plain octets None items none = refl
 with_plain octets (Some header) items none = gathered_plain octets (state_at_start header) [] items none
 
-datagram_plain : (octets : List ℕ) → (tally_of (reading_of octets)).fragments ≡ 0 → piece_acts_of octets ≡ map plain (acts_of (reading_of octets))
+pub datagram_plain : (octets : List ℕ) → (tally_of (reading_of octets)).fragments ≡ 0 → piece_acts_of octets ≡ map plain (acts_of (reading_of octets))
 unfolding piece_acts_of acts_of
 datagram_plain octets none =
     with_plain octets (reading_of octets).header (reading_of octets).items
@@ -95,7 +95,7 @@ acts_of_plain (act ∷ acts) = ap (λ rest. act ∷ rest) (acts_of_plain acts)
 -- ---- a recording
 
 -- each of these datagrams is without fragments
-abbrev EachWithout : List (List ℕ) → Type 0
+abbrev pub EachWithout : List (List ℕ) → Type 0
 EachWithout recording = (octets : List ℕ) → Contains recording octets → (tally_of (reading_of octets)).fragments ≡ 0
 
 acts_plain : (recording : List (List ℕ)) → EachWithout recording → map (map (λ one. one.act)) (sending_of recording) ≡ acts_by_datagram recording
@@ -129,16 +129,20 @@ acts_in_plain (octets ∷ recording) none =
 pub all_acts_stay : ActsStayWithoutFragments
 all_acts_stay recording all = acts_in_plain recording (λ octets among. All-contains (λ datagram. (tally_of (reading_of datagram)).fragments ≡ 0) recording octets all among)
 
-pub intake_stays : IntakeStaysWithoutFragments
-intake_stays recording all =
-    let none : EachWithout recording = λ octets among. All-contains (λ datagram. (tally_of (reading_of datagram)).fragments ≡ 0) recording octets all among in
+-- what an index with samples takes in of them, whatever all acts of their recording are
+pub taken_plain : (all : List PieceAct) (recording : List (List ℕ)) → EachWithout recording
+    → record { tallies = map (tally_with all) recording; acts = acts_with_samples (sending_of recording); announcing = announcing_with (sending_of recording) } ≡ intake_of recording
+taken_plain all recording none =
     let plain_acts = acts_plain recording none in
     let tallies : List Tally = map (λ datagram. tally_of (reading_of datagram)) recording in
     let said : List (List ActValue) → Intake = λ acts. record { tallies = tallies; acts = acts; announcing = announcing_with (sending_of recording) } in
     let noted : List (List ActValue) → Intake = λ acts. record { tallies = tallies; acts = acts_by_datagram recording; announcing = acts } in
     let sending = sending_of recording in
     let counted : List Tally → Intake = λ t. record { tallies = t; acts = acts_with_samples sending; announcing = announcing_with sending } in
-    ap counted (tallies_stay (piece_acts_in sending) recording none) ∙ ap said (acts_stay_without_pieces (sending_of recording) (no_pieces recording none) ∙ plain_acts) ∙ ap noted (announcing_stays (sending_of recording) (no_pieces recording none) ∙ plain_acts)
+    ap counted (tallies_stay all recording none) ∙ ap said (acts_stay_without_pieces (sending_of recording) (no_pieces recording none) ∙ plain_acts) ∙ ap noted (announcing_stays (sending_of recording) (no_pieces recording none) ∙ plain_acts)
+
+pub intake_stays : IntakeStaysWithoutFragments
+intake_stays recording all = taken_plain (piece_acts_in (sending_of recording)) recording (λ octets among. All-contains (λ datagram. (tally_of (reading_of datagram)).fragments ≡ 0) recording octets all among)
 
 -- ---- one datagram more
 

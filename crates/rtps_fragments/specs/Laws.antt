@@ -1,6 +1,6 @@
 -- Laws over definitions alone, whatever the number is from which on numbers are asked for. own: what a reader of the definitions
 -- would ask of them.
-use Rattle.std.specs.Prelude.{ℕ, ◌+◌, ◌<◌, ◌≤◌, ◌≡◌, ◌≢◌, ◌↔◌, ◌⊎◌, length, List, [], map, Option, Some, None, is_some, true, drop, sum_by, All, Contains}
+use Rattle.std.specs.Prelude.{ℕ, ◌+◌, ◌<◌, ◌≤◌, ◌≡◌, ◌≢◌, ◌↔◌, ◌⊎◌, length, List, [], map, Option, Some, None, is_some, false, true, drop, sum_by, All, Contains}
 use Rattle.rtps_ids.specs.declared.identity.EntityId.{EntityId}
 use Rattle.rtps_ids.specs.declared.identity.Guid.{Guid}
 use Rattle.rtps_wire.specs.DataFrag.{DataFragValue, data_frag_at}
@@ -10,6 +10,7 @@ use Rattle.rtps_wire.specs.Values.{PayloadValue}
 use Rattle.rtps_receiver.specs.Acts.{acts_in}
 use Rattle.rtps_receiver.specs.Speech.{is_spoken_by, origin_of}
 use Rattle.rtps_receiver.specs.Values.{ActBodyValue, ActValue}
+use Rattle.rtps_receiver.specs.declared.speech.Audience.{Audience}
 use Rattle.rtps_receiver.specs.Values.ActBodyValue.{Data, Heartbeat, AckNack, Gap, DataFrag, NackFrag}
 use Rattle.rtps_discovery.specs.Notice.{subject_of}
 use Rattle.rtps_audit.specs.Delivery.{Speech, Claims, last_announced_from}
@@ -22,9 +23,11 @@ use Rattle.rtps_audit.specs.declared.verdict.Verdict.{Verdict}
 use Rattle.rtps_fragments.specs.Announcing.{announcing_with, is_built_in}
 use Rattle.rtps_fragments.specs.FragmentDelivery.{Fragment, FragmentSpeech, GivesFragment, IsPutTogether, Piece, Shape, last_fragment, said_in}
 use Rattle.rtps_fragments.specs.FragmentVerdict.{IsPayloadBefore, IsWordBefore, IsFragmentVerdictFrom}
+use Rattle.rtps_fragments.specs.Listeners.{Hearing, Offer, hears, is_had, tells}
 use Rattle.rtps_fragments.specs.RecordedSamples.{IsWithoutFragments, fragments_left, intake_with}
 use Rattle.rtps_fragments.specs.Samples.{payloads_of, told_in}
-use Rattle.rtps_fragments.specs.Sending.{all_acts_in, is_skipped_data_frag, sending_of, unusable_in}
+use Rattle.rtps_wire.specs.FragmentItem.{is_skipped_data_frag}
+use Rattle.rtps_fragments.specs.Sending.{all_acts_in, sending_of, unusable_in}
 use Rattle.rtps_fragments.specs.SampleActs.{PieceAct, acts_with_samples, fragment_speech_of, piece_acts_in, acts_of_sample, samples_told}
 use Rattle.rtps_fragments.specs.SamplesSent.{acts_to_note, is_left, noted_act, pieces_left, samples_sent, sent_by}
 
@@ -173,6 +176,11 @@ abbrev pub SamplesStandAlone : Type 0
 SamplesStandAlone =
     (before : List PieceAct) (act : ActValue) (piece : Piece)
     → samples_told before act (Some piece) ≡ samples_told (acts_of_sample (origin_of act) piece.number piece.shape before) act (Some piece)
+
+-- what fragments tell an audience, no wider one can put together
+abbrev pub NoneIsToldAgain : Type 0
+NoneIsToldAgain =
+    (last : ℕ) (hearing : Hearing) (offer : Offer) (audience : Audience) (octets : List ℕ) → Contains (tells last hearing offer) (audience, octets) → is_had last (hears hearing offer) audience octets ≡ false
 
 -- of any writer and reader of a recording, the verdict by runs that take fragments one by one is that of the acts with the samples among
 -- them

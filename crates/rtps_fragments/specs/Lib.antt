@@ -6,7 +6,7 @@ pub mod SampleActs
 pub mod SamplesSent
 pub mod Announcing
 pub mod Laws
-pub mod Came
+pub mod Heard
 pub mod Telling
 pub mod Merging
 pub mod Sending

@@ -1,15 +1,17 @@
 -- What is kept of samples in the making. DDSI-RTPS 2.5, 8.3.8.3 "DataFrag". own: of each sample its listeners, and one listener more, that
 -- hears everything: by it a sample is ever whole, and a built-in writer announces.
-use Rattle.std.specs.Prelude.{ℕ, ◌≡◌, ◌<◌, ◌≤◌, ◌++◌, All, List, [], Option, Some, None, length, map, slice_get}
+use Rattle.std.specs.Prelude.{ℕ, ◌≡◌, ◌<◌, ◌≤◌, ◌++◌, All, Contains, false, List, [], Option, Some, None, length, map, slice_get}
 use Rattle.std.specs.BTreeMap.{get}
 use Rattle.std.specs.BTreeSet.{contains}
 use Rattle.std.specs.List.{flat_map}
-use Rattle.rtps_fragments.specs.Came.{IsCame}
+use Rattle.rtps_fragments.specs.Announcing.{is_built_in}
+use Rattle.rtps_fragments.specs.Heard.{IsHeard}
 use Rattle.rtps_fragments.specs.FragmentDelivery.{last_fragment}
-use Rattle.rtps_fragments.specs.Listeners.{Hearing, Offer, came_to, hearing_of}
+use Rattle.rtps_fragments.specs.Listeners.{Hearing, Offer, came_to, everyone, hearing_of}
 use Rattle.rtps_fragments.specs.Samples.{samples_of}
 use Rattle.rtps_fragments.specs.Telling.{SentValue, ToldValue, offers, sample_cmp, shape_of, told_value}
 use Rattle.rtps_fragments.specs.Whole.{has_whole, number_cmp}
+use Rattle.rtps_fragments.specs.declared.heard.Heard.{Heard}
 use Rattle.rtps_fragments.specs.declared.listeners.Listener.{Listener}
 use Rattle.rtps_fragments.specs.declared.making.Making.{Making}
 use Rattle.rtps_fragments.specs.declared.making.Makings.{Makings}
@@ -19,7 +21,7 @@ use Rattle.rtps_fragments.specs.declared.whole.SampleNumber.{SampleNumber}
 
 -- What came to a listener is kept, and its samples of what came before were gone through.
 pub record IsListener (last : ℕ) (before now : List (ℕ × List ℕ)) (listener : Listener) : Type 0 where
-  pub came : IsCame last now listener.came
+  pub came : IsHeard last now listener.heard
   pub told : listener.told ≡ length (samples_of last before)
 
 -- These are the listeners of a sample now, of which the samples before were gone through.
@@ -35,19 +37,28 @@ pub record AreSoFar (last : ℕ) (before now next_before next : Hearing) (count 
   pub left : (i : ℕ) (listener : Listener) → count ≤ i → slice_get listeners i ≡ Some listener
       → IsListener last (came_to listener.audience before.news) (came_to listener.audience now.news) listener
 
--- what is kept of a sample of which these were sent
-pub record IsMaking (last : ℕ) (offers : List Offer) (making : Making) : Type 0 where
-  pub everything : IsCame last (flat_map (λ offer. offer.came) offers) making.everything
-  pub listeners : AreListeners last (hearing_of offers) (hearing_of offers) making.listeners.each.items
+-- the fragments that are sent, whoever hears them
+abbrev pub all_came : List Offer → List (ℕ × List ℕ)
+all_came offers = flat_map (λ offer. offer.came) offers
+
+-- what came of a sample is kept. None may stand for it where all was sent to everyone and the writer is not a built-in one
+abbrev pub IsEverything : SampleKey → List Offer → Option Heard → Type 0
+IsEverything key offers (Some heard) = IsHeard (last_fragment (shape_of key)) (all_came offers) heard
+IsEverything key offers None = (is_built_in key.writer.entity ≡ false) × ((offer : Offer) → Contains offers offer → offer.audience ≡ everyone)
+
+-- What is kept of a sample is what was sent of it.
+pub record IsMaking (key : SampleKey) (offers : List Offer) (making : Making) : Type 0 where
+  pub everything : IsEverything key offers making.everything
+  pub listeners : AreListeners (last_fragment (shape_of key)) (hearing_of offers) (hearing_of offers) making.listeners.each.items
 
 -- the same, if something was sent
-abbrev pub HasMaking : ℕ → List Offer → Option Making → Type 0
-HasMaking last offers (Some making) = IsMaking last offers making
-HasMaking last offers None = offers ≡ []
+abbrev pub HasMaking : SampleKey → List Offer → Option Making → Type 0
+HasMaking key offers (Some making) = IsMaking key offers making
+HasMaking key offers None = offers ≡ []
 
 -- What is kept is what was sent: of each sample, and the numbers of which some sample is whole.
 pub record AreMakings (before : List SentValue) (makings : Makings) : Type 0 where
-  pub each : (key : SampleKey) → HasMaking (last_fragment (shape_of key)) (offers key before) (get sample_cmp makings.kept key)
+  pub each : (key : SampleKey) → HasMaking key (offers key before) (get sample_cmp makings.kept key)
   pub whole : (number : SampleNumber) → contains number_cmp makings.whole number ≡ has_whole before number
 
 -- these samples were told more: to audiences, and to a listener that hears everything

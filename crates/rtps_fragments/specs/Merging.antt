@@ -5,7 +5,7 @@ use Rattle.std.specs.List.{flat_map}
 use Rattle.rtps_receiver.specs.Speech.{origin_of}
 use Rattle.rtps_receiver.specs.Values.{ActBodyValue, ActValue, FragmentValue}
 use Rattle.rtps_receiver.specs.Values.ActBodyValue.{Data, Heartbeat, AckNack, Gap, DataFrag, NackFrag}
-use Rattle.rtps_fragments.specs.Came.{came_from}
+use Rattle.rtps_fragments.specs.Heard.{came_from}
 use Rattle.rtps_fragments.specs.FragmentDelivery.{Piece}
 use Rattle.rtps_fragments.specs.SampleActs.{PieceAct, sample_act, sent_to_whom}
 use Rattle.rtps_fragments.specs.SamplesSent.{noted_act}

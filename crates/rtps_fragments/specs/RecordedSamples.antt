@@ -1,10 +1,11 @@
 -- The samples that a recording tells in fragments, datagram by datagram. DDSI-RTPS 2.5, 8.3.8.3 "DataFrag". own: a sample is told by the act
 -- that completes it.
-use Rattle.std.specs.Prelude.{ℕ, ◌≡◌, ◌+◌, All, List, [], ◌∷◌, ◌++◌, map}
+use Rattle.std.specs.Prelude.{ℕ, ◌≡◌, ◌+◌, ◌<◌, ◌≤◌, All, List, [], ◌∷◌, ◌++◌, Some, length, map, slice_get, take}
 use Rattle.rtps_wire.specs.Reading.{reading_of}
 use Rattle.rtps_wire.specs.Tally.{tally_of}
 use Rattle.rtps_wire.specs.declared.counts.Tally.{Tally}
 use Rattle.rtps_audit.specs.Intake.{Intake, intake_of}
+use Rattle.rtps_fragments.specs.Announcements.{IsIndexedBy}
 use Rattle.rtps_fragments.specs.Announcing.{announcing_with}
 use Rattle.rtps_fragments.specs.Merging.{sents_from}
 use Rattle.rtps_fragments.specs.SampleActs.{PieceAct, acts_with_samples, piece_acts_in}
@@ -14,6 +15,7 @@ use Rattle.rtps_fragments.specs.Telling.{SentValue, ToldValue, in_turn, overhear
 use Rattle.rtps_fragments.specs.Whole.{AreWholeOf, tally_with_fragments}
 use Rattle.rtps_fragments.specs.declared.fragments.Fragments.{Fragments}
 use Rattle.rtps_fragments.specs.declared.fragments.Fragments.TheVariants as fragments
+use Rattle.rtps_fragments.specs.declared.sample_index.PlainStart.{PlainStart}
 use Rattle.rtps_fragments.specs.declared.samples.Samples.{Samples}
 
 -- what the acts of each datagram tell, behind what was sent before
@@ -54,3 +56,12 @@ intake_as fragments.Read recording = intake_with recording
 -- no submessage of these datagrams belongs to fragments
 abbrev pub IsWithoutFragments : List (List ℕ) → Type 0
 IsWithoutFragments recording = All (λ datagram. (tally_of (reading_of datagram)).fragments ≡ 0) recording
+
+-- These are the first datagrams of a recording, taken in without samples: where fragments are read, those before the first one that has some,
+-- and all where they are skipped.
+pub record IsPlainStart (choice : Fragments) (recording : List (List ℕ)) (start : PlainStart) : Type 0 where
+  pub count : start.datagrams ≤ length recording
+  pub all : choice ≡ fragments.Skipped → start.datagrams ≡ length recording
+  pub without : choice ≡ fragments.Read → IsWithoutFragments (take start.datagrams recording)
+  pub ends : choice ≡ fragments.Read → (octets : List ℕ) → slice_get recording start.datagrams ≡ Some octets → 0 < (tally_of (reading_of octets)).fragments
+  pub indexed : IsIndexedBy (intake_of (take start.datagrams recording)) start.indexed

@@ -13,7 +13,7 @@ use Rattle.rtps_audit.specs.Speech.{said_by}
 use Rattle.rtps_fragments.specs.FragmentDelivery.{Fragment, FragmentSpeech, Piece, Shape, fragments_of, last_fragment, payload_by}
 use Rattle.rtps_fragments.specs.Listeners.{Offer, hearing_of, tells}
 use Rattle.rtps_fragments.specs.Samples.{is_of}
-use Rattle.rtps_fragments.specs.Came.{came_from}
+use Rattle.rtps_fragments.specs.Heard.{came_from}
 
 -- an act with its piece, where it is a DATA_FRAG that is one
 pub record PieceAct : Type 0 where

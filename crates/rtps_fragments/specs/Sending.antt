@@ -1,23 +1,20 @@
 -- The acts of a datagram, each with the fragments that it sends. DDSI-RTPS 2.5, 8.3.4 "The RTPS Message Receiver", 8.3.8.3 "DataFrag" and
 -- 8.3.8.12 "NackFrag". own: a DATA_FRAG that has no fragments that can be used is no act, and neither is a NACK_FRAG that cannot be read.
-use Rattle.std.specs.Prelude.{ℕ, Bool, false, ◌≡◌, ◌+◌, ◌<◌, ◌^◌, ◌==◌, ◌&&◌, if◌then◌else◌, All, List, [], ◌∷◌, ◌++◌, count_by, drop, flat_map, is_none, length, map, Option, Some, None}
-use Rattle.rtps_wire.specs.DataFrag.{DataFragValue, data_frag_at, parts_of}
-use Rattle.rtps_wire.specs.NackFrag.{nack_frag_at}
+use Rattle.std.specs.Prelude.{ℕ, Bool, ◌≡◌, ◌+◌, ◌<◌, ◌^◌, ◌&&◌, if◌then◌else◌, All, List, [], ◌∷◌, ◌++◌, count_by, flat_map, is_none, length, map, Option, Some, None}
+use Rattle.rtps_wire.specs.DataFrag.{DataFragValue, parts_of}
+use Rattle.rtps_wire.specs.FragmentItem.{asks_at, fragments_at, is_skipped_data_frag}
 use Rattle.rtps_wire.specs.Reading.{reading_of}
-use Rattle.rtps_wire.specs.Tally.{is_fragment}
-use Rattle.rtps_wire.specs.Values.{BodyValue, ItemValue}
-use Rattle.rtps_wire.specs.Values.BodyValue.{Skipped}
+use Rattle.rtps_wire.specs.Values.{ItemValue}
 use Rattle.rtps_wire.specs.declared.header.Header.{Header}
 use Rattle.rtps_wire.specs.declared.nack_frag.NackFrag.{NackFrag as NackFragBody}
 use Rattle.rtps_receiver.specs.Acts.{act_at, act_body, gathered, state_at_start}
-use Rattle.rtps_receiver.specs.Values.{ActBodyValue, ActValue, act_value}
+use Rattle.rtps_receiver.specs.Values.{ActBodyValue, ActValue, spoken_value}
 use Rattle.rtps_receiver.specs.Values.ActBodyValue.{DataFrag, NackFrag}
 use Rattle.rtps_receiver.specs.declared.state.State.{State}
 use Rattle.rtps_fragments.specs.FragmentDelivery.{Piece}
 use Rattle.rtps_fragments.specs.Merging.{sents_from}
 use Rattle.rtps_fragments.specs.SampleActs.{PieceAct}
 use Rattle.rtps_fragments.specs.Telling.{IsSent, sent_value}
-use Rattle.rtps_fragments.specs.declared.layout.TheConstants.{DATA_FRAG, NACK_FRAG}
 use Rattle.rtps_fragments.specs.declared.sending.Sending.{Sending}
 
 -- the fragments of a DATA_FRAG, as a piece of their sample
@@ -33,24 +30,6 @@ skipped_acts state item (Some value) asks =
     } ∷ []
 skipped_acts state item None (Some asks) = record { act = act_at state item.at item.order (NackFrag asks); piece = None } ∷ []
 skipped_acts state item None None = []
-
--- the fragments that stand at an item of these octets, if it is a DATA_FRAG that has some
-abbrev pub fragments_at : List ℕ → ItemValue → Option DataFragValue
-fragments_at octets item = if is_fragment item.body then data_frag_at (drop item.at octets) else None
-
--- the submessage is skipped as a NACK_FRAG
-abbrev pub is_skipped_nack_frag : BodyValue → Bool
-is_skipped_nack_frag (Skipped id) = id == NACK_FRAG
-is_skipped_nack_frag _ = false
-
--- what a reader asks for at an item of these octets, if it is a NACK_FRAG that can be read
-abbrev pub asks_at : List ℕ → ItemValue → Option NackFragBody
-asks_at octets item = if is_skipped_nack_frag item.body then nack_frag_at (drop item.at octets) else None
-
--- the submessage is skipped as a DATA_FRAG
-abbrev pub is_skipped_data_frag : BodyValue → Bool
-is_skipped_data_frag (Skipped id) = id == DATA_FRAG
-is_skipped_data_frag _ = false
 
 -- the item of these octets is a DATA_FRAG, and has no fragments that can be used
 abbrev pub is_unusable : List ℕ → ItemValue → Bool
@@ -96,7 +75,7 @@ sending_of recording = map piece_acts_of recording
 
 -- these acts are kept, with what they send and how many DATA_FRAG are no act
 pub record IsSending (ones : List PieceAct) (count : ℕ) (sending : Sending) : Type 0 where
-  pub acts : map act_value sending.acts.items ≡ map (λ one. one.act) ones
+  pub acts : map spoken_value sending.acts.items ≡ map (λ one. one.act) ones
   pub sents : map sent_value sending.sents.items ≡ sents_from 0 ones
   pub well : All IsSent sending.sents.items
   pub unusable : sending.unusable ≡ count
@@ -104,7 +83,7 @@ pub record IsSending (ones : List PieceAct) (count : ℕ) (sending : Sending) : 
 
 -- what is kept grew by these acts, with what they send, and by so many DATA_FRAG that are no act
 pub record AddsActs (old new : Sending) (ones : List PieceAct) (count : ℕ) : Type 0 where
-  pub acts : map act_value new.acts.items ≡ map act_value old.acts.items ++ map (λ one. one.act) ones
+  pub acts : map spoken_value new.acts.items ≡ map spoken_value old.acts.items ++ map (λ one. one.act) ones
   pub sents : map sent_value new.sents.items ≡ map sent_value old.sents.items ++ sents_from (length old.acts.items) ones
   pub well : All IsSent old.sents.items → All IsSent new.sents.items
   pub unusable : new.unusable ≡ old.unusable + count

@@ -10,7 +10,7 @@ use Rattle.rtps_wire.specs.DataFrag.{parts_in}
 use Rattle.rtps_wire.specs.Values.{PayloadValue}
 use Rattle.rtps_wire.specs.Values.PayloadValue.{Whole, Key}
 use Rattle.rtps_fragments.specs.Announcing.{is_built_in}
-use Rattle.rtps_fragments.specs.Came.{came_from}
+use Rattle.rtps_fragments.specs.Heard.{came_from}
 use Rattle.rtps_fragments.specs.FragmentDelivery.{Shape, last_fragment, payload_by}
 use Rattle.rtps_fragments.specs.Listeners.{Offer, everyone, hearing_of, tells}
 use Rattle.rtps_fragments.specs.Samples.{samples_of}

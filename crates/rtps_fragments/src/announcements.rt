@@ -1,5 +1,5 @@
 ghost use Rattle.std.specs.Prelude.{◌≡◌, ◌+◌, ◌<◌, ◌^◌, ◌++◌, filter, length, map, OnOk};
-ghost use Rattle.rtps_receiver.specs.Values.{act_body_value, act_value};
+ghost use Rattle.rtps_receiver.specs.Values.{spoken_body_value, spoken_value};
 ghost use Rattle.rtps_audit.specs.Intake.{Intake, intake_more, no_intake};
 ghost use Rattle.rtps_audit.specs.Placed.{placed_at, placed_value};
 ghost use Rattle.rtps_fragments.specs.Announcing.{is_built_in as is_built_in_lem};
@@ -7,7 +7,7 @@ ghost use Rattle.rtps_fragments.specs.Announcements.{IsIndexedBy, is_announcemen
 
 use rtps_audit::{Index, Placed, place};
 use rtps_ids::{EntityId, Memory};
-use rtps_receiver::{Act, ActBody};
+use rtps_receiver::{ActBody, Spoken, SpokenBody};
 use rtps_wire::Tally;
 use std::alloc::Global;
 use std::slice;
@@ -25,9 +25,9 @@ pub(crate) struct DatagramActs<'r, 's> {
     /// The number of the datagram, counted from 1.
     pub(crate) datagram: usize,
     /// Those that verdicts are by.
-    pub(crate) acts: &'r [Act<'s>],
+    pub(crate) acts: &'r [Spoken<'s>],
     /// Those of which it is noted what they announce.
-    pub(crate) announcing: &'r [Act<'s>],
+    pub(crate) announcing: &'r [Spoken<'s>],
 }
 
 /// The least last octet of the entity id of a built-in entity: its two highest bits are set (DDSI-RTPS 2.5, 9.3.1.2 "Mapping of
@@ -42,16 +42,16 @@ pub(crate) fn is_built_in(entity: EntityId) -> bool
 }
 
 /// Whether an act is a DATA of a built-in writer: no other announces something.
-fn is_of_built_in(body: &ActBody<'_>) -> bool
-    ensures { result ≡ is_of_built_in_lem (act_body_value body.now) }
+fn is_of_built_in(body: &SpokenBody<'_>) -> bool
+    ensures { result ≡ is_of_built_in_lem (spoken_body_value body.now) }
 {
     match body {
-        ActBody::Data(data) => is_built_in(data.writer),
-        ActBody::Heartbeat(_)
-        | ActBody::AckNack(_)
-        | ActBody::Gap(_)
-        | ActBody::DataFrag(_)
-        | ActBody::NackFrag(_) => false,
+        SpokenBody::Act(ActBody::Data(data)) => is_built_in(data.writer),
+        SpokenBody::Act(ActBody::Heartbeat(_))
+        | SpokenBody::Act(ActBody::AckNack(_))
+        | SpokenBody::Act(ActBody::Gap(_))
+        | SpokenBody::DataFrag(_)
+        | SpokenBody::NackFrag(_) => false,
     }
 }
 
@@ -59,10 +59,10 @@ fn is_of_built_in(body: &ActBody<'_>) -> bool
 fn push_announcements<'s>(
     found: &mut Vec<Placed<'s>>,
     datagram: usize,
-    acts: &[Act<'s>],
+    acts: &[Spoken<'s>],
 ) -> Result<(), Memory>
     ensures { OnOk result (map placed_value found.new.items
-        ≡ map placed_value found.old.items ++ filter is_announcement (placed_at datagram (map act_value acts.now))) }
+        ≡ map placed_value found.old.items ++ filter is_announcement (placed_at datagram (map spoken_value acts.now))) }
 {
     for act in acts {
         if is_of_built_in(&act.body) {
@@ -87,7 +87,7 @@ impl<'s> Indexed<'s> {
     pub(crate) fn note(&mut self, tally: Tally, noted: &DatagramActs<'_, 's>) -> Result<(), Memory>
         requires { self.old.index.tallies.datagrams + 1 < 2 ^ 64 }
         ensures { OnOk result ((intake : Intake) → noted.now.datagram ≡ length intake.announcing + 1 → IsIndexedBy intake self.old
-            → IsIndexedBy (intake_more intake tally (map act_value noted.now.acts.now) (map act_value noted.now.announcing.now)) self.new) }
+            → IsIndexedBy (intake_more intake tally (map spoken_value noted.now.acts.now) (map spoken_value noted.now.announcing.now)) self.new) }
     {
         self.index.note(tally, noted.acts, noted.announcing)?;
         push_announcements(&mut self.announcements, noted.datagram, noted.announcing)?;

@@ -1,6 +1,6 @@
 //! Laws over definitions alone. Each function does nothing: its clause is the law, and its proof the law's proof.
 
-ghost use Rattle.rtps_fragments.specs.Laws.{FragmentsTellAlike, SamplesTellAlike, FragmentVerdictIsTold, ActsTellAlike, FragmentVerdictOfActs, FirstDatagramsTellAlike, FirstDatagramsDecideSamples, FirstDatagramsTellTheSame, ActsStayWithoutFragments, ActsStayWithoutPieces, VerdictStaysWithoutPieces, PiecesLeftAreOfNoSample, NotedSamplesAreSent, BuiltInSamplesAnnounce, AnnouncersAreBuiltIn, FewFragmentsMakeNoSample, SamplesStandAlone, RecordedVerdictIsOfRuns, IntakeStaysWithoutFragments, FragmentsAreCounted, NoMoreFragmentsAreCounted, OnlyDataFragsHaveFragments};
+ghost use Rattle.rtps_fragments.specs.Laws.{FragmentsTellAlike, SamplesTellAlike, FragmentVerdictIsTold, ActsTellAlike, FragmentVerdictOfActs, FirstDatagramsTellAlike, FirstDatagramsDecideSamples, FirstDatagramsTellTheSame, ActsStayWithoutFragments, ActsStayWithoutPieces, VerdictStaysWithoutPieces, PiecesLeftAreOfNoSample, NotedSamplesAreSent, BuiltInSamplesAnnounce, AnnouncersAreBuiltIn, FewFragmentsMakeNoSample, NoneIsToldAgain, SamplesStandAlone, RecordedVerdictIsOfRuns, IntakeStaysWithoutFragments, FragmentsAreCounted, NoMoreFragmentsAreCounted, OnlyDataFragsHaveFragments};
 
 use rtps_audit::laws::{runs_exist_where_founded, verdicts_agree};
 
@@ -59,7 +59,7 @@ pub fn first_datagrams_decide()
 }
 
 /// The first datagrams of a recording with its samples have the acts that they have alone, each with the samples that it tells by what
-/// was sent before it. What is sent later may add audiences that they are told to, and nothing else.
+/// was sent before it. What is sent later adds nothing to them.
 pub fn first_datagrams_tell_the_same()
     ensures { FirstDatagramsTellTheSame }
 {}
@@ -103,6 +103,11 @@ pub fn announcers_are_built_in()
 /// Fewer fragments than a sample has make no payload of it, so that nothing is put together before as many came.
 pub fn few_fragments_make_no_sample()
     ensures { FewFragmentsMakeNoSample }
+{}
+
+/// What fragments tell an audience, no wider one can put together.
+pub fn none_is_told_again()
+    ensures { NoneIsToldAgain }
 {}
 
 /// What an act tells of a sample depends on the acts with its pieces alone: those of its writer, its number and its shape.

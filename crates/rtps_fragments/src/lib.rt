@@ -2,10 +2,9 @@
 #![tactic(auto)]
 
 mod announcements;
-mod came;
 mod fragments;
+mod heard;
 pub mod laws;
-mod layout;
 mod listeners;
 mod making;
 mod merging;
@@ -18,8 +17,6 @@ mod whole;
 
 pub use announcements::Indexed;
 pub use fragments::Fragments;
-pub use piece::{FragmentRun, SampleKey, SentFragments};
-pub use sample_index::{index_as, index_with, judge_with_samples};
+pub use sample_index::{index_as, judge_with_samples};
 pub use samples::Samples;
 pub use sending::Sending;
-pub use told_sample::ToldSample;

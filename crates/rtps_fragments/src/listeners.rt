@@ -6,7 +6,7 @@ ghost use Rattle.rtps_fragments.specs.Listeners.{AreNamed, Hearing, begins, has_
 ghost use Rattle.rtps_fragments.specs.Making.{AreListeners, IsListener};
 ghost use Rattle.rtps_fragments.specs.Telling.{IsSent, offer_of, sent_value, shape_of, told_each, told_value};
 
-use crate::came::Came;
+use crate::heard::Heard;
 use crate::piece::SentFragments;
 use crate::told_sample::ToldSample;
 use rtps_ids::{EntityId, GuidPrefix, Memory};
@@ -39,7 +39,7 @@ fn is_same_dest(one: Option<GuidPrefix>, other: Option<GuidPrefix>) -> bool
 }
 
 /// Whether all of the other audience hear what is sent to this one.
-fn is_for_audience(one: &Audience, other: &Audience) -> bool
+pub(crate) fn is_for_audience(one: &Audience, other: &Audience) -> bool
     ensures { result ≡ is_for_audience_lem one.now other.now }
 {
     (one.dest.is_none() || is_same_dest(one.dest, other.dest))
@@ -95,7 +95,7 @@ impl Name {
 #[derive(Drop)]
 pub(crate) struct Listener<'a> {
     pub(crate) audience: Audience,
-    pub(crate) came: Came<'a>,
+    pub(crate) heard: Heard<'a>,
     /// How many of the samples that can be put together of it were gone through.
     pub(crate) told: usize,
 }
@@ -108,7 +108,7 @@ impl<'a> Listener<'a> {
     {
         Ok(Listener {
             audience,
-            came: self.came.copy()?,
+            heard: self.heard.copy()?,
             told: self.told,
         })
     }
@@ -121,7 +121,7 @@ impl<'a> Listener<'a> {
             → IsListener (last_fragment (shape_of sent.now.key)) before (came ++ (if is_for_audience_lem sent.now.audience self.old.audience then (sent_value sent.now).came else [])) self.new) }
     {
         if is_for_audience(&sent.audience, &self.audience) {
-            self.came.take_sent(sent)?;
+            self.heard.take_sent(sent)?;
         }
         Ok(())
     }
@@ -139,10 +139,11 @@ impl<'a> Listeners<'a> {
     pub(crate) fn new(alloc: Global) -> Result<Listeners<'a>, Memory>
         ensures { IfOk result (λ listeners. (last : ℕ) → AreListeners last silence silence listeners.each.items) }
     {
-        let mut each = Vec::new(alloc);
+        // Most samples have no other.
+        let mut each = Vec::with_capacity(alloc, 1)?;
         each.push(Listener {
             audience: EVERYONE,
-            came: Came::new(alloc),
+            heard: Heard::new(alloc),
             told: 0,
         })?;
         Ok(Listeners { each, alloc })
@@ -155,7 +156,7 @@ impl<'a> Listeners<'a> {
     {
         for listener in self.each.iter() {
             if is_for_audience(&listener.audience, &sent.audience)
-                && listener.came.knows(sent.key.shape(), &sent.fragments)
+                && listener.heard.knows(sent.key.shape(), &sent.fragments)
             {
                 return true;
             }
@@ -165,14 +166,11 @@ impl<'a> Listeners<'a> {
 
     /// Whether some audience has the name.
     fn has_name(&self, name: Name) -> bool
-        ensures { result ≡ list_any (has_name_lem name) (map (λ listener. listener.audience) self.now.each.items) }
+        ensures { result ≡ list_any (λ listener. has_name_lem name listener.audience) self.now.each.items }
     {
-        for listener in self.each.iter() {
-            if name.is_of(&listener.audience) {
-                return true;
-            }
-        }
-        false
+        self.each
+            .iter()
+            .any(|listener| name.is_of(&listener.audience))
     }
 
     /// A copy of each that has no such name, for those of it that have this one.
@@ -226,7 +224,7 @@ impl<'a> Listeners<'a> {
             → have ≡ is_had_lem (last_fragment shape) now audience.now octets.now) }
     {
         for listener in self.each.iter() {
-            if is_wider(&listener.audience, audience) && listener.came.has(shape, octets)? {
+            if is_wider(&listener.audience, audience) && listener.heard.has(shape, octets)? {
                 return Ok(true);
             }
         }
@@ -250,8 +248,8 @@ impl<'a> Listeners<'a> {
     {
         let shape = sent.key.shape();
         let listener = &self.each[place];
-        for number in listener.told..listener.came.count(shape.last_fragment()) {
-            let octets = listener.came.sample(shape, number)?;
+        for number in listener.told..listener.heard.count(shape.last_fragment()) {
+            let octets = listener.heard.sample(shape, number)?;
             if !self.have(&listener.audience, shape, &octets)? {
                 told.push(ToldSample {
                     act: sent.act,
@@ -283,7 +281,7 @@ impl<'a> Listeners<'a> {
         ensures { (before now : Hearing) → AreListeners last before now self.old.each.items → AreListeners last now now self.new.each.items }
     {
         for place in 0..self.each.len() {
-            let told = self.each[place].came.count(last);
+            let told = self.each[place].heard.count(last);
             self.each[place].told = told;
         }
     }

@@ -1,21 +1,21 @@
-ghost use Rattle.std.specs.Prelude.{ℕ, ◌≡◌, ◌++◌, ◌∷◌, [], false, map, All, IfOk, List, OnOk};
+ghost use Rattle.std.specs.Prelude.{◌≡◌, ◌<◌, ◌++◌, ◌∷◌, [], false, map, All, IfOk, List, None, OnOk};
 ghost use Rattle.std.specs.BTreeMap.{get};
-ghost use Rattle.std.specs.List.{flat_map};
 ghost use Rattle.std.specs.Ordering.{is_eq};
 ghost use Rattle.rtps_fragments.specs.FragmentDelivery.{last_fragment};
-ghost use Rattle.rtps_fragments.specs.Listeners.{Offer};
-ghost use Rattle.rtps_fragments.specs.Making.{AddsTold, AreMakings, HasMaking, IsMaking};
+ghost use Rattle.rtps_fragments.specs.Listeners.{Offer, everyone};
+ghost use Rattle.rtps_fragments.specs.Making.{AddsTold, AreMakings, HasMaking, IsMaking, all_came};
 ghost use Rattle.rtps_fragments.specs.Samples.{has_sample};
 ghost use Rattle.rtps_fragments.specs.Telling.{IsSent, SentValue, offer_of, overheard_behind, overheard_by_offers, overheard_in_turn, sample_cmp, sent_value, shape_of, told_behind, told_by_offers, told_in_turn, told_value};
 ghost use Rattle.rtps_fragments.specs.declared.piece.SampleKey.{SampleKey as SampleKeyValue};
 
 use crate::announcements::is_built_in;
-use crate::came::Came;
-use crate::listeners::{EVERYONE, Listeners};
+use crate::heard::Heard;
+use crate::listeners::{EVERYONE, Listeners, is_for_audience};
 use crate::piece::{SampleKey, SentFragments};
 use crate::told_sample::ToldSample;
 use crate::whole::{SampleNumber, WholeNumbers, key_number};
 use rtps_ids::Memory;
+use rtps_receiver::Audience;
 use std::alloc::Global;
 use std::collections::{BTreeMap, BTreeSet};
 
@@ -31,8 +31,9 @@ pub(crate) struct Told {
 /// A sample in the making.
 #[derive(Drop)]
 pub(crate) struct Making<'a> {
-    /// What came of it, whoever it was sent to.
-    pub(crate) everything: Came<'a>,
+    /// What came of it, whoever it was sent to. None where all was sent to everyone, unless its writer is a built-in one: the first
+    /// listener has it then.
+    pub(crate) everything: Option<Heard<'a>>,
     pub(crate) listeners: Listeners<'a>,
 }
 
@@ -47,29 +48,61 @@ pub(crate) struct Makings<'a> {
 
 impl<'a> Making<'a> {
     /// Nothing was sent.
-    fn new(alloc: Global) -> Result<Making<'a>, Memory>
-        ensures { IfOk result (λ making. (last : ℕ) → IsMaking last [] making) }
+    fn new(alloc: Global, key: &SampleKey) -> Result<Making<'a>, Memory>
+        ensures { IfOk result (IsMaking key.now []) }
     {
+        let everything = if is_built_in(key.writer.entity) {
+            Some(Heard::new(alloc))
+        } else {
+            None
+        };
         Ok(Making {
-            everything: Came::new(alloc),
+            everything,
             listeners: Listeners::new(alloc)?,
         })
     }
-}
 
-impl<'a> Making<'a> {
+    /// From now on keeps apart what came of it, if fragments are not for everyone. After `Memory` it is of no use.
+    fn part(&mut self, audience: &Audience) -> Result<(), Memory>
+        ensures { OnOk result ((key : SampleKeyValue) (offers : List Offer) → IsMaking key offers self.old
+            → IsMaking key offers self.new × (self.new.everything ≡ None → audience.now ≡ everyone)) }
+    {
+        if self.everything.is_some() || is_for_audience(audience, &EVERYONE) {
+            return Ok(());
+        }
+        if let Some(listener) = self.listeners.each.first() {
+            self.everything = Some(listener.heard.copy()?);
+        }
+        Ok(())
+    }
+
     /// Fragments are sent, and the samples that they tell are appended. After `Memory` it is of no use.
     fn hear(&mut self, sent: &SentFragments<'a>, told: &mut Told) -> Result<(), Memory>
         requires { IsSent sent.now }
-        ensures { OnOk result ((offers : List Offer) → IsMaking (last_fragment (shape_of sent.now.key)) offers self.old
-            → IsMaking (last_fragment (shape_of sent.now.key)) (offers ++ offer_of (sent_value sent.now) ∷ []) self.new
+        ensures { OnOk result ((offers : List Offer) → IsMaking sent.now.key offers self.old
+            → IsMaking sent.now.key (offers ++ offer_of (sent_value sent.now) ∷ []) self.new
             × AddsTold told.old told.new (told_by_offers offers (sent_value sent.now)) (overheard_by_offers offers (sent_value sent.now))) }
     {
+        self.part(&sent.audience)?;
         self.listeners.hear(sent, &mut told.heard)?;
-        if is_built_in(sent.key.writer.entity) {
-            self.everything.tell(sent, EVERYONE, &mut told.overheard)
-        } else {
-            self.everything.take_sent(sent)
+        match &mut self.everything {
+            Some(everything) if is_built_in(sent.key.writer.entity) => {
+                everything.tell(sent, EVERYONE, &mut told.overheard)
+            }
+            Some(everything) => everything.take_sent(sent),
+            None => Ok(()),
+        }
+    }
+
+    /// Whether it can be put together, of so many fragments.
+    fn is_whole(&self, last: u64) -> bool
+        requires { 0 < last }
+        ensures { (key : SampleKeyValue) (offers : List Offer) → IsMaking key offers self.now → last ≡ last_fragment (shape_of key) → result ≡ has_sample last (all_came offers) }
+    {
+        match (&self.everything, self.listeners.each.first()) {
+            (Some(everything), _) => everything.is_whole(last),
+            (None, Some(listener)) => listener.heard.is_whole(last),
+            (None, None) => false,
         }
     }
 }
@@ -83,22 +116,22 @@ fn hear<'a>(
     told: &mut Told,
 ) -> Result<bool, Memory>
     requires { IsSent sent.now }
-    ensures here { OnOk result ((offers : List Offer) → HasMaking (last_fragment (shape_of sent.now.key)) offers (get sample_cmp kept.old sent.now.key)
-        → HasMaking (last_fragment (shape_of sent.now.key)) (offers ++ offer_of (sent_value sent.now) ∷ []) (get sample_cmp kept.new sent.now.key)
+    ensures here { OnOk result ((offers : List Offer) → HasMaking sent.now.key offers (get sample_cmp kept.old sent.now.key)
+        → HasMaking sent.now.key (offers ++ offer_of (sent_value sent.now) ∷ []) (get sample_cmp kept.new sent.now.key)
         × AddsTold told.old told.new (told_by_offers offers (sent_value sent.now)) (overheard_by_offers offers (sent_value sent.now))) }
     ensures others { OnOk result ((other : SampleKeyValue) → is_eq (sample_cmp sent.now.key other) ≡ false
         → get sample_cmp kept.new other ≡ get sample_cmp kept.old other) }
-    ensures whole { IfOk result (λ whole. (offers : List Offer) → HasMaking (last_fragment (shape_of sent.now.key)) offers (get sample_cmp kept.old sent.now.key)
-        → whole ≡ has_sample (last_fragment (shape_of sent.now.key)) (flat_map (λ offer. offer.came) (offers ++ offer_of (sent_value sent.now) ∷ []))) }
+    ensures whole { IfOk result (λ whole. (offers : List Offer) → HasMaking sent.now.key offers (get sample_cmp kept.old sent.now.key)
+        → whole ≡ has_sample (last_fragment (shape_of sent.now.key)) (all_came (offers ++ offer_of (sent_value sent.now) ∷ []))) }
 {
     let last = sent.key.shape().last_fragment();
     if let Some(making) = kept.get_mut(&sent.key) {
         making.hear(sent, told)?;
-        return Ok(making.everything.is_whole(last));
+        return Ok(making.is_whole(last));
     }
-    let mut making = Making::new(alloc)?;
+    let mut making = Making::new(alloc, &sent.key)?;
     making.hear(sent, told)?;
-    let whole = making.everything.is_whole(last);
+    let whole = making.is_whole(last);
     kept.insert(sent.key, making)?;
     Ok(whole)
 }

@@ -1,14 +1,12 @@
 ghost use Rattle.std.specs.Prelude.{◌≡◌, ◌≤◌, ◌++◌, drop, length, map, take, OnOk};
-ghost use Rattle.rtps_receiver.specs.Values.{act_value};
+ghost use Rattle.rtps_receiver.specs.Values.{spoken_value};
 ghost use Rattle.rtps_wire.specs.Values.{payload_value};
 ghost use Rattle.rtps_fragments.specs.Merging.{act_as as act_as_lem, acts_told, merged_from, run_of, run_past};
-ghost use Rattle.rtps_fragments.specs.SampleActs.{sample_act};
-ghost use Rattle.rtps_fragments.specs.SamplesSent.{noted_act as noted_act_lem};
 ghost use Rattle.rtps_fragments.specs.Telling.{told_value};
 
 use crate::told_sample::ToldSample;
 use rtps_ids::{Memory, SeqNum};
-use rtps_receiver::{Act, ActBody, EVERY_READER, FragmentBody};
+use rtps_receiver::{ActBody, EVERY_READER, FragmentBody, Spoken, SpokenBody};
 use rtps_wire::{DataBody, Payload};
 use std::slice;
 
@@ -32,69 +30,51 @@ fn payload_of(told: &ToldSample) -> Payload<'_>
     }
 }
 
-/// The sample that a DATA_FRAG of this number tells, as a DATA_FRAG that tells it to its audience.
-fn told_act<'s>(act: &Act<'s>, number: SeqNum, told: &'s ToldSample) -> Act<'s>
-    ensures { act_value result ≡ sample_act (act_value act.now) number (told_value told.now).audience (told_value told.now).payload }
+/// The sample that a DATA_FRAG of this number tells, in this form.
+fn act_as<'s>(
+    form: SampleForm,
+    act: &Spoken<'s>,
+    number: SeqNum,
+    told: &'s ToldSample,
+) -> Spoken<'s>
+    ensures { spoken_value result ≡ act_as_lem form (spoken_value act.now) number (told_value told.now) }
 {
-    Act {
-        at: act.at,
-        source: act.source,
-        version: act.version,
-        vendor: act.vendor,
-        dest: told.audience.dest,
-        stamp: act.stamp,
-        order: act.order,
-        body: ActBody::DataFrag(FragmentBody {
-            reader: told.audience.reader,
-            writer: act.origin().entity,
-            number,
-            told: Some(payload_of(told)),
-        }),
-    }
-}
-
-/// The same as a DATA for everyone.
-fn noted_act<'s>(act: &Act<'s>, number: SeqNum, told: &'s ToldSample) -> Act<'s>
-    ensures { act_value result ≡ noted_act_lem (act_value act.now) number (told_value told.now).payload }
-{
-    Act {
-        at: act.at,
-        source: act.source,
-        version: act.version,
-        vendor: act.vendor,
-        dest: None,
-        stamp: act.stamp,
-        order: act.order,
-        body: ActBody::Data(DataBody {
-            reader: EVERY_READER,
-            writer: act.origin().entity,
-            number,
-            qos: None,
-            payload: payload_of(told),
-        }),
-    }
-}
-
-/// The same in this form.
-fn act_as<'s>(form: SampleForm, act: &Act<'s>, number: SeqNum, told: &'s ToldSample) -> Act<'s>
-    ensures { act_value result ≡ act_as_lem form (act_value act.now) number (told_value told.now) }
-{
-    match form {
-        SampleForm::ForAudience => told_act(act, number, told),
-        SampleForm::ForEveryone => noted_act(act, number, told),
-    }
+    let writer = act.origin().entity;
+    let payload = payload_of(told);
+    let (dest, body) = match form {
+        SampleForm::ForAudience => {
+            let fragment = FragmentBody {
+                reader: told.audience.reader,
+                writer,
+                number,
+                told: Some(payload),
+            };
+            (told.audience.dest, SpokenBody::DataFrag(fragment))
+        }
+        SampleForm::ForEveryone => {
+            let data = DataBody {
+                reader: EVERY_READER,
+                writer,
+                number,
+                qos: None,
+                payload,
+            };
+            (None, SpokenBody::Act(ActBody::Data(data)))
+        }
+    };
+    Spoken { dest, body, ..*act }
 }
 
 /// Appends the samples that an act tells.
 fn push_told<'s>(
-    acts: &mut Vec<Act<'s>>,
+    acts: &mut Vec<Spoken<'s>>,
     form: SampleForm,
-    act: &Act<'s>,
+    act: &Spoken<'s>,
     told: &'s [ToldSample],
 ) -> Result<(), Memory>
-    ensures { OnOk result (map act_value acts.new.items ≡ map act_value acts.old.items ++ acts_told form (act_value act.now) (act_value act.now).body (map told_value told.now)) }
+    ensures { OnOk result (map spoken_value acts.new.items ≡ map spoken_value acts.old.items ++ acts_told form (spoken_value act.now) (spoken_value act.now).body (map told_value told.now)) }
 {
-    let ActBody::DataFrag(fragment) = &act.body else {
+    let SpokenBody::DataFrag(fragment) = &act.body else {
         return Ok(());
     };
     for one in told {
@@ -120,12 +100,12 @@ fn run_length(told: &[ToldSample], act: usize) -> usize
 
 /// Puts the acts of a datagram there in place of others, and behind each the samples that it tells, in this form.
 pub(crate) fn merge<'s>(
-    merged: &mut Vec<Act<'s>>,
+    merged: &mut Vec<Spoken<'s>>,
     form: SampleForm,
-    acts: &[Act<'s>],
+    acts: &[Spoken<'s>],
     told: &'s [ToldSample],
 ) -> Result<(), Memory>
-    ensures { OnOk result (map act_value merged.new.items ≡ merged_from form 0 (map act_value acts.now) (map told_value told.now)) }
+    ensures { OnOk result (map spoken_value merged.new.items ≡ merged_from form 0 (map spoken_value acts.now) (map told_value told.now)) }
 {
     merged.clear();
     let mut rest = told;

@@ -6,33 +6,33 @@ use rtps_receiver::Audience;
 use rtps_wire::Shape;
 
 /// Consecutive fragments of one sample.
-#[derive(Clone, Copy, Debug)]
-pub struct FragmentRun<'a> {
+#[derive(Clone, Copy)]
+pub(crate) struct FragmentRun<'a> {
     /// The number of the first of them. Fragments count from 1.
-    pub first: u32,
+    pub(crate) first: u32,
     /// How many there are.
-    pub count: u16,
+    pub(crate) count: u16,
     /// Their octets, one after another.
-    pub octets: &'a [u8],
+    pub(crate) octets: &'a [u8],
 }
 
 /// A sample that is sent in fragments of one shape. The number comes first: where two are compared, that decides soonest.
-#[derive(Clone, Copy, PartialEq, Eq, PartialOrd, Ord, Debug)]
-pub struct SampleKey {
+#[derive(Clone, Copy, PartialEq, Eq, PartialOrd, Ord)]
+pub(crate) struct SampleKey {
     /// The number of the sample.
-    pub number: SeqNum,
-    pub writer: Guid,
+    pub(crate) number: SeqNum,
+    pub(crate) writer: Guid,
     /// The size of the sample, in octets.
-    pub sample: u32,
+    pub(crate) sample: u32,
     /// The size of a fragment, in octets.
-    pub fragment: u16,
+    pub(crate) fragment: u16,
     /// Whether the sample is a key.
-    pub is_key: bool,
+    pub(crate) is_key: bool,
 }
 
 impl SampleKey {
     /// The shape of the sample.
-    pub fn shape(self) -> Shape
+    pub(crate) fn shape(self) -> Shape
         ensures { result ≡ shape_of self }
     {
         Shape {
@@ -44,13 +44,13 @@ impl SampleKey {
 }
 
 /// Fragments that a DATA_FRAG sends.
-#[derive(Clone, Copy, Debug)]
-pub struct SentFragments<'a> {
+#[derive(Clone, Copy)]
+pub(crate) struct SentFragments<'a> {
     /// The place of the DATA_FRAG among the acts of its datagram.
-    pub act: usize,
+    pub(crate) act: usize,
     /// The sample that they are of.
-    pub key: SampleKey,
+    pub(crate) key: SampleKey,
     /// To whom they are sent.
-    pub audience: Audience,
-    pub fragments: FragmentRun<'a>,
+    pub(crate) audience: Audience,
+    pub(crate) fragments: FragmentRun<'a>,
 }

@@ -1,14 +1,15 @@
-ghost use Rattle.std.specs.Prelude.{ℕ, ◌≡◌, ◌+◌, ◌<◌, ◌^◌, length, map, IfOk, IfSome, List, OnOk};
+ghost use Rattle.std.specs.Prelude.{ℕ, ◌≡◌, ◌+◌, ◌<◌, ◌^◌, drop, length, map, IfOk, List, OnOk};
 ghost use Rattle.rtps_audit.specs.Index.{IsIndexBy};
-ghost use Rattle.rtps_audit.specs.Intake.{Intake, intake_more, intake_of};
+ghost use Rattle.rtps_audit.specs.Intake.{Intake, intake_more};
 ghost use Rattle.rtps_fragments.specs.Announcements.{IsIndexedBy};
 ghost use Rattle.rtps_fragments.specs.Merging.{merged_from};
-ghost use Rattle.rtps_fragments.specs.RecordedSamples.{AreSamplesOf, IsWithoutFragments, intake_as, intake_with};
+ghost use Rattle.rtps_fragments.specs.RecordedSamples.{AreSamplesOf, IsPlainStart, intake_as, intake_with};
 ghost use Rattle.rtps_fragments.specs.FragmentVerdict.{IsFragmentVerdictFrom};
 ghost use Rattle.rtps_fragments.specs.SampleActs.{fragment_speech_of};
 ghost use Rattle.rtps_fragments.specs.Sending.{piece_acts_of, sending_of};
 ghost use Rattle.rtps_fragments.specs.Telling.{SentValue, told_value};
 ghost use Rattle.rtps_fragments.specs.Whole.{AreWholeIn, tally_left};
+ghost use Rattle.rtps_fragments.specs.declared.fragments.Fragments.TheVariants.{Read};
 ghost use Rattle.rtps_fragments.specs.declared.merging.SampleForm.TheVariants.{ForAudience, ForEveryone};
 
 use crate::announcements::{DatagramActs, Indexed};
@@ -22,7 +23,7 @@ use crate::whole::WholeNumbers;
 use rtps_audit::{Index, Verdict};
 use rtps_discovery::Pair;
 use rtps_ids::{Memory, SeqNum};
-use rtps_receiver::{Act, Walk};
+use rtps_receiver::{Spoken, Walk};
 use rtps_wire::tally;
 use std::alloc::Global;
 
@@ -44,9 +45,9 @@ struct DatagramSamples<'s> {
 struct Reading<'s> {
     sending: Sending<'s>,
     /// Its acts, and behind each the samples that it tells.
-    acts: Vec<Act<'s>>,
+    acts: Vec<Spoken<'s>>,
     /// Its acts, and behind each the samples that it tells a reader which hears everything.
-    announcing: Vec<Act<'s>>,
+    announcing: Vec<Spoken<'s>>,
 }
 
 /// Takes in one datagram more, and behind each of its acts the samples that it tells. After `Memory` the index is of no use.
@@ -86,63 +87,32 @@ fn note_datagram<'s>(
     Ok(())
 }
 
-/// The index of a recording with its samples, and its announcements. It borrows the octets of both. `Memory` is answered where there is
-/// none for it.
-pub fn index_with<'s>(
+/// The first datagrams of a recording, as they are taken in without samples.
+#[derive(Drop)]
+struct PlainStart<'s> {
+    indexed: Indexed<'s>,
+    /// How many they are.
+    datagrams: usize,
+}
+
+/// The datagrams of a recording up to the first one with a submessage of fragments, where these are to be read; else all of them.
+/// `Memory` is answered where there is none for their index.
+fn plain_start<'s>(
     alloc: Global,
     recording: &[&'s [u8]],
-    samples: &'s Samples,
-) -> Result<Indexed<'s>, Memory>
-    requires { AreSamplesOf (map (λ datagram. datagram.now) recording.now) samples.now }
-    ensures { IfOk result (IsIndexedBy (intake_with (map (λ datagram. datagram.now) recording.now))) }
-{
-    let mut indexed = Indexed::new(alloc);
-    let mut reading = Reading {
-        sending: Sending::new(alloc),
-        acts: Vec::new(alloc),
-        announcing: Vec::new(alloc),
-    };
-    for place in 0..recording.len() {
-        let told = DatagramSamples {
-            datagram: place + 1,
-            told: &samples.told[place],
-            overheard: &samples.overheard[place],
-            whole: &samples.whole,
-        };
-        note_datagram(&mut indexed, &mut reading, recording[place], &told)?;
-    }
-    Ok(indexed)
-}
-
-/// The index of a recording whose fragments are skipped, and its announcements. `Memory` is answered where there is none for it.
-fn index_without<'s>(alloc: Global, recording: &[&'s [u8]]) -> Result<Indexed<'s>, Memory>
-    ensures { IfOk result (IsIndexedBy (intake_of (map (λ datagram. datagram.now) recording.now))) }
+    fragments: Fragments,
+) -> Result<PlainStart<'s>, Memory>
+    ensures { IfOk result (IsPlainStart fragments (map (λ datagram. datagram.now) recording.now)) }
 {
     let mut indexed = Indexed::new(alloc);
     let mut walk = Walk::new(alloc);
     for place in 0..recording.len() {
         let tally = walk.read(recording[place])?;
-        let noted = DatagramActs {
-            datagram: place + 1,
-            acts: walk.acts(),
-            announcing: walk.acts(),
-        };
-        indexed.note(tally, &noted)?;
-    }
-    Ok(indexed)
-}
-
-/// The same where no submessage belongs to fragments; none where one does.
-fn plain_index<'s>(alloc: Global, recording: &[&'s [u8]]) -> Result<Option<Indexed<'s>>, Memory>
-    ensures { IfOk result (λ found. IfSome found (λ indexed. IsIndexedBy (intake_of (map (λ datagram. datagram.now) recording.now)) indexed
-        × IsWithoutFragments (map (λ datagram. datagram.now) recording.now))) }
-{
-    let mut indexed = Indexed::new(alloc);
-    let mut walk = Walk::new(alloc);
-    for place in 0..recording.len() {
-        let tally = walk.read(recording[place])?;
-        if tally.fragments > 0 {
-            return Ok(None);
+        if fragments.are_read() && tally.fragments > 0 {
+            return Ok(PlainStart {
+                indexed,
+                datagrams: place,
+            });
         }
         let noted = DatagramActs {
             datagram: place + 1,
@@ -151,12 +121,48 @@ fn plain_index<'s>(alloc: Global, recording: &[&'s [u8]]) -> Result<Option<Index
         };
         indexed.note(tally, &noted)?;
     }
-    Ok(Some(indexed))
+    Ok(PlainStart {
+        indexed,
+        datagrams: recording.len(),
+    })
+}
+
+/// Takes in the other datagrams of a recording, of which these are the samples. `Memory` is answered where there is none for the index.
+fn index_behind<'s>(
+    alloc: Global,
+    start: PlainStart<'s>,
+    recording: &[&'s [u8]],
+    samples: &'s Samples,
+) -> Result<Indexed<'s>, Memory>
+    requires start { IsPlainStart Read (map (λ datagram. datagram.now) recording.now) start }
+    requires samples { AreSamplesOf (drop start.datagrams (map (λ datagram. datagram.now) recording.now)) samples.now }
+    ensures { IfOk result (IsIndexedBy (intake_with (map (λ datagram. datagram.now) recording.now))) }
+{
+    let PlainStart {
+        mut indexed,
+        datagrams,
+    } = start;
+    let mut reading = Reading {
+        sending: Sending::new(alloc),
+        acts: Vec::new(alloc),
+        announcing: Vec::new(alloc),
+    };
+    for place in datagrams..recording.len() {
+        let told = DatagramSamples {
+            datagram: place + 1,
+            told: &samples.told[place - datagrams],
+            overheard: &samples.overheard[place - datagrams],
+            whole: &samples.whole,
+        };
+        note_datagram(&mut indexed, &mut reading, recording[place], &told)?;
+    }
+    Ok(indexed)
 }
 
 /// The index of a recording, with its samples where fragments are read, and its announcements. The samples are put where the index may
-/// borrow them; where no submessage belongs to fragments they stay as they are, and the octets of each datagram are read once. `Memory`
-/// is answered where there is none for it, and then `samples` is of no use.
+/// borrow them. The octets of each datagram are read once up to the first one with a submessage of fragments, where these are read.
+/// Those behind it are read three times, and that one four times: for the samples, the acts and the counts. `Memory` is answered where
+/// there is none for it, and then `samples` is of no use.
 pub fn index_as<'s>(
     alloc: Global,
     recording: &[&'s [u8]],
@@ -165,16 +171,12 @@ pub fn index_as<'s>(
 ) -> Result<Indexed<'s>, Memory>
     ensures { IfOk result (IsIndexedBy (intake_as fragments (map (λ datagram. datagram.now) recording.now))) }
 {
-    match fragments {
-        Fragments::Skipped => index_without(alloc, recording),
-        Fragments::Read => match plain_index(alloc, recording)? {
-            Some(indexed) => Ok(indexed),
-            None => {
-                *samples = Samples::of(alloc, recording)?;
-                index_with(alloc, recording, samples)
-            }
-        },
+    let start = plain_start(alloc, recording, fragments)?;
+    if start.datagrams == recording.len() {
+        return Ok(start.indexed);
     }
+    *samples = Samples::of(alloc, &recording[start.datagrams..])?;
+    index_behind(alloc, start, recording, samples)
 }
 
 /// Judges by the index of a recording with its samples what the recording says of a writer and a reader, of the writer's numbers from

@@ -1,83 +1,27 @@
-ghost use Rattle.std.specs.Prelude.{◌≡◌, ◌≤◌, ◌<◌, ◌+◌, ◌^◌, ◌∷◌, [], drop, length, IfSome, None, OnOk, Some};
-ghost use Rattle.std.specs.Option.{option_map};
+ghost use Rattle.std.specs.Prelude.{◌≡◌, ◌<◌, ◌+◌, ◌^◌, ◌∷◌, [], length, None, OnOk, Some};
 ghost use Rattle.rtps_receiver.specs.Acts.{act_at, act_body, state_behind};
-ghost use Rattle.rtps_receiver.specs.Values.{act_value};
+ghost use Rattle.rtps_receiver.specs.Values.{spoken_value};
 ghost use Rattle.rtps_receiver.specs.Values.ActBodyValue.{DataFrag as DataFragAct, NackFrag as NackFragAct};
 ghost use Rattle.rtps_wire.specs.DataFrag.{IsDataFrag, data_frag_value, parts_of};
 ghost use Rattle.rtps_wire.specs.Reading.{items_among, outcomes_left};
-ghost use Rattle.rtps_wire.specs.Values.{body_value, item_value};
-ghost use Rattle.rtps_fragments.specs.Came.{came_from};
-ghost use Rattle.rtps_fragments.specs.Sending.{AddsActs, IsSending, asks_at as asks_at_lem, fragments_at as fragments_at_lem, is_skipped_data_frag as is_skipped_data_frag_lem, is_skipped_nack_frag as is_skipped_nack_frag_lem, one_unusable, piece_acts_behind, piece_acts_of, piece_acts_of_item, skipped_acts, unusable_among, unusable_in};
+ghost use Rattle.rtps_wire.specs.Values.{item_value};
+ghost use Rattle.rtps_fragments.specs.Heard.{came_from};
+ghost use Rattle.rtps_fragments.specs.Sending.{AddsActs, IsSending, one_unusable, piece_acts_behind, piece_acts_of, piece_acts_of_item, skipped_acts, unusable_among, unusable_in};
 ghost use Rattle.rtps_fragments.specs.Telling.{IsSent, sent_value};
 
-use crate::layout::{DATA_FRAG, NACK_FRAG};
 use crate::piece::{FragmentRun, SampleKey, SentFragments};
 use rtps_ids::{Guid, Memory};
-use rtps_receiver::{Act, ActBody, Audience, FragmentBody, State};
-use rtps_wire::{Body, DataFrag, Item, Items, NackFrag};
+use rtps_receiver::{Audience, FragmentBody, Spoken, SpokenBody, State};
+use rtps_wire::{DataFrag, Item, Items, NackFrag};
 use std::alloc::Global;
 use std::slice;
 
 /// The acts of a datagram, the fragments that its DATA_FRAG send, and how many of these have no fragments that can be used.
 #[derive(Drop)]
 pub struct Sending<'a> {
-    pub(crate) acts: Vec<Act<'a>>,
+    pub(crate) acts: Vec<Spoken<'a>>,
     pub(crate) sents: Vec<SentFragments<'a>>,
     pub(crate) unusable: u64,
-}
-
-/// The octets from this place on; none where it is past the end.
-fn octets_from(octets: &[u8], at: usize) -> &[u8]
-    ensures { result.now ≡ drop at octets.now }
-{
-    if at <= octets.len() {
-        &octets[at..]
-    } else {
-        &[]
-    }
-}
-
-/// Whether a submessage is skipped as a DATA_FRAG.
-fn is_skipped_data_frag(body: &Body<'_>) -> bool
-    ensures { result ≡ is_skipped_data_frag_lem (body_value body.now) }
-{
-    match body {
-        Body::Skipped { id } => *id == DATA_FRAG,
-        _ => false,
-    }
-}
-
-/// Whether a submessage is skipped as a NACK_FRAG.
-fn is_skipped_nack_frag(body: &Body<'_>) -> bool
-    ensures { result ≡ is_skipped_nack_frag_lem (body_value body.now) }
-{
-    match body {
-        Body::Skipped { id } => *id == NACK_FRAG,
-        _ => false,
-    }
-}
-
-/// The fragments that stand at an item of a datagram, if it is a DATA_FRAG that has some.
-fn fragments_at<'a>(item: &Item<'_>, datagram: &'a [u8]) -> Option<DataFrag<'a>>
-    ensures value { option_map data_frag_value result ≡ fragments_at_lem datagram.now (item_value item.now) }
-    ensures fragments { IfSome result (λ read. IsDataFrag (data_frag_value read)) }
-{
-    if item.body.is_fragment() {
-        DataFrag::read(octets_from(datagram, item.at))
-    } else {
-        None
-    }
-}
-
-/// What a reader asks for at an item of a datagram, if it is a NACK_FRAG that can be read.
-fn asks_at(item: &Item<'_>, datagram: &[u8]) -> Option<NackFrag>
-    ensures { result ≡ asks_at_lem datagram.now (item_value item.now) }
-{
-    if is_skipped_nack_frag(&item.body) {
-        NackFrag::read(octets_from(datagram, item.at))
-    } else {
-        None
-    }
 }
 
 /// The fragments of a DATA_FRAG, which is the act at this place, in this state.
@@ -122,11 +66,11 @@ fn sent_of<'a>(act: usize, state: &State, fragments: &DataFrag<'a>) -> SentFragm
 }
 
 /// The act that a DATA_FRAG is, which stands there, in this state.
-fn act_of<'a>(state: &State, item: &Item<'_>, fragments: &DataFrag<'a>) -> Act<'a>
-    ensures { act_value result ≡ act_at state.now (item_value item.now).at (item_value item.now).order
+fn act_of<'a>(state: &State, item: &Item<'_>, fragments: &DataFrag<'a>) -> Spoken<'a>
+    ensures { spoken_value result ≡ act_at state.now (item_value item.now).at (item_value item.now).order
         (DataFragAct (record { reader = fragments.now.reader; writer = fragments.now.writer; number = fragments.now.number; told = None })) }
 {
-    Act {
+    Spoken {
         at: item.at,
         source: state.source.prefix,
         version: state.source.version,
@@ -134,7 +78,7 @@ fn act_of<'a>(state: &State, item: &Item<'_>, fragments: &DataFrag<'a>) -> Act<'
         dest: state.dest,
         stamp: state.stamp,
         order: item.order,
-        body: ActBody::DataFrag(FragmentBody {
+        body: SpokenBody::DataFrag(FragmentBody {
             reader: fragments.reader,
             writer: fragments.writer,
             number: fragments.number,
@@ -144,10 +88,10 @@ fn act_of<'a>(state: &State, item: &Item<'_>, fragments: &DataFrag<'a>) -> Act<'
 }
 
 /// The act that a NACK_FRAG is, which stands there, in this state.
-fn asks_act<'a>(state: &State, item: &Item<'_>, asks: NackFrag) -> Act<'a>
-    ensures { act_value result ≡ act_at state.now (item_value item.now).at (item_value item.now).order (NackFragAct asks) }
+fn asks_act<'a>(state: &State, item: &Item<'_>, asks: NackFrag) -> Spoken<'a>
+    ensures { spoken_value result ≡ act_at state.now (item_value item.now).at (item_value item.now).order (NackFragAct asks) }
 {
-    Act {
+    Spoken {
         at: item.at,
         source: state.source.prefix,
         version: state.source.version,
@@ -155,7 +99,7 @@ fn asks_act<'a>(state: &State, item: &Item<'_>, asks: NackFrag) -> Act<'a>
         dest: state.dest,
         stamp: state.stamp,
         order: item.order,
-        body: ActBody::NackFrag(asks),
+        body: SpokenBody::NackFrag(asks),
     }
 }
 
@@ -206,13 +150,13 @@ impl<'a> Sending<'a> {
             (one_unusable datagram.now (item_value item.now))) }
         ensures state { OnOk result (state.new ≡ state_behind state.old (item_value item.now ∷ [])) }
     {
-        if let Some(act) = state.act(item) {
+        if let Some(act) = state.spoken(item) {
             self.acts.extend_from_slice(slice::from_ref(&act))?;
-        } else if let Some(fragments) = fragments_at(item, datagram) {
+        } else if let Some(fragments) = item.data_frag(datagram) {
             self.add_fragments(state, item, &fragments)?;
-        } else if let Some(asks) = asks_at(item, datagram) {
+        } else if let Some(asks) = item.nack_frag(datagram) {
             self.add_asks(state, item, asks)?;
-        } else if is_skipped_data_frag(&item.body) {
+        } else if item.body.is_data_frag() {
             self.unusable += 1;
         }
         state.interpret(item);
@@ -263,7 +207,7 @@ impl<'a> Sending<'a> {
     }
 
     /// The acts of the datagram that was read last.
-    pub fn acts(&self) -> &[Act<'a>]
+    pub fn acts(&self) -> &[Spoken<'a>]
         ensures { result.now ≡ self.now.acts.items }
     {
         &self.acts

@@ -2,13 +2,13 @@ use rtps_receiver::Audience;
 
 /// A sample that is told: put together of its fragments by the DATA_FRAG that completed it.
 #[derive(Drop)]
-pub struct ToldSample {
+pub(crate) struct ToldSample {
     /// The place of that DATA_FRAG among the acts of its datagram.
-    pub act: usize,
+    pub(crate) act: usize,
     /// To whom the sample is told.
-    pub audience: Audience,
+    pub(crate) audience: Audience,
     /// Whether the sample is a key.
-    pub is_key: bool,
+    pub(crate) is_key: bool,
     /// The octets of the sample.
-    pub octets: Vec<u8>,
+    pub(crate) octets: Vec<u8>,
 }

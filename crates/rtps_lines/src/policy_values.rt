@@ -17,7 +17,7 @@ use rtps_policies::{
 use std::fmt;
 
 /// By which names types are told.
-#[derive(Clone, Copy, PartialEq, Eq, Debug)]
+#[derive(Clone, Copy)]
 pub enum Naming {
     /// Those of DDS.
     Dds,

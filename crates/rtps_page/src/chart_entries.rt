@@ -1,6 +1,6 @@
 ghost use Rattle.std.specs.Prelude.{◌≡◌, ◌<◌, ◌^◌, ◌++◌, ◌∷◌, [], codes, OnOk, flat_map, string_bytes};
 ghost use Rattle.json.specs.Tree.{json_tokens};
-ghost use Rattle.rtps_receiver.specs.Values.{act_body_value};
+ghost use Rattle.rtps_receiver.specs.Values.{spoken_body_value};
 ghost use Rattle.rtps_audit.specs.Placed.{placed_value};
 ghost use Rattle.rtps_page.specs.ChartEntries.{audience_text, entries_of, entry_json, entries_at, gone_json, members_of, named_json, one_gone_json};
 
@@ -9,7 +9,7 @@ use json::Writer;
 use rtps_audit::Placed;
 use rtps_evidence::Location;
 use rtps_ids::NumberSet;
-use rtps_receiver::{ActBody, Audience, EVERY_READER};
+use rtps_receiver::{ActBody, Audience, EVERY_READER, SpokenBody};
 use rtps_wire::HeartbeatBody;
 use std::alloc::AllocError;
 
@@ -146,26 +146,35 @@ pub(crate) fn push_entries(
     push_said(writer, head, &placed.act.body)
 }
 
-fn push_said(writer: &mut Writer, head: EntryHead<'_>, body: &ActBody<'_>) -> Result<(), AllocError>
+fn push_said(
+    writer: &mut Writer,
+    head: EntryHead<'_>,
+    body: &SpokenBody<'_>,
+) -> Result<(), AllocError>
     ensures tokens { OnOk result (writer.new.tokens
-        ≡ writer.old.tokens ++ flat_map json_tokens (entries_at head.entry.place head.entry.named.now (act_body_value body.now))) }
+        ≡ writer.old.tokens ++ flat_map json_tokens (entries_at head.entry.place head.entry.named.now (spoken_body_value body.now))) }
     ensures before { writer.new.before ≡ writer.old.before }
 {
     match body {
-        ActBody::Data(data) => push_entry(writer, head, "data", &[data.number.get()]),
-        ActBody::Heartbeat(heartbeat) => {
+        SpokenBody::Act(ActBody::Data(data)) => push_entry(
+            writer,
+            head,
+            "data",
+            &[data.number.get()],
+        ),
+        SpokenBody::Act(ActBody::Heartbeat(heartbeat)) => {
             push_gone(writer, head, 1, heartbeat.first.get().cast_unsigned())?;
             push_last(writer, head, heartbeat)
         }
-        ActBody::Gap(gap) => {
+        SpokenBody::Act(ActBody::Gap(gap)) => {
             let start = gap.start.get().cast_unsigned();
             push_gone(writer, head, start, gap.list.base().cast_unsigned())?;
             push_members(writer, head, &gap.list)
         }
-        ActBody::DataFrag(piece) => match piece.told {
+        SpokenBody::DataFrag(piece) => match piece.told {
             Some(_) => Ok(()),
             None => push_entry(writer, head, "data", &[piece.number.get()]),
         },
-        ActBody::AckNack(_) | ActBody::NackFrag(_) => Ok(()),
+        SpokenBody::Act(ActBody::AckNack(_)) | SpokenBody::NackFrag(_) => Ok(()),
     }
 }

@@ -18,7 +18,7 @@ use std::alloc::{AllocError, Global};
 const ENTRIES: u128 = 200_000;
 
 /// Rows that are not complete come first, on the page and where room is given.
-#[derive(Clone, Copy, PartialEq, Eq, Debug)]
+#[derive(Clone, Copy)]
 pub(crate) enum Turn {
     Incomplete,
     Complete,
@@ -34,7 +34,7 @@ fn is_turn(turn: Turn, complete: bool) -> bool
 }
 
 /// What a row takes of the room.
-#[derive(Clone, Copy, Debug)]
+#[derive(Clone, Copy)]
 pub(crate) struct Need {
     pub(crate) pair: Pair,
     pub(crate) complete: bool,
@@ -46,7 +46,7 @@ pub(crate) struct Need {
 }
 
 /// How much room is used, and the writer of the row that was given room last.
-#[derive(Clone, Copy, Debug)]
+#[derive(Clone, Copy)]
 pub(crate) struct Room {
     pub(crate) used: u128,
     pub(crate) last: Option<Guid>,

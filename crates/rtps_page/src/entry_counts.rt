@@ -1,6 +1,6 @@
 ghost use Rattle.std.specs.Prelude.{ℕ, ◌≡◌, ◌≤◌, ◌<◌, ◌^◌, length, map, List, option_map};
 ghost use Rattle.rtps_ids.specs.NumberSet.{is_member};
-ghost use Rattle.rtps_receiver.specs.Values.{act_body_value};
+ghost use Rattle.rtps_receiver.specs.Values.{spoken_body_value};
 ghost use Rattle.rtps_wire.specs.Values.{payload_value};
 ghost use Rattle.rtps_audit.specs.Placed.{placed_value};
 ghost use Rattle.rtps_evidence.specs.declared.location.Location.{Location as LocationValue};
@@ -9,7 +9,7 @@ ghost use Rattle.rtps_page.specs.ChartTimes.{has_entry as has_entry_lem};
 
 use rtps_audit::Placed;
 use rtps_ids::{Guid, NumberSet};
-use rtps_receiver::{ActBody, FragmentBody};
+use rtps_receiver::{ActBody, FragmentBody, SpokenBody};
 
 pub(crate) fn has_number(set: &NumberSet, number: u64) -> bool
     requires { number < 2 ^ 63 }
@@ -52,19 +52,22 @@ fn one_if_piece(piece: &FragmentBody<'_>) -> u64
 }
 
 /// How many entries what an act says has.
-fn entries_in(body: &ActBody<'_>) -> u64
-    ensures value { (place : LocationValue) (named : List ℕ) → result ≡ length (entries_at place named (act_body_value body.now)) }
+fn entries_in(body: &SpokenBody<'_>) -> u64
+    ensures value { (place : LocationValue) (named : List ℕ) → result ≡ length (entries_at place named (spoken_body_value body.now)) }
     ensures few { result ≤ 257 }
 {
     match body {
-        ActBody::Data(_) => 1,
-        ActBody::Heartbeat(heartbeat) => one_if_gone(1, heartbeat.first.get().cast_unsigned()) + 1,
-        ActBody::Gap(gap) => {
+        SpokenBody::Act(ActBody::Data(_)) => 1,
+        SpokenBody::Act(ActBody::Heartbeat(heartbeat)) => one_if_gone(
+            1,
+            heartbeat.first.get().cast_unsigned(),
+        ) + 1,
+        SpokenBody::Act(ActBody::Gap(gap)) => {
             let start = gap.start.get().cast_unsigned();
             one_if_gone(start, gap.list.base().cast_unsigned()) + members_among(&gap.list)
         }
-        ActBody::DataFrag(piece) => one_if_piece(piece),
-        ActBody::AckNack(_) | ActBody::NackFrag(_) => 0,
+        SpokenBody::DataFrag(piece) => one_if_piece(piece),
+        SpokenBody::Act(ActBody::AckNack(_)) | SpokenBody::NackFrag(_) => 0,
     }
 }
 

@@ -1,6 +1,6 @@
 ghost use Rattle.std.specs.Prelude.{◌≡◌, ◌++◌, ◌∷◌, [], IfOk, List, OnErr, OnOk, map, unwrap_or};
 ghost use Rattle.std.specs.Option.{option_map};
-ghost use Rattle.rtps_receiver.specs.Values.{ActValue, act_value};
+ghost use Rattle.rtps_receiver.specs.Values.{ActValue, spoken_value};
 ghost use Rattle.rtps_discovery.specs.Endpoint.{endpoint_value};
 ghost use Rattle.rtps_discovery.specs.Notice.{announcement_of, participant_in};
 ghost use Rattle.rtps_policies.specs.Announcing.{IsAnnouncedBy, host_among, host_of as host_of_lem, host_told, hosts_in, kept_host, participant_of as participant_of_lem, payload_of as payload_of_lem, policies_among, policies_told, profile_among, unknown_host};
@@ -15,7 +15,7 @@ use crate::layout::entity;
 use crate::policies::Policies;
 use rtps_discovery::{Endpoint, announced_endpoint, read_participant};
 use rtps_ids::{Guid, GuidPrefix, Memory};
-use rtps_receiver::{Act, ActBody};
+use rtps_receiver::{ActBody, Spoken, SpokenBody};
 use rtps_wire::Payload;
 use std::alloc::Global;
 use std::collections::BTreeMap;
@@ -43,8 +43,8 @@ impl<'a> Announced<'a> {
 
     /// Keeps what an act announces, unless its GUID was announced before. An act that announces nothing, or has a fault, changes
     /// nothing. After `Memory` nothing has changed.
-    pub fn note(&mut self, act: &Act<'a>) -> Result<(), Memory>
-        ensures ok { OnOk result ((acts : List ActValue) → IsAnnouncedBy acts self.old → IsAnnouncedBy (acts ++ act_value act.now ∷ []) self.new) }
+    pub fn note(&mut self, act: &Spoken<'a>) -> Result<(), Memory>
+        ensures ok { OnOk result ((acts : List ActValue) → IsAnnouncedBy acts self.old → IsAnnouncedBy (acts ++ spoken_value act.now ∷ []) self.new) }
         ensures err { OnErr result ((acts : List ActValue) → IsAnnouncedBy acts self.old → IsAnnouncedBy acts self.new) }
     {
         if let Some((guid, policies)) = endpoint_told(act) {
@@ -57,8 +57,8 @@ impl<'a> Announced<'a> {
     }
 
     /// Notes acts in their order, as [`Announced::note`] does. After `Memory` what is kept is of no use.
-    pub fn note_all(&mut self, acts: &[Act<'a>]) -> Result<(), Memory>
-        ensures { OnOk result ((before : List ActValue) → IsAnnouncedBy before self.old → IsAnnouncedBy (before ++ map act_value acts.now) self.new) }
+    pub fn note_all(&mut self, acts: &[Spoken<'a>]) -> Result<(), Memory>
+        ensures { OnOk result ((before : List ActValue) → IsAnnouncedBy before self.old → IsAnnouncedBy (before ++ map spoken_value acts.now) self.new) }
     {
         for act in acts {
             self.note(act)?;
@@ -128,11 +128,11 @@ pub fn participant_of(prefix: GuidPrefix) -> Guid
 }
 
 /// The payload of an act that has a whole one; no octets of any other.
-fn payload_of<'a>(act: &Act<'a>) -> &'a [u8]
-    ensures { result.now ≡ payload_of_lem (act_value act.now).body }
+fn payload_of<'a>(act: &Spoken<'a>) -> &'a [u8]
+    ensures { result.now ≡ payload_of_lem (spoken_value act.now).body }
 {
     match &act.body {
-        ActBody::Data(data) => match &data.payload {
+        SpokenBody::Act(ActBody::Data(data)) => match &data.payload {
             Payload::Whole(payload) => payload,
             _ => &[],
         },
@@ -141,8 +141,8 @@ fn payload_of<'a>(act: &Act<'a>) -> &'a [u8]
 }
 
 /// The endpoint that an act announces, and its policies.
-fn endpoint_told<'a>(act: &Act<'a>) -> Option<(Guid, Policies<'a>)>
-    ensures { option_map (λ told. (told.0, policies_value told.1)) result ≡ policies_told (act_value act.now) }
+fn endpoint_told<'a>(act: &Spoken<'a>) -> Option<(Guid, Policies<'a>)>
+    ensures { option_map (λ told. (told.0, policies_value told.1)) result ≡ policies_told (spoken_value act.now) }
 {
     let endpoint = announced_endpoint(act)?;
     let policies = match list_in(payload_of(act)) {
@@ -153,10 +153,10 @@ fn endpoint_told<'a>(act: &Act<'a>) -> Option<(Guid, Policies<'a>)>
 }
 
 /// The participant that an act announces, from any source and to any destination. None where it announces none, or has a fault.
-pub fn announced_participant(act: &Act<'_>) -> Option<Guid>
-    ensures { result ≡ participant_in (announcement_of (act_value act.now)) }
+pub fn announced_participant(act: &Spoken<'_>) -> Option<Guid>
+    ensures { result ≡ participant_in (announcement_of (spoken_value act.now)) }
 {
-    let ActBody::Data(data) = &act.body else {
+    let SpokenBody::Act(ActBody::Data(data)) = &act.body else {
         return None;
     };
     if data.writer != entity::PARTICIPANTS {
@@ -172,8 +172,8 @@ pub fn announced_participant(act: &Act<'_>) -> Option<Guid>
 }
 
 /// The participant that an act announces, and its host.
-fn participant_told(act: &Act<'_>) -> Option<(Guid, Host)>
-    ensures { result ≡ host_told (act_value act.now) }
+fn participant_told(act: &Spoken<'_>) -> Option<(Guid, Host)>
+    ensures { result ≡ host_told (spoken_value act.now) }
 {
     let guid = announced_participant(act)?;
     let host = match list_in(payload_of(act)) {

@@ -8,7 +8,7 @@ use std::fmt;
 
 /// A span of time: seconds, and fractions of 2^-32 seconds. (DDSI-RTPS 2.5, 9.3.2 "Mapping of the Types
 /// that Appear Within Submessages or Built-in Topic Data", "Duration_t").
-#[derive(Clone, Copy, PartialEq, Eq, Debug)]
+#[derive(Clone, Copy, PartialEq)]
 pub struct Duration {
     pub seconds: i32,
     pub fraction: u32,

@@ -10,7 +10,7 @@ use std::alloc::Global;
 use std::fmt;
 
 /// An endpoint with all its policies, and the host of its participant. A writer offers the policies, a reader requests them.
-#[derive(Clone, Copy, Debug)]
+#[derive(Clone, Copy)]
 pub struct Profile<'a> {
     pub endpoint: Endpoint<'a>,
     pub policies: Policies<'a>,
@@ -19,7 +19,7 @@ pub struct Profile<'a> {
 
 /// A policy that a writer and a reader of one topic have to agree on (DDS 1.4, 2.2.3; XTypes 1.3, 7.6.3.1.1). The type of the
 /// topic counts as one.
-#[derive(Clone, Copy, PartialEq, Eq, Debug)]
+#[derive(Clone, Copy)]
 pub enum Policy {
     Reliability,
     Durability,

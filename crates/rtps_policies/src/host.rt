@@ -10,7 +10,7 @@ use rtps_params::{ParamList, read_u32};
 use std::fmt;
 
 /// Where a participant receives what is for it.
-#[derive(Clone, Copy, PartialEq, Eq, Debug)]
+#[derive(Clone, Copy, PartialEq)]
 pub enum Address {
     V4([u8; 4]),
     V6([u8; 16]),
@@ -54,7 +54,7 @@ fn write_groups<W: fmt::Write>(octets: &[u8], f: &mut fmt::Formatter<W>) -> fmt:
 }
 
 /// What a participant announces of where it is (DDSI-RTPS 2.5, 8.5.3.2 "SPDPdiscoveredParticipantData").
-#[derive(Clone, Copy, PartialEq, Eq, Debug)]
+#[derive(Clone, Copy)]
 pub struct Host {
     /// Its domain.
     pub domain: Option<u32>,

@@ -6,7 +6,7 @@ use rtps_ids::Order;
 use rtps_params::read_u32;
 
 /// Whether several writers may write one instance (DDS 1.4, 2.2.3.9 "OWNERSHIP").
-#[derive(Clone, Copy, PartialEq, Eq, Debug)]
+#[derive(Clone, Copy)]
 pub enum Ownership {
     Shared,
     Exclusive,
@@ -26,7 +26,7 @@ impl Ownership {
 }
 
 /// By which time samples of several writers are put in order. The weaker comes first (DDS 1.4, 2.2.3.17 "DESTINATION_ORDER").
-#[derive(Clone, Copy, PartialEq, Eq, PartialOrd, Ord, Debug)]
+#[derive(Clone, Copy, PartialEq, PartialOrd)]
 pub enum DestinationOrder {
     ByReception,
     BySource,

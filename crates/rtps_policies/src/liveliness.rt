@@ -8,7 +8,7 @@ use rtps_ids::Order;
 use rtps_params::read_u32;
 
 /// Who says that a writer is alive. The weaker comes first (DDS 1.4, 2.2.3.11 "LIVELINESS").
-#[derive(Clone, Copy, PartialEq, Eq, PartialOrd, Ord, Debug)]
+#[derive(Clone, Copy, PartialEq, PartialOrd)]
 pub enum LivelinessKind {
     Automatic,
     ManualByParticipant,
@@ -16,7 +16,7 @@ pub enum LivelinessKind {
 }
 
 /// Who says that a writer is alive, and how often at least.
-#[derive(Clone, Copy, PartialEq, Eq, Debug)]
+#[derive(Clone, Copy)]
 pub struct Liveliness {
     pub kind: LivelinessKind,
     pub lease: Duration,

@@ -2,17 +2,17 @@ ghost use Rattle.std.specs.Prelude.{◌≡◌, ◌+◌, ◌<◌, ◌^◌, ◌&&�
 ghost use Rattle.std.specs.BTreeMap.{get};
 ghost use Rattle.std.specs.BTreeSet.{contains};
 ghost use Rattle.std.specs.List.{list_any};
-ghost use Rattle.rtps_receiver.specs.Values.{ActValue, act_value};
+ghost use Rattle.rtps_receiver.specs.Values.{ActValue, spoken_value};
 ghost use Rattle.rtps_policies.specs.Namings.{AreNamingsOf, named_by, naming_cmp, names};
 ghost use Rattle.rtps_policies.specs.declared.naming.Naming.{Naming as NamingValue};
 
 use rtps_ids::{GuidPrefix, Memory};
-use rtps_receiver::Act;
+use rtps_receiver::Spoken;
 use std::alloc::Global;
 use std::collections::{BTreeMap, BTreeSet};
 
 /// A participant that sends, and the one that it names as the destination (DDSI-RTPS 2.5, 8.3.8.8 "InfoDestination").
-#[derive(Clone, Copy, PartialEq, Eq, PartialOrd, Ord, Debug)]
+#[derive(Clone, Copy, PartialEq, Eq, PartialOrd, Ord)]
 pub struct Naming {
     pub source: GuidPrefix,
     pub dest: GuidPrefix,
@@ -49,10 +49,10 @@ impl Namings {
     }
 
     /// Counts one datagram more, by its acts. After `Memory` the counts are of no use.
-    pub fn note(&mut self, acts: &[Act<'_>]) -> Result<(), Memory>
+    pub fn note(&mut self, acts: &[Spoken<'_>]) -> Result<(), Memory>
         requires { (naming : NamingValue) → named_by self.old naming + 1 < 2 ^ 64 }
         ensures { OnOk result ((datagrams : List (List ActValue)) → AreNamingsOf datagrams self.old
-            → AreNamingsOf (datagrams ++ map act_value acts.now ∷ []) self.new) }
+            → AreNamingsOf (datagrams ++ map spoken_value acts.now ∷ []) self.new) }
     {
         self.count_datagram(acts)
     }
@@ -68,10 +68,10 @@ impl Namings {
     }
 
     /// Counts the acts of one datagram, each naming once. After `Memory` the counts are of no use.
-    fn count_datagram(&mut self, acts: &[Act<'_>]) -> Result<(), Memory>
+    fn count_datagram(&mut self, acts: &[Spoken<'_>]) -> Result<(), Memory>
         requires { (naming : NamingValue) → unwrap_or (get naming_cmp self.old.counts naming) 0 + 1 < 2 ^ 64 }
         ensures { OnOk result ((naming : NamingValue) → unwrap_or (get naming_cmp self.new.counts naming) 0
-            ≡ unwrap_or (get naming_cmp self.old.counts naming) 0 + (if list_any (names naming) (map act_value acts.now) then 1 else 0)) }
+            ≡ unwrap_or (get naming_cmp self.old.counts naming) 0 + (if list_any (names naming) (map spoken_value acts.now) then 1 else 0)) }
     {
         let mut seen = BTreeSet::new(self.alloc);
         for act in acts {
@@ -81,13 +81,13 @@ impl Namings {
     }
 
     /// Counts the naming of an act, unless it was seen. After `Memory` the counts are of no use.
-    fn count_act(&mut self, seen: &mut BTreeSet<Naming>, act: &Act<'_>) -> Result<(), Memory>
+    fn count_act(&mut self, seen: &mut BTreeSet<Naming>, act: &Spoken<'_>) -> Result<(), Memory>
         requires { (naming : NamingValue) → contains naming_cmp seen.old naming ≡ false → unwrap_or (get naming_cmp self.old.counts naming) 0 + 1 < 2 ^ 64 }
         ensures seen { OnOk result ((naming : NamingValue) → contains naming_cmp seen.new naming
-            ≡ (contains naming_cmp seen.old naming || names naming (act_value act.now))) }
+            ≡ (contains naming_cmp seen.old naming || names naming (spoken_value act.now))) }
         ensures count { OnOk result ((naming : NamingValue) → unwrap_or (get naming_cmp self.new.counts naming) 0
             ≡ unwrap_or (get naming_cmp self.old.counts naming) 0
-            + (if names naming (act_value act.now) && not (contains naming_cmp seen.old naming) then 1 else 0)) }
+            + (if names naming (spoken_value act.now) && not (contains naming_cmp seen.old naming) then 1 else 0)) }
     {
         let Some(dest) = act.dest else {
             return Ok(());

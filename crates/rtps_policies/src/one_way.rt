@@ -11,7 +11,7 @@ use rtps_ids::Memory;
 use std::alloc::Global;
 
 /// A participant that names another, which never names it.
-#[derive(Clone, Copy, PartialEq, Eq, Debug)]
+#[derive(Clone, Copy)]
 pub struct OneWay {
     pub naming: Naming,
     /// In how many datagrams it does so.

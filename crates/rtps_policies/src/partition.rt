@@ -14,7 +14,7 @@ use std::marker::Model;
 
 /// The names of the partitions that an endpoint is in, as they are announced (DDS 1.4, 2.2.3.13 "PARTITION"). They are parts of
 /// the payload that announces it, and have any octets.
-#[derive(Clone, Copy, Debug)]
+#[derive(Clone, Copy)]
 pub struct Partition<'a> {
     count: u32,
     octets: &'a [u8],
@@ -22,7 +22,7 @@ pub struct Partition<'a> {
 }
 
 /// The names that are still to come.
-#[derive(Clone, Debug, Drop)]
+#[derive(Clone, Drop)]
 pub struct Names<'a> {
     count: u32,
     rest: &'a [u8],

@@ -14,7 +14,7 @@ use rtps_params::ParamList;
 
 /// What a writer offers, or a reader requests, beside reliability and durability (DDS 1.4, 2.2.3 "Supported QoS"). Names and ids
 /// are parts of the payload that announces it.
-#[derive(Clone, Copy, Debug)]
+#[derive(Clone, Copy)]
 pub struct Policies<'a> {
     pub deadline: Duration,
     pub latency_budget: Duration,

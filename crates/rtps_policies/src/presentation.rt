@@ -7,7 +7,7 @@ use rtps_ids::Order;
 use rtps_params::read_u32;
 
 /// Within what samples are presented together. The weaker comes first (DDS 1.4, 2.2.3.6 "PRESENTATION").
-#[derive(Clone, Copy, PartialEq, Eq, PartialOrd, Ord, Debug)]
+#[derive(Clone, Copy, PartialEq, PartialOrd)]
 pub enum AccessScope {
     Instance,
     Topic,
@@ -15,7 +15,7 @@ pub enum AccessScope {
 }
 
 /// How samples that belong together are presented.
-#[derive(Clone, Copy, PartialEq, Eq, Debug)]
+#[derive(Clone, Copy)]
 pub struct Presentation {
     pub scope: AccessScope,
     /// Changes that were made together are seen together.

@@ -12,7 +12,7 @@ use std::marker::Model;
 
 /// The ids of the representations that an endpoint announces, the best first (XTypes 1.3, 7.6.3.1.1
 /// "DataRepresentationQosPolicy"). An id is read without its sign.
-#[derive(Clone, Copy, Debug)]
+#[derive(Clone, Copy)]
 pub struct Representations<'a> {
     octets: &'a [u8],
     order: Order,
@@ -82,7 +82,7 @@ impl<'a> Representations<'a> {
 }
 
 /// The ids that are still to come.
-#[derive(Clone, Debug, Drop)]
+#[derive(Clone, Drop)]
 pub struct Ids<'a> {
     rest: &'a [u8],
     order: Order,

@@ -9,7 +9,7 @@ use crate::naming::{Naming, Namings};
 use rtps_discovery::Pair;
 
 /// Why a recording says nothing of a writer and a reader that match: no act of the reader's participant names the writer's.
-#[derive(Clone, Copy, PartialEq, Eq, Debug)]
+#[derive(Clone, Copy)]
 pub enum Silence {
     /// They are of one participant, and need no network.
     OneParticipant,

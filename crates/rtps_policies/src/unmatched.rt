@@ -15,7 +15,7 @@ use rtps_ids::Memory;
 use std::alloc::Global;
 
 /// A writer and a reader of one topic that do not match.
-#[derive(Debug, Drop)]
+#[derive(Drop)]
 pub struct Unmatched<'a> {
     pub writer: Profile<'a>,
     pub reader: Profile<'a>,

@@ -4,6 +4,8 @@ use Rattle.rtps_wire.specs.Values.{ItemValue}
 use Rattle.rtps_receiver.specs.Acts.{gathered, state_behind}
 use Rattle.rtps_receiver.specs.declared.state.State.{State}
 use Rattle.rtps_receiver.proofs.ActSteps.{gathered-behind}
+-- the numbers that an act names, range by range
+pub use Rattle.rtps_receiver.proofs.NumbersLemmas.{below, no_more, none_below, range_more}
 
 -- what is gathered behind one item is gathered from the state behind it on
 pub gathered-one : {X : Type 0} (gives : State → ItemValue → List X) (state : State) (item : ItemValue) (items : List ItemValue)

@@ -11,9 +11,8 @@ use Rattle.rtps_wire.specs.Values.BodyValue.{Data, Heartbeat, AckNack, Gap, Info
 use Rattle.rtps_wire.specs.declared.fault.Refusal.{Refusal}
 use Rattle.rtps_wire.specs.declared.header.Header.{Header}
 use Rattle.rtps_receiver.specs.Destination.{is_unknown}
-use Rattle.rtps_receiver.specs.declared.act.Act.{Act}
 use Rattle.rtps_receiver.specs.declared.state.State.{State}
-use Rattle.rtps_receiver.specs.Values.{ActBodyValue, ActValue, act_value}
+use Rattle.rtps_receiver.specs.Values.{ActBodyValue, ActValue}
 use Rattle.rtps_receiver.specs.Values.ActBodyValue.{Data as DataAct, Heartbeat as HeartbeatAct, AckNack as AckNackAct, Gap as GapAct}
 
 -- the later of two values, or the earlier one if there is no later
@@ -80,8 +79,8 @@ act_at state at order body =
     }
 
 -- an act that is this item in this state
-abbrev pub IsActIn : State → ItemValue → Act → Type 0
-IsActIn state item act = (body : ActBodyValue) × (act_body item.body ≡ Some body) × (act_value act ≡ act_at state item.at item.order body)
+abbrev pub IsActIn : State → ItemValue → ActValue → Type 0
+IsActIn state item act = (body : ActBodyValue) × (act_body item.body ≡ Some body) × (act ≡ act_at state item.at item.order body)
 
 -- the act that an item is, if it is one
 abbrev pub acts_of_item : State → ItemValue → Option ActBodyValue → List ActValue

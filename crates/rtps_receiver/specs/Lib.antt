@@ -4,3 +4,4 @@ pub mod Destination
 pub mod Speech
 pub mod Values
 pub mod Laws
+pub mod Said

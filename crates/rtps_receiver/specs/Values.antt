@@ -17,7 +17,10 @@ use Rattle.rtps_wire.specs.declared.nack_frag.NackFrag.{NackFrag as NackFragBody
 use Rattle.rtps_receiver.specs.declared.act.Act.{Act}
 use Rattle.rtps_receiver.specs.declared.act.ActBody.{ActBody}
 use Rattle.rtps_receiver.specs.declared.act.ActBody.TheVariants as body
-use Rattle.rtps_receiver.specs.declared.act.FragmentBody.{FragmentBody}
+use Rattle.rtps_receiver.specs.declared.spoken.FragmentBody.{FragmentBody}
+use Rattle.rtps_receiver.specs.declared.spoken.Spoken.{Spoken}
+use Rattle.rtps_receiver.specs.declared.spoken.SpokenBody.{SpokenBody}
+use Rattle.rtps_receiver.specs.declared.spoken.SpokenBody.TheVariants as spoken
 
 -- a DATA_FRAG: the number of its sample, and the sample where its fragments were put together
 pub record FragmentValue : Type 0 where
@@ -56,8 +59,12 @@ act_body_value (body.Data value) = Data (data_value value)
 act_body_value (body.Heartbeat value) = Heartbeat value
 act_body_value (body.AckNack value) = AckNack value
 act_body_value (body.Gap value) = Gap value
-act_body_value (body.DataFrag value) = DataFrag (fragment_value value)
-act_body_value (body.NackFrag value) = NackFrag value
+
+-- what a walk of the code hands on, as a value
+abbrev pub spoken_body_value : SpokenBody → ActBodyValue
+spoken_body_value (spoken.Act value) = act_body_value value
+spoken_body_value (spoken.DataFrag value) = DataFrag (fragment_value value)
+spoken_body_value (spoken.NackFrag value) = NackFrag value
 
 -- what an act of the code stands for
 abbrev pub act_value : Act → ActValue
@@ -71,6 +78,20 @@ act_value act =
       stamp = act.stamp;
       order = act.order;
       body = act_body_value act.body;
+    }
+
+-- the same of all that a walk hands on
+abbrev pub spoken_value : Spoken → ActValue
+spoken_value act =
+    record {
+      at = act.at;
+      source = act.source;
+      version = act.version;
+      vendor = act.vendor;
+      dest = act.dest;
+      stamp = act.stamp;
+      order = act.order;
+      body = spoken_body_value act.body;
     }
 
 -- the next act, or the refusal that ends the datagram, as a value

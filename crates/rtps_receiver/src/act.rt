@@ -1,17 +1,9 @@
-use rtps_ids::{EntityId, GuidPrefix, Order, SeqNum, Stamp, Vendor, Version};
-use rtps_wire::{AckNackBody, DataBody, GapBody, HeartbeatBody, NackFrag, Payload};
+ghost use Rattle.std.specs.Prelude.{◌≡◌};
+ghost use Rattle.rtps_receiver.specs.Values.{act_body_value, act_value, spoken_value};
 
-/// What a DATA_FRAG says: that a sample of this number exists, and, where its fragments were put together, the sample
-/// (DDSI-RTPS 2.5, 8.3.8.3 "DataFrag").
-#[derive(Clone, Copy, PartialEq, Eq, Debug)]
-pub struct FragmentBody<'a> {
-    pub reader: EntityId,
-    pub writer: EntityId,
-    /// The number of the sample.
-    pub number: SeqNum,
-    /// What the fragments up to this one were put together to; None where the act tells no sample.
-    pub told: Option<Payload<'a>>,
-}
+use crate::spoken::{Spoken, SpokenBody};
+use rtps_ids::{GuidPrefix, Order, Stamp, Vendor, Version};
+use rtps_wire::{AckNackBody, DataBody, GapBody, HeartbeatBody};
 
 /// What an act says.
 #[derive(Clone, Copy, PartialEq, Eq, Debug)]
@@ -20,12 +12,10 @@ pub enum ActBody<'a> {
     Heartbeat(HeartbeatBody),
     AckNack(AckNackBody),
     Gap(GapBody),
-    DataFrag(FragmentBody<'a>),
-    NackFrag(NackFrag),
 }
 
-/// A DATA, HEARTBEAT, ACKNACK, GAP, DATA_FRAG or NACK_FRAG with the receiver's state at its place (DDSI-RTPS 2.5, 8.3.4 "The
-/// RTPS Message Receiver").
+/// A DATA, HEARTBEAT, ACKNACK or GAP with the receiver's state at its place (DDSI-RTPS 2.5, 8.3.4 "The RTPS Message
+/// Receiver").
 #[derive(Clone, Copy, PartialEq, Eq, Debug)]
 pub struct Act<'a> {
     /// The place of its first octet in the datagram, from 0.
@@ -43,4 +33,42 @@ pub struct Act<'a> {
     /// The order of the octets of its numbers.
     pub order: Order,
     pub body: ActBody<'a>,
+}
+
+impl<'a> ActBody<'a> {
+    /// The same once more.
+    pub fn copied(&self) -> ActBody<'a>
+        ensures { act_body_value result ≡ act_body_value self.now }
+    {
+        match self {
+            ActBody::Data(data) => ActBody::Data(DataBody {
+                reader: data.reader,
+                writer: data.writer,
+                number: data.number,
+                qos: data.qos,
+                payload: data.payload,
+            }),
+            ActBody::Heartbeat(heartbeat) => ActBody::Heartbeat(*heartbeat),
+            ActBody::AckNack(ack_nack) => ActBody::AckNack(*ack_nack),
+            ActBody::Gap(gap) => ActBody::Gap(*gap),
+        }
+    }
+}
+
+impl<'a> Act<'a> {
+    /// The act as one of all that a walk hands on.
+    pub fn spoken(&self) -> Spoken<'a>
+        ensures { spoken_value result ≡ act_value self.now }
+    {
+        Spoken {
+            at: self.at,
+            source: self.source,
+            version: self.version,
+            vendor: self.vendor,
+            dest: self.dest,
+            stamp: self.stamp,
+            order: self.order,
+            body: SpokenBody::Act(self.body.copied()),
+        }
+    }
 }

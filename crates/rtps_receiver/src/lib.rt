@@ -5,12 +5,16 @@
 mod act;
 pub mod laws;
 mod receiver;
+mod said;
 mod speech;
+mod spoken;
 mod state;
 mod walk;
 
-pub use act::{Act, ActBody, FragmentBody};
+pub use act::{Act, ActBody};
 pub use receiver::Acts;
+pub use said::{Numbers, SaidNumbers};
 pub use speech::{Audience, EVERY_READER};
+pub use spoken::{FragmentBody, Spoken, SpokenBody};
 pub use state::State;
 pub use walk::Walk;

@@ -1,4 +1,5 @@
 use crate::act::{Act, ActBody};
+use crate::spoken::{Spoken, SpokenBody};
 use rtps_ids::{EntityId, Guid, GuidPrefix};
 
 /// The entity id that names every reader (DDSI-RTPS 2.5, 9.3.1.2 "Mapping of the EntityId_t").
@@ -33,43 +34,129 @@ impl Audience {
     }
 }
 
+impl<'a> ActBody<'a> {
+    ghost use Rattle.std.specs.Prelude.{◌≡◌};
+    ghost use Rattle.rtps_receiver.specs.Speech.{entity_from, reader_named, writer_named};
+    ghost use Rattle.rtps_receiver.specs.Values.{act_body_value};
+
+    /// The entity that it is from.
+    fn entity_from(&self) -> EntityId
+        ensures { result ≡ entity_from (act_body_value self.now) }
+    {
+        match self {
+            ActBody::Data(data) => data.writer,
+            ActBody::Heartbeat(heartbeat) => heartbeat.writer,
+            ActBody::Gap(gap) => gap.writer,
+            ActBody::AckNack(ack_nack) => ack_nack.reader,
+        }
+    }
+
+    /// The writer that it names, unless it is an ACKNACK.
+    fn writer_named(&self) -> Option<EntityId>
+        ensures { result ≡ writer_named (act_body_value self.now) }
+    {
+        match self {
+            ActBody::Data(data) => Some(data.writer),
+            ActBody::Heartbeat(heartbeat) => Some(heartbeat.writer),
+            ActBody::Gap(gap) => Some(gap.writer),
+            ActBody::AckNack(_) => None,
+        }
+    }
+
+    /// The reader that it names, unless it is an ACKNACK.
+    fn reader_named(&self) -> Option<EntityId>
+        ensures { result ≡ reader_named (act_body_value self.now) }
+    {
+        match self {
+            ActBody::Data(data) => Some(data.reader),
+            ActBody::Heartbeat(heartbeat) => Some(heartbeat.reader),
+            ActBody::Gap(gap) => Some(gap.reader),
+            ActBody::AckNack(_) => None,
+        }
+    }
+}
+
+impl<'a> SpokenBody<'a> {
+    ghost use Rattle.std.specs.Prelude.{◌≡◌};
+    ghost use Rattle.rtps_receiver.specs.Speech.{asks_pair, entity_from, reader_named, writer_named};
+    ghost use Rattle.rtps_receiver.specs.Values.{spoken_body_value};
+
+    /// The entity that it is from.
+    fn entity_from(&self) -> EntityId
+        ensures { result ≡ entity_from (spoken_body_value self.now) }
+    {
+        match self {
+            SpokenBody::Act(body) => body.entity_from(),
+            SpokenBody::DataFrag(fragment) => fragment.writer,
+            SpokenBody::NackFrag(nack_frag) => nack_frag.reader,
+        }
+    }
+
+    /// The writer that it names, unless it is an ACKNACK or a NACK_FRAG.
+    fn writer_named(&self) -> Option<EntityId>
+        ensures { result ≡ writer_named (spoken_body_value self.now) }
+    {
+        match self {
+            SpokenBody::Act(body) => body.writer_named(),
+            SpokenBody::DataFrag(fragment) => Some(fragment.writer),
+            SpokenBody::NackFrag(_) => None,
+        }
+    }
+
+    /// The reader that it names, unless it is an ACKNACK or a NACK_FRAG.
+    fn reader_named(&self) -> Option<EntityId>
+        ensures { result ≡ reader_named (spoken_body_value self.now) }
+    {
+        match self {
+            SpokenBody::Act(body) => body.reader_named(),
+            SpokenBody::DataFrag(fragment) => Some(fragment.reader),
+            SpokenBody::NackFrag(_) => None,
+        }
+    }
+
+    /// Whether it is an ACKNACK or a NACK_FRAG that names these two.
+    fn asks_pair(&self, reader: EntityId, writer: EntityId) -> bool
+        ensures { result ≡ asks_pair (spoken_body_value self.now) reader writer }
+    {
+        match self {
+            SpokenBody::Act(ActBody::AckNack(ack_nack)) => {
+                ack_nack.reader == reader && ack_nack.writer == writer
+            }
+            SpokenBody::NackFrag(nack_frag) => {
+                nack_frag.reader == reader && nack_frag.writer == writer
+            }
+            _ => false,
+        }
+    }
+}
+
 impl<'a> Act<'a> {
     ghost use Rattle.std.specs.Prelude.{◌↔◌, ◌≡◌, IsTrue, Some};
     ghost use Rattle.rtps_ids.specs.declared.identity.Guid.{Guid as GuidValue};
     ghost use Rattle.rtps_receiver.specs.Audience.{audience_of};
-    ghost use Rattle.rtps_receiver.specs.Speech.{IsAnswer, IsHeardBy, IsRequest, IsSpokenBy, asks_pair, is_answer, is_heard_by, is_request, is_spoken_by, origin_of, reader_named, writer_answered, writer_named};
+    ghost use Rattle.rtps_receiver.specs.Speech.{IsAnswer, IsHeardBy, IsSpokenBy, is_answer, is_heard_by, is_spoken_by, origin_of, writer_answered};
     ghost use Rattle.rtps_receiver.specs.Values.{act_value};
 
-    /// The GUID that the act is from: its source, and the reader that an ACKNACK or a NACK_FRAG names, or the writer that any
-    /// other act names.
+    /// The GUID that it is from: its source, and the reader that an ACKNACK names, or the writer that any other act names.
     pub fn origin(&self) -> Guid
         ensures { result ≡ origin_of (act_value self.now) }
     {
-        let entity = match &self.body {
-            ActBody::Data(data) => data.writer,
-            ActBody::Heartbeat(heartbeat) => heartbeat.writer,
-            ActBody::Gap(gap) => gap.writer,
-            ActBody::DataFrag(fragment) => fragment.writer,
-            ActBody::AckNack(ack_nack) => ack_nack.reader,
-            ActBody::NackFrag(nack_frag) => nack_frag.reader,
-        };
         Guid {
             prefix: self.source,
-            entity,
+            entity: self.body.entity_from(),
         }
     }
 
-    /// Whether this writer sent the act: an act from its participant that names it as the writer. False for an ACKNACK and a
-    /// NACK_FRAG.
+    /// Whether this writer sent it: an act from its participant that names it as the writer. False for an ACKNACK.
     pub fn spoken_by(&self, writer: Guid) -> bool
         ensures relation { IsTrue result ↔ IsSpokenBy (act_value self.now) writer }
         ensures test { result ≡ is_spoken_by (act_value self.now) writer }
     {
-        self.source == writer.prefix && self.writer_named() == Some(writer.entity)
+        self.source == writer.prefix && self.body.writer_named() == Some(writer.entity)
     }
 
-    /// Whether the act is sent to this reader: an act to everyone or to its participant that names
-    /// this reader or every reader. False for an ACKNACK and a NACK_FRAG. It does not say whether the reader received it.
+    /// Whether it is sent to this reader: an act to everyone or to its participant that names this reader or every reader.
+    /// False for an ACKNACK. It does not say whether the reader received it.
     pub fn heard_by(&self, reader: Guid) -> bool
         ensures relation { IsTrue result ↔ IsHeardBy (act_value self.now) reader }
         ensures test { result ≡ is_heard_by (act_value self.now) reader }
@@ -80,27 +167,27 @@ impl<'a> Act<'a> {
         }
     }
 
-    /// The readers that an act of a writer is sent to. None for an ACKNACK and a NACK_FRAG.
+    /// The readers that an act of a writer is sent to. None for an ACKNACK.
     pub fn audience(&self) -> Option<Audience>
         ensures { result ≡ audience_of (act_value self.now) }
     {
         Some(Audience {
             dest: self.dest,
-            reader: self.reader_named()?,
+            reader: self.body.reader_named()?,
         })
     }
 
-    /// Whether the act is an ACKNACK of this reader that answers this writer: its destination is the writer's
-    /// participant. False for any other act, and for an ACKNACK to everyone.
+    /// Whether it is an ACKNACK of this reader that answers this writer: its destination is the writer's participant. False
+    /// for any other act, and for an ACKNACK to everyone.
     pub fn answers(&self, reader: Guid, writer: Guid) -> bool
         ensures relation { IsTrue result ↔ IsAnswer (act_value self.now) reader writer }
         ensures test { result ≡ is_answer (act_value self.now) reader writer }
     {
-        self.answered() == Some(writer) && self.origin() == reader
+        self.origin() == reader && self.answered() == Some(writer)
     }
 
-    /// The writer that the act answers: the writer that an ACKNACK names, of the participant that is its destination.
-    /// None for any other act, and for an ACKNACK to everyone. The answer is that of the act's origin.
+    /// The writer that it answers: the writer that an ACKNACK names, of the participant that is its destination. None for any
+    /// other act, and for an ACKNACK to everyone. The answer is that of its origin.
     pub fn answered(&self) -> Option<Guid>
         ensures relation { (reader writer : GuidValue)
             → IsAnswer (act_value self.now) reader writer ↔ ((origin_of (act_value self.now) ≡ reader) × (result ≡ Some writer)) }
@@ -114,54 +201,88 @@ impl<'a> Act<'a> {
             entity: ack_nack.writer,
         })
     }
+}
 
-    /// Whether the act is a request of this reader to this writer: an ACKNACK or a NACK_FRAG of the reader, whose destination is
+impl<'a> Spoken<'a> {
+    ghost use Rattle.std.specs.Prelude.{◌↔◌, ◌≡◌, IsTrue, Some};
+    ghost use Rattle.rtps_ids.specs.declared.identity.Guid.{Guid as GuidValue};
+    ghost use Rattle.rtps_receiver.specs.Audience.{audience_of};
+    ghost use Rattle.rtps_receiver.specs.Speech.{IsAnswer, IsHeardBy, IsRequest, IsSpokenBy, is_answer, is_heard_by, is_request, is_spoken_by, origin_of, writer_answered};
+    ghost use Rattle.rtps_receiver.specs.Values.{spoken_value};
+
+    /// The GUID that it is from: its source, and the reader that an ACKNACK or a NACK_FRAG names, or the writer that any other act names.
+    pub fn origin(&self) -> Guid
+        ensures { result ≡ origin_of (spoken_value self.now) }
+    {
+        Guid {
+            prefix: self.source,
+            entity: self.body.entity_from(),
+        }
+    }
+
+    /// Whether this writer sent it: an act from its participant that names it as the writer. False for an ACKNACK or a NACK_FRAG.
+    pub fn spoken_by(&self, writer: Guid) -> bool
+        ensures relation { IsTrue result ↔ IsSpokenBy (spoken_value self.now) writer }
+        ensures test { result ≡ is_spoken_by (spoken_value self.now) writer }
+    {
+        self.source == writer.prefix && self.body.writer_named() == Some(writer.entity)
+    }
+
+    /// Whether it is sent to this reader: an act to everyone or to its participant that names this reader or every reader.
+    /// False for an ACKNACK or a NACK_FRAG. It does not say whether the reader received it.
+    pub fn heard_by(&self, reader: Guid) -> bool
+        ensures relation { IsTrue result ↔ IsHeardBy (spoken_value self.now) reader }
+        ensures test { result ≡ is_heard_by (spoken_value self.now) reader }
+    {
+        match self.audience() {
+            Some(audience) => audience.has(reader),
+            None => false,
+        }
+    }
+
+    /// The readers that an act of a writer is sent to. None for an ACKNACK or a NACK_FRAG.
+    pub fn audience(&self) -> Option<Audience>
+        ensures { result ≡ audience_of (spoken_value self.now) }
+    {
+        Some(Audience {
+            dest: self.dest,
+            reader: self.body.reader_named()?,
+        })
+    }
+
+    /// Whether it is an ACKNACK of this reader that answers this writer: its destination is the writer's participant. False
+    /// for any other act, and for an ACKNACK to everyone.
+    pub fn answers(&self, reader: Guid, writer: Guid) -> bool
+        ensures relation { IsTrue result ↔ IsAnswer (spoken_value self.now) reader writer }
+        ensures test { result ≡ is_answer (spoken_value self.now) reader writer }
+    {
+        self.answered() == Some(writer) && self.origin() == reader
+    }
+
+    /// The writer that it answers: the writer that an ACKNACK names, of the participant that is its destination. None for any
+    /// other act, and for an ACKNACK to everyone. The answer is that of its origin.
+    pub fn answered(&self) -> Option<Guid>
+        ensures relation { (reader writer : GuidValue)
+            → IsAnswer (spoken_value self.now) reader writer ↔ ((origin_of (spoken_value self.now) ≡ reader) × (result ≡ Some writer)) }
+        ensures value { result ≡ writer_answered (spoken_value self.now) }
+    {
+        let SpokenBody::Act(ActBody::AckNack(ack_nack)) = &self.body else {
+            return None;
+        };
+        Some(Guid {
+            prefix: self.dest?,
+            entity: ack_nack.writer,
+        })
+    }
+
+    /// Whether it is a request of this reader to this writer: an ACKNACK or a NACK_FRAG of the reader, whose destination is
     /// the writer's participant. False for any other act, and for one to everyone.
     pub fn asks(&self, reader: Guid, writer: Guid) -> bool
-        ensures relation { IsTrue result ↔ IsRequest (act_value self.now) reader writer }
-        ensures test { result ≡ is_request (act_value self.now) reader writer }
+        ensures relation { IsTrue result ↔ IsRequest (spoken_value self.now) reader writer }
+        ensures test { result ≡ is_request (spoken_value self.now) reader writer }
     {
         self.source == reader.prefix
             && self.dest == Some(writer.prefix)
-            && self.asks_pair(reader.entity, writer.entity)
-    }
-
-    /// Whether the act is an ACKNACK or a NACK_FRAG that names these two.
-    fn asks_pair(&self, reader: EntityId, writer: EntityId) -> bool
-        ensures { result ≡ asks_pair (act_value self.now).body reader writer }
-    {
-        match &self.body {
-            ActBody::AckNack(ack_nack) => ack_nack.reader == reader && ack_nack.writer == writer,
-            ActBody::NackFrag(nack_frag) => {
-                nack_frag.reader == reader && nack_frag.writer == writer
-            }
-            _ => false,
-        }
-    }
-
-    /// The writer that the act names, unless it is an ACKNACK or a NACK_FRAG.
-    fn writer_named(&self) -> Option<EntityId>
-        ensures { result ≡ writer_named (act_value self.now).body }
-    {
-        match &self.body {
-            ActBody::Data(data) => Some(data.writer),
-            ActBody::Heartbeat(heartbeat) => Some(heartbeat.writer),
-            ActBody::Gap(gap) => Some(gap.writer),
-            ActBody::DataFrag(fragment) => Some(fragment.writer),
-            ActBody::AckNack(_) | ActBody::NackFrag(_) => None,
-        }
-    }
-
-    /// The reader that the act names, unless it is an ACKNACK or a NACK_FRAG.
-    fn reader_named(&self) -> Option<EntityId>
-        ensures { result ≡ reader_named (act_value self.now).body }
-    {
-        match &self.body {
-            ActBody::Data(data) => Some(data.reader),
-            ActBody::Heartbeat(heartbeat) => Some(heartbeat.reader),
-            ActBody::Gap(gap) => Some(gap.reader),
-            ActBody::DataFrag(fragment) => Some(fragment.reader),
-            ActBody::AckNack(_) | ActBody::NackFrag(_) => None,
-        }
+            && self.body.asks_pair(reader.entity, writer.entity)
     }
 }

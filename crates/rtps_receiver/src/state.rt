@@ -6,6 +6,7 @@ ghost use Rattle.rtps_receiver.specs.Values.{act_body_value};
 ghost use Rattle.rtps_wire.specs.Values.{body_value};
 
 use crate::act::{Act, ActBody};
+use crate::spoken::{Spoken, SpokenBody};
 use rtps_ids::{GuidPrefix, Stamp};
 use rtps_wire::{Body, DataBody, Header, Item};
 
@@ -21,6 +22,7 @@ pub struct State {
 impl State {
     ghost use Rattle.std.specs.Prelude.{◌≡◌, [], ◌∷◌, MatchOption, None, Some};
     ghost use Rattle.rtps_receiver.specs.Acts.{IsActIn, act_body, state_at_start, state_behind};
+    ghost use Rattle.rtps_receiver.specs.Values.{act_value, spoken_value};
     ghost use Rattle.rtps_wire.specs.Values.{item_value};
 
     /// The state at the start of a message.
@@ -37,7 +39,7 @@ impl State {
     /// The act that this item is in this state, or None if it is no act.
     #[inline(always)]
     pub fn act<'a>(&self, item: &Item<'a>) -> Option<Act<'a>>
-        ensures { MatchOption result (act_body (item_value item.now).body ≡ None) (IsActIn self.now (item_value item.now)) }
+        ensures { MatchOption result (act_body (item_value item.now).body ≡ None) (λ act. IsActIn self.now (item_value item.now) (act_value act)) }
     {
         let Some(body) = body_of_act(&item.body) else {
             return None;
@@ -51,6 +53,26 @@ impl State {
             stamp: self.stamp,
             order: item.order,
             body,
+        })
+    }
+
+    /// The same as what a walk hands on.
+    #[inline(always)]
+    pub fn spoken<'a>(&self, item: &Item<'a>) -> Option<Spoken<'a>>
+        ensures { MatchOption result (act_body (item_value item.now).body ≡ None) (λ act. IsActIn self.now (item_value item.now) (spoken_value act)) }
+    {
+        let Some(body) = body_of_act(&item.body) else {
+            return None;
+        };
+        Some(Spoken {
+            at: item.at,
+            source: self.source.prefix,
+            version: self.source.version,
+            vendor: self.source.vendor,
+            dest: self.dest,
+            stamp: self.stamp,
+            order: item.order,
+            body: SpokenBody::Act(body),
         })
     }
 

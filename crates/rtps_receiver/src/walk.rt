@@ -1,10 +1,10 @@
 ghost use Rattle.std.specs.Prelude.{◌≡◌, ◌<◌, ◌^◌, [], length, map, if◌then◌else◌, IfOk, OnOk};
 ghost use Rattle.rtps_receiver.specs.Acts.{acts_behind, acts_of, data_among};
-ghost use Rattle.rtps_receiver.specs.Values.{act_value};
+ghost use Rattle.rtps_receiver.specs.Values.{spoken_value};
 ghost use Rattle.rtps_wire.specs.Reading.{items_among, outcomes_left, reading_of};
 ghost use Rattle.rtps_wire.specs.Tally.{tally_of, tally_of_outcomes};
 
-use crate::act::Act;
+use crate::spoken::Spoken;
 use crate::state::State;
 use rtps_ids::Memory;
 use rtps_wire::{Body, Items, Tally};
@@ -16,16 +16,16 @@ use std::slice;
 /// next one is read, so it takes memory for the acts of one datagram.
 #[derive(Drop)]
 pub struct Walk<'a> {
-    acts: Vec<Act<'a>>,
+    acts: Vec<Spoken<'a>>,
 }
 
 impl<'a> Model for Walk<'a> {
     ghost use Rattle.std.specs.Prelude.{List, map};
-    ghost use Rattle.rtps_receiver.specs.Values.{ActValue, act_value};
+    ghost use Rattle.rtps_receiver.specs.Values.{ActValue, spoken_value};
 
     ghost Value = { List ActValue };
 
-    ghost view = { λ walk. map act_value walk.acts.items };
+    ghost view = { λ walk. map spoken_value walk.acts.items };
 }
 
 impl<'a> Walk<'a> {
@@ -68,18 +68,22 @@ impl<'a> Walk<'a> {
     }
 
     /// The acts of the datagram that was read last, in order, each with the receiver's state at its place.
-    pub fn acts(&self) -> &[Act<'a>]
-        ensures { map act_value result.now ≡ self.now }
+    pub fn acts(&self) -> &[Spoken<'a>]
+        ensures { map spoken_value result.now ≡ self.now }
     {
         &self.acts
     }
 }
 
 /// Appends the acts of the unread part of a datagram, from this state on, and counts its items.
-fn push_acts<'a>(acts: &mut Vec<Act<'a>>, start: State, items: Items<'a>) -> Result<Tally, Memory>
+fn push_acts<'a>(
+    acts: &mut Vec<Spoken<'a>>,
+    start: State,
+    items: Items<'a>,
+) -> Result<Tally, Memory>
     requires empty { acts.old.items ≡ [] }
     requires few { length (outcomes_left items) < 2 ^ 64 }
-    ensures acts { OnOk result (map act_value acts.new.items ≡ acts_behind start [] (items_among (outcomes_left items.entry))) }
+    ensures acts { OnOk result (map spoken_value acts.new.items ≡ acts_behind start [] (items_among (outcomes_left items.entry))) }
     ensures tally { IfOk result (λ tally. tally ≡ tally_of_outcomes (outcomes_left items.entry)) }
 {
     let mut state = start;
@@ -98,7 +102,7 @@ fn push_acts<'a>(acts: &mut Vec<Act<'a>>, start: State, items: Items<'a>) -> Res
         }
         match items.next() {
             Some(Ok(item)) => {
-                if let Some(act) = state.act(&item) {
+                if let Some(act) = state.spoken(&item) {
                     acts.extend_from_slice(slice::from_ref(&act))?;
                 } else {
                     state.interpret(&item);
@@ -111,9 +115,9 @@ fn push_acts<'a>(acts: &mut Vec<Act<'a>>, start: State, items: Items<'a>) -> Res
 }
 
 /// Appends the DATA of the unread part of a datagram, from this state on.
-fn push_data<'a>(acts: &mut Vec<Act<'a>>, start: State, items: Items<'a>) -> Result<(), Memory>
+fn push_data<'a>(acts: &mut Vec<Spoken<'a>>, start: State, items: Items<'a>) -> Result<(), Memory>
     requires { acts.old.items ≡ [] }
-    ensures { OnOk result (map act_value acts.new.items
+    ensures { OnOk result (map spoken_value acts.new.items
         ≡ data_among (acts_behind start [] (items_among (outcomes_left items.entry)))) }
 {
     let mut state = start;
@@ -125,7 +129,7 @@ fn push_data<'a>(acts: &mut Vec<Act<'a>>, start: State, items: Items<'a>) -> Res
         match items.next() {
             Some(Ok(item)) => match &item.body {
                 Body::Data(_) => {
-                    if let Some(act) = state.act(&item) {
+                    if let Some(act) = state.spoken(&item) {
                         acts.extend_from_slice(slice::from_ref(&act))?;
                     }
                 }

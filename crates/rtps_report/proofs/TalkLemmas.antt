@@ -15,7 +15,7 @@ use Rattle.rtps_ids.specs.declared.identity.EntityId.{EntityId}
 use Rattle.rtps_ids.specs.declared.identity.Guid.{Guid}
 use Rattle.rtps_ids.specs.declared.identity.GuidPrefix.{GuidPrefix}
 use Rattle.rtps_receiver.specs.Speech.{is_prefix}
-use Rattle.rtps_receiver.specs.Values.{ActBodyValue, ActValue, act_value}
+use Rattle.rtps_receiver.specs.Values.{ActBodyValue, ActValue, spoken_value}
 use Rattle.rtps_receiver.specs.Values.ActBodyValue.{Data, Heartbeat, AckNack, Gap, DataFrag, NackFrag}
 use Rattle.rtps_discovery.specs.Directory.{DirectoryValue, Entries, IsMapOf, settled_at, settled_in}
 use Rattle.rtps_discovery.specs.GuidOrder.{guid_cmp}
@@ -314,11 +314,11 @@ none_talk asked other times talk is are unmatched one_way best_effort total held
 -- ---- announcements, one after another
 
 pub announced_more : (announcements : List Placed) (i : ℕ) (one : Placed) (announced : Announced) → i < length announcements → one ≡ get_or announcements i one
-    → IsAnnouncedBy (map (λ (p : PlacedValue). p.act) (map placed_value (take i announcements)) ++ act_value one.act ∷ []) announced
+    → IsAnnouncedBy (map (λ (p : PlacedValue). p.act) (map placed_value (take i announcements)) ++ spoken_value one.act ∷ []) announced
     → IsAnnouncedBy (map (λ (p : PlacedValue). p.act) (map placed_value (take (i + 1) announcements))) announced
 announced_more announcements i one announced within read is =
     let so_far = map placed_value (take i announcements) in
-    let more : map (λ (p : PlacedValue). p.act) (map placed_value (take (i + 1) announcements)) ≡ map (λ (p : PlacedValue). p.act) so_far ++ act_value one.act ∷ [] =
+    let more : map (λ (p : PlacedValue). p.act) (map placed_value (take (i + 1) announcements)) ≡ map (λ (p : PlacedValue). p.act) so_far ++ spoken_value one.act ∷ [] =
     ap (map (λ (p : PlacedValue). p.act)) (map_more placed_value announcements i one within ∙ ap (λ (last : Placed). so_far ++ placed_value last ∷ []) (sym read))
     ∙ map_push (λ (p : PlacedValue). p.act) so_far (placed_value one) in
     subst (λ acts. IsAnnouncedBy acts announced) (sym more) is

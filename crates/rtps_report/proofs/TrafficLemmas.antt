@@ -13,8 +13,8 @@ use Rattle.std.proofs.lemmas.Map.Lookups.{CmpEqualImpliesEq, exact_bytes}
 use Rattle.std.proofs.lemmas.Map.Views.{tells_apart}
 use Rattle.rtps_ids.specs.declared.identity.GuidPrefix.{GuidPrefix}
 use Rattle.rtps_receiver.specs.Speech.{is_prefix}
-use Rattle.rtps_receiver.specs.Values.{ActValue, act_value}
-use Rattle.rtps_receiver.specs.declared.act.Act.{Act}
+use Rattle.rtps_receiver.specs.Values.{ActValue, spoken_value}
+use Rattle.rtps_receiver.specs.declared.spoken.Spoken.{Spoken}
 use Rattle.rtps_evidence.specs.Times.{end_of, later_of, time_of}
 use Rattle.rtps_fragments.specs.declared.fragments.Fragments.{Fragments}
 use Rattle.rtps_policies.specs.Namings.{AreNamingsOf, named_by, names}
@@ -66,12 +66,12 @@ presence_joined datagram time true true (Some presence) =
     ap (λ (latest : Option ℕ). let noted : Option Presence = Some (present latest (record { first = presence.stay.first; last = datagram })) in noted) (later_twice presence.latest time)
 
 -- one act more
-pub sources_more : (prefix : GuidPrefix) (acts : List Act) (place : ℕ) (act : Act) → place < length acts → act ≡ get_or acts place act
-    → has_source prefix (map act_value (take (place + 1) acts)) ≡ (has_source prefix (map act_value (take place acts)) || is_prefix act.source prefix)
+pub sources_more : (prefix : GuidPrefix) (acts : List Spoken) (place : ℕ) (act : Spoken) → place < length acts → act ≡ get_or acts place act
+    → has_source prefix (map spoken_value (take (place + 1) acts)) ≡ (has_source prefix (map spoken_value (take place acts)) || is_prefix act.source prefix)
 sources_more prefix acts place act within is =
-    ap (has_source prefix) (map_more act_value acts place act within ∙ ap (λ (one : Act). map act_value (take place acts) ++ act_value one ∷ []) (sym is))
-    ∙ list_any-append (λ (one : ActValue). is_prefix one.source prefix) (map act_value (take place acts)) (act_value act ∷ [])
-    ∙ ap (λ b. has_source prefix (map act_value (take place acts)) || b) (or_none (is_prefix act.source prefix))
+    ap (has_source prefix) (map_more spoken_value acts place act within ∙ ap (λ (one : Spoken). map spoken_value (take place acts) ++ spoken_value one ∷ []) (sym is))
+    ∙ list_any-append (λ (one : ActValue). is_prefix one.source prefix) (map spoken_value (take place acts)) (spoken_value act ∷ [])
+    ∙ ap (λ b. has_source prefix (map spoken_value (take place acts)) || b) (or_none (is_prefix act.source prefix))
   where
     or_none : (b : Bool) → (b || false) ≡ b
     or_none true = refl

@@ -2,7 +2,7 @@
 use Rattle.std.specs.Prelude.{ℕ, List, map}
 use Rattle.rtps_wire.specs.Reading.{reading_of}
 use Rattle.rtps_receiver.specs.Acts.{acts_of}
-use Rattle.rtps_receiver.specs.Values.{ActValue, act_value}
+use Rattle.rtps_receiver.specs.Values.{ActValue, spoken_value}
 use Rattle.rtps_fragments.specs.Sending.{piece_acts_of}
 use Rattle.rtps_fragments.specs.declared.fragments.Fragments.{Fragments}
 use Rattle.rtps_fragments.specs.declared.fragments.Fragments.TheVariants.{Skipped, Read}
@@ -30,4 +30,4 @@ IsWalkFor Read (All sending) = Unit {0}
 -- the acts of the datagram that was read last
 abbrev pub walked : ActWalk → List ActValue
 walked (Messages walk) = walk
-walked (All sending) = map act_value sending.acts.items
+walked (All sending) = map spoken_value sending.acts.items

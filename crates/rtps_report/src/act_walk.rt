@@ -1,11 +1,11 @@
 ghost use Rattle.std.specs.Prelude.{◌≡◌, OnOk, map};
 ghost use Rattle.rtps_fragments.specs.declared.fragments.Fragments.{Fragments as FragmentsOf};
-ghost use Rattle.rtps_receiver.specs.Values.{act_value};
+ghost use Rattle.rtps_receiver.specs.Values.{spoken_value};
 ghost use Rattle.rtps_report.specs.ActsRead.{IsWalkFor, acts_read_in, walked};
 
 use rtps_fragments::{Fragments, Sending};
 use rtps_ids::Memory;
-use rtps_receiver::{Act, Walk};
+use rtps_receiver::{Spoken, Walk};
 use std::alloc::Global;
 
 /// Reads the acts of datagrams, one after another: all, or those that are no fragments.
@@ -41,8 +41,8 @@ impl<'a> ActWalk<'a> {
     }
 
     /// The acts of the datagram that was read last.
-    pub(crate) fn acts(&self) -> &[Act<'a>]
-        ensures { map act_value result.now ≡ walked self.now }
+    pub(crate) fn acts(&self) -> &[Spoken<'a>]
+        ensures { map spoken_value result.now ≡ walked self.now }
     {
         match self {
             ActWalk::Messages(walk) => walk.acts(),

@@ -24,7 +24,7 @@ pub struct Scope {
 }
 
 /// What to do for a pair.
-#[derive(Clone, Copy, PartialEq, Eq, Debug)]
+#[derive(Clone, Copy)]
 pub enum Advice {
     /// Of a pair that is held: numbers that were sent did not arrive, and not only a tail.
     Lost,

@@ -6,7 +6,7 @@ use rtps_fragments::Fragments;
 use rtps_ids::SeqNum;
 
 /// What each row has to be for a run to end clean.
-#[derive(Clone, Copy, PartialEq, Eq, Debug)]
+#[derive(Clone, Copy)]
 pub enum Standard {
     /// Complete.
     AllComplete,
@@ -20,7 +20,7 @@ pub enum Standard {
 }
 
 /// What is asked of an audit: by which numbers, which rows, and what else has to be so for its run to end clean.
-#[derive(Clone, Copy, Debug)]
+#[derive(Clone, Copy)]
 pub struct Asked<'a> {
     /// The number from which on the audit asks: smaller numbers are not asked for.
     pub from: SeqNum,

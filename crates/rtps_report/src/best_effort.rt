@@ -7,7 +7,7 @@ use rtps_ids::Memory;
 use std::alloc::Global;
 
 /// A pair of best effort, and what the recording has of it.
-#[derive(Clone, Copy, Debug)]
+#[derive(Clone, Copy)]
 pub(crate) struct Counted<'a> {
     pub(crate) topic: &'a [u8],
     pub(crate) pair: Pair,
@@ -17,7 +17,7 @@ pub(crate) struct Counted<'a> {
 }
 
 /// A pair of best effort that is held against another recording.
-#[derive(Clone, Copy, PartialEq, Eq, Debug)]
+#[derive(Clone, Copy)]
 pub struct HeldPair<'a> {
     pub topic: &'a [u8],
     pub pair: Pair,
@@ -28,7 +28,7 @@ pub struct HeldPair<'a> {
 }
 
 /// Pairs of best effort, those of a topic or all: how many numbers their writers sent, and how many of them came to their readers.
-#[derive(Clone, Copy, Debug)]
+#[derive(Clone, Copy)]
 pub struct BestEffort<'a> {
     pub topic: &'a [u8],
     pub pairs: u64,

@@ -14,7 +14,7 @@ const STARTS: usize = 1 << 48;
 
 /// Where a datagram stands in the octets that are kept of a recording: from the place of its first octet on, up to the one behind
 /// its last. It takes 8 octets: 48 bits say where the datagram begins, and 16 how many octets it has.
-#[derive(Clone, Copy, PartialEq, Eq, Debug)]
+#[derive(Clone, Copy)]
 pub struct DatagramSpan {
     // The place of the first octet times 2^16, and how many octets there are.
     bits: u64,

@@ -7,7 +7,7 @@ use crate::recording::{Links, Reasons, known, no_links};
 use rtps_audit::Counts;
 
 /// How a run ends that wrote its whole text.
-#[derive(Clone, Copy, Debug, PartialEq, Eq)]
+#[derive(Clone, Copy)]
 pub enum Ending {
     /// There is nothing to report.
     Clean,
@@ -18,7 +18,7 @@ pub enum Ending {
 }
 
 /// That a report has fewer rows than it has to have.
-#[derive(Clone, Copy, PartialEq, Eq, Debug)]
+#[derive(Clone, Copy)]
 pub struct FewRows {
     pub rows: u64,
     pub expected: u64,
@@ -26,7 +26,7 @@ pub struct FewRows {
 
 /// What a report has, or lacks, against what was asked of it. A number is 0 where nothing of its kind was found, and where it
 /// was not asked for.
-#[derive(Clone, Copy, PartialEq, Eq, Debug)]
+#[derive(Clone, Copy)]
 pub struct Findings {
     /// It has fewer rows than were expected.
     pub few: Option<FewRows>,

@@ -14,7 +14,7 @@ use rtps_audit::Counts;
 use rtps_evidence::{Evidence, Explanation, Times};
 
 /// What weakens a report, in numbers.
-#[derive(Clone, Copy, PartialEq, Eq, Debug)]
+#[derive(Clone, Copy)]
 pub struct NoteFacts {
     /// By how many nanoseconds the times of the recording go back; 0 where that is a millisecond or less.
     pub back: u64,

@@ -10,7 +10,7 @@ use std::alloc::{AllocError, Global};
 use std::marker::Model;
 
 /// How many frames of a capture gave no datagram, by the reason, as they are told where any capture is read.
-#[derive(Clone, Copy, PartialEq, Eq, Debug)]
+#[derive(Clone, Copy)]
 pub struct Reasons {
     /// They have fragments of packets that were never whole.
     pub pieces: u64,
@@ -23,7 +23,7 @@ pub struct Reasons {
 }
 
 /// Frames whose link type is not read.
-#[derive(Clone, Copy, PartialEq, Eq, Debug)]
+#[derive(Clone, Copy)]
 pub struct Links {
     pub number: u64,
     /// The link type of the first of them; None where there is none, or its interface is not declared.

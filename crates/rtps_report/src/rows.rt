@@ -9,7 +9,7 @@ use rtps_parts::ros_topic;
 use rtps_policies::{Naming, Namings};
 
 /// Which rows of a report are asked for.
-#[derive(Clone, Copy, Debug)]
+#[derive(Clone, Copy)]
 pub struct Rows<'a> {
     /// Patterns, in which `*` stands for any octets: the name of the topic fits one of them, or the name that ROS 2 gives it. All
     /// topics where there is none.

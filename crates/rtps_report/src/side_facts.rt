@@ -9,7 +9,7 @@ use crate::row_facts::{absent_of, is_held};
 use rtps_evidence::Explanation;
 
 /// What is told of another recording against which rows are held, in numbers.
-#[derive(Clone, Copy, PartialEq, Eq, Debug)]
+#[derive(Clone, Copy)]
 pub struct SideFacts {
     /// The rows that are not held against it.
     pub alone: u64,

@@ -10,7 +10,7 @@ use rtps_ids::Guid;
 use rtps_policies::participant_of;
 
 /// Since which datagram the participants of a pair's writer and reader are silent; None where one is not.
-#[derive(Clone, Copy, PartialEq, Eq, Debug)]
+#[derive(Clone, Copy)]
 pub struct Silences {
     pub writer: Option<u64>,
     pub reader: Option<u64>,

@@ -10,7 +10,7 @@ use crate::row_facts::{
 use rtps_evidence::{Evidence, Explanation};
 
 /// What is counted of rows.
-#[derive(Clone, Copy, Debug, PartialEq, Eq)]
+#[derive(Clone, Copy)]
 pub struct Totals {
     /// How many rows there are.
     pub pairs: u64,

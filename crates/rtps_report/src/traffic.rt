@@ -2,7 +2,7 @@ ghost use Rattle.std.specs.Prelude.{ℕ, ◌≡◌, ◌+◌, ◌<◌, ◌^◌, �
 ghost use Rattle.std.specs.BTreeMap.{get};
 ghost use Rattle.rtps_ids.specs.declared.identity.GuidPrefix.{GuidPrefix as GuidPrefixOf};
 ghost use Rattle.rtps_evidence.specs.Times.{time_of};
-ghost use Rattle.rtps_receiver.specs.Values.{ActValue, act_value};
+ghost use Rattle.rtps_receiver.specs.Values.{ActValue, spoken_value};
 ghost use Rattle.rtps_receiver.specs.Speech.{is_prefix};
 ghost use Rattle.rtps_policies.specs.Namings.{AreNamingsOf, named_by};
 ghost use Rattle.rtps_policies.specs.declared.naming.Naming.{Naming as NamingOf};
@@ -16,12 +16,12 @@ use rtps_evidence::Times;
 use rtps_fragments::Fragments;
 use rtps_ids::{GuidPrefix, Memory};
 use rtps_policies::Namings;
-use rtps_receiver::Act;
+use rtps_receiver::Spoken;
 use std::alloc::Global;
 use std::collections::BTreeMap;
 
 /// The first and the last datagram that have something of a participant, counted from 1.
-#[derive(Clone, Copy, PartialEq, Eq, Debug)]
+#[derive(Clone, Copy)]
 pub struct Stay {
     pub first: u64,
     pub last: u64,
@@ -81,10 +81,10 @@ fn note_presences(
     presences: &mut BTreeMap<GuidPrefix, Presence>,
     datagram: u64,
     time: Option<u64>,
-    acts: &[Act<'_>],
+    acts: &[Spoken<'_>],
 ) -> Result<(), Memory>
     ensures { OnOk result ((prefix : GuidPrefixOf) → get prefix_cmp presences.new prefix
-        ≡ presence_with datagram time (has_source prefix (map act_value acts.now)) (get prefix_cmp presences.old prefix)) }
+        ≡ presence_with datagram time (has_source prefix (map spoken_value acts.now)) (get prefix_cmp presences.old prefix)) }
 {
     for act in acts {
         note_presence(presences, datagram, time, act.source)?;
@@ -104,11 +104,11 @@ impl Traffic {
     }
 
     /// Notes one datagram more, by its acts. It came at this time. After `Memory` it is of no use.
-    fn note(&mut self, datagram: u64, time: Option<u64>, acts: &[Act<'_>]) -> Result<(), Memory>
+    fn note(&mut self, datagram: u64, time: Option<u64>, acts: &[Spoken<'_>]) -> Result<(), Memory>
         requires { (naming : NamingOf) → named_by self.old.namings naming + 1 < 2 ^ 64 }
         ensures { OnOk result ((datagrams : List (List ActValue)) (times : List (Option ℕ)) → datagram ≡ length datagrams + 1
             → time ≡ time_of times datagram → IsTrafficOf datagrams times self.old
-            → IsTrafficOf (datagrams ++ map act_value acts.now ∷ []) times self.new) }
+            → IsTrafficOf (datagrams ++ map spoken_value acts.now ∷ []) times self.new) }
     {
         self.namings.note(acts)?;
         note_presences(&mut self.presences, datagram, time, acts)

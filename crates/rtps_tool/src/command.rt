@@ -21,7 +21,7 @@ use std::fmt;
 use thiserror::Error;
 
 /// How a report is printed.
-#[derive(Clone, Copy, Debug, PartialEq, Eq)]
+#[derive(Clone, Copy)]
 pub enum ReportForm {
     /// As lines of text.
     Lines,
@@ -31,7 +31,7 @@ pub enum ReportForm {
 
 /// What the words ask for. A FILE of `-` is standard input; the limits are those of its recording, and the captures those that
 /// are read.
-#[derive(Debug, Drop)]
+#[derive(Drop)]
 pub enum Choice {
     /// Say which topics lost data, of the writers' numbers from `from` on, and what to do. Any capture is read. What arrived is what
     /// the recording `arrived` has, which was made at the host of readers, if there is one.

@@ -12,7 +12,7 @@ use rtps_report::{Asked, Fragments, Rows, Standard};
 use std::alloc::{AllocError, Global};
 
 /// What the words ask of a report, beside the number from which on it asks.
-#[derive(Debug, Drop)]
+#[derive(Drop)]
 pub struct Demands {
     /// Patterns, one of which each topic fits by its name, of DDS or of ROS 2; all topics where there is none.
     pub topics: Vec<String>,

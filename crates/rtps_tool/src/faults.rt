@@ -189,7 +189,7 @@ impl From<Memory> for RunFault {
 }
 
 /// Why a run that may have another recording beside FILE did not write its whole text.
-#[derive(Clone, Copy, Debug, PartialEq, Eq)]
+#[derive(Clone, Copy)]
 pub enum BesideFault {
     /// The run failed as a run of FILE alone may fail. Nothing is wrong with the other recording.
     Run(RunFault),

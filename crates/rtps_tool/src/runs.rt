@@ -29,7 +29,7 @@ use std::io::{Read, Write};
 
 /// How large a recording may be; one that is larger is refused as [`crate::RecFault::TooMany`]. Any two numbers are
 /// limits. No limit asks for memory: what a recording takes depends on what it has.
-#[derive(Clone, Copy, Debug, PartialEq, Eq)]
+#[derive(Clone, Copy)]
 pub struct Limits {
     /// The most datagrams of a recording.
     pub datagrams: u64,
@@ -50,7 +50,7 @@ impl Limits {
 }
 
 /// What is printed of a recording.
-#[derive(Clone, Copy, Debug, PartialEq, Eq)]
+#[derive(Clone, Copy)]
 pub enum Command {
     /// Which topics lost data, what to do, and whether the recording is clean.
     Check,
@@ -71,7 +71,7 @@ pub enum Command {
 }
 
 /// What a run prints, and of what.
-#[derive(Clone, Copy, Debug)]
+#[derive(Clone, Copy)]
 pub struct Options<'a> {
     pub command: Command,
     /// What is asked of an audit. Of it, `Show` asks alone what becomes of samples in fragments, and `List` nothing.
@@ -201,7 +201,7 @@ fn text_of<'a, P: Watch>(
 }
 
 /// In which form a report is told, with what each of its rows rests on.
-#[derive(Clone, Copy, Debug, PartialEq, Eq)]
+#[derive(Clone, Copy)]
 enum Form {
     Check,
     CheckJson,

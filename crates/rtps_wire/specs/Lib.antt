@@ -6,6 +6,7 @@ pub mod Fault
 pub mod FaultText
 pub mod Fields
 pub mod Flags
+pub mod FragmentItem
 pub mod Gap
 pub mod Header
 pub mod Held

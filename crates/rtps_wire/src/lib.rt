@@ -7,6 +7,7 @@ mod data_frag;
 mod datagram_tally;
 mod fault;
 mod flags;
+mod fragment_item;
 mod header;
 pub mod laws;
 mod layout;

@@ -1,6 +1,6 @@
 use Rattle.std.proofs.Common.{append-nil, arith, map, subst, sym}
 use Rattle.std.proofs.lemmas.List.{take_all}
-use Rattle.rtps_receiver.specs.Values.{act_value}
+use Rattle.rtps_receiver.specs.Values.{spoken_value}
 use Rattle.rtps_audit.specs.Placed.{AddsAnswers, placed_at}
 use Rattle.rtps_audit.proofs.PlacedLemmas.{answers_joined, placed_up_to}
 use Rattle.rtps_audit.proofs.answer.note_answers.Goals as goal
@@ -24,4 +24,4 @@ runs-preserved c =
 
 pub returns : goal.returns
 returns c =
-    subst (λ l. AddsAnswers c.args.answers.now.readers c.runs.answers.readers (placed_at c.args.datagram (map act_value l))) (take_all c.runs.start c.args.acts.now (omega (arith, c.runs-test.false))) c.runs.invariant.added
+    subst (λ l. AddsAnswers c.args.answers.now.readers c.runs.answers.readers (placed_at c.args.datagram (map spoken_value l))) (take_all c.runs.start c.args.acts.now (omega (arith, c.runs-test.false))) c.runs.invariant.added

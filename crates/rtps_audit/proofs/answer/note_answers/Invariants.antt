@@ -1,5 +1,5 @@
 use Rattle.std.proofs.Common.{◌-◌, ◌≤◌, length, map, take}
-use Rattle.rtps_receiver.specs.Values.{act_value}
+use Rattle.rtps_receiver.specs.Values.{spoken_value}
 use Rattle.rtps_audit.specs.Placed.{AddsAnswers, placed_at}
 use Rattle.rtps_audit.proofs.answer.note_answers.Given as goal
 
@@ -7,7 +7,7 @@ use Rattle.rtps_audit.proofs.answer.note_answers.Given as goal
 abbrev pub invariant-runs : goal.invariant-runs
 invariant-runs l = record {
   within : l.start ≤ length l.acts;
-  added : AddsAnswers l.fn.answers.readers l.answers.readers (placed_at l.datagram (map act_value (take l.start l.acts)));
+  added : AddsAnswers l.fn.answers.readers l.answers.readers (placed_at l.datagram (map spoken_value (take l.start l.acts)));
 }
 
 abbrev pub decreases-runs : goal.decreases-runs

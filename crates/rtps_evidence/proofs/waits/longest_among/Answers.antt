@@ -5,7 +5,7 @@ use Rattle.rtps_evidence.specs.Questions.{questions_behind}
 use Rattle.rtps_evidence.specs.Waits.{answered_at, longer_of, longest, wait_between, wait_from, waits_of}
 use Rattle.rtps_evidence.proofs.WaitLemmas.{questions_more, waits_more}
 use Rattle.rtps_evidence.proofs.waits.longest_among.Goals as goal
-use Rattle.rtps_evidence.proofs.waits.longest_among.Goals.{then-asks, else-asks}
+use Rattle.rtps_evidence.proofs.waits.longest_among.Goals.{then-asks_behind, else-asks_behind}
 
 pub loop-placed-preserved : goal.loop-placed-preserved
 loop-placed-preserved c =
@@ -19,8 +19,8 @@ loop-placed-preserved c =
     let x = placed_value c.placed-item.result in
     let so_far = filter test (map placed_value (take i acts)) in
     let more = questions_more test acts i c.placed-item.result c.loop-placed-test.true c.placed-item.is in
-    elim c.if-asks.branch [
-      | then-asks w ↦
+    elim c.if-asks_behind.branch [
+      | then-asks_behind w ↦
           let walk = w.first_behind-answered.ensures in
           let answered = walk.place ∙ ap (answered_at w.location_of-asked.result) c.loop-placed.invariant.answers in
           let wait : w.wait_between.result ≡ wait_from times end answers x =
@@ -34,13 +34,13 @@ loop-placed-preserved c =
                 ∙ ap (longer_of c.loop-placed.found) wait
                 ∙ ap (λ o. longer_of o (wait_from times end answers x)) c.loop-placed.invariant.found
                 ∙ sym (waits_more times end answers so_far x)
-                ∙ ap (λ (l : List PlacedValue). longest (waits_of times end answers l)) (sym (more true (sym c.asks.ensures ∙ w.if-asks.true)));
+                ∙ ap (λ (l : List PlacedValue). longest (waits_of times end answers l)) (sym (more true (sym c.asks_behind.ensures ∙ w.if-asks_behind.true)));
           }
-      | else-asks w ↦
+      | else-asks_behind w ↦
           record {
             answers = w.walk-is ∙ c.loop-placed.invariant.answers;
             found = w.found-is
                 ∙ c.loop-placed.invariant.found
-                ∙ ap (λ (l : List PlacedValue). longest (waits_of times end answers l)) (sym (more false (sym c.asks.ensures ∙ w.if-asks.false) ∙ append-nil so_far));
+                ∙ ap (λ (l : List PlacedValue). longest (waits_of times end answers l)) (sym (more false (sym c.asks_behind.ensures ∙ w.if-asks_behind.false) ∙ append-nil so_far));
           }
     ]

@@ -2,7 +2,7 @@ use Rattle.std.proofs.Common.{◌≡◌, ◌+◌, ◌∙◌, List, ap, map, subs
 use Rattle.rtps_wire.specs.Reading.{reading_of}
 use Rattle.rtps_wire.specs.Tally.{tally_of}
 use Rattle.rtps_wire.specs.declared.counts.Tally.{Tally}
-use Rattle.rtps_receiver.specs.Values.{ActValue, act_value}
+use Rattle.rtps_receiver.specs.Values.{ActValue, spoken_value}
 use Rattle.rtps_audit.specs.Intake.{intake_more}
 use Rattle.rtps_fragments.specs.Announcements.{IsIndexedBy}
 use Rattle.rtps_fragments.specs.Merging.{merged_from}
@@ -25,10 +25,10 @@ returns c = λ intake all whole number is.
     let told = map told_value c.args.samples.now.told.now in
     let noted = map told_value c.args.samples.now.overheard.now in
     let own = map (λ (one : PieceAct). one.act) (piece_acts_of octets) in
-    let acts : map act_value c.deref-3.result.now ≡ merged_from ForAudience 0 own told =
-    ap (map act_value) c.deref-3.ensures.value ∙ c.in_ok-merge.ensures ∙ ap (λ ones. merged_from ForAudience 0 ones told) (ap (map act_value) c.deref.ensures.value ∙ sent.acts) in
-    let announcing : map act_value c.deref-4.result.now ≡ merged_from ForEveryone 0 own noted =
-    ap (map act_value) c.deref-4.ensures.value ∙ c.in_ok-merge-2.ensures ∙ ap (λ ones. merged_from ForEveryone 0 ones noted) (ap (map act_value) c.deref-2.ensures.value ∙ sent.acts) in
+    let acts : map spoken_value c.deref-3.result.now ≡ merged_from ForAudience 0 own told =
+    ap (map spoken_value) c.deref-3.ensures.value ∙ c.in_ok-merge.ensures ∙ ap (λ ones. merged_from ForAudience 0 ones told) (ap (map spoken_value) c.deref.ensures.value ∙ sent.acts) in
+    let announcing : map spoken_value c.deref-4.result.now ≡ merged_from ForEveryone 0 own noted =
+    ap (map spoken_value) c.deref-4.ensures.value ∙ c.in_ok-merge-2.ensures ∙ ap (λ ones. merged_from ForEveryone 0 ones noted) (ap (map spoken_value) c.deref-2.ensures.value ∙ sent.acts) in
     subst (λ (t : Tally). IsIndexedBy (intake_more intake t (merged_from ForAudience 0 own told) (merged_from ForEveryone 0 own noted)) c.note.new.self) tally
     (subst (λ (ones : List ActValue). IsIndexedBy (intake_more intake c.tally-tally.result ones (merged_from ForEveryone 0 own noted)) c.note.new.self) acts
-    (subst (λ (ones : List ActValue). IsIndexedBy (intake_more intake c.tally-tally.result (map act_value c.deref-3.result.now) ones) c.note.new.self) announcing (c.in_ok-note.ensures intake number is)))
+    (subst (λ (ones : List ActValue). IsIndexedBy (intake_more intake c.tally-tally.result (map spoken_value c.deref-3.result.now) ones) c.note.new.self) announcing (c.in_ok-note.ensures intake number is)))

@@ -2,7 +2,6 @@ use Rattle.std.proofs.Common.{◌==◌, ◌∙◌, ap, subst, sym}
 use Rattle.std.proofs.lemmas.List.Filters.{dedup_is}
 use Rattle.std.proofs.lemmas.List.Sorted.{list_any-IsPermutation}
 use Rattle.std.proofs.lemmas.Map.Keys.{IsStrictlyIncreasing-dedup}
-use Rattle.std.specs.List.{dedup}
 use Rattle.std.specs.List.Sorted.{IsStrictlyIncreasing}
 use Rattle.rtps_page.specs.ChartTimes.{is_among}
 use Rattle.rtps_page.proofs.TimeLemmas.{among_dedup}

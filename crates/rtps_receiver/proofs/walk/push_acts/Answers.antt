@@ -8,7 +8,7 @@ use Rattle.rtps_wire.specs.Skipped.{skipped_next}
 use Rattle.rtps_wire.specs.Tally.{fragments_in, is_fragment, is_skipped, skipped_in}
 use Rattle.rtps_wire.specs.Values.{ItemValue, item_value}
 use Rattle.rtps_receiver.specs.Acts.{acts_behind}
-use Rattle.rtps_receiver.specs.Values.{act_value}
+use Rattle.rtps_receiver.specs.Values.{spoken_value}
 use Rattle.rtps_receiver.proofs.ActSteps.{acts_behind-act, acts_behind-other, acts_behind-skipped}
 use Rattle.rtps_receiver.proofs.walk.push_acts.Goals as goal
 use Rattle.rtps_receiver.proofs.walk.push_acts.Goals.{In-Some-Ok}
@@ -67,7 +67,7 @@ items-preserved-in-Some c =
       omega (arith, old.3, more.skips, skips),
       omega (arith, old.4, more.fragmented, fragments),
       ap (λ r. c.items.tally.refused || is_some r) (sym more.refused) ∙ old.5,
-      ap (λ l. map act_value c.items.acts.items ++ l) (sym step) ∙ old.6,
+      ap (λ l. map spoken_value c.items.acts.items ++ l) (sym step) ∙ old.6,
     )
 
 pub items-preserved-in-Continue-1 : goal.items-preserved-in-Continue-1
@@ -78,8 +78,8 @@ items-preserved-in-Continue-1 c =
     let item = item_value c.in-Some-Ok.item in
     let later = outcomes_left c.next.new.self in
     let more = more_read read in
-    let is = c.in-Some-act.ensures in
-    let before = map act_value c.items.acts.items in
+    let is = c.in-Some-spoken.ensures in
+    let before = map spoken_value c.items.acts.items in
     let step = ap (λ (o : List Outcome). acts_behind state [] (items_among o)) (next_is read) ∙ acts_behind-act state item (items_among later) is.0 is.1 in (
       old.0,
       omega (arith, old.1, more.fewer),
@@ -87,22 +87,22 @@ items-preserved-in-Continue-1 c =
       omega (arith, old.3, more.skips),
       omega (arith, old.4, more.fragmented),
       ap (λ r. c.items.tally.refused || is_some r) (sym more.refused) ∙ old.5,
-      ap (λ l. l ++ acts_behind state [] (items_among later)) (ap (map act_value) c.in_ok-extend_from_slice-in-Some-Ok.ensures.items ∙ map-append act_value c.items.acts.items _ ∙ ap (λ l. before ++ map act_value l) c.from_ref.ensures.value)
-          ∙ append_assoc before (act_value c.in-Some-act.act ∷ []) (acts_behind state [] (items_among later))
+      ap (λ l. l ++ acts_behind state [] (items_among later)) (ap (map spoken_value) c.in_ok-extend_from_slice-in-Some-Ok.ensures.items ∙ map-append spoken_value c.items.acts.items _ ∙ ap (λ l. before ++ map spoken_value l) c.from_ref.ensures.value)
+          ∙ append_assoc before (spoken_value c.in-Some-spoken.act ∷ []) (acts_behind state [] (items_among later))
           ∙ ap (λ a. before ++ a ∷ acts_behind state [] (items_among later)) is.2
           ∙ ap (λ l. before ++ l) (sym step) ∙ old.6,
     )
 
-pub items-preserved-in_default-act : goal.items-preserved-in_default-act
-items-preserved-in_default-act c =
-    let read = (goal.at.items-preserved-in_default-act c).In-Some-Ok in
+pub items-preserved-in_default-spoken : goal.items-preserved-in_default-spoken
+items-preserved-in_default-spoken c =
+    let read = (goal.at.items-preserved-in_default-spoken c).In-Some-Ok in
     let old = c.items.invariant in
     let state = c.items.state in
     let item = item_value c.in-Some-Ok.item in
     let later = outcomes_left c.next.new.self in
     let more = more_read read in
-    let before = map act_value c.items.acts.items in
-    let step = ap (λ (o : List Outcome). acts_behind state [] (items_among o)) (next_is read) ∙ acts_behind-other state item (items_among later) c.in_default-act.ensures in (
+    let before = map spoken_value c.items.acts.items in
+    let step = ap (λ (o : List Outcome). acts_behind state [] (items_among o)) (next_is read) ∙ acts_behind-other state item (items_among later) c.in_default-spoken.ensures in (
       old.0,
       omega (arith, old.1, more.fewer),
       omega (arith, old.2, more.fewer),

@@ -7,7 +7,7 @@ use Rattle.rtps_wire.specs.declared.body.DataBody.{DataBody}
 use Rattle.rtps_wire.specs.declared.body.Body.{Body}
 use Rattle.rtps_wire.specs.declared.body.Body.TheVariants as variant
 use Rattle.rtps_receiver.specs.Acts.{act_body, acts_behind, data_among, is_data}
-use Rattle.rtps_receiver.specs.Values.{ActBodyValue, act_value}
+use Rattle.rtps_receiver.specs.Values.{ActBodyValue, spoken_value}
 use Rattle.rtps_receiver.proofs.ActSteps.{data_behind-data, data_behind-other, data_behind-dataless, is_data_item}
 use Rattle.rtps_receiver.proofs.walk.push_data.Goals as goal
 use Rattle.rtps_receiver.proofs.walk.push_data.Goals.{In-Some-Ok}
@@ -20,7 +20,7 @@ items-preserved-then-take_dataless c =
     let item = first.0 in
     let next : left ≡ Ok item ∷ later = first.2 ∙ ap (λ l. Ok item ∷ l) (sym c.if-take_dataless.ensures.left) in
     let step = ap (λ (o : List Outcome). data_among (acts_behind c.items.state [] (items_among o))) next ∙ data_behind-dataless c.items.state item (items_among later) first.1 in
-    ap (λ l. map act_value c.items.acts.items ++ l) (sym step) ∙ c.items.invariant
+    ap (λ l. map spoken_value c.items.acts.items ++ l) (sym step) ∙ c.items.invariant
 
 -- the item that is read
 next_is : (c : In-Some-Ok) → outcomes_left c.items.items ≡ Ok (item_value c.in-Some-Ok.item) ∷ outcomes_left c.next.new.self
@@ -48,12 +48,12 @@ items-preserved-in-Continue-1 c =
     let item = item_value c.in-Some-Ok.item in
     let later = outcomes_left c.next.new.self in
     let is = c.in-Some.ensures in
-    let before = map act_value c.items.acts.items in
+    let before = map spoken_value c.items.acts.items in
     let data' = data_said c.in-Some-Ok.item.body c.in-Data.field-0 is.0 c.in-Data.is is.1 in
     let step = ap (λ (o : List Outcome). data_among (acts_behind state [] (items_among o))) (next_is read) ∙ data_behind-data state item (items_among later) is.0 is.1 data' in
     ap (λ l. l ++ data_among (acts_behind state [] (items_among later)))
-    (ap (map act_value) c.in_ok-extend_from_slice-in-Data.ensures.items ∙ map-append act_value c.items.acts.items _ ∙ ap (λ l. before ++ map act_value l) c.from_ref.ensures.value)
-    ∙ append_assoc before (act_value c.in-Some.act ∷ []) (data_among (acts_behind state [] (items_among later)))
+    (ap (map spoken_value) c.in_ok-extend_from_slice-in-Data.ensures.items ∙ map-append spoken_value c.items.acts.items _ ∙ ap (λ l. before ++ map spoken_value l) c.from_ref.ensures.value)
+    ∙ append_assoc before (spoken_value c.in-Some.act ∷ []) (data_among (acts_behind state [] (items_among later)))
     ∙ ap (λ a. before ++ a ∷ data_among (acts_behind state [] (items_among later))) is.2
     ∙ ap (λ l. before ++ l) (sym step) ∙ c.items.invariant
 
@@ -63,7 +63,7 @@ items-preserved-in_default c =
     let state = c.items.state in
     let item = item_value c.in-Some-Ok.item in
     let later = outcomes_left c.next.new.self in
-    let before = map act_value c.items.acts.items in
+    let before = map spoken_value c.items.acts.items in
     let step = ap (λ (o : List Outcome). data_among (acts_behind state [] (items_among o))) (next_is read)
     ∙ data_behind-other state item (items_among later) (other_body c.in-Some-Ok.item.body c.in_default.not-Data) in
     ap (λ s. before ++ data_among (acts_behind s [] (items_among later))) c.interpret.ensures ∙ ap (λ l. before ++ l) (sym step) ∙ c.items.invariant

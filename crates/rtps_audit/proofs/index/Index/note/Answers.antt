@@ -1,6 +1,6 @@
 use Rattle.std.proofs.Common.{◌+◌, ◌∙◌, [], ap, arith, filter, map, subst, sym, ◌∷◌}
 use Rattle.std.proofs.lemmas.List.{length-append}
-use Rattle.rtps_receiver.specs.Values.{act_value}
+use Rattle.rtps_receiver.specs.Values.{spoken_value}
 use Rattle.rtps_discovery.specs.Directory.{IsMapOf}
 use Rattle.rtps_discovery.specs.GuidOrder.{guid_cmp}
 use Rattle.rtps_audit.specs.Placed.{announced_among, answers_among, is_from, placed_at, placed_in, values_at}
@@ -14,8 +14,8 @@ use Rattle.rtps_audit.proofs.index.Index.note.Goals as goal
 
 pub returns : goal.returns
 returns c = λ intake is.
-    let acts = map act_value c.args.acts.now in
-    let announcing = map act_value c.args.announcing.now in
+    let acts = map spoken_value c.args.acts.now in
+    let announcing = map spoken_value c.args.announcing.now in
     let before = c.args.self.now.tallies.datagrams in
     let counted = ap (λ (counts : Counts). counts.datagrams) (is.counts 0) in
     let placed = placed_in intake.acts in

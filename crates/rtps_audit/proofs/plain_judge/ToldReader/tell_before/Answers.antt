@@ -6,7 +6,7 @@ use Rattle.std.proofs.lemmas.List.Elements.{AllWithin-more}
 use Rattle.rtps_ids.specs.declared.identity.Guid.{Guid}
 use Rattle.rtps_coverage.specs.Coverage.{TellsMore}
 use Rattle.rtps_receiver.specs.Speech.{is_heard_by}
-use Rattle.rtps_receiver.specs.Values.{act_value}
+use Rattle.rtps_receiver.specs.Values.{spoken_value}
 use Rattle.rtps_audit.specs.Placed.{placed_value}
 use Rattle.rtps_audit.specs.Speech.{word_of}
 use Rattle.rtps_audit.specs.Sweep.{HasHeardOrUnasked, IsToldUpTo}
@@ -25,7 +25,7 @@ acts-preserved g c =
     let here = get_or acts place d in
     let lt : place < length acts = omega (arith, c.acts-test.true) in
     let first = get_or_read acts place c.index-acts-self.result lt c.index-acts-self.is in
-    let told = subst (λ (r : Guid). TellsMore (covered c.acts.self.told) (covered c.note.new.self.told) (λ n. is_heard_by (act_value here.act) r && is_some (word_of (act_value here.act).body n))) c.acts.invariant.guid c.in_ok-note.ensures.told in
+    let told = subst (λ (r : Guid). TellsMore (covered c.acts.self.told) (covered c.note.new.self.told) (λ n. is_heard_by (spoken_value here.act) r && is_some (word_of (spoken_value here.act).body n))) c.acts.invariant.guid c.in_ok-note.ensures.told in
     record {
       guid = c.note.ensures.guid ∙ c.acts.invariant.guid;
       told = λ from writer from_it known.

@@ -5,7 +5,7 @@ use Rattle.std.specs.List.{list_any}
 use Rattle.std.specs.Option.{option_copied_mut}
 use Rattle.rtps_coverage.specs.declared.merged_ranges.MergedRanges.{MergedRanges}
 use Rattle.rtps_receiver.specs.Audience.{audience_cmp}
-use Rattle.rtps_receiver.specs.Values.{act_value}
+use Rattle.rtps_receiver.specs.Values.{spoken_value}
 use Rattle.rtps_receiver.specs.declared.speech.Audience.{Audience}
 use Rattle.rtps_audit.specs.Speech.{word_of}
 use Rattle.rtps_audit.specs.Sweep.{audiences_of, in_set, told_at}
@@ -14,7 +14,7 @@ use Rattle.rtps_audit.proofs.told.Told.note.Goals as goal
 
 pub returns-in_default : goal.returns-in_default
 returns-in_default c = λ reader n positive small.
-    let act = act_value c.args.act.now in
+    let act = spoken_value c.args.act.now in
     let told = list_any (λ a. told_at c.args.self.now.sets a n) (audiences_of reader) in
     none_more told ∙ ap (λ b. told || (b && is_some (word_of act.body n))) (sym (unheard act reader (sym c.audience.ensures ∙ c.in_default.is)))
   where
@@ -24,7 +24,7 @@ returns-in_default c = λ reader n positive small.
 
 pub returns-in-Some-get_mut : goal.returns-in-Some-get_mut
 returns-in-Some-get_mut c = λ reader n positive small.
-    let act = act_value c.args.act.now in
+    let act = spoken_value c.args.act.now in
     let audience = c.in-Some.audience in
     let old = c.args.self.now.sets in
     let set = c.add_told.new.told in
@@ -36,7 +36,7 @@ returns-in-Some-get_mut c = λ reader n positive small.
 
 pub returns : goal.returns
 returns c = λ reader n positive small.
-    let act = act_value c.args.act.now in
+    let act = spoken_value c.args.act.now in
     let audience = c.in-Some.audience in
     let old = c.args.self.now.sets in
     let set = c.add_told-2.new.told in

@@ -1,71 +1,22 @@
-use Rattle.std.proofs.Common.{[], ◌∷◌, ◌++◌, refl, sym, ap, ◌∙◌, Some, None, Ok, Err}
-use Rattle.rtps_discovery.proofs.MapLaws.{entry_there, one_map, participant_there, repeated}
-use Rattle.rtps_discovery.specs.Directory.{DirectoryValue}
-use Rattle.rtps_discovery.specs.Notice.{answer_of}
-use Rattle.rtps_receiver.specs.Values.{act_value}
-use Rattle.rtps_discovery.specs.Endpoint.{endpoint_value}
-use Rattle.rtps_discovery.specs.Notice.Announced.{Participant, Endpoint}
-use Rattle.rtps_discovery.proofs.MapSteps.{announces_endpoint, announces_nothing, announces_participant, map_step}
+use Rattle.std.proofs.Common.{◌≡◌, ◌++◌, ◌∷◌, [], Ok, subst, sym}
+use Rattle.std.proofs.lemmas.Result.{on_ok_weaker}
+use Rattle.rtps_receiver.specs.Values.{ActBodyValue, ActValue}
+use Rattle.rtps_receiver.specs.declared.act.Act.{Act}
+use Rattle.rtps_discovery.specs.Directory.{IsMapOf}
+use Rattle.rtps_discovery.specs.Notice.{RepeatsOneOf, announcement_of, answer_of}
 use Rattle.rtps_discovery.proofs.directory_map.Directory.note.Goals as goal
 
-pub returns-in_default-clause-map : goal.returns-in_default-clause-map
-returns-in_default-clause-map c = λ acts were.
-    map_step acts (act_value c.args.act.now) None _ _ (announces_nothing (act_value c.args.act.now) c.in_default.ensures) refl were
+-- the act with this body
+abbrev told : Act → ActBodyValue → ActValue
+told act body =
+    record { at = act.at; source = act.source; version = act.version; vendor = act.vendor; dest = act.dest; stamp = act.stamp; order = act.order; body = body }
 
-pub returns-in_ok-keep_participant-in-Ok-clause-map : goal.returns-in_ok-keep_participant-in-Ok-clause-map
-returns-in_ok-keep_participant-in-Ok-clause-map c = λ acts were.
-    let notice = rw c.in-Participant.is at c.in-Some.ensures in
-    map_step acts (act_value c.args.act.now) (Some (Ok (Participant c.in-Ok.guid))) _ _
-    (announces_participant (act_value c.args.act.now) c.in-Some.payload.now _ notice c.in-Ok.ensures)
-    (c.in_ok-keep_participant-in-Ok.ensures.ok, refl) (rw c.self.view_is were)
+pub returns-clause-map : goal.returns-clause-map
+returns-clause-map c = on_ok_weaker c.note_spoken.result
+    (λ next acts is. subst (λ b. IsMapOf (acts ++ told c.args.act.now b ∷ []) c.note_spoken.new.self) c.copied.ensures (next acts is))
+    c.note_spoken.ensures.map
 
-pub returns-in-Err-clause-map : goal.returns-in-Err-clause-map
-returns-in-Err-clause-map c = λ acts were.
-    let notice = rw c.in-Participant.is at c.in-Some.ensures in
-    map_step acts (act_value c.args.act.now) (Some (Err c.in-Err.fault)) _ _
-    (announces_participant (act_value c.args.act.now) c.in-Some.payload.now _ notice c.in-Err.ensures) refl were
-
-pub returns-in_ok-keep_endpoint-in-Ok-read_endpoint-clause-map : goal.returns-in_ok-keep_endpoint-in-Ok-read_endpoint-clause-map
-returns-in_ok-keep_endpoint-in-Ok-read_endpoint-clause-map c = λ acts were.
-    let notice = rw c.in-Endpoint.is at c.in-Some.ensures in
-    map_step acts (act_value c.args.act.now) (Some (Ok (Endpoint (endpoint_value c.in-Ok-read_endpoint.endpoint)))) _ _
-    (announces_endpoint (act_value c.args.act.now) c.in-Endpoint.side c.in-Some.payload.now _ notice c.in-Ok-read_endpoint.ensures)
-    (c.in_ok-keep_endpoint-in-Ok-read_endpoint.ensures.ok, refl) (rw c.self.view_is were)
-
-pub returns-in-Err-read_endpoint-clause-map : goal.returns-in-Err-read_endpoint-clause-map
-returns-in-Err-read_endpoint-clause-map c = λ acts were.
-    let notice = rw c.in-Endpoint.is at c.in-Some.ensures in
-    map_step acts (act_value c.args.act.now) (Some (Err c.in-Err-read_endpoint.fault)) _ _
-    (announces_endpoint (act_value c.args.act.now) c.in-Endpoint.side c.in-Some.payload.now _ notice c.in-Err-read_endpoint.ensures) refl were
-
-pub returns-in_ok-keep_participant-in-Ok-clause-again : goal.returns-in_ok-keep_participant-in-Ok-clause-again
-returns-in_ok-keep_participant-in-Ok-clause-again c = λ acts were seen.
-    let act = act_value c.args.act.now in
-    let notice = rw c.in-Participant.is at c.in-Some.ensures in
-    let said = announces_participant act c.in-Some.payload.now _ notice c.in-Ok.ensures in (
-      ap (λ x. Ok (answer_of x)) (sym said),
-      one_map (acts ++ act ∷ []) _ c.args.self.now (returns-in_ok-keep_participant-in-Ok-clause-map c acts were) ((repeated acts act c.args.self.now seen).0 were),
-    )
-
-pub returns-in_ok-keep_endpoint-in-Ok-read_endpoint-clause-again : goal.returns-in_ok-keep_endpoint-in-Ok-read_endpoint-clause-again
-returns-in_ok-keep_endpoint-in-Ok-read_endpoint-clause-again c = λ acts were seen.
-    let act = act_value c.args.act.now in
-    let notice = rw c.in-Endpoint.is at c.in-Some.ensures in
-    let said = announces_endpoint act c.in-Endpoint.side c.in-Some.payload.now _ notice c.in-Ok-read_endpoint.ensures in (
-      ap (λ x. Ok (answer_of x)) (sym said),
-      one_map (acts ++ act ∷ []) _ c.args.self.now (returns-in_ok-keep_endpoint-in-Ok-read_endpoint-clause-map c acts were) ((repeated acts act c.args.self.now seen).0 were),
-    )
-
-pub returns-in_err-keep_participant-in-Ok-clause-again : goal.returns-in_err-keep_participant-in-Ok-clause-again
-returns-in_err-keep_participant-in-Ok-clause-again c = λ acts were seen.
-    let act = act_value c.args.act.now in
-    let notice = rw c.in-Participant.is at c.in-Some.ensures in
-    absurd (c.in_err-keep_participant-in-Ok.ensures.absent
-    (rw (ap (λ (directory : DirectoryValue). directory.participants) c.self.view_is) (participant_there acts seen.first c.in-Ok.guid c.args.self.now were seen.is_among (sym seen.says_the_same ∙ announces_participant act c.in-Some.payload.now _ notice c.in-Ok.ensures))))
-
-pub returns-in_err-keep_endpoint-in-Ok-read_endpoint-clause-again : goal.returns-in_err-keep_endpoint-in-Ok-read_endpoint-clause-again
-returns-in_err-keep_endpoint-in-Ok-read_endpoint-clause-again c = λ acts were seen.
-    let act = act_value c.args.act.now in
-    let notice = rw c.in-Endpoint.is at c.in-Some.ensures in
-    absurd (entry_there acts seen.first (endpoint_value c.in-Ok-read_endpoint.endpoint) c.args.self.now were seen.is_among (sym seen.says_the_same ∙ announces_endpoint act c.in-Endpoint.side c.in-Some.payload.now _ notice c.in-Ok-read_endpoint.ensures)
-    (rw (← c.self.view_is) c.in_err-keep_endpoint-in-Ok-read_endpoint.ensures.absent))
+pub returns-clause-again : goal.returns-clause-again
+returns-clause-again c = λ acts were seen.
+    subst (λ b. (c.note_spoken.result ≡ Ok (answer_of (announcement_of (told c.args.act.now b)))) × (c.note_spoken.new.self ≡ c.args.self.now)) c.copied.ensures
+    (c.note_spoken.ensures.again acts were (subst (λ b. RepeatsOneOf acts (told c.args.act.now b)) (sym c.copied.ensures) seen))

@@ -1,24 +1,23 @@
-use Rattle.std.proofs.Common.{◌≡◌, ◌&&◌, ◌+◌, arith, cond, nat_le, nat_lt, rules, subst}
-use Rattle.std.proofs.lemmas.Int.{ints}
+use Rattle.std.proofs.Common.{◌+◌, ◌∙◌, ap, cond, subst, sym}
 use Rattle.rtps_audit.specs.Placed.{placed_value}
-use Rattle.rtps_audit.specs.Speech.{natural}
-use Rattle.rtps_evidence.specs.Outcomes.{is_offered, told_gone}
-use Rattle.rtps_evidence.specs.Questions.{questions_behind}
+use Rattle.rtps_evidence.specs.Outcomes.{told_gone}
 use Rattle.rtps_evidence.specs.Received.{withdraws}
 use Rattle.rtps_evidence.specs.Silences.{IsAt}
-use Rattle.rtps_evidence.proofs.SilenceLemmas.{heard_question}
+use Rattle.rtps_evidence.proofs.SilenceLemmas.{heard_otherwise, heard_question}
 use Rattle.rtps_evidence.proofs.silence.Walk.hear.Goals as goal
 
-pub returns-then-is_behind : goal.returns-then-is_behind
-returns-then-is_behind c = λ n silence at.
-    let since = c.args.listener.now.since in
-    let pair = c.args.listener.now.pair in
+pub returns-then-asks_behind : goal.returns-then-asks_behind
+returns-then-asks_behind c = λ n silence at.
+    let listener = c.args.listener.now in
+    let pair = listener.pair in
     let x = placed_value c.args.placed.now in
-    let heartbeat = c.in-Heartbeat.heartbeat in
-    let gone : withdraws pair.writer pair.reader n x ≡ nat_lt n heartbeat.first = search rules in
-    let asks : (questions_behind since pair.writer pair.reader x && is_offered x.act.body n) ≡ (nat_le heartbeat.first n && nat_le n (natural heartbeat.last)) = search rules in
-    let ends : c.cast_unsigned-then-is_behind.result + 1 ≡ natural heartbeat.last + 1 = search (rules, ints) in
-    let first : c.cast_unsigned.result ≡ heartbeat.first = (let value = c.get.ensures.value in omega (arith, ints)) in
-    let told = subst (λ f. IsAt n (cond (nat_le 0 n && nat_lt n f) (told_gone silence) silence) c.withdraw.new.self) first (c.in_ok-withdraw-in-Heartbeat.ensures n silence at) in
-    subst (λ s. IsAt n s c.ask.new.self) (heard_question since pair n x silence heartbeat.first (natural heartbeat.last) (c.cast_unsigned-then-is_behind.result + 1) gone asks ends)
-    (c.ask.ensures n (cond (nat_le 0 n && nat_lt n heartbeat.first) (told_gone silence) silence) told)
+    let told = subst (λ b. IsAt n (cond b (told_gone silence) silence) c.withdraw_all.new.self) (c.heard-said.ensures.gone n) (c.in_ok-withdraw_all.ensures n silence at) in
+    subst (λ s. IsAt n s c.ask.new.self) (heard_question listener.since pair n x silence (c.heard-said.result.announced + 1) (sym c.asks_behind.ensures ∙ c.if-asks_behind.true) (ap (λ m. m + 1) c.heard-said.ensures.said.announced))
+    (c.ask.ensures n (cond (withdraws pair.writer pair.reader n x) (told_gone silence) silence) told)
+
+pub returns-else-asks_behind : goal.returns-else-asks_behind
+returns-else-asks_behind c = λ n silence at.
+    let listener = c.args.listener.now in
+    let x = placed_value c.args.placed.now in
+    subst (λ s. IsAt n s c.withdraw_all.new.self) (heard_otherwise listener.since listener.pair n x silence (sym c.asks_behind.ensures ∙ c.if-asks_behind.false))
+    (subst (λ b. IsAt n (cond b (told_gone silence) silence) c.withdraw_all.new.self) (c.heard-said.ensures.gone n) (c.in_ok-withdraw_all.ensures n silence at))

@@ -1,12 +1,15 @@
 use Rattle.std.proofs.Common.{◌∙◌, sym}
-use Rattle.rtps_fragments.specs.Listeners.{came_to}
-use Rattle.rtps_fragments.proofs.ListenerLemmas.{are_as_before, are_begun}
+use Rattle.rtps_fragments.specs.Listeners.{came_to, has_name}
+use Rattle.rtps_fragments.specs.declared.listeners.Listener.{Listener}
+use Rattle.rtps_fragments.proofs.ListenerLemmas.{any_mapped, are_as_before, are_begun}
 use Rattle.rtps_fragments.proofs.listeners.Listeners.begin.Goals as goal
 
 pub returns-then-has_name : goal.returns-then-has_name
-returns-then-has_name c = λ last hearing named are. are_as_before last hearing c.args.name c.args.self.now.each.items named are (sym c.has_name.ensures ∙ c.if-has_name.true)
+returns-then-has_name c = λ last hearing named are.
+    are_as_before last hearing c.args.name c.args.self.now.each.items named are (any_mapped (has_name c.args.name) (λ (l : Listener). l.audience) c.args.self.now.each.items ∙ sym c.has_name.ensures ∙ c.if-has_name.true)
 
 pub returns : goal.returns
 returns c = λ last hearing named are.
-    are_begun last hearing c.args.name c.args.self.now.each.items named are c.in_ok-copies.copies.items c.append.new.self.items (sym c.has_name.ensures ∙ c.if-has_name.false) c.in_ok-append.ensures.items c.in_ok-copies.ensures.audiences
+    are_begun last hearing c.args.name c.args.self.now.each.items named are c.in_ok-copies.copies.items c.append.new.self.items
+    (any_mapped (has_name c.args.name) (λ (l : Listener). l.audience) c.args.self.now.each.items ∙ sym c.has_name.ensures ∙ c.if-has_name.false) c.in_ok-append.ensures.items c.in_ok-copies.ensures.audiences
     (c.in_ok-copies.ensures.same last (λ audience. came_to audience hearing.news))

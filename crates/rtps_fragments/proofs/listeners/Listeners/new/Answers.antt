@@ -6,5 +6,5 @@ use Rattle.rtps_fragments.proofs.listeners.Listeners.new.Goals as goal
 
 pub returns : goal.returns
 returns c = λ last.
-    let one : Listener = record { audience = everyone; came = c.new.result; told = 0 } in
-    are_one last one c.push.new.self.items (c.in_ok-push.ensures.items ∙ ap (λ xs. xs ++ one ∷ []) c.new-each.ensures.items) refl (c.new.ensures last) refl
+    let one : Listener = record { audience = everyone; heard = c.new.result; told = 0 } in
+    are_one last one c.push.new.self.items (c.in_ok-push.ensures.items ∙ ap (λ xs. xs ++ one ∷ []) c.in_ok-each.ensures.items) refl (c.new.ensures last) refl

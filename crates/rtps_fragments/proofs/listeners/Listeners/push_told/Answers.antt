@@ -2,7 +2,7 @@ use Rattle.std.proofs.Common.{◌≡◌, ◌∙◌, ◌<◌, ◌++◌, ◌∷◌
 use Rattle.std.proofs.lemmas.List.{map-append}
 use Rattle.std.specs.Global.{Vec}
 use Rattle.rtps_receiver.specs.declared.speech.Audience.{Audience}
-use Rattle.rtps_fragments.specs.Came.{IsCame}
+use Rattle.rtps_fragments.specs.Heard.{IsHeard}
 use Rattle.rtps_fragments.specs.FragmentDelivery.{last_fragment}
 use Rattle.rtps_fragments.specs.Listeners.{came_to, is_had, samples_for, told_by_audience}
 use Rattle.rtps_fragments.specs.Making.{AreListeners}
@@ -34,11 +34,11 @@ loop-number-preserved c = λ before now are.
     let is = own last before now c.args.self.now.each.items are c.args.place x c.requires.within c.index-listener.ensures in
     let came = came_to x.audience now.news in
     let same_last : c.last_fragment.result ≡ last = c.last_fragment.ensures ∙ ap last_fragment e in
-    let count : c.count-number-end.result ≡ length (samples_of last came) = c.count-number-end.ensures.samples came (subst (λ n. IsCame n came x.came) (sym same_last) is.came) ∙ ap (λ n. length (samples_of n came)) same_last in
+    let count : c.count-number-end.result ≡ length (samples_of last came) = c.count-number-end.ensures.samples came (subst (λ n. IsHeard n came x.heard) (sym same_last) is.came) ∙ ap (λ n. length (samples_of n came)) same_last in
     let within : number < length (samples_of last came) = omega (arith, count, c.loop-number-test.true) in
     let at : slice_get (samples_for last now x.audience) number ≡ Some octets.items =
     ap (λ s. slice_get (samples_of (last_fragment s) came) number) (sym e)
-    ∙ c.in_ok-octets.ensures came (subst (λ s. IsCame (last_fragment s) came x.came) (sym e) is.came) (subst (λ s. number < length (samples_of (last_fragment s) came)) (sym e) within) in
+    ∙ c.in_ok-octets.ensures came (subst (λ s. IsHeard (last_fragment s) came x.heard) (sym e) is.came) (subst (λ s. number < length (samples_of (last_fragment s) came)) (sym e) within) in
     let had : c.in_ok-have.field-0 ≡ is_had last now x.audience octets.items =
     c.in_ok-have.ensures before now (subst (λ s. AreListeners (last_fragment s) before now c.args.self.now.each.items) (sym e) are)
     ∙ ap (λ s. is_had (last_fragment s) now x.audience c.deref.result.now) e ∙ ap (is_had last now x.audience) c.deref.ensures.value in
@@ -64,7 +64,7 @@ returns c = λ before now audience are at.
     let is = own last before now listeners are c.args.place x c.requires.within c.index-listener.ensures in
     let came = came_to x.audience now.news in
     let same_last : c.last_fragment.result ≡ last = c.last_fragment.ensures ∙ ap last_fragment c.shape-shape.ensures in
-    let count : c.count-number-end.result ≡ length (samples_of last came) = c.count-number-end.ensures.samples came (subst (λ n. IsCame n came x.came) (sym same_last) is.came) ∙ ap (λ n. length (samples_of n came)) same_last in
+    let count : c.count-number-end.result ≡ length (samples_of last came) = c.count-number-end.ensures.samples came (subst (λ n. IsHeard n came x.heard) (sym same_last) is.came) ∙ ap (λ n. length (samples_of n came)) same_last in
     let same : x.audience ≡ audience = same_audience x.audience audience (sym (audience_at last before now listeners c.args.place x are c.requires.within c.index-listener.ensures) ∙ at) in
     let told = map told_value c.loop-number.told.items in
     sym (ap (λ xs. told ++ told_each sent.act (shape_of sent.key) xs) (left_over last now x.audience c.loop-number.number (omega (arith, count, c.loop-number-test.false))) ∙ append-nil told)

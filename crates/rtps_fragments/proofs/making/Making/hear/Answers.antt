@@ -1,41 +1,66 @@
-use Rattle.std.proofs.Common.{◌∙◌, append-nil, map, subst, sym, true, false}
-use Rattle.std.specs.List.{flat_map}
-use Rattle.rtps_fragments.specs.Came.{IsCame}
+use Rattle.std.proofs.Common.{◌≡◌, ◌∙◌, ◌++◌, ◌∷◌, [], append-nil, inl, inr, map, subst, sym, true, false}
+use Rattle.std.proofs.lemmas.List.Elements.{Contains-append_cases}
+use Rattle.rtps_audit.proofs.Offered.{contains_cases, contains_none}
 use Rattle.rtps_fragments.specs.FragmentDelivery.{last_fragment}
-use Rattle.rtps_fragments.specs.Listeners.{Hearing, Offer, hearing_of, silence}
-use Rattle.rtps_fragments.specs.Making.{AreListeners}
+use Rattle.rtps_fragments.specs.Heard.{IsHeard}
+use Rattle.rtps_fragments.specs.Listeners.{Hearing, Offer, everyone, hearing_of, silence}
+use Rattle.rtps_fragments.specs.Making.{AreListeners, IsEverything, all_came}
 use Rattle.rtps_fragments.specs.Telling.{offer_of, sent_value, shape_of, told_value}
 use Rattle.rtps_fragments.proofs.Audiences.{hears-more, sound_of}
-use Rattle.rtps_fragments.proofs.MakingLemmas.{all_overheard, came-more}
+use Rattle.rtps_fragments.proofs.MakingLemmas.{AreForAll, all_overheard, came-more}
 use Rattle.rtps_fragments.proofs.OkLemmas.{both_ok, on_ok}
 use Rattle.rtps_fragments.proofs.making.Making.hear.Goals as goal
 
-pub returns-then-is_built_in : goal.returns-then-is_built_in
-returns-then-is_built_in c =
+pub returns-in-Some : goal.returns-in-Some
+returns-in-Some c =
     let sent = sent_value c.args.sent.now in
     let last = last_fragment (shape_of sent.key) in
     let offer = offer_of sent in
     on_ok c.tell.result _ _ (both_ok c.tell.result _ _ c.tell.ensures.came c.tell.ensures.told) (λ (came, told) offers is.
-    let (listeners, heard) = c.in_ok-hear.ensures (hearing_of offers) (sound_of offers).named is.listeners in
-    let all = flat_map (λ (o : Offer). o.came) offers in (
+    let parted = (c.in_ok-part.ensures sent.key offers is).0 in
+    let (listeners, heard) = c.in_ok-hear.ensures (hearing_of offers) (sound_of offers).named parted.listeners in
+    let old : IsHeard last (all_came offers) c.in-Some.everything = subst (IsEverything sent.key offers) c.in-Some.is parted.everything in (
       record {
-        everything = subst (λ cs. IsCame last cs c.tell.new.self) (sym (came-more offers offer)) (came all is.everything);
+        everything = subst (λ cs. IsHeard last cs c.tell.new.self) (sym (came-more offers offer)) (came (all_came offers) old);
         listeners = subst (λ (h : Hearing). AreListeners last h h c.hear.new.self.each.items) (sym (hears-more silence offers offer)) listeners;
       },
-      record { heard = heard; overheard = all_overheard offers sent true (map told_value c.args.told.now.overheard.items) (map told_value c.tell.new.told.items) (sym c.is_built_in.ensures ∙ c.if-is_built_in.true) (told all is.everything) },
+      record { heard = heard; overheard = all_overheard offers sent true (map told_value c.args.told.now.overheard.items) (map told_value c.tell.new.told.items) (sym c.is_built_in.ensures ∙ c.if-is_built_in.true) (told (all_came offers) old) },
     ))
 
-pub returns-else-is_built_in : goal.returns-else-is_built_in
-returns-else-is_built_in c =
+pub returns-in-Some-2 : goal.returns-in-Some-2
+returns-in-Some-2 c =
     let sent = sent_value c.args.sent.now in
     let last = last_fragment (shape_of sent.key) in
     let offer = offer_of sent in
     on_ok c.take_sent.result _ _ c.take_sent.ensures (λ came offers is.
-    let (listeners, heard) = c.in_ok-hear.ensures (hearing_of offers) (sound_of offers).named is.listeners in
-    let all = flat_map (λ (o : Offer). o.came) offers in (
+    let parted = (c.in_ok-part.ensures sent.key offers is).0 in
+    let (listeners, heard) = c.in_ok-hear.ensures (hearing_of offers) (sound_of offers).named parted.listeners in
+    let old : IsHeard last (all_came offers) c.in-Some.everything = subst (IsEverything sent.key offers) c.in-Some.is parted.everything in (
       record {
-        everything = subst (λ cs. IsCame last cs c.take_sent.new.self) (sym (came-more offers offer)) (came all is.everything);
+        everything = subst (λ cs. IsHeard last cs c.take_sent.new.self) (sym (came-more offers offer)) (came (all_came offers) old);
         listeners = subst (λ (h : Hearing). AreListeners last h h c.hear.new.self.each.items) (sym (hears-more silence offers offer)) listeners;
       },
       record { heard = heard; overheard = all_overheard offers sent false (map told_value c.args.told.now.overheard.items) (map told_value c.args.told.now.overheard.items) (sym c.is_built_in.ensures ∙ c.if-is_built_in.false) (sym (append-nil _)) },
     ))
+
+pub returns-in-None : goal.returns-in-None
+returns-in-None c = λ offers is.
+    let sent = sent_value c.args.sent.now in
+    let last = last_fragment (shape_of sent.key) in
+    let offer = offer_of sent in
+    let (parted, only) = c.in_ok-part.ensures sent.key offers is in
+    let (listeners, heard) = c.in_ok-hear.ensures (hearing_of offers) (sound_of offers).named parted.listeners in
+    let (other, for_all) = subst (IsEverything sent.key offers) c.in-None.is parted.everything in
+    let all : AreForAll (offers ++ offer ∷ []) = λ o among. elim (Contains-append_cases offers (offer ∷ []) o among) [
+      | inl old ↦ for_all o old
+      | inr new ↦ elim (contains_cases offer [] o new) [
+        | inl same ↦ subst (λ (x : Offer). x.audience ≡ everyone) same (only c.in-None.is)
+        | inr nothing ↦ absurd (contains_none o nothing)
+      ]
+    ] in (
+      record {
+        everything = subst (IsEverything sent.key (offers ++ offer ∷ [])) (sym c.in-None.is) (other, all);
+        listeners = subst (λ (h : Hearing). AreListeners last h h c.hear.new.self.each.items) (sym (hears-more silence offers offer)) listeners;
+      },
+      record { heard = heard; overheard = all_overheard offers sent false (map told_value c.args.told.now.overheard.items) (map told_value c.args.told.now.overheard.items) other (sym (append-nil _)) },
+    )

@@ -1,4 +1,4 @@
-use Rattle.std.proofs.Common.{◌≡◌, ◌+◌, ◌<◌, ◌^◌, ◌∷◌, ◌++◌, ◌∙◌, List, Ok, ap, arith, length, subst, sym}
+use Rattle.std.proofs.Common.{◌≡◌, ◌+◌, ◌<◌, ◌^◌, ◌∷◌, ◌++◌, ◌∙◌, List, Ok, ap, length, subst, sym}
 use Rattle.rtps_wire.specs.Reading.{Outcome, items_among, outcome_value, outcomes_left}
 use Rattle.rtps_wire.specs.Values.{item_value}
 use Rattle.rtps_receiver.specs.Acts.{act_body}
@@ -6,11 +6,6 @@ use Rattle.rtps_fragments.specs.SampleActs.{PieceAct}
 use Rattle.rtps_fragments.specs.Sending.{one_unusable, piece_acts_behind, piece_acts_of_item, unusable_among}
 use Rattle.rtps_fragments.proofs.SendingLemmas.{IsReading, behind-item, few_more, reading_step, unusable-item}
 use Rattle.rtps_fragments.proofs.sending.Sending.add_items.Goals as goal
-
-pub add-requires : goal.add-requires
-add-requires c =
-    let next = ap length (c.in-Some-Ok.ensures.steps) in
-    omega (arith, c.items.invariant.few, next)
 
 pub items-preserved-in-Continue-1 : goal.items-preserved-in-Continue-1
 items-preserved-in-Continue-1 c =

@@ -1,11 +1,9 @@
-use Rattle.std.proofs.Common.{List, ap, arith, length, subst, sym}
+use Rattle.std.proofs.Common.{List, subst, sym}
 use Rattle.std.specs.Prelude.{Err, Ok, OnOk, Result}
-use Rattle.std.proofs.lemmas.List.{length-map}
 use Rattle.rtps_ids.specs.declared.memory.Memory.{Memory}
 use Rattle.rtps_wire.specs.Reading.{items_among, outcomes_left}
 use Rattle.rtps_fragments.specs.SampleActs.{PieceAct}
 use Rattle.rtps_fragments.specs.Sending.{IsSending, piece_acts_of, unusable_among}
-use Rattle.rtps_fragments.specs.Telling.{sent_value}
 use Rattle.rtps_fragments.proofs.SendingLemmas.{acts_read, acts_refused, unusable_read, unusable_refused}
 use Rattle.rtps_fragments.proofs.sending.Sending.read.Goals as goal
 
@@ -26,10 +24,3 @@ returns-in-Err c =
     let octets = c.args.datagram.now in
     subst (λ n. IsSending (piece_acts_of octets) n c.clear.new.self) (sym (unusable_refused octets _ c.in-Err.ensures.0))
     (subst (λ (ones : List PieceAct). IsSending ones 0 c.clear.new.self) (sym (acts_refused octets _ c.in-Err.ensures.0)) c.clear.ensures)
-
-pub add_items-requires : goal.add_items-requires
-add_items-requires c =
-    let sents = ap length c.clear.ensures.sents in
-    let unusable = c.clear.ensures.unusable in
-    let none = length-map c.clear.new.self.sents.items sent_value in
-    omega (arith, sents, unusable, none, c.in-Ok.ensures.1)

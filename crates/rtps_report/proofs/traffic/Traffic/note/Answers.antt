@@ -2,7 +2,7 @@ use Rattle.std.proofs.Common.{◌≡◌, ◌+◌, ◌++◌, ◌∷◌, [], ℕ, 
 use Rattle.std.specs.BTreeMap.{get}
 use Rattle.std.proofs.lemmas.Result.{on_ok_weaker}
 use Rattle.rtps_ids.specs.declared.identity.GuidPrefix.{GuidPrefix}
-use Rattle.rtps_receiver.specs.Values.{ActValue, act_value}
+use Rattle.rtps_receiver.specs.Values.{ActValue, spoken_value}
 use Rattle.rtps_evidence.specs.Times.{time_of}
 use Rattle.rtps_report.specs.Stays.{IsTrafficOf, has_source, prefix_cmp, presence_with}
 use Rattle.rtps_report.specs.declared.traffic.Traffic.{Traffic}
@@ -12,7 +12,7 @@ use Rattle.rtps_report.proofs.traffic.Traffic.note.Goals as goal
 pub returns : goal.returns
 returns c =
     let old = c.args.self.now in
-    let acts = map act_value c.args.acts.now in
+    let acts = map spoken_value c.args.acts.now in
     let new : Traffic = record { namings = c.note.new.self; presences = c.note_presences.new.presences } in
     on_ok_weaker
     {P = (prefix : GuidPrefix) → get prefix_cmp new.presences prefix ≡ presence_with c.args.datagram c.args.time (has_source prefix acts) (get prefix_cmp old.presences prefix)}

@@ -1,0 +1,5 @@
+use Rattle.rtps_fragments.proofs.HearingLemmas.{none_is_told_again}
+use Rattle.rtps_fragments.proofs.laws.none_is_told_again.Goals as goal
+
+pub returns : goal.returns
+returns c = none_is_told_again
