@@ -5,7 +5,7 @@ use Rattle.std.specs.List.{cons_option, list_any}
 use Rattle.std.specs.Option.{option_map}
 use Rattle.std.proofs.lemmas.Bool.{cases_lt, and_parts, not-true, false_from_ne_true}
 use Rattle.std.proofs.lemmas.Bool.Decides.{nat_tests}
-use Rattle.std.proofs.lemmas.List.Folds.{list_any-append, list_any-from_Any}
+use Rattle.std.proofs.lemmas.List.Folds.{list_any-from_Any}
 use Rattle.std.proofs.Math.Bool.{and-false}
 use Rattle.std.specs.Cmp.{both_ways}
 use Rattle.rtps_ids.specs.declared.identity.Guid.{Guid}
@@ -20,14 +20,16 @@ use Rattle.rtps_audit.specs.declared.answer.Answer.{Answer}
 use Rattle.rtps_audit.specs.declared.verdict.Verdict.{Verdict}
 use Rattle.rtps_audit.specs.declared.verdict.Verdict.TheVariants.{Unfounded, Conflict, Open, Complete}
 use Rattle.rtps_audit.proofs.Offered.{speaker_is_origin}
-use Rattle.rtps_evidence.specs.Amount.{stretches_have, withdrawal_has, withdrawn_before}
+use Rattle.rtps_coverage.specs.Stretches.{stretches_have}
+use Rattle.rtps_evidence.specs.Amount.{withdrawal_has, withdrawn_before}
 use Rattle.rtps_evidence.specs.Claimed.{AreWithdrawals, IsCertaintyOf, certain_at, claims_up_to, is_unfounded, withdrawn_past, withdrawn_unclaimed}
 use Rattle.rtps_evidence.specs.Locations.{base_said, payload_in, sends, teller_at}
 use Rattle.rtps_evidence.specs.Received.{claims, first_claiming, gone_before, is_certain_by, is_gone, is_received, sends_before, withdraws, withdraws_before}
-use Rattle.rtps_evidence.specs.Rising.{some_reaches}
+use Rattle.rtps_coverage.proofs.Offered.{has_one_more}
+use Rattle.rtps_coverage.specs.Rising.{some_reaches}
 use Rattle.rtps_evidence.specs.WriterSummary.{IsHeardBy}
 use Rattle.rtps_evidence.specs.declared.amount.HeardNumbers.{HeardNumbers}
-use Rattle.rtps_evidence.specs.declared.amount.Stretch.{Stretch}
+use Rattle.rtps_coverage.specs.declared.stretch.Stretch.{Stretch}
 use Rattle.rtps_evidence.specs.declared.claimed.Certainty.{Certainty}
 use Rattle.rtps_evidence.specs.declared.withdrawal.Withdrawal.{Withdrawal}
 use Rattle.rtps_evidence.proofs.AnswerLemmas.{bases_same}
@@ -45,13 +47,6 @@ never_both b holds fails = let clash : true ≡ false = sym holds ∙ fails in c
 -- an element that passes
 any_of : {X : Type 0} (test : X → Bool) (xs : List X) (x : X) → Contains xs x → test x ≡ true → list_any test xs ≡ true
 any_of test xs x (k, lt, e) is = list_any-from_Any test xs (k, x, lt, e, is)
-
--- ---- a stretch more
-
-pub has_one_more : (old new : List Stretch) (lo hi n : ℕ) → new ≡ old ++ record { lo = lo; hi = hi } ∷ [] → stretches_have new n ≡ (stretches_have old n || (nat_le lo n && nat_lt n hi))
-has_one_more old new lo hi n is =
-    ap (λ l. stretches_have l n) is ∙ list_any-append (λ (s : Stretch). nat_le s.lo n && nat_lt n s.hi) old (record { lo = lo; hi = hi } ∷ [])
-    ∙ ap (λ b. stretches_have old n || b) (or_false (nat_le lo n && nat_lt n hi))
 
 -- ---- what is claimed
 

@@ -7,7 +7,7 @@ use Rattle.std.proofs.lemmas.Bool.Decides.{nat_tests}
 use Rattle.rtps_discovery.specs.declared.matching.Pair.{Pair}
 use Rattle.rtps_audit.specs.Delivery.{greatest}
 use Rattle.rtps_audit.specs.Placed.{PlacedValue}
-use Rattle.rtps_evidence.specs.Amount.{count_in}
+use Rattle.rtps_coverage.specs.Counts.{count_in}
 use Rattle.rtps_evidence.specs.Clean.{CountsSayTail, IsBelowBase, IsPastBase, IsTail, has_all, is_open, loses_none}
 use Rattle.rtps_evidence.specs.Locations.{base_said, greatest_base}
 use Rattle.rtps_evidence.specs.Missed.{is_wanting}
@@ -17,7 +17,7 @@ use Rattle.rtps_evidence.specs.declared.location.Location.{Location}
 use Rattle.rtps_evidence.specs.declared.outcome.Outcome.{Outcome}
 use Rattle.rtps_evidence.specs.declared.outcome.Outcome.TheVariants.{Received, Arrived, Missed, Unsent, Unanswered, Likely, Unconfirmed}
 use Rattle.rtps_evidence.specs.declared.outcome.Outcomes.{Outcomes}
-use Rattle.rtps_evidence.proofs.CountLemmas.{count_all, count_none, count_same, count_split}
+use Rattle.rtps_coverage.proofs.Offered.{count_all, count_none, count_same, count_split}
 
 -- where no number has it, each has not
 none_has : (has : ℕ → Bool) (lo hi n : ℕ) → count_in has lo hi ≡ 0 → lo ≤ n → n < hi → has n ≡ false

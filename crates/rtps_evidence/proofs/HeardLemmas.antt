@@ -12,7 +12,8 @@ use Rattle.rtps_receiver.specs.Values.{ActValue}
 use Rattle.rtps_audit.specs.Placed.{PlacedValue, placed_value}
 use Rattle.rtps_audit.specs.Speech.{word_for, word_of}
 use Rattle.rtps_audit.specs.declared.placed.Placed.{Placed}
-use Rattle.rtps_evidence.specs.Amount.{AreNumbers, some_withdrawn, stretches_have}
+use Rattle.rtps_coverage.specs.Stretches.{stretches_have}
+use Rattle.rtps_evidence.specs.Amount.{AreNumbers, some_withdrawn}
 use Rattle.rtps_evidence.specs.Locations.{payload_in, sends, tells}
 use Rattle.rtps_evidence.specs.Received.{is_gone, withdraws_before}
 use Rattle.rtps_evidence.specs.WriterSummary.{IsSplit, any_at, is_for_everyone, option_any}

@@ -1,4 +1,4 @@
-pub mod CountLemmas
+pub mod AmountLemmas
 pub mod FirstNumbersLemmas
 pub mod FindLemmas
 pub mod MadeLemmas
@@ -13,9 +13,7 @@ pub mod AnswerLemmas
 pub mod PlacedOrder
 pub mod HushedRuns
 pub mod ReceivedRuns
-pub mod RisingLemmas
 pub mod ClaimedLemmas
-pub mod LackingLemmas
 pub mod NotReceivedLemmas
 pub mod QuestionLemmas
 pub mod AskingLemmas

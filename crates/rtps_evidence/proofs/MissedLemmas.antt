@@ -1,5 +1,5 @@
 -- The numbers that are asked for and missed.
-use Rattle.std.proofs.Common.{◌≡◌, ◌∙◌, ℕ, ◌+◌, ◌<◌, ◌≤◌, ◌&&◌, ◌||◌, Bool, true, false, cond, not, filter, get_or, length, take, List, [], ◌∷◌, Option, Some, None, refl, sym, ap, arith}
+use Rattle.std.proofs.Common.{◌≡◌, ◌∙◌, ℕ, ◌+◌, ◌<◌, ◌≤◌, ◌&&◌, ◌||◌, Bool, true, false, cond, not, filter, get_or, length, List, [], ◌∷◌, Option, Some, None, refl, sym, ap, arith}
 use Rattle.std.specs.List.{cons_option, find, last_or, list_any}
 use Rattle.std.specs.Option.{option_map}
 use Rattle.std.specs.Prelude.{if◌then◌else◌}
@@ -14,31 +14,23 @@ use Rattle.rtps_audit.specs.Placed.{PlacedValue, announced_among, announced_at, 
 use Rattle.rtps_audit.specs.declared.announced_places.AnnouncedPlace.{AnnouncedPlace}
 use Rattle.rtps_audit.proofs.Offered.{speaker_is_origin}
 use Rattle.rtps_evidence.proofs.AskingLemmas.{requester_is_origin}
-use Rattle.rtps_evidence.specs.Amount.{count_in, stretches_have}
+use Rattle.rtps_coverage.specs.Counts.{count_in}
+use Rattle.rtps_coverage.specs.Stretches.{stretches_have}
 use Rattle.rtps_evidence.specs.Claimed.{is_at}
 use Rattle.rtps_evidence.specs.Locations.{find_last, is_before, is_behind, location_of, teller_at}
 use Rattle.rtps_evidence.specs.Missed.{AreMissed, again_behind, announces, asks_for, brings, brings_before, brings_behind, first_place, gone_behind, has_guid, is_asked_in_vain, is_missed, is_wanting, missed_at, missed_by, place_announced, withdraws_behind}
 use Rattle.rtps_evidence.specs.Received.{is_received, withdraws}
 use Rattle.rtps_evidence.specs.Requests.{is_in_vain, met_among, new_request, requested}
 use Rattle.rtps_evidence.specs.WriterSummary.{option_any}
-use Rattle.rtps_evidence.specs.declared.amount.Stretch.{Stretch}
+use Rattle.rtps_coverage.specs.declared.stretch.Stretch.{Stretch}
 use Rattle.rtps_evidence.specs.declared.first_missed.FirstMissed.{FirstMissed}
 use Rattle.rtps_evidence.specs.declared.teller.Teller.{Teller}
 use Rattle.rtps_evidence.specs.declared.location.Location.{Location}
 use Rattle.rtps_evidence.proofs.ClaimedLemmas.{withdrawer}
-use Rattle.rtps_evidence.proofs.CountLemmas.{count_same}
+use Rattle.rtps_coverage.proofs.Offered.{count_same}
 use Rattle.rtps_evidence.proofs.FindLemmas.{any_filter, find_filter}
 use Rattle.rtps_evidence.proofs.NotReceivedLemmas.{least_found, least_none}
 use Rattle.rtps_evidence.proofs.QuestionLemmas.{filter_filter}
-
--- ---- stretches one after another
-
--- of the first `i` stretches, this is the least number from `from` on and below `end`, or `end`
-pub record IsLeastSo (stretches : List Stretch) (from end i least : ℕ) : Type 0 where
-  pub onward : from ≤ least
-  pub within : least ≤ end
-  pub below : (n : ℕ) → from ≤ n → n < least → stretches_have (take i stretches) n ≡ false
-  pub inside : least < end → stretches_have (take i stretches) least ≡ true
 
 -- ---- what is missed
 

@@ -6,15 +6,16 @@ use Rattle.std.proofs.lemmas.Bool.{cases_lt}
 use Rattle.rtps_ids.specs.declared.identity.Guid.{Guid}
 use Rattle.rtps_discovery.specs.declared.matching.Pair.{Pair}
 use Rattle.rtps_audit.specs.Placed.{PlacedValue}
-use Rattle.rtps_evidence.specs.Amount.{count_in, stretches_have}
+use Rattle.rtps_coverage.specs.Counts.{count_in}
+use Rattle.rtps_coverage.specs.Stretches.{stretches_have}
 use Rattle.rtps_evidence.specs.Claimed.{AreLacking}
 use Rattle.rtps_evidence.specs.Locations.{claim_at}
 use Rattle.rtps_evidence.specs.Received.{AreReceived, first_claiming, gone_before, is_received, kept_by, least_in}
 use Rattle.rtps_evidence.specs.declared.acknowledgement.Claim.{Claim}
-use Rattle.rtps_evidence.specs.declared.amount.Stretch.{Stretch}
+use Rattle.rtps_coverage.specs.declared.stretch.Stretch.{Stretch}
 use Rattle.rtps_evidence.specs.declared.not_received.NotReceived.{NotReceived}
 use Rattle.rtps_evidence.specs.declared.teller.Teller.{Teller}
-use Rattle.rtps_evidence.proofs.CountLemmas.{count_others, count_same}
+use Rattle.rtps_coverage.proofs.Offered.{count_others, count_same}
 
 -- ---- the least number
 

@@ -16,7 +16,7 @@ use Rattle.rtps_audit.proofs.Offered.{last_is_last, speaker_is_origin}
 use Rattle.rtps_evidence.specs.Locations.{announcement_at, announcement_of, differs, first_sending, first_sent, number_said, other_sending, other_sent, payload_at, payload_for, payload_in, sends, sent_at, teller_at, teller_of, tells}
 use Rattle.rtps_evidence.specs.Amount.{AreAmounts, is_sent, is_told}
 use Rattle.rtps_evidence.specs.declared.amount.Amounts.{Amounts}
-use Rattle.rtps_evidence.proofs.CountLemmas.{count_same}
+use Rattle.rtps_coverage.proofs.Offered.{count_same}
 use Rattle.rtps_evidence.proofs.FindLemmas.{any_filter, find_filter}
 
 -- ---- who says it

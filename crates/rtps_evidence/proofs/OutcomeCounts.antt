@@ -5,7 +5,7 @@ use Rattle.std.proofs.lemmas.Bool.{and_parts, cases_lt}
 use Rattle.std.proofs.lemmas.Bool.Decides.{nat_tests}
 use Rattle.rtps_discovery.specs.declared.matching.Pair.{Pair}
 use Rattle.rtps_audit.specs.Placed.{PlacedValue}
-use Rattle.rtps_evidence.specs.Amount.{count_in}
+use Rattle.rtps_coverage.specs.Counts.{count_in}
 use Rattle.rtps_evidence.specs.Locations.{base_said, greatest_base}
 use Rattle.rtps_evidence.specs.Missed.{is_wanting}
 use Rattle.rtps_evidence.specs.Outcomes.{AreOutcomes, ArrivedIsAllThatChanges, IsChangedAlone, is_brought, is_outcome, is_unanswered, outcome_of}
@@ -15,7 +15,7 @@ use Rattle.rtps_evidence.specs.declared.outcome.Outcome.{Outcome}
 use Rattle.rtps_evidence.specs.declared.outcome.Outcome.TheVariants.{Received, Arrived, Missed, Unsent, Unanswered, Likely, Unconfirmed}
 use Rattle.rtps_evidence.specs.declared.outcome.Outcomes.{Outcomes}
 use Rattle.rtps_evidence.proofs.CleanLemmas.{first_of, found_where, none_where}
-use Rattle.rtps_evidence.proofs.CountLemmas.{count_none, count_others, count_rest, count_same}
+use Rattle.rtps_coverage.proofs.Offered.{count_none, count_others, count_rest, count_same}
 
 -- an answer claims n where the greatest base is above it
 pub claimed_below : (pair : Pair) (acts : List PlacedValue) (n : ℕ) → nat_lt n (greatest_base pair.writer pair.reader acts) ≡ is_some (first_claiming pair.writer pair.reader n acts)

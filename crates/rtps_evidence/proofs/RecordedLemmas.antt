@@ -7,15 +7,17 @@ use Rattle.rtps_discovery.specs.declared.matching.Pair.{Pair}
 use Rattle.rtps_receiver.specs.Speech.{is_spoken_by}
 use Rattle.rtps_audit.specs.Placed.{PlacedValue, is_from}
 use Rattle.rtps_audit.proofs.Offered.{speaker_is_origin}
-use Rattle.rtps_evidence.specs.Amount.{count_in, is_sent, stretches_have}
+use Rattle.rtps_coverage.specs.Counts.{count_in}
+use Rattle.rtps_coverage.specs.Stretches.{stretches_have}
+use Rattle.rtps_evidence.specs.Amount.{is_sent}
 use Rattle.rtps_evidence.specs.FirstNumbers.{first_ten, kept}
 use Rattle.rtps_receiver.specs.Said.{said}
 use Rattle.rtps_evidence.specs.Recorded.{AreRecordedIn, IsArrivedAmong, greatest_sent, number_sent}
-use Rattle.rtps_evidence.specs.declared.amount.Stretch.{Stretch}
+use Rattle.rtps_coverage.specs.declared.stretch.Stretch.{Stretch}
 use Rattle.rtps_evidence.specs.declared.recorded.ArrivedNumbers.{ArrivedNumbers}
 use Rattle.rtps_evidence.specs.declared.recorded.Recorded.{Recorded}
 use Rattle.rtps_evidence.specs.declared.span.Span.{Span}
-use Rattle.rtps_evidence.proofs.CountLemmas.{count_same}
+use Rattle.rtps_coverage.proofs.Offered.{count_same}
 use Rattle.rtps_evidence.proofs.FirstNumbersLemmas.{first_same}
 use Rattle.rtps_evidence.proofs.OriginLemmas.{sent_same}
 use Rattle.rtps_evidence.proofs.SpanLemmas.{greatest_filter}

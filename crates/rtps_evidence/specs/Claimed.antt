@@ -10,10 +10,11 @@ use Rattle.rtps_audit.specs.Speech.{natural}
 use Rattle.rtps_audit.specs.declared.answer.Answer.{Answer}
 use Rattle.rtps_audit.specs.declared.verdict.Verdict.{Verdict}
 use Rattle.rtps_audit.specs.declared.verdict.Verdict.TheVariants.{Unfounded, Conflict, Open, Complete}
-use Rattle.rtps_evidence.specs.Amount.{some_withdrawn, stretches_have, withdrawal_has}
+use Rattle.rtps_coverage.specs.Stretches.{stretches_have}
+use Rattle.rtps_evidence.specs.Amount.{some_withdrawn, withdrawal_has}
 use Rattle.rtps_evidence.specs.Received.{is_received, withdraws_before}
-use Rattle.rtps_evidence.specs.Rising.{AreRising, some_reaches}
-use Rattle.rtps_evidence.specs.declared.amount.Stretch.{Stretch}
+use Rattle.rtps_coverage.specs.Rising.{AreRising, some_reaches}
+use Rattle.rtps_coverage.specs.declared.stretch.Stretch.{Stretch}
 use Rattle.rtps_evidence.specs.declared.claimed.Certainty.{Certainty}
 use Rattle.rtps_evidence.specs.declared.withdrawal.Withdrawal.{Withdrawal}
 

@@ -11,7 +11,7 @@ use Rattle.rtps_discovery.specs.Endpoint.{EndpointValue}
 use Rattle.rtps_discovery.specs.Notice.{announcement_of as notice_of, endpoint_in}
 use Rattle.rtps_audit.specs.Placed.{PlacedValue, is_guid}
 use Rattle.rtps_audit.specs.declared.announced_places.AnnouncedPlace.{AnnouncedPlace}
-use Rattle.rtps_evidence.specs.Amount.{count_in}
+use Rattle.rtps_coverage.specs.Counts.{count_in}
 use Rattle.rtps_evidence.specs.Claimed.{is_at}
 use Rattle.rtps_evidence.specs.Locations.{find_last, is_before, is_behind, location_of, teller_at}
 use Rattle.rtps_evidence.specs.Received.{is_received, least_in, withdraws}

@@ -27,7 +27,6 @@ mod outcome;
 mod questions;
 mod received;
 mod recorded;
-mod rising;
 mod sent_payload;
 mod silence;
 mod span;

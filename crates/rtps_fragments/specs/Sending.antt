@@ -1,10 +1,12 @@
 -- The acts of a datagram, each with the fragments that it sends. DDSI-RTPS 2.5, 8.3.4 "The RTPS Message Receiver", 8.3.8.3 "DataFrag" and
 -- 8.3.8.12 "NackFrag". own: a DATA_FRAG that has no fragments that can be used is no act, and neither is a NACK_FRAG that cannot be read.
-use Rattle.std.specs.Prelude.{ℕ, Bool, ◌≡◌, ◌+◌, ◌<◌, ◌^◌, ◌&&◌, if◌then◌else◌, All, List, [], ◌∷◌, ◌++◌, count_by, flat_map, is_none, length, map, Option, Some, None}
+use Rattle.std.specs.Prelude.{ℕ, Bool, false, ◌≡◌, ◌+◌, ◌<◌, ◌^◌, ◌&&◌, if◌then◌else◌, All, List, [], ◌∷◌, ◌++◌, count_by, flat_map, is_none, length, map, Option, Some, None}
 use Rattle.rtps_wire.specs.DataFrag.{DataFragValue, parts_of}
 use Rattle.rtps_wire.specs.FragmentItem.{asks_at, fragments_at, is_skipped_data_frag}
 use Rattle.rtps_wire.specs.Reading.{reading_of}
-use Rattle.rtps_wire.specs.Values.{ItemValue}
+use Rattle.rtps_wire.specs.Tally.{is_fragment, is_skipped}
+use Rattle.rtps_wire.specs.Values.{BodyValue, ItemValue}
+use Rattle.rtps_wire.specs.declared.counts.Tally.{Tally}
 use Rattle.rtps_wire.specs.declared.header.Header.{Header}
 use Rattle.rtps_wire.specs.declared.nack_frag.NackFrag.{NackFrag as NackFragBody}
 use Rattle.rtps_receiver.specs.Acts.{act_at, act_body, gathered, state_at_start}
@@ -87,3 +89,13 @@ pub record AddsActs (old new : Sending) (ones : List PieceAct) (count : ℕ) : T
   pub sents : map sent_value new.sents.items ≡ map sent_value old.sents.items ++ sents_from (length old.acts.items) ones
   pub well : All IsSent old.sents.items → All IsSent new.sents.items
   pub unusable : new.unusable ≡ old.unusable + count
+
+-- nothing is counted of a datagram
+abbrev pub no_tally : Tally
+no_tally = record { refused = false; skipped = 0; fragments = 0 }
+
+-- what is counted of a datagram grew by an item with this body
+pub record CountsItem (old new : Tally) (body : BodyValue) : Type 0 where
+  pub refused : new.refused ≡ old.refused
+  pub skipped : new.skipped ≡ old.skipped + (if is_skipped body then 1 else 0)
+  pub fragments : new.fragments ≡ old.fragments + (if is_fragment body then 1 else 0)

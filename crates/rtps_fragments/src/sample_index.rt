@@ -24,7 +24,6 @@ use rtps_audit::{Index, Verdict};
 use rtps_discovery::Pair;
 use rtps_ids::{Memory, SeqNum};
 use rtps_receiver::{Spoken, Walk};
-use rtps_wire::tally;
 use std::alloc::Global;
 
 /// The samples that the acts of one datagram tell.
@@ -77,7 +76,7 @@ fn note_datagram<'s>(
         own,
         samples.overheard,
     )?;
-    let tally = samples.whole.tally(tally(octets), &reading.sending);
+    let tally = samples.whole.tally(&reading.sending);
     let noted = DatagramActs {
         datagram: samples.datagram,
         acts: &reading.acts,
@@ -161,8 +160,8 @@ fn index_behind<'s>(
 
 /// The index of a recording, with its samples where fragments are read, and its announcements. The samples are put where the index may
 /// borrow them. The octets of each datagram are read once up to the first one with a submessage of fragments, where these are read.
-/// Those behind it are read three times, and that one four times: for the samples, the acts and the counts. `Memory` is answered where
-/// there is none for it, and then `samples` is of no use.
+/// Those behind it are read twice, and that one three times: for the samples, and for the index. `Memory` is answered where there is
+/// none for it, and then `samples` is of no use.
 pub fn index_as<'s>(
     alloc: Global,
     recording: &[&'s [u8]],

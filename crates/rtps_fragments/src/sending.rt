@@ -3,26 +3,37 @@ ghost use Rattle.rtps_receiver.specs.Acts.{act_at, act_body, state_behind};
 ghost use Rattle.rtps_receiver.specs.Values.{spoken_value};
 ghost use Rattle.rtps_receiver.specs.Values.ActBodyValue.{DataFrag as DataFragAct, NackFrag as NackFragAct};
 ghost use Rattle.rtps_wire.specs.DataFrag.{IsDataFrag, data_frag_value, parts_of};
-ghost use Rattle.rtps_wire.specs.Reading.{items_among, outcomes_left};
+ghost use Rattle.rtps_wire.specs.Reading.{items_among, outcomes_left, reading_of};
+ghost use Rattle.rtps_wire.specs.Tally.{tally_of, tally_of_outcomes};
 ghost use Rattle.rtps_wire.specs.Values.{item_value};
 ghost use Rattle.rtps_fragments.specs.Heard.{came_from};
-ghost use Rattle.rtps_fragments.specs.Sending.{AddsActs, IsSending, one_unusable, piece_acts_behind, piece_acts_of, piece_acts_of_item, skipped_acts, unusable_among, unusable_in};
+ghost use Rattle.rtps_fragments.specs.Sending.{AddsActs, CountsItem, IsSending, no_tally, one_unusable, piece_acts_behind, piece_acts_of, piece_acts_of_item, skipped_acts, unusable_among, unusable_in};
 ghost use Rattle.rtps_fragments.specs.Telling.{IsSent, sent_value};
 
 use crate::piece::{FragmentRun, SampleKey, SentFragments};
 use rtps_ids::{Guid, Memory};
 use rtps_receiver::{Audience, FragmentBody, Spoken, SpokenBody, State};
-use rtps_wire::{DataFrag, Item, Items, NackFrag};
+use rtps_wire::{DataFrag, Item, Items, NackFrag, Tally};
 use std::alloc::Global;
 use std::slice;
 
-/// The acts of a datagram, the fragments that its DATA_FRAG send, and how many of these have no fragments that can be used.
+/// The acts of a datagram, the fragments that its DATA_FRAG send, and what is counted of it.
 #[derive(Drop)]
 pub struct Sending<'a> {
     pub(crate) acts: Vec<Spoken<'a>>,
     pub(crate) sents: Vec<SentFragments<'a>>,
+    /// How many DATA_FRAG have no fragments that can be used.
     pub(crate) unusable: u64,
+    /// What is counted where fragments are skipped.
+    pub(crate) plain: Tally,
 }
+
+/// What is counted of a datagram before its first item.
+const NOTHING: Tally = Tally {
+    refused: false,
+    skipped: 0,
+    fragments: 0,
+};
 
 /// The fragments of a DATA_FRAG, which is the act at this place, in this state.
 fn sent_of<'a>(act: usize, state: &State, fragments: &DataFrag<'a>) -> SentFragments<'a>
@@ -112,6 +123,7 @@ impl<'a> Sending<'a> {
             acts: Vec::new(alloc),
             sents: Vec::new(alloc),
             unusable: 0,
+            plain: NOTHING,
         }
     }
 
@@ -123,7 +135,8 @@ impl<'a> Sending<'a> {
         fragments: &DataFrag<'a>,
     ) -> Result<(), Memory>
         requires { IsDataFrag (data_frag_value fragments.now) }
-        ensures { OnOk result (AddsActs self.old self.new (skipped_acts state.now (item_value item.now) (Some (data_frag_value fragments.now)) None) 0) }
+        ensures acts { OnOk result (AddsActs self.old self.new (skipped_acts state.now (item_value item.now) (Some (data_frag_value fragments.now)) None) 0) }
+        ensures plain { OnOk result (self.new.plain ≡ self.old.plain) }
     {
         let place = self.acts.len();
         let act = act_of(state, item, fragments);
@@ -135,7 +148,8 @@ impl<'a> Sending<'a> {
 
     /// Adds a NACK_FRAG that stands there, in this state. After `Memory` it is of no use.
     fn add_asks(&mut self, state: &State, item: &Item<'_>, asks: NackFrag) -> Result<(), Memory>
-        ensures { OnOk result (AddsActs self.old self.new (skipped_acts state.now (item_value item.now) None (Some asks)) 0) }
+        ensures acts { OnOk result (AddsActs self.old self.new (skipped_acts state.now (item_value item.now) None (Some asks)) 0) }
+        ensures plain { OnOk result (self.new.plain ≡ self.old.plain) }
     {
         let act = asks_act(state, item, asks);
         self.acts.extend_from_slice(slice::from_ref(&act))?;
@@ -145,9 +159,12 @@ impl<'a> Sending<'a> {
     /// Adds the act that an item of a datagram is, if it is one, and changes the state as the item says. A DATA_FRAG that is no act
     /// is counted. After `Memory` it is of no use.
     fn add(&mut self, state: &mut State, item: &Item<'a>, datagram: &'a [u8]) -> Result<(), Memory>
-        requires { self.old.unusable + 1 < 2 ^ 64 }
+        requires unusable { self.old.unusable + 1 < 2 ^ 64 }
+        requires skipped { self.old.plain.skipped + 1 < 2 ^ 64 }
+        requires fragments { self.old.plain.fragments + 1 < 2 ^ 64 }
         ensures acts { OnOk result (AddsActs self.old self.new (piece_acts_of_item datagram.now state.old (item_value item.now) (act_body (item_value item.now).body))
             (one_unusable datagram.now (item_value item.now))) }
+        ensures plain { OnOk result (CountsItem self.old.plain self.new.plain (item_value item.now).body) }
         ensures state { OnOk result (state.new ≡ state_behind state.old (item_value item.now ∷ [])) }
     {
         if let Some(act) = state.spoken(item) {
@@ -159,6 +176,8 @@ impl<'a> Sending<'a> {
         } else if item.body.is_data_frag() {
             self.unusable += 1;
         }
+        self.plain.skipped += u64::from(item.body.is_skipped());
+        self.plain.fragments += u64::from(item.body.is_fragment());
         state.interpret(item);
         Ok(())
     }
@@ -171,7 +190,9 @@ impl<'a> Sending<'a> {
         datagram: &'a [u8],
     ) -> Result<(), Memory>
         requires few { self.old.unusable + length self.old.sents.items + length (outcomes_left items) < 2 ^ 64 }
-        ensures { OnOk result (IsSending [] 0 self.old → IsSending (piece_acts_behind datagram.now start (items_among (outcomes_left items.entry)))
+        requires plain { self.old.plain ≡ no_tally }
+        ensures plain { OnOk result (self.new.plain ≡ tally_of_outcomes (outcomes_left items.entry)) }
+        ensures acts { OnOk result (IsSending [] 0 self.old → IsSending (piece_acts_behind datagram.now start (items_among (outcomes_left items.entry)))
             (unusable_among datagram.now (items_among (outcomes_left items.entry))) self.new) }
     {
         let mut state = start;
@@ -179,7 +200,7 @@ impl<'a> Sending<'a> {
         'items: loop {
             match items.next() {
                 Some(Ok(item)) => self.add(&mut state, &item, datagram)?,
-                Some(Err(_)) => {}
+                Some(Err(_)) => self.plain.refused = true,
                 None => return Ok(()),
             }
         }
@@ -187,22 +208,28 @@ impl<'a> Sending<'a> {
 
     /// Takes the acts out.
     fn clear(&mut self)
-        ensures { IsSending [] 0 self.new }
+        ensures acts { IsSending [] 0 self.new }
+        ensures plain { self.new.plain ≡ no_tally }
     {
         self.acts.clear();
         self.sents.clear();
         self.unusable = 0;
+        self.plain = NOTHING;
     }
 
     /// Reads a datagram of any length, up to its refusal, if it has one. Its acts, and the fragments that its DATA_FRAG send, replace
     /// those of the datagram before. After `Memory` it is of no use.
     pub fn read(&mut self, datagram: &'a [u8]) -> Result<(), Memory>
-        ensures { OnOk result (IsSending (piece_acts_of datagram.now) (unusable_in datagram.now) self.new) }
+        ensures acts { OnOk result (IsSending (piece_acts_of datagram.now) (unusable_in datagram.now) self.new) }
+        ensures plain { OnOk result (self.new.plain ≡ tally_of (reading_of datagram.now)) }
     {
         self.clear();
         match Items::open(datagram) {
             Ok((header, items)) => self.add_items(State::at_start(header), items, datagram),
-            Err(_) => Ok(()),
+            Err(_) => {
+                self.plain.refused = true;
+                Ok(())
+            }
         }
     }
 

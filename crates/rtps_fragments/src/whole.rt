@@ -42,15 +42,15 @@ impl WholeNumbers {
         }
     }
 
-    /// The tally of a datagram with this plain one, which sends this. Its fragments are the DATA_FRAG of no sample.
-    pub(crate) fn tally(&self, plain: Tally, sending: &Sending<'_>) -> Tally
+    /// The tally of a datagram that sends this. Its fragments are the DATA_FRAG of no sample.
+    pub(crate) fn tally(&self, sending: &Sending<'_>) -> Tally
         requires { sending.now.unusable + length sending.now.sents.items < 2 ^ 64 }
         ensures { (all : List SentValue) → AreWholeIn all self.now
-            → result ≡ tally_with_fragments plain (sending.now.unusable + left_among_lem all (map sent_value sending.now.sents.items)) }
+            → result ≡ tally_with_fragments sending.now.plain (sending.now.unusable + left_among_lem all (map sent_value sending.now.sents.items)) }
     {
         Tally {
-            refused: plain.refused,
-            skipped: plain.skipped,
+            refused: sending.plain.refused,
+            skipped: sending.plain.skipped,
             fragments: sending.unusable + self.left_among(&sending.sents),
         }
     }

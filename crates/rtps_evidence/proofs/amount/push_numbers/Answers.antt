@@ -2,7 +2,7 @@ use Rattle.std.proofs.Common.{◌∙◌, ◌||◌, nat_le, nat_lt, ◌&&◌, ap,
 use Rattle.std.proofs.Math.Bool.{or-false, or_assoc}
 use Rattle.rtps_receiver.specs.Said.{numbers_have}
 use Rattle.rtps_receiver.proofs.Offered.{below, no_more, none_below, range_more}
-use Rattle.rtps_evidence.specs.Amount.{stretches_have}
+use Rattle.rtps_coverage.specs.Stretches.{stretches_have}
 use Rattle.rtps_evidence.proofs.amount.push_numbers.Goals as goal
 
 pub apart-init : goal.apart-init

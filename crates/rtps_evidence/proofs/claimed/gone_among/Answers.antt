@@ -1,7 +1,7 @@
 use Rattle.std.proofs.Common.{◌≡◌, ◌∙◌, List, arith, ap, sym}
 use Rattle.std.proofs.lemmas.Int.{ints}
-use Rattle.rtps_evidence.specs.Amount.{stretches_have}
-use Rattle.rtps_evidence.specs.declared.amount.Stretch.{Stretch}
+use Rattle.rtps_coverage.specs.Stretches.{stretches_have}
+use Rattle.rtps_coverage.specs.declared.stretch.Stretch.{Stretch}
 use Rattle.rtps_evidence.proofs.ClaimedLemmas.{none_past, past_same}
 use Rattle.rtps_evidence.proofs.claimed.gone_among.Goals as goal
 

@@ -1,6 +1,6 @@
 use Rattle.std.proofs.Common.{◌∙◌, ◌||◌, ap, get_or, sym}
 use Rattle.std.proofs.lemmas.List.Folds.{list_any_more}
-use Rattle.rtps_evidence.specs.Amount.{stretches_have}
+use Rattle.rtps_coverage.specs.Stretches.{stretches_have}
 use Rattle.rtps_evidence.specs.Claimed.{withdrawn_past}
 use Rattle.rtps_evidence.specs.declared.withdrawal.Withdrawal.{Withdrawal}
 use Rattle.rtps_evidence.proofs.ClaimedLemmas.{past_more, past_none}

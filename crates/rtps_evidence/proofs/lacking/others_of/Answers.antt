@@ -2,8 +2,8 @@ use Rattle.std.proofs.Common.{◌≡◌, ◌∙◌, ap, arith, not, rules, subst
 use Rattle.std.specs.List.Sorted.{IsNonDecreasingBy}
 use Rattle.std.proofs.lemmas.Int.{ints}
 use Rattle.std.proofs.lemmas.List.Sorted.{IsNonDecreasingBy-from_sort_by_key, list_any-IsPermutation}
-use Rattle.rtps_evidence.specs.Amount.{stretch_has, stretches_have}
-use Rattle.rtps_evidence.specs.declared.amount.Stretch.{Stretch}
+use Rattle.rtps_coverage.specs.Stretches.{stretch_has, stretches_have}
+use Rattle.rtps_coverage.specs.declared.stretch.Stretch.{Stretch}
 use Rattle.rtps_evidence.proofs.lacking.others_of.Goals as goal
 
 pub outside-requires : goal.outside-requires

@@ -7,11 +7,11 @@ use Rattle.std.proofs.lemmas.Bool.Decides.{nat_tests}
 use Rattle.std.proofs.lemmas.List.{nil_from_length}
 use Rattle.rtps_audit.specs.Placed.{is_from, placed_in, placed_value}
 use Rattle.rtps_discovery.specs.declared.matching.Pair.{Pair}
-use Rattle.rtps_evidence.specs.Amount.{stretches_have}
+use Rattle.rtps_coverage.specs.Stretches.{stretches_have}
 use Rattle.rtps_evidence.specs.Requests.{is_in_vain, met_among, requested}
 use Rattle.rtps_evidence.specs.Spans.{since_of}
 use Rattle.rtps_evidence.specs.WriterSummary.{option_any}
-use Rattle.rtps_evidence.specs.declared.amount.Stretch.{Stretch}
+use Rattle.rtps_coverage.specs.declared.stretch.Stretch.{Stretch}
 use Rattle.rtps_evidence.proofs.MissedLemmas.{missed_by_request, received_not_missed}
 use Rattle.rtps_evidence.proofs.missed_numbers.find_missed.Goals as goal
 

@@ -3,7 +3,7 @@ use Rattle.std.specs.BTreeMap.{get}
 use Rattle.std.specs.Ordering.{nat_cmp}
 use Rattle.rtps_receiver.specs.Said.{numbers_have}
 use Rattle.rtps_receiver.proofs.Offered.{below, no_more, range_more}
-use Rattle.rtps_evidence.specs.Amount.{stretches_have}
+use Rattle.rtps_coverage.specs.Stretches.{stretches_have}
 use Rattle.rtps_evidence.specs.Requests.{new_request}
 use Rattle.rtps_evidence.proofs.RequestLemmas.{none_so_far, put_both}
 use Rattle.rtps_evidence.proofs.missed_numbers.note_numbers.Goals as goal

@@ -1,7 +1,7 @@
 use Rattle.std.proofs.Common.{◌≡◌, ◌∙◌, ◌==◌, ◌&&◌, Some, ap, arith, cond, nat_le, nat_lt, sym}
 use Rattle.std.specs.BTreeMap.{get}
 use Rattle.std.specs.Ordering.{nat_cmp}
-use Rattle.rtps_evidence.specs.Amount.{stretches_have}
+use Rattle.rtps_coverage.specs.Stretches.{stretches_have}
 use Rattle.rtps_evidence.specs.Requests.{new_request}
 use Rattle.rtps_evidence.proofs.RequestLemmas.{none_in_range, put_both, range_more}
 use Rattle.rtps_evidence.proofs.missed_numbers.note_range.Goals as goal

@@ -1,7 +1,7 @@
 use Rattle.std.proofs.Common.{◌≡◌, ◌∙◌, ◌==◌, ◌||◌, ℕ, Bool, ap, arith, false, nat_lt, refl, sym, true}
 use Rattle.std.proofs.lemmas.Bool.Decides.{nat_tests}
 use Rattle.rtps_audit.specs.Placed.{placed_value}
-use Rattle.rtps_evidence.specs.Amount.{stretches_have}
+use Rattle.rtps_coverage.specs.Stretches.{stretches_have}
 use Rattle.rtps_evidence.specs.Missed.{brings_behind}
 use Rattle.rtps_evidence.proofs.outcome.push_brought.Goals as goal
 

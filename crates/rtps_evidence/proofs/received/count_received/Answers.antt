@@ -1,10 +1,10 @@
 use Rattle.std.proofs.Common.{◌≡◌, ◌+◌, ◌-◌, ◌<◌, ◌≤◌, arith, refl, subst, Some, None}
 use Rattle.std.proofs.lemmas.Int.{ints}
 use Rattle.rtps_audit.specs.Placed.{placed_in}
-use Rattle.rtps_evidence.specs.Amount.{stretches_have}
+use Rattle.rtps_coverage.specs.Stretches.{stretches_have}
 use Rattle.rtps_evidence.specs.Received.{AreReceived}
 use Rattle.rtps_evidence.specs.declared.received.Received.{Received}
-use Rattle.rtps_evidence.proofs.CountLemmas.{count_others}
+use Rattle.rtps_coverage.proofs.Offered.{count_others}
 use Rattle.rtps_evidence.proofs.NotReceivedLemmas.{all_received, some_not_received}
 use Rattle.rtps_evidence.proofs.received.count_received.Goals as goal
 

@@ -5,12 +5,12 @@ use Rattle.std.proofs.Common.{◌&&◌, Bool, ◌++◌, refl}
 use Rattle.std.proofs.lemmas.List.Folds.{list_any-append}
 use Rattle.rtps_audit.specs.Placed.{answers_among, placed_in, placed_value}
 use Rattle.rtps_audit.specs.declared.answer.Answer.{Answer}
-use Rattle.rtps_evidence.specs.Amount.{stretch_has, stretches_have}
+use Rattle.rtps_coverage.specs.Stretches.{stretch_has, stretches_have}
 use Rattle.rtps_evidence.specs.Outcomes.{is_silent, walked_all}
 use Rattle.rtps_evidence.specs.Outcomes.Silence.{Unasked}
 use Rattle.rtps_evidence.specs.Spans.{since_of}
 use Rattle.rtps_evidence.proofs.SilenceLemmas.{so_ends}
-use Rattle.rtps_evidence.specs.declared.amount.Stretch.{Stretch}
+use Rattle.rtps_coverage.specs.declared.stretch.Stretch.{Stretch}
 use Rattle.rtps_evidence.proofs.silence.find_silent.Goals as goal
 
 stretches_both : (one other all : List Stretch) (n : ℕ) → all ≡ one ++ other → stretches_have all n ≡ (stretches_have one n || stretches_have other n)

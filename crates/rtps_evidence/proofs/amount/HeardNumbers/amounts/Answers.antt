@@ -1,7 +1,9 @@
 use Rattle.std.proofs.Common.{◌≡◌, ◌+◌, arith, subst}
 use Rattle.std.proofs.lemmas.Int.{ints}
-use Rattle.rtps_evidence.specs.Amount.{count_in, stretches_have}
-use Rattle.rtps_evidence.proofs.CountLemmas.{amounts_counted, count_others}
+use Rattle.rtps_coverage.specs.Counts.{count_in}
+use Rattle.rtps_coverage.specs.Stretches.{stretches_have}
+use Rattle.rtps_coverage.proofs.Offered.{count_others}
+use Rattle.rtps_evidence.proofs.AmountLemmas.{amounts_counted}
 use Rattle.rtps_evidence.proofs.amount.HeardNumbers.amounts.Goals as goal
 
 pub overflow_sub-result-2 : goal.overflow_sub-result-2

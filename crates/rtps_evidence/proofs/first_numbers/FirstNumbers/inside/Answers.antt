@@ -1,5 +1,5 @@
 use Rattle.std.proofs.Common.{arith}
-use Rattle.rtps_evidence.specs.Amount.{stretches_have}
+use Rattle.rtps_coverage.specs.Stretches.{stretches_have}
 use Rattle.rtps_evidence.proofs.FirstNumbersLemmas.{all_kept, next_kept, none_found, none_kept}
 use Rattle.rtps_evidence.proofs.first_numbers.FirstNumbers.inside.Goals as goal
 

@@ -1,6 +1,6 @@
 use Rattle.std.proofs.Common.{◌≡◌, ◌∙◌, ◌+◌, ap, arith, not}
 use Rattle.std.proofs.lemmas.Int.{ints}
-use Rattle.rtps_evidence.specs.Amount.{stretches_have}
+use Rattle.rtps_coverage.specs.Stretches.{stretches_have}
 use Rattle.rtps_evidence.specs.FirstNumbers.{first_ten, kept}
 use Rattle.rtps_evidence.proofs.FirstNumbersLemmas.{first_same}
 use Rattle.rtps_evidence.proofs.first_numbers.FirstNumbers.outside.Goals as goal

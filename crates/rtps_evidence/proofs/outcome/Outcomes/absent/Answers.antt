@@ -1,5 +1,5 @@
 use Rattle.std.proofs.Common.{◌≡◌, ◌∙◌, ◌-◌, ◌||◌, ℕ, Bool, ap, arith, sym, true}
-use Rattle.rtps_evidence.specs.Amount.{stretches_have}
+use Rattle.rtps_coverage.specs.Stretches.{stretches_have}
 use Rattle.rtps_evidence.specs.Outcomes.{absent_of}
 use Rattle.rtps_evidence.proofs.OutcomeCounts.{absent_counted}
 use Rattle.rtps_evidence.proofs.outcome.Outcomes.absent.Goals as goal

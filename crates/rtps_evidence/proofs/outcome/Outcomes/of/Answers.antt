@@ -8,13 +8,14 @@ use Rattle.rtps_audit.specs.Placed.{placed_in, placed_value}
 use Rattle.rtps_audit.specs.Speech.{natural}
 use Rattle.rtps_audit.specs.declared.answer.Answer.{Answer}
 use Rattle.rtps_discovery.specs.declared.matching.Pair.{Pair}
-use Rattle.rtps_evidence.specs.Amount.{count_in, stretches_have}
+use Rattle.rtps_coverage.specs.Counts.{count_in}
+use Rattle.rtps_coverage.specs.Stretches.{stretches_have}
 use Rattle.rtps_evidence.specs.Locations.{greatest_base}
 use Rattle.rtps_evidence.specs.Missed.{brings_behind, is_wanting}
 use Rattle.rtps_evidence.specs.Outcomes.{is_brought, is_unanswered}
 use Rattle.rtps_evidence.specs.Received.{first_claiming, is_received}
 use Rattle.rtps_evidence.specs.Spans.{since_of}
-use Rattle.rtps_evidence.specs.declared.amount.Stretch.{Stretch}
+use Rattle.rtps_coverage.specs.declared.stretch.Stretch.{Stretch}
 use Rattle.rtps_evidence.proofs.AnswerLemmas.{bases_same}
 use Rattle.rtps_evidence.proofs.MissedLemmas.{brought_same}
 use Rattle.rtps_evidence.proofs.OutcomeCounts.{claimed_below, missed_put, outcomes_counted, unanswered_put, unsent_put, with_arrived, with_likely, with_missed, with_unanswered, with_unsent}

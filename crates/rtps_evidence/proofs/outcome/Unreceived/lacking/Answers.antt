@@ -1,11 +1,11 @@
 use Rattle.std.proofs.Common.{◌≡◌, ◌∙◌, ◌+◌, ◌<◌, ◌≤◌, ◌||◌, ◌&&◌, ℕ, Bool, List, ap, arith, false, not, refl, sym, true}
 use Rattle.std.proofs.lemmas.Int.{ints}
 use Rattle.std.proofs.lemmas.List.Folds.{list_any-append}
-use Rattle.rtps_evidence.specs.Amount.{stretch_has, stretches_have}
+use Rattle.rtps_coverage.specs.Stretches.{stretch_has, stretches_have}
 use Rattle.rtps_evidence.specs.FirstNumbers.{kept}
 use Rattle.rtps_evidence.specs.Outcomes.{lacking_of}
 use Rattle.rtps_evidence.specs.Received.{is_received}
-use Rattle.rtps_evidence.specs.declared.amount.Stretch.{Stretch}
+use Rattle.rtps_coverage.specs.declared.stretch.Stretch.{Stretch}
 use Rattle.rtps_evidence.proofs.FirstNumbersLemmas.{first_same}
 use Rattle.rtps_evidence.proofs.outcome.Unreceived.lacking.Goals as goal
 

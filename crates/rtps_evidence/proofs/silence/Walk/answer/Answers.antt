@@ -1,5 +1,5 @@
 use Rattle.std.proofs.Common.{arith}
-use Rattle.rtps_evidence.specs.Amount.{stretches_have}
+use Rattle.rtps_coverage.specs.Stretches.{stretches_have}
 use Rattle.rtps_evidence.proofs.SilenceLemmas.{so_answered}
 use Rattle.rtps_evidence.proofs.silence.Walk.answer.Goals as goal
 

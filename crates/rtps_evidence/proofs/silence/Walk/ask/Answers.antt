@@ -1,6 +1,6 @@
 use Rattle.std.proofs.Common.{◌≡◌, arith, max}
 use Rattle.std.specs.Prelude.{min}
-use Rattle.rtps_evidence.specs.Amount.{stretches_have}
+use Rattle.rtps_coverage.specs.Stretches.{stretches_have}
 use Rattle.rtps_evidence.proofs.SilenceLemmas.{so_asked}
 use Rattle.rtps_evidence.proofs.silence.Walk.ask.Goals as goal
 

@@ -1,6 +1,6 @@
 use Rattle.std.proofs.Common.{◌≡◌, ◌∙◌, ◌||◌, ◌&&◌, ap, arith, max, nat_le, nat_lt}
 use Rattle.std.specs.Prelude.{min}
-use Rattle.rtps_evidence.specs.Amount.{stretches_have}
+use Rattle.rtps_coverage.specs.Stretches.{stretches_have}
 use Rattle.rtps_evidence.proofs.SilenceLemmas.{so_withdrawn}
 use Rattle.rtps_evidence.proofs.silence.Walk.withdraw.Goals as goal
 

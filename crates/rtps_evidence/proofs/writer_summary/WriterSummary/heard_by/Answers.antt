@@ -2,7 +2,8 @@ use Rattle.std.proofs.Common.{◌∙◌, ◌||◌, ap, map, refl, sym}
 use Rattle.std.proofs.lemmas.List.{take_all}
 use Rattle.std.proofs.Common.{◌≤◌, length, subst}
 use Rattle.rtps_audit.specs.Placed.{placed_value}
-use Rattle.rtps_evidence.specs.Amount.{some_withdrawn, stretches_have}
+use Rattle.rtps_coverage.specs.Stretches.{stretches_have}
+use Rattle.rtps_evidence.specs.Amount.{some_withdrawn}
 use Rattle.rtps_evidence.specs.Locations.{sends, tells}
 use Rattle.rtps_evidence.specs.Received.{withdraws_before}
 use Rattle.rtps_evidence.specs.WriterSummary.{any_at}

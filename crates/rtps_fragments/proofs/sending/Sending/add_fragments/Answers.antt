@@ -11,8 +11,8 @@ use Rattle.rtps_wire.specs.Values.{item_value}
 use Rattle.std.specs.Prelude.{None, Some}
 use Rattle.rtps_fragments.proofs.sending.Sending.add_fragments.Goals as goal
 
-pub returns : goal.returns
-returns c =
+pub returns-clause-acts : goal.returns-clause-acts
+returns-clause-acts c =
     let acts = c.args.self.now.acts.items in
     let sents = c.args.self.now.sents.items in
     let ones = skipped_acts c.args.state.now (item_value c.args.item.now) (Some (data_frag_value c.args.fragments.now)) None in

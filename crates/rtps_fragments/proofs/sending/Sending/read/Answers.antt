@@ -11,16 +11,17 @@ weaker : {T : Type 0} (result : Result T Memory) (P Q : Type 0) → (P → Q) �
 weaker (Ok done) P Q says is = says is
 weaker (Err memory) P Q says is = tt
 
-pub returns-in-Ok : goal.returns-in-Ok
-returns-in-Ok c =
+pub returns-in-Ok-clause-acts : goal.returns-in-Ok-clause-acts
+returns-in-Ok-clause-acts c =
     let octets = c.args.datagram.now in
     let outcomes = outcomes_left c.in-Ok.items in
     weaker c.add_items.result _ _ (λ is.
     subst (λ n. IsSending (piece_acts_of octets) n c.add_items.new.self) (sym (unusable_read octets _ outcomes c.in-Ok.ensures.0))
-    (subst (λ (ones : List PieceAct). IsSending ones (unusable_among octets (items_among outcomes)) c.add_items.new.self) (sym (acts_read octets _ outcomes _ c.in-Ok.ensures.0 c.at_start.ensures)) (is c.clear.ensures))) c.add_items.ensures
+    (subst (λ (ones : List PieceAct). IsSending ones (unusable_among octets (items_among outcomes)) c.add_items.new.self) (sym (acts_read octets _ outcomes _ c.in-Ok.ensures.0 c.at_start.ensures)) (is c.clear.ensures.acts))) c.add_items.ensures.acts
 
-pub returns-in-Err : goal.returns-in-Err
-returns-in-Err c =
+pub returns-in-Err-clause-acts : goal.returns-in-Err-clause-acts
+returns-in-Err-clause-acts c =
     let octets = c.args.datagram.now in
-    subst (λ n. IsSending (piece_acts_of octets) n c.clear.new.self) (sym (unusable_refused octets _ c.in-Err.ensures.0))
-    (subst (λ (ones : List PieceAct). IsSending ones 0 c.clear.new.self) (sym (acts_refused octets _ c.in-Err.ensures.0)) c.clear.ensures)
+    let is = subst (λ n. IsSending (piece_acts_of octets) n c.clear.new.self) (sym (unusable_refused octets _ c.in-Err.ensures.0))
+    (subst (λ (ones : List PieceAct). IsSending ones 0 c.clear.new.self) (sym (acts_refused octets _ c.in-Err.ensures.0)) c.clear.ensures.acts) in
+    record { acts = is.acts; sents = is.sents; well = is.well; unusable = is.unusable; few = is.few }
