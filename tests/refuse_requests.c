@@ -1,7 +1,7 @@
-/* Refuses one request for memory, the one that REFUSED_REQUEST counts from 1, and says so on standard error. Where
-   REFUSED_MARK is a size, requests are counted from one of that size to the next, and then from the one behind that; else
-   all are counted. The program is run with this preloaded; tests/refused.py builds it. It uses no header, so that any
-   compiler will do. */
+/* Refuses one request for memory, the one that REFUSED_REQUEST counts from 1, and says "refused" on standard error, or
+   "given back" where a block is to be made smaller. Where REFUSED_MARK is a size, requests are counted from one of that
+   size to the next, and then from the one behind that; else all are counted. The program is run with this preloaded;
+   tests/refused.py builds it. It uses no header, so that any compiler will do. */
 
 extern void *__libc_malloc(unsigned long size);
 extern void *__libc_realloc(void *old, unsigned long size);
@@ -25,7 +25,7 @@ static unsigned long number(const char *name)
     return value;
 }
 
-static int is_refused(unsigned long size)
+static int is_refused(unsigned long size, int is_smaller)
 {
     if (left < 0) {
         left = number("REFUSED_REQUEST");
@@ -41,16 +41,44 @@ static int is_refused(unsigned long size)
     left--;
     if (left > 0)
         return 0;
-    (void)!write(2, "refused\n", 8);
+    if (is_smaller)
+        (void)!write(2, "given back\n", 11);
+    else
+        (void)!write(2, "refused\n", 8);
     return 1;
+}
+
+/* Where the size stands that was asked for last at a block; 0 is none. */
+static unsigned long *size_of(void *block)
+{
+    enum { BLOCKS = 1 << 16 };
+    static struct { void *block; unsigned long size; } known[BLOCKS];
+    static unsigned long none;
+    unsigned long first = (unsigned long)block >> 4, i;
+    for (i = 0; i < BLOCKS; i++) {
+        unsigned long at = (first + i) % BLOCKS;
+        if (known[at].block == block || known[at].block == 0) {
+            known[at].block = block;
+            return &known[at].size;
+        }
+    }
+    none = 0;
+    return &none;
+}
+
+static void *noted(void *block, unsigned long size)
+{
+    if (block != 0)
+        *size_of(block) = size;
+    return block;
 }
 
 void *malloc(unsigned long size)
 {
-    return is_refused(size) ? 0 : __libc_malloc(size);
+    return is_refused(size, 0) ? 0 : noted(__libc_malloc(size), size);
 }
 
 void *realloc(void *old, unsigned long size)
 {
-    return is_refused(size) ? 0 : __libc_realloc(old, size);
+    return is_refused(size, old != 0 && size < *size_of(old)) ? 0 : noted(__libc_realloc(old, size), size);
 }

@@ -7,6 +7,7 @@ PROGRAM is rtps-audit, and CALLS the built program of crates/rtps_trials. Each c
 of PROGRAM, is run once for each request for memory that it makes, and this request is refused. A call has to return that
 memory was refused. When it is made again, it has to return what it returns without a refusal. A subcommand has to end with
 status 3, and must not have written anything. Reading the command line may succeed all the same; then it has to choose the same.
+A request for a smaller block gives room back. It may be refused too, and then has to change nothing at all.
 Each prints a line with how many requests were refused. The last line is 'N passed, M failed'.
 
 One request is refused by tests/refuse_requests.c, which is built with the compiler of the toolchain.
@@ -28,12 +29,11 @@ import make
 CALLS = ['judge_plain', 'judge_merged', 'write_list', 'write_message']
 OF_NAMED = ['judge_plain', 'judge_merged']
 
+# What the library says of a request that it refuses: that it is one, or one for a smaller block.
+REFUSED, GIVEN_BACK = 'refused', 'given back'
+
 # Any request may go on.
 ALL = 1 << 62
-
-# How many samples of the recording of in_fragments become whole for a listener. Room that it does not need is then given back; a refusal of
-# that changes nothing.
-WHOLE = 10
 
 # The size of the requests between which CALLS has its requests counted, as in its source.
 MARK = 7654321
@@ -50,12 +50,13 @@ def built(folder, name='refuse_requests'):
 
 
 def run(library, words, request, text, mark):
-    """standard output, standard error without what the library says, the status, and whether a request was refused"""
+    """standard output, standard error without what the library says, the status, and what it says, if a request was refused"""
     settings = {**os.environ, 'LD_PRELOAD': library, 'REFUSED_REQUEST': str(request), 'REFUSED_MARK': str(mark)}
     done = subprocess.run(words, input=text, capture_output=True, env=settings)
     lines = done.stderr.decode().splitlines()
-    told = [line for line in lines if line != 'refused']
-    return (done.stdout.decode(), told, done.returncode), len(told) < len(lines)
+    said = [line for line in lines if line in (REFUSED, GIVEN_BACK)]
+    told = [line for line in lines if line not in said]
+    return (done.stdout.decode(), told, done.returncode), ''.join(said)
 
 
 def requests_of(library, words):
@@ -66,23 +67,19 @@ def requests_of(library, words):
     return request - 1
 
 
-def sweep(library, words, text, wanted, may_go_on, mark=0, given_back=0):
+def sweep(library, words, text, wanted, may_go_on, mark=0):
     """Refuses each request in turn: how many times that is answered as wanted, how many times as with ample memory, which
-    so many of the first may do, and so many behind them, and how often otherwise."""
+    so many of the first may do and each for a smaller block has to, and how often otherwise."""
     ample, _ = run(library, words, 0, text, mark)
     told = went_on = failed = request = 0
-    behind = given_back
     while True:
         request += 1
-        answer, refused = run(library, words, request, text, mark)
-        if not refused:
-            return told, went_on, failed + behind + (answer != ample)
-        if answer == wanted:
+        answer, said = run(library, words, request, text, mark)
+        if not said:
+            return told, went_on, failed + (answer != ample)
+        if answer == wanted and said == REFUSED:
             told += 1
-        elif answer == ample and request <= may_go_on:
-            went_on += 1
-        elif answer == ample and behind:
-            behind -= 1
+        elif answer == ample and (said == GIVEN_BACK or request <= may_go_on):
             went_on += 1
         else:
             failed += 1
@@ -191,8 +188,7 @@ def of_program(library, program, recording):
     runs.append((' of packets in fragments', ['show', '--any', '-'], packets_in_fragments(recording_of(recording))))
     for name, words, text in runs:
         of_words = requests_of(library, [program, *words[:-1], 'absent.rec'])
-        given_back = WHOLE if text == in_fragments() and words[0] != 'show' else 0
-        yield f"rtps-audit {' '.join(words)}{name}", [program, *words], text, nothing, of_words, 0, given_back
+        yield f"rtps-audit {' '.join(words)}{name}", [program, *words], text, nothing, of_words
 
 
 def main():
