@@ -8,7 +8,7 @@ use Rattle.std.proofs.lemmas.List.Elements.{All-push, All-weaker, Contains-appen
 use Rattle.rtps_ids.specs.declared.identity.Guid.{Guid}
 use Rattle.rtps_audit.specs.Answered.{IsFirstAmong, IsToldAll, IsUntoldAmong, base_among, is_earlier, IsFrontBy}
 use Rattle.rtps_audit.specs.Placed.{PlacedValue}
-use Rattle.rtps_audit.specs.Speech.{natural}
+use Rattle.rtps_receiver.specs.Said.{natural}
 use Rattle.rtps_audit.specs.declared.answer.Answer.{Answer}
 use Rattle.rtps_audit.specs.declared.verdict.Untold.{Untold}
 

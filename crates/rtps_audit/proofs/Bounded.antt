@@ -125,7 +125,7 @@ before_end (HeartbeatAct value) n word e = let same = some_if _ _ word e in grin
 before_end (AckNackAct value) n word e = cc
 before_end (NackFragAct value) n word e = cc
 before_end (GapAct value) n word e = let in_gap = some_if _ _ word e in grind (arith, nat_tests)
-before_end (DataFragAct value) n word e = let same = if_some (n == value.number) (option_map Told value.told) word e in grind (arith, nat_tests)
+before_end (DataFragAct value) n word e = let same = if_some (value.number == n) (option_map Told value.told) word e in grind (arith, nat_tests)
 
 -- what a function gives of an element is at most the greatest of what it gives
 below_one : {X : Type 0} (f : X → ℕ) (xs : List X) (i n : ℕ) (x : X) → slice_get xs i ≡ Some x → n < f x → n < greatest (map f xs)

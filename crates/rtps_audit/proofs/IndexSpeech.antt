@@ -18,7 +18,8 @@ use Rattle.rtps_audit.specs.Delivery.Word.{Told}
 use Rattle.rtps_audit.specs.Placed.{PlacedValue, answer_at, answer_of, answers_among, is_from, placed_in}
 use Rattle.rtps_audit.specs.PlainVerdict.{IsClaimed, IsFounded, IsPlainVerdictFrom, IsUnclaimed, SpeaksTwo}
 use Rattle.rtps_audit.specs.RunVerdict.{ClaimsUntold, IsLeast, IsTold, IsVerdictFrom}
-use Rattle.rtps_audit.specs.Speech.{announced_for, announced_of_body, base_for, natural, said_by, speech_by, word_for, word_of}
+use Rattle.rtps_receiver.specs.Said.{natural}
+use Rattle.rtps_audit.specs.Speech.{announced_for, announced_of_body, base_for, said_by, speech_by, word_for, word_of}
 use Rattle.rtps_audit.specs.declared.answer.Answer.{Answer}
 use Rattle.rtps_audit.specs.declared.verdict.Untold.{Untold}
 use Rattle.rtps_audit.proofs.Greatest.{below_from_claims, below_greatest, claimed_from_below, greatest_base, greatest_below}

@@ -21,7 +21,6 @@ pub use Rattle.rtps_audit.proofs.DeliveryRuns.{Follows-append, place_within}
 pub use Rattle.rtps_audit.proofs.Sound.{reached-sound}
 pub use Rattle.rtps_audit.proofs.Verdicts.{runs_exist_where_founded}
 -- which numbers have a word; what is taken in of a datagram more
-pub use Rattle.rtps_audit.proofs.WordLemmas.{word_is}
 pub use Rattle.rtps_audit.proofs.IntakeLemmas.{intake_on}
 -- lists: what stands first or behind, what stands among what a function gives, what is below the greatest; tests of equal parts
 pub use Rattle.rtps_audit.proofs.PlacedActs.{placed_push, contains_cases, contains_head, contains_none, contains_tail, kept_if_passed, kept_is_there, made_from, makes}

@@ -19,7 +19,8 @@ use Rattle.rtps_audit.specs.Answered.{IsFrontBy, IsHeard, IsToldAll, IsUntoldAmo
 use Rattle.rtps_audit.specs.Delivery.{IsAsked, Word}
 use Rattle.rtps_audit.specs.PayloadConflict.{AreConflictsOf}
 use Rattle.rtps_audit.specs.Placed.{PlacedValue, answers_among, is_from, placed_in, placed_value}
-use Rattle.rtps_audit.specs.Speech.{natural, word_for, word_of}
+use Rattle.rtps_receiver.specs.Said.{natural}
+use Rattle.rtps_audit.specs.Speech.{word_for, word_of}
 use Rattle.rtps_audit.specs.Sweep.{AreAsksOf, AreBehind, AreClaimsOf, HasAllBelow, HasHeard, HaveSame, HasHeardOrUnasked, IsAllKnown, IsSweptTo, answer_if_at, answers_at, is_told}
 use Rattle.rtps_audit.specs.declared.answer.Answer.{Answer}
 use Rattle.rtps_audit.specs.declared.payload_conflict.PayloadConflicts.{PayloadConflicts}

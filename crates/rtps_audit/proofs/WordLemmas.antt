@@ -5,10 +5,10 @@ use Rattle.std.specs.Option.{option_map}
 use Rattle.std.specs.Prelude.{◌==◌, if◌then◌else◌, is_some}
 use Rattle.std.proofs.Math.Bool.{or-false, or_assoc}
 use Rattle.rtps_wire.specs.Values.{PayloadValue}
-use Rattle.rtps_receiver.specs.Said.{SaidValue, Says, numbers_have, told_of}
+use Rattle.rtps_receiver.specs.Said.{SaidValue, Says, is_at, numbers_have, told_of}
 use Rattle.rtps_receiver.specs.declared.said.SaidNumbers.{SaidNumbers}
 use Rattle.rtps_coverage.specs.Coverage.{TellsMore}
-use Rattle.rtps_audit.specs.Speech.{is_number, word_in}
+use Rattle.rtps_audit.specs.Speech.{word_in}
 use Rattle.rtps_audit.specs.Delivery.{Word}
 use Rattle.rtps_audit.specs.Delivery.Word.{Told, Gone}
 
@@ -23,7 +23,7 @@ pub word_some : (o : Option Word) (word : Word) → o ≡ Some word → is_some 
 word_some o word e = ap is_some e
 
 -- a number has a word where it is gone, or its payload is told
-pub word_is : (value : SaidValue) (n : ℕ) → is_some (word_in value n) ≡ (value.gone n || is_number n (told_of value))
+word_is : (value : SaidValue) (n : ℕ) → is_some (word_in value n) ≡ (value.gone n || is_at n (told_of value))
 word_is value n = by (value.gone n) value.brought value.payload
   where
     if_same : {X : Type 0} (b : Bool) (x : X) → is_some (if b then Some x else None) ≡ b
@@ -35,12 +35,12 @@ word_is value n = by (value.gone n) value.brought value.payload
     never false = refl
 
     by : (gone : Bool) (brought : Option ℕ) (payload : Option PayloadValue)
-        → is_some (if gone then Some Gone else if is_number n brought then option_map Told payload else None) ≡ (gone || is_number n (if is_some payload then brought else None))
+        → is_some (if gone then Some Gone else if is_at n brought then option_map Told payload else None) ≡ (gone || is_at n (if is_some payload then brought else None))
     by true brought payload = refl
     by false None None = refl
     by false None (Some payload) = refl
-    by false (Some number) None = never (n == number)
-    by false (Some number) (Some payload) = if_same (n == number) (Told payload)
+    by false (Some number) None = never (number == n)
+    by false (Some number) (Some payload) = if_same (number == n) (Told payload)
 
 -- ---- numbers that are told
 
@@ -61,15 +61,15 @@ tells_both old mid new one two both split first next n positive small =
 pub tells_gone : (old new : ℕ → Bool) (value : SaidValue) (numbers : SaidNumbers) → Says value numbers → numbers.told ≡ None → TellsMore old new (numbers_have numbers.gone)
     → TellsMore old new (λ n. is_some (word_in value n))
 tells_gone old new value numbers says none = tells_same old new (numbers_have numbers.gone) _
-    (λ n positive. word_is value n ∙ ap (λ told. value.gone n || is_number n told) (sym says.told ∙ none) ∙ or-false (value.gone n) ∙ sym (says.gone n))
+    (λ n positive. word_is value n ∙ ap (λ told. value.gone n || is_at n told) (sym says.told ∙ none) ∙ or-false (value.gone n) ∙ sym (says.gone n))
 
 -- those, and the number whose payload is told
 pub tells_payload : (old mid new : ℕ → Bool) (value : SaidValue) (numbers : SaidNumbers) (number : ℕ) → Says value numbers → numbers.told ≡ Some number → TellsMore old mid (numbers_have numbers.gone)
     → TellsMore mid new (λ n. nat_le number n && nat_lt n (number + 1)) → TellsMore old new (λ n. is_some (word_in value n))
 tells_payload old mid new value numbers number says is = tells_both old mid new (numbers_have numbers.gone) _ _
-    (λ n positive. word_is value n ∙ ap (λ told. value.gone n || is_number n told) (sym says.told ∙ is) ∙ ap (λ b. b || (n == number)) (sym (says.gone n)) ∙ ap (λ b. numbers_have numbers.gone n || b) (at_one n))
+    (λ n positive. word_is value n ∙ ap (λ told. value.gone n || is_at n told) (sym says.told ∙ is) ∙ ap (λ b. b || (number == n)) (sym (says.gone n)) ∙ ap (λ b. numbers_have numbers.gone n || b) (at_one n))
   where
-    at_one : (n : ℕ) → (n == number) ≡ (nat_le number n && nat_lt n (number + 1))
+    at_one : (n : ℕ) → (number == n) ≡ (nat_le number n && nat_lt n (number + 1))
     at_one n = grind (arith, nat_tests)
 
 -- the positive numbers of a range

@@ -10,7 +10,8 @@ use Rattle.rtps_audit.specs.declared.verdict.Verdict.TheVariants.{Unfounded, Con
 use Rattle.rtps_audit.specs.Delivery.{Word, IsAsked, greatest}
 use Rattle.rtps_audit.specs.Delivery.Word.{Told}
 use Rattle.rtps_audit.specs.Placed.{PlacedValue}
-use Rattle.rtps_audit.specs.Speech.{announced_for, word_for, natural}
+use Rattle.rtps_receiver.specs.Said.{natural}
+use Rattle.rtps_audit.specs.Speech.{announced_for, word_for}
 use Rattle.rtps_audit.specs.declared.answer.Answer.{Answer}
 
 -- whether a datagram stands before that of the claim which is known

@@ -5,7 +5,7 @@ use Rattle.rtps_discovery.specs.declared.matching.Pair.{Pair}
 use Rattle.rtps_receiver.specs.Values.{ActValue}
 use Rattle.rtps_audit.specs.Placed.{answers_among, is_from, placed_in, placed_value}
 use Rattle.rtps_audit.specs.Speech.{acts_by_datagram}
-use Rattle.rtps_audit.specs.declared.said.Said.{Said}
+use Rattle.rtps_audit.specs.declared.said_between.Said.{Said}
 
 -- the datagrams before this one, which is counted from 1; all, where there is none
 abbrev pub datagrams_until : {X : Type 0} → Option ℕ → List X → List X

@@ -6,22 +6,16 @@ use Rattle.std.specs.Option.{option_map}
 use Rattle.rtps_ids.specs.declared.identity.Guid.{Guid}
 use Rattle.rtps_wire.specs.Reading.{reading_of}
 use Rattle.rtps_receiver.specs.Acts.{acts_of}
-use Rattle.rtps_receiver.specs.Said.{SaidValue, said}
-pub use Rattle.rtps_receiver.specs.Said.{natural}
+use Rattle.rtps_receiver.specs.Said.{SaidValue, is_at, said}
 use Rattle.rtps_receiver.specs.Speech.{is_answer, is_heard_by, is_spoken_by}
 use Rattle.rtps_receiver.specs.Values.{ActBodyValue, ActValue}
 use Rattle.rtps_receiver.specs.Values.ActBodyValue.{Data, Heartbeat, AckNack, Gap, DataFrag, NackFrag}
 use Rattle.rtps_audit.specs.Delivery.{Word, Datagram, Speech}
 use Rattle.rtps_audit.specs.Delivery.Word.{Told, Gone}
 
--- the number is there, and is n
-abbrev pub is_number : ℕ → Option ℕ → Bool
-is_number n None = false
-is_number n (Some number) = n == number
-
 -- what is said of a number from 1 on: that it will not come, or its payload
 abbrev pub word_in : SaidValue → ℕ → Option Word
-word_in value n = if value.gone n then Some Gone else if is_number n value.brought then option_map Told value.payload else None
+word_in value n = if value.gone n then Some Gone else if is_at n value.brought then option_map Told value.payload else None
 
 -- what an act says of it. A DATA_FRAG says what its sample is, where that was put together
 abbrev pub word_of : ActBodyValue → ℕ → Option Word

@@ -27,7 +27,7 @@ pub struct Answer {
 
 impl Answer {
     ghost use Rattle.std.specs.Prelude.{◌<◌, ◌^◌};
-    ghost use Rattle.rtps_audit.specs.Speech.{natural};
+    ghost use Rattle.rtps_receiver.specs.Said.{natural};
 
     /// The base as a number; 0 for one below it.
     pub fn natural_base(&self) -> u64

@@ -14,7 +14,7 @@ use crate::answer::{Answer, Answers, note_answers};
 use crate::groups::Groups;
 use crate::placed::{Placed, note_acts};
 use crate::plain_judge::judge_said;
-use crate::said::Said;
+use crate::said_between::Said;
 use crate::sweep::rows_of_writer;
 use crate::tallies::Tallies;
 use crate::verdict::Verdict;

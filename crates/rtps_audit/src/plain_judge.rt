@@ -7,7 +7,7 @@ ghost use Rattle.rtps_audit.specs.Speech.{speech_by, speech_of};
 use crate::index::Index;
 use crate::payload_conflict::PayloadConflicts;
 use crate::placed::Placed;
-use crate::said::Said;
+use crate::said_between::Said;
 use crate::verdict::{Claims, Verdict};
 use crate::word::{add_range, add_told};
 use rtps_coverage::{Coverage, MergedRanges};

@@ -16,55 +16,55 @@ use Rattle.std.proofs.lemmas.Map.Views.{tells_apart}
 use Rattle.rtps_coverage.specs.RangeMap.{IsApart, values_all}
 use Rattle.rtps_coverage.specs.Laws.{AreApart, HasRangesApart}
 use Rattle.rtps_coverage.specs.declared.merged_ranges.MergedRanges.{MergedRanges}
-use Rattle.rtps_coverage.specs.declared.coverage.Span.{Span}
+use Rattle.rtps_coverage.specs.declared.stretch.Stretch.{Stretch}
 use Rattle.rtps_coverage.proofs.RangeMapLemmas.{not_at}
 
 -- a look-up of the first key
-at_head : (x : ℕ × Span) (xs : List (ℕ × Span)) → lookup (is_at (nat_cmp x.0)) (x ∷ xs) ≡ Some x.1
+at_head : (x : ℕ × Stretch) (xs : List (ℕ × Stretch)) → lookup (is_at (nat_cmp x.0)) (x ∷ xs) ≡ Some x.1
 at_head x xs =
     let same : is_eq (nat_cmp x.0 x.0) ≡ true = ap is_eq (sym (nat_cmp_is x.0 x.0 Equal refl)) in
     ap (λ b. cond b (Some x.1) (lookup (is_at (nat_cmp x.0)) xs)) same
 
 -- a look-up of a later key
-at_tail : (x : ℕ × Span) (xs : List (ℕ × Span)) (key : ℕ) (span : Span) → x.0 < key → lookup (is_at (nat_cmp key)) xs ≡ Some span → lookup (is_at (nat_cmp key)) (x ∷ xs) ≡ Some span
-at_tail x xs key span past e = ap (λ b. cond b (Some x.1) (lookup (is_at (nat_cmp key)) xs)) (not_at key x.0 past) ∙ e
+at_tail : (x : ℕ × Stretch) (xs : List (ℕ × Stretch)) (key : ℕ) (stretch : Stretch) → x.0 < key → lookup (is_at (nat_cmp key)) xs ≡ Some stretch → lookup (is_at (nat_cmp key)) (x ∷ xs) ≡ Some stretch
+at_tail x xs key stretch past e = ap (λ b. cond b (Some x.1) (lookup (is_at (nat_cmp key)) xs)) (not_at key x.0 past) ∙ e
 
 -- a key at which something stands is one of the keys
-all_keys : (P : ℕ → Type 0) (xs : List (ℕ × Span)) (key : ℕ) (span : Span) → AllByRecursion P (keys_of xs) → lookup (is_at (nat_cmp key)) xs ≡ Some span → P key
-all_keys P [] key span all e = absurd (none-some span e)
-all_keys P (x ∷ xs) key span all e = step (λ k. all_keys P xs key span all.1 k) (is_eq (nat_cmp key x.0)) refl e
+all_keys : (P : ℕ → Type 0) (xs : List (ℕ × Stretch)) (key : ℕ) (stretch : Stretch) → AllByRecursion P (keys_of xs) → lookup (is_at (nat_cmp key)) xs ≡ Some stretch → P key
+all_keys P [] key stretch all e = absurd (none-some stretch e)
+all_keys P (x ∷ xs) key stretch all e = step (λ k. all_keys P xs key stretch all.1 k) (is_eq (nat_cmp key x.0)) refl e
   where
-    step : (lookup (is_at (nat_cmp key)) xs ≡ Some span → P key) → (b : Bool) → is_eq (nat_cmp key x.0) ≡ b
-        → cond b (Some x.1) (lookup (is_at (nat_cmp key)) xs) ≡ Some span → P key
+    step : (lookup (is_at (nat_cmp key)) xs ≡ Some stretch → P key) → (b : Bool) → is_eq (nat_cmp key x.0) ≡ b
+        → cond b (Some x.1) (lookup (is_at (nat_cmp key)) xs) ≡ Some stretch → P key
     step more true t k = subst P (sym (tells_apart exact_unsigned key x.0 t)) all.0
     step more false t k = more k
 
 -- ranges of rising keys, each of which ends before those of later keys begin
-are_apart : (es : List (ℕ × Span)) → IsStrictlySortedBy nat_cmp (keys_of es)
-    → ((key : ℕ) (span : Span) → lookup (is_at (nat_cmp key)) es ≡ Some span → span.lo < span.hi)
-    → ((low high : ℕ) (first second : Span) → lookup (is_at (nat_cmp low)) es ≡ Some first → lookup (is_at (nat_cmp high)) es ≡ Some second → low < high → first.hi < second.lo)
+are_apart : (es : List (ℕ × Stretch)) → IsStrictlySortedBy nat_cmp (keys_of es)
+    → ((key : ℕ) (stretch : Stretch) → lookup (is_at (nat_cmp key)) es ≡ Some stretch → stretch.lo < stretch.hi)
+    → ((low high : ℕ) (first second : Stretch) → lookup (is_at (nat_cmp low)) es ≡ Some first → lookup (is_at (nat_cmp high)) es ≡ Some second → low < high → first.hi < second.lo)
     → AreApart (values_of es)
 are_apart [] sorted some apart = tt
 are_apart (x ∷ xs) sorted some apart =
     let tail = sorted_tail nat_cmp x.0 (keys_of xs) sorted in
-    let past : (key : ℕ) (span : Span) → lookup (is_at (nat_cmp key)) xs ≡ Some span → x.0 < key =
-    λ key span e. ranked x.0 key Less (sym (all_keys (λ y. nat_cmp x.0 y ≡ Less) xs key span (sorted_head nat_cmp x.0 (keys_of xs) sorted) e)) in
-    let back : (key : ℕ) (span : Span) → lookup (is_at (nat_cmp key)) xs ≡ Some span → lookup (is_at (nat_cmp key)) (x ∷ xs) ≡ Some span =
-    λ key span e. at_tail x xs key span (past key span e) e in (
+    let past : (key : ℕ) (stretch : Stretch) → lookup (is_at (nat_cmp key)) xs ≡ Some stretch → x.0 < key =
+    λ key stretch e. ranked x.0 key Less (sym (all_keys (λ y. nat_cmp x.0 y ≡ Less) xs key stretch (sorted_head nat_cmp x.0 (keys_of xs) sorted) e)) in
+    let back : (key : ℕ) (stretch : Stretch) → lookup (is_at (nat_cmp key)) xs ≡ Some stretch → lookup (is_at (nat_cmp key)) (x ∷ xs) ≡ Some stretch =
+    λ key stretch e. at_tail x xs key stretch (past key stretch e) e in (
       some x.0 x.1 (at_head x xs),
-      values_all xs (λ other. x.1.hi < other.lo) tail (λ key span e. apart x.0 key x.1 span (at_head x xs) (back key span e) (past key span e)),
-      are_apart xs tail (λ key span e. some key span (back key span e))
+      values_all xs (λ other. x.1.hi < other.lo) tail (λ key stretch e. apart x.0 key x.1 stretch (at_head x xs) (back key stretch e) (past key stretch e)),
+      are_apart xs tail (λ key stretch e. some key stretch (back key stretch e))
           (λ low high first second k l lt. apart low high first second (back low first k) (back high second l) lt),
     )
 
 -- so those of a map of such ranges lie apart
-kept_apart : (kept : BTreeMap ℕ Span) → IsApart kept → AreApart (values_of kept.entries)
+kept_apart : (kept : BTreeMap ℕ Stretch) → IsApart kept → AreApart (values_of kept.entries)
 kept_apart kept h =
-    are_apart kept.entries h.ordered (λ key span l. let a = h.from key span l in let b = h.to key span l in omega arith)
+    are_apart kept.entries h.ordered (λ key stretch l. let a = h.from key stretch l in let b = h.to key stretch l in omega arith)
     (λ low high first second k l lt. h.apart low high first second k l lt)
 
 -- there are as many ranges as keys
-values_length : (es : List (ℕ × Span)) → length es ≡ length (values_of es)
+values_length : (es : List (ℕ × Stretch)) → length es ≡ length (values_of es)
 values_length [] = refl
 values_length (x ∷ xs) = ap suc (values_length xs)
 

@@ -1,6 +1,8 @@
+pub mod Counts
 pub mod Coverage
-pub mod Spans
+pub mod Laws
+pub mod MergedRanges
 pub mod PlainRanges
 pub mod RangeMap
-pub mod MergedRanges
-pub mod Laws
+pub mod Rising
+pub mod Stretches

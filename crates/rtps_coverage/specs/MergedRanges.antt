@@ -4,9 +4,9 @@ use Rattle.std.specs.Borrow.{Bor}
 use Rattle.std.specs.Prelude.{ℕ, Bool, true, ◌≡◌, ◌≤◌, ◌<◌, ◌+◌, ◌-◌, ◌^◌, ℤ, pos, ◌≤ℤ◌, List}
 use Rattle.std.specs.BTreeMap.{btree_map_len, values}
 use Rattle.std.specs.List.{list_any}
-use Rattle.rtps_coverage.specs.Spans.{IsBounded, spans_in_range}
+use Rattle.rtps_coverage.specs.Stretches.{IsBounded, stretches_in_range}
 use Rattle.rtps_coverage.specs.RangeMap.{kept_has, values_all}
-use Rattle.rtps_coverage.specs.declared.coverage.Span.{Span}
+use Rattle.rtps_coverage.specs.declared.stretch.Stretch.{Stretch}
 use Rattle.rtps_coverage.specs.declared.merged_ranges.MergedRanges.{MergedRanges}
 
 -- the numbers of the ranges
@@ -14,7 +14,7 @@ abbrev pub covered_of : MergedRanges → ℕ → Bool
 covered_of set n = kept_has set.kept n
 
 -- the ranges, in the order of their numbers
-abbrev pub ranges_of : MergedRanges → List Span
+abbrev pub ranges_of : MergedRanges → List Stretch
 ranges_of set = values set.kept
 
 -- how many ranges are kept
@@ -35,5 +35,5 @@ pub record Touches (set : ℕ → Bool) (lo hi : ℤ) : Type 0 where
 -- the set has numbers from 1 to 2^63 - 2
 pub covered_in_range : (set : MergedRanges) (n : ℕ) → covered_of set n ≡ true → (1 ≤ n) × (n < 2 ^ 63 - 1)
 covered_in_range set n h =
-    spans_in_range n (ranges_of set)
-    (values_all set.kept.entries IsBounded set.apart.ordered (λ key span e. record { positive = set.apart.positive key span e; bounded = set.apart.bounded key span e })) h
+    stretches_in_range n (ranges_of set)
+    (values_all set.kept.entries IsBounded set.apart.ordered (λ key stretch e. record { positive = set.apart.positive key stretch e; bounded = set.apart.bounded key stretch e })) h

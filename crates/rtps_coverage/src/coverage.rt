@@ -35,10 +35,3 @@ pub trait Coverage: Sized + Drop {
     ghost in_range: { (set : Self) (n : ℕ) → covered set n ≡ true
         → (1 ≤ n) × (n < 2 ^ 63 - 1) };
 }
-
-/// The numbers from `lo` on and below `hi`.
-#[derive(Clone, Copy, Debug)]
-pub(crate) struct Span {
-    pub(crate) lo: u64,
-    pub(crate) hi: u64,
-}

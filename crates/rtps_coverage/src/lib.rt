@@ -1,4 +1,4 @@
-//! Growing sets of sequence numbers (DDSI-RTPS 2.5, 8.3.5.4 "SequenceNumber"), kept as ranges.
+//! Sets of sequence numbers (DDSI-RTPS 2.5, 8.3.5.4 "SequenceNumber"), kept as ranges: those that grow, and lists of stretches.
 #![tactic(auto)]
 
 mod coverage;
@@ -6,9 +6,13 @@ pub mod laws;
 mod merged_ranges;
 mod plain_ranges;
 mod range_map;
+pub mod rising;
 mod set_union;
+mod stretch;
+pub mod stretches;
 
 pub use coverage::Coverage;
 pub use merged_ranges::MergedRanges;
 pub use plain_ranges::PlainRanges;
 pub use set_union::least_outside;
+pub use stretch::Stretch;

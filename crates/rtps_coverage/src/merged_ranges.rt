@@ -2,8 +2,9 @@ ghost use Rattle.std.specs.Prelude.{ℕ, ◌≡◌, ◌==◌, ◌≤◌, ◌<◌
 ghost use Rattle.std.proofs.Props.{props};
 ghost use Rattle.rtps_coverage.specs.RangeMap.{IsApart};
 
-use crate::coverage::{Coverage, Span};
+use crate::coverage::Coverage;
 use crate::range_map::{join, range_with};
+use crate::stretch::Stretch;
 use rtps_ids::Memory;
 use std::alloc::Global;
 use std::collections::BTreeMap;
@@ -15,7 +16,7 @@ use std::collections::BTreeMap;
 /// ranges, and to those ranges that it joins into one.
 #[derive(Drop)]
 pub struct MergedRanges {
-    kept: BTreeMap<u64, Span>,
+    kept: BTreeMap<u64, Stretch>,
     ghost apart: { IsApart kept } by { Prim.hlevel props },
 }
 

@@ -1,9 +1,10 @@
 ghost use Rattle.std.specs.Prelude.{◌≡◌, ◌≤◌, ◌<◌, ◌^◌, false, nat_lt, All};
 ghost use Rattle.std.specs.List.{filter, find};
 ghost use Rattle.rtps_coverage.specs.Coverage.{IsLeastFrom};
-ghost use Rattle.rtps_coverage.specs.Spans.{any_span_has, has_number, IsBounded};
+ghost use Rattle.rtps_coverage.specs.Stretches.{stretches_have, stretch_has, IsBounded};
 
-use crate::coverage::{Coverage, Span};
+use crate::coverage::Coverage;
+use crate::stretch::Stretch;
 use rtps_ids::Memory;
 use std::alloc::Global;
 
@@ -15,40 +16,40 @@ use std::alloc::Global;
 #[derive(Drop)]
 pub struct PlainRanges {
     front: u64,
-    beyond: Vec<Span>,
+    beyond: Vec<Stretch>,
     ghost front_in_range: { (1 ≤ front) × (front < 2 ^ 63) },
     ghost beyond_in_range: { All IsBounded beyond.items },
-    ghost front_outside: { any_span_has beyond.items front ≡ false },
+    ghost front_outside: { stretches_have beyond.items front ≡ false },
 }
 
 /// The first of the ranges that has the number.
-fn span_of(spans: &[Span], number: u64) -> Option<Span>
-    ensures { result ≡ find (has_number number) spans.now }
+fn stretch_of(stretches: &[Stretch], number: u64) -> Option<Stretch>
+    ensures { result ≡ find (stretch_has number) stretches.now }
 {
-    spans
+    stretches
         .iter()
         .copied()
-        .find(|span| span.lo <= number && number < span.hi)
+        .find(|stretch| stretch.lo <= number && number < stretch.hi)
 }
 
 /// The least number from `front` on that lies in none of the ranges.
-fn reach(front: u64, spans: &[Span]) -> u64
+fn reach(front: u64, stretches: &[Stretch]) -> u64
     requires front { front < 2 ^ 63 }
-    requires spans { All IsBounded spans.now }
-    ensures { IsLeastFrom (any_span_has spans.now) front result }
+    requires stretches { All IsBounded stretches.now }
+    ensures { IsLeastFrom (stretches_have stretches.now) front result }
 {
     let mut reached = front;
-    while let Some(span) = span_of(spans, reached) {
-        reached = span.hi;
+    while let Some(stretch) = stretch_of(stretches, reached) {
+        reached = stretch.hi;
     }
     reached
 }
 
 /// Keeps the ranges that begin past the front.
-fn keep_past(spans: &mut Vec<Span>, front: u64)
-    ensures { spans.new.items ≡ filter (λ span. nat_lt front span.lo) spans.old.items }
+fn keep_past(stretches: &mut Vec<Stretch>, front: u64)
+    ensures { stretches.new.items ≡ filter (λ stretch. nat_lt front stretch.lo) stretches.old.items }
 {
-    spans.retain(|span| front < span.lo);
+    stretches.retain(|stretch| front < stretch.lo);
 }
 
 impl Coverage for PlainRanges {
@@ -83,7 +84,7 @@ impl Coverage for PlainRanges {
             return Ok(());
         }
         if lo > self.front {
-            self.beyond.push(Span { lo, hi })?;
+            self.beyond.push(Stretch { lo, hi })?;
             return Ok(());
         }
         self.front = reach(hi, &self.beyond);
@@ -100,6 +101,6 @@ impl Coverage for PlainRanges {
             return false;
         }
         let n = n.cast_unsigned();
-        n < self.front || span_of(&self.beyond, n).is_some()
+        n < self.front || stretch_of(&self.beyond, n).is_some()
     }
 }

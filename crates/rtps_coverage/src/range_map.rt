@@ -1,76 +1,76 @@
 ghost use Rattle.std.specs.Prelude.{ℕ, ◌≡◌, ◌≤◌, ◌<◌, ◌^◌, ◌+◌, ◌||◌, ◌&&◌, MatchOption, nat_le, nat_lt, true, false, IsOk, OnOk, OnErr};
 ghost use Rattle.std.specs.BTreeMap.{btree_map_len};
-ghost use Rattle.rtps_coverage.specs.Spans.{has_number};
+ghost use Rattle.rtps_coverage.specs.Stretches.{stretch_has};
 ghost use Rattle.rtps_coverage.specs.RangeMap.{IsApart, HasRange, IsLastRange, HasNoRange, IsLastUpTo, IsFirstPast, IsRangeWith, HasNoneUpTo, HasNonePast, IsFirstTouching, IsClear, IsWider, BeginsPast, kept_has};
 
-use crate::coverage::Span;
+use crate::stretch::Stretch;
 use rtps_ids::Memory;
 use std::collections::BTreeMap;
 use std::ops::Bound;
 
 /// The range of the greatest key, with its key.
-fn last_range(kept: &BTreeMap<u64, Span>) -> Option<(u64, Span)>
+fn last_range(kept: &BTreeMap<u64, Stretch>) -> Option<(u64, Stretch)>
     ensures { MatchOption result (HasNoRange kept.now) (λ p. IsLastRange kept.now p.0 p.1) }
 {
-    let (key, span) = kept.last_key_value()?;
-    Some((*key, *span))
+    let (key, stretch) = kept.last_key_value()?;
+    Some((*key, *stretch))
 }
 
 /// The range of the greatest key up to a number, with its key.
-fn last_up_to(kept: &BTreeMap<u64, Span>, number: u64) -> Option<(u64, Span)>
+fn last_up_to(kept: &BTreeMap<u64, Stretch>, number: u64) -> Option<(u64, Stretch)>
     ensures { MatchOption result (HasNoneUpTo kept.now number) (λ p. IsLastUpTo kept.now number p.0 p.1) }
 {
-    let (key, span) = kept.range(..=number).next_back()?;
-    Some((*key, *span))
+    let (key, stretch) = kept.range(..=number).next_back()?;
+    Some((*key, *stretch))
 }
 
 /// The range of the least key past a number, with its key.
-fn first_past(kept: &BTreeMap<u64, Span>, number: u64) -> Option<(u64, Span)>
+fn first_past(kept: &BTreeMap<u64, Stretch>, number: u64) -> Option<(u64, Stretch)>
     ensures { MatchOption result (HasNonePast kept.now number) (λ p. IsFirstPast kept.now number p.0 p.1) }
 {
-    let (key, span) = kept
+    let (key, stretch) = kept
         .range((Bound::Excluded(number), Bound::Unbounded))
         .next()?;
-    Some((*key, *span))
+    Some((*key, *stretch))
 }
 
 /// The range that has a number.
-pub(crate) fn range_with(kept: &BTreeMap<u64, Span>, n: u64) -> Option<Span>
+pub(crate) fn range_with(kept: &BTreeMap<u64, Stretch>, n: u64) -> Option<Stretch>
     requires { IsApart kept.now }
     ensures { MatchOption result (kept_has kept.now n ≡ false) (IsRangeWith kept.now n) }
 {
     if kept.is_empty() {
         return None;
     }
-    if let Some((_, span)) = last_up_to(kept, n) {
-        if n < span.hi {
-            return Some(span);
+    if let Some((_, stretch)) = last_up_to(kept, n) {
+        if n < stretch.hi {
+            return Some(stretch);
         }
     }
-    let (_, span) = first_past(kept, n)?;
-    if span.lo <= n { Some(span) } else { None }
+    let (_, stretch) = first_past(kept, n)?;
+    if stretch.lo <= n { Some(stretch) } else { None }
 }
 
 /// The first range that overlaps or touches the numbers from `lo` on and below `hi`, with its key.
-fn first_touching(kept: &BTreeMap<u64, Span>, lo: u64, hi: u64) -> Option<(u64, Span)>
+fn first_touching(kept: &BTreeMap<u64, Stretch>, lo: u64, hi: u64) -> Option<(u64, Stretch)>
     requires apart { IsApart kept.now }
     requires ordered { lo < hi }
     ensures { MatchOption result (IsClear kept.now lo hi) (λ p. IsFirstTouching kept.now lo hi p.0 p.1) }
 {
-    if let Some((key, span)) = last_up_to(kept, lo) {
-        if lo <= span.hi {
-            return Some((key, span));
+    if let Some((key, stretch)) = last_up_to(kept, lo) {
+        if lo <= stretch.hi {
+            return Some((key, stretch));
         }
     }
     match first_past(kept, lo) {
-        Some((key, span)) if span.lo <= hi => Some((key, span)),
+        Some((key, stretch)) if stretch.lo <= hi => Some((key, stretch)),
         _ => None,
     }
 }
 
 /// Removes the ranges of keys past `key` that begin up to `hi`. The result is where the last of them ends, or `hi` where
 /// that is greater.
-fn absorb(kept: &mut BTreeMap<u64, Span>, key: u64, lo: u64, hi: u64) -> u64
+fn absorb(kept: &mut BTreeMap<u64, Stretch>, key: u64, lo: u64, hi: u64) -> u64
     requires apart { IsApart kept.old }
     requires ordered { lo ≤ hi }
     requires bounded { hi < 2 ^ 63 }
@@ -80,38 +80,38 @@ fn absorb(kept: &mut BTreeMap<u64, Span>, key: u64, lo: u64, hi: u64) -> u64
     ensures bounded { result < 2 ^ 63 }
     ensures past { BeginsPast kept.new key result }
     ensures len { btree_map_len kept.new ≤ btree_map_len kept.old }
-    ensures same { (other : ℕ) (span : Span) → other ≤ key → HasRange kept.old other span → HasRange kept.new other span }
-    ensures within { (other : ℕ) (span : Span) → HasRange kept.new other span → HasRange kept.old other span }
+    ensures same { (other : ℕ) (stretch : Stretch) → other ≤ key → HasRange kept.old other stretch → HasRange kept.new other stretch }
+    ensures within { (other : ℕ) (stretch : Stretch) → HasRange kept.new other stretch → HasRange kept.old other stretch }
     ensures has { (n : ℕ)
         → (kept_has kept.new n || (nat_le lo n && nat_lt n result)) ≡ (kept_has kept.old n || (nat_le lo n && nat_lt n hi)) }
 {
-    while let Some((next, span)) = first_past(kept, key) {
-        if hi < span.lo {
+    while let Some((next, stretch)) = first_past(kept, key) {
+        if hi < stretch.lo {
             return hi;
         }
         kept.remove(&next);
-        if hi <= span.hi {
-            return span.hi;
+        if hi <= stretch.hi {
+            return stretch.hi;
         }
     }
     hi
 }
 
 /// Puts a wider range in the place of the one of a key. It takes no memory.
-fn widen(kept: &mut BTreeMap<u64, Span>, key: u64, span: Span)
+fn widen(kept: &mut BTreeMap<u64, Stretch>, key: u64, stretch: Stretch)
     requires apart { IsApart kept.old }
-    requires wider { IsWider kept.old key span }
+    requires wider { IsWider kept.old key stretch }
     ensures apart { IsApart kept.new }
-    ensures has { (n : ℕ) → kept_has kept.new n ≡ (kept_has kept.old n || has_number n span) }
+    ensures has { (n : ℕ) → kept_has kept.new n ≡ (kept_has kept.old n || stretch_has n stretch) }
     ensures len { btree_map_len kept.new ≡ btree_map_len kept.old }
 {
     if let Some(old) = kept.get_mut(&key) {
-        *old = span;
+        *old = stretch;
     }
 }
 
 /// Joins the numbers from `lo` on and below `hi` to the first range that overlaps or touches them. It takes no memory.
-fn grow(kept: &mut BTreeMap<u64, Span>, key: u64, first: Span, lo: u64, hi: u64)
+fn grow(kept: &mut BTreeMap<u64, Stretch>, key: u64, first: Stretch, lo: u64, hi: u64)
     requires apart { IsApart kept.old }
     requires touching { IsFirstTouching kept.old lo hi key first }
     requires positive { 1 ≤ lo }
@@ -126,11 +126,11 @@ fn grow(kept: &mut BTreeMap<u64, Span>, key: u64, first: Span, lo: u64, hi: u64)
     }
     let lo = lo.min(first.lo);
     let hi = absorb(kept, key, lo, hi.max(first.hi));
-    widen(kept, key, Span { lo, hi });
+    widen(kept, key, Stretch { lo, hi });
 }
 
 /// Adds a range that is clear of all others.
-fn insert(kept: &mut BTreeMap<u64, Span>, lo: u64, hi: u64) -> Result<(), Memory>
+fn insert(kept: &mut BTreeMap<u64, Stretch>, lo: u64, hi: u64) -> Result<(), Memory>
     requires apart { IsApart kept.old }
     requires clear { IsClear kept.old lo hi }
     requires positive { 1 ≤ lo }
@@ -141,14 +141,14 @@ fn insert(kept: &mut BTreeMap<u64, Span>, lo: u64, hi: u64) -> Result<(), Memory
     ensures err { OnErr result (((n : ℕ) → kept_has kept.new n ≡ kept_has kept.old n) × (btree_map_len kept.new ≡ btree_map_len kept.old)) }
     ensures len { btree_map_len kept.new ≤ btree_map_len kept.old + 1 }
 {
-    kept.insert(lo, Span { lo, hi })?;
+    kept.insert(lo, Stretch { lo, hi })?;
     Ok(())
 }
 
 /// Joins the numbers from `lo` on and below `hi`. After `Memory` the map is the same.
 ///
 /// The last range is tried first, since numbers mostly come in order.
-pub(crate) fn join(kept: &mut BTreeMap<u64, Span>, lo: u64, hi: u64) -> Result<(), Memory>
+pub(crate) fn join(kept: &mut BTreeMap<u64, Stretch>, lo: u64, hi: u64) -> Result<(), Memory>
     requires apart { IsApart kept.old }
     requires positive { 1 ≤ lo }
     requires ordered { lo < hi }
@@ -166,7 +166,7 @@ pub(crate) fn join(kept: &mut BTreeMap<u64, Span>, lo: u64, hi: u64) -> Result<(
         }
         if last.lo <= lo {
             let hi = hi.max(last.hi);
-            widen(kept, key, Span { lo: last.lo, hi });
+            widen(kept, key, Stretch { lo: last.lo, hi });
             return Ok(());
         }
     }

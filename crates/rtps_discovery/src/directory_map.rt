@@ -84,7 +84,7 @@ impl<'a> Directory<'a> {
         self.note_spoken(&spoken)
     }
 
-    /// The same of what a walk hands on.
+    /// [`Directory::note`] of an act among what a walk hands on. Of a DATA_FRAG or a NACK_FRAG nothing is kept.
     pub fn note_spoken(&mut self, act: &Spoken<'a>) -> Result<Noted, Memory>
         ensures map { OnOk result ((acts : List ActValue)
             → IsMapOf acts self.old → IsMapOf (acts ++ spoken_value act.now ∷ []) self.new) }

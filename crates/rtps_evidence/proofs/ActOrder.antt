@@ -1,5 +1,5 @@
 -- The order of acts by their places.
-use Rattle.std.proofs.Common.{◌≡◌, ◌∙◌, ℕ, zero, suc, ◌+◌, ◌<◌, ◌≤◌, ◌==◌, ◌&&◌, ◌||◌, ◌⊎◌, Bool, true, false, nat_lt, length, map, List, [], ◌∷◌, ◌++◌, Option, Some, None, refl, sym, ap, subst, arith, inl, inr}
+use Rattle.std.proofs.Common.{◌≡◌, ◌∙◌, ℕ, zero, suc, ◌+◌, ◌<◌, ◌≤◌, ◌==◌, ◌&&◌, ◌||◌, ◌⊎◌, Bool, true, false, nat_lt, length, map, List, [], ◌∷◌, ◌++◌, Option, Some, None, refl, sym, subst, arith, inl, inr}
 use Rattle.std.proofs.lemmas.Bool.{and_parts, ltb-true, eqb-true, or_cases}
 use Rattle.std.proofs.lemmas.Bool.Decides.{nat_tests}
 use Rattle.rtps_wire.specs.Header.{header_fault}
@@ -31,23 +31,10 @@ abbrev pub NotAfter : Location → Location → Type 0
 NotAfter one other = (one.datagram < other.datagram) ⊎ ((one.datagram ≡ other.datagram) × (one.at ≤ other.at))
 
 pub is_before : (one other : Location) → Before one other → precedes one other ≡ true
-is_before one other (inl lt) = let yes : nat_lt one.datagram other.datagram ≡ true = grind (arith, nat_tests) in ap (λ b. b || ((one.datagram == other.datagram) && nat_lt one.at other.at)) yes
-is_before one other (inr (same, lt)) =
-    let none : nat_lt one.datagram other.datagram ≡ false = grind (arith, nat_tests) in
-    let at : (one.datagram == other.datagram) ≡ true = grind (arith, nat_tests) in
-    let yes : nat_lt one.at other.at ≡ true = grind (arith, nat_tests) in
-    rw (none, at, yes) refl
+is_before one other h = grind (arith, nat_tests)
 
 pub is_not_before : (one other : Location) → NotAfter one other → precedes other one ≡ false
-is_not_before one other (inl lt) =
-    let none : nat_lt other.datagram one.datagram ≡ false = grind (arith, nat_tests) in
-    let apart : (other.datagram == one.datagram) ≡ false = grind (arith, nat_tests) in
-    rw (none, apart) refl
-is_not_before one other (inr (same, le)) =
-    let none : nat_lt other.datagram one.datagram ≡ false = grind (arith, nat_tests) in
-    let at : (other.datagram == one.datagram) ≡ true = grind (arith, nat_tests) in
-    let no_less : nat_lt other.at one.at ≡ false = grind (arith, nat_tests) in
-    rw (none, at, no_less) refl
+is_not_before one other h = grind (arith, nat_tests)
 
 before_is : (one other : Location) → precedes one other ≡ true → Before one other
 before_is one other is = elim (or_cases _ _ is) [
@@ -113,8 +100,7 @@ order_from one [] from = tt
 order_from one (x ∷ xs) (next, rest) = order_behind x xs rest
 
 pub order_rest : (x : PlacedValue) (xs : List PlacedValue) → AreInOrder (x ∷ xs) → AreInOrder xs
-order_rest x [] order = tt
-order_rest x (y ∷ ys) (next, rest) = rest
+order_rest x xs h = grind (arith, nat_tests)
 
 pub order_left : (xs ys : List PlacedValue) → AreInOrder (xs ++ ys) → AreInOrder xs
 order_left [] ys order = tt
@@ -127,11 +113,7 @@ order_right (x ∷ xs) ys order = order_right xs ys (order_rest x (xs ++ ys) ord
 
 at_it : (one other : PlacedValue) → (((one.datagram == other.datagram) && (one.act.at == other.act.at)) && (is_data_frag one.act.body && is_data_frag other.act.body)) ≡ true
     → (one.datagram ≡ other.datagram) × (one.act.at ≡ other.act.at) × (is_data_frag one.act.body ≡ true) × (is_data_frag other.act.body ≡ true)
-at_it one other is =
-    let parts = and_parts ((one.datagram == other.datagram) && (one.act.at == other.act.at)) (is_data_frag one.act.body && is_data_frag other.act.body) is in
-    let places = and_parts (one.datagram == other.datagram) (one.act.at == other.act.at) parts.0 in
-    let kinds = and_parts (is_data_frag one.act.body) (is_data_frag other.act.body) parts.1 in
-    (eqb-true one.datagram other.datagram places.0, eqb-true one.act.at other.act.at places.1, kinds.0, kinds.1)
+at_it one other is = grind (arith, nat_tests)
 
 next_after : (one other : PlacedValue) → stands_next one other ≡ true → NotAfter (location_of one) (location_of other)
 next_after one other is = elim (or_cases _ _ is) [
@@ -232,12 +214,10 @@ unfolding acts_of reading_of
 datagram_rise datagram = read_rise (header_fault datagram) datagram
 
 later_next : (one other : PlacedValue) → one.datagram < other.datagram → stands_next one other ≡ true
-later_next one other lt =
-    ap (λ b. b || (((one.datagram == other.datagram) && (one.act.at == other.act.at)) && (is_data_frag one.act.body && is_data_frag other.act.body))) (is_before (location_of one) (location_of other) (inl lt))
+later_next one other lt = grind (arith, nat_tests)
 
 behind_next : (one other : PlacedValue) → one.datagram ≡ other.datagram → one.act.at < other.act.at → stands_next one other ≡ true
-behind_next one other same lt =
-    ap (λ b. b || (((one.datagram == other.datagram) && (one.act.at == other.act.at)) && (is_data_frag one.act.body && is_data_frag other.act.body))) (is_before (location_of one) (location_of other) (inr (same, lt)))
+behind_next one other same lt = grind (arith, nat_tests)
 
 datagram_from : (d : ℕ) (acts : List ActValue) (low : ℕ) (one : Option PlacedValue) (behind : List PlacedValue) → Rise low (act_places acts)
     → ((y : PlacedValue) → y.datagram ≡ d → low ≤ y.act.at → After one y) → ((y : PlacedValue) → d < y.datagram → After one y)

@@ -1,10 +1,10 @@
 -- Another recording changes nothing of a pair that is not held against it.
-use Rattle.std.proofs.Common.{◌≡◌, ◌∙◌, ℕ, ◌+◌, ◌&&◌, Bool, false, List, Option, Some, None, refl, ap}
+use Rattle.std.proofs.lemmas.Bool.Decides.{nat_tests}
+use Rattle.std.proofs.Common.{◌≡◌, ◌∙◌, ℕ, ◌+◌, Bool, false, List, Option, None, ap, arith}
 use Rattle.rtps_discovery.specs.declared.matching.Pair.{Pair}
 use Rattle.rtps_audit.specs.Delivery.{last_announced_from}
 use Rattle.rtps_audit.specs.Placed.{PlacedValue, placed_in}
 use Rattle.rtps_audit.specs.Speech.{speech_by}
-use Rattle.rtps_evidence.specs.Amount.{is_sent}
 use Rattle.rtps_evidence.specs.Evidence.{NotHeldIsAlone}
 use Rattle.rtps_evidence.specs.FirstNumbers.{kept}
 use Rattle.rtps_evidence.specs.OtherSide.{OtherRecording, is_held, is_there}
@@ -14,12 +14,11 @@ use Rattle.rtps_evidence.specs.declared.location.Location.{Location}
 use Rattle.rtps_evidence.specs.declared.outcome.Outcome.{Outcome}
 use Rattle.rtps_evidence.specs.declared.outcome.Outcome.TheVariants.{Received, Arrived, Missed, Unsent, Unanswered, Likely, Unconfirmed}
 use Rattle.rtps_evidence.specs.declared.outcome.Outcomes.{Outcomes}
-use Rattle.rtps_evidence.proofs.CountLemmas.{count_same}
+use Rattle.rtps_coverage.proofs.Offered.{count_same}
 use Rattle.rtps_evidence.proofs.OutcomeCounts.{arrived_is_all_that_changes}
 
 nowhere_there : (other : Option OtherRecording) (pair : Pair) (n : ℕ) → is_held other pair ≡ false → is_there other pair n ≡ false
-nowhere_there None pair n alone = refl
-nowhere_there (Some other) pair n alone = ap (λ b. b && is_sent pair.writer pair.reader (placed_in other.intake.acts) n) alone
+nowhere_there other pair n h = grind (arith, nat_tests)
 
 -- the outcomes by two sets of numbers that are the same
 outcomes_same : (there other : ℕ → Bool) (from last : ℕ) (since : Option Location) (pair : Pair) (acts : List PlacedValue) (outcomes : Outcomes) → ((n : ℕ) → there n ≡ other n)

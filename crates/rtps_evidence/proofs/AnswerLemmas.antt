@@ -1,4 +1,5 @@
 -- What the answers of a pair tell of the acts of a recording.
+use Rattle.std.proofs.lemmas.Grind.{common_steps}
 use Rattle.std.proofs.Common.{◌≡◌, ◌∙◌, ◌==◌, ◌&&◌, ◌≤◌, ◌<◌, ℕ, Bool, true, false, cond, nat_lt, max, map, pos, List, [], ◌∷◌, Option, Some, None, refl, sym, ap, arith}
 use Rattle.std.specs.Prelude.{if◌then◌else◌, unwrap_or}
 use Rattle.std.specs.List.{cons_option, find}
@@ -7,7 +8,8 @@ use Rattle.std.proofs.lemmas.Bool.Decides.{nat_tests}
 use Rattle.rtps_discovery.specs.declared.matching.Pair.{Pair}
 use Rattle.rtps_audit.specs.Delivery.{greatest}
 use Rattle.rtps_audit.specs.Placed.{PlacedValue, answer_at, answers_among}
-use Rattle.rtps_audit.specs.Speech.{base_for, natural}
+use Rattle.rtps_receiver.specs.Said.{natural}
+use Rattle.rtps_audit.specs.Speech.{base_for}
 use Rattle.rtps_audit.specs.declared.answer.Answer.{Answer}
 use Rattle.rtps_evidence.specs.Locations.{acknowledgement_of, base_said, claim_at, claim_in, claim_of, greatest_base, location_of}
 use Rattle.rtps_evidence.specs.declared.acknowledgement.Claim.{Claim}
@@ -67,13 +69,7 @@ acknowledged from base pair placed is above =
 pub unacknowledged : (from base : ℕ) (pair : Pair) (placed : List PlacedValue)
     → base ≡ greatest (map (λ (answer : Answer). natural answer.base) (answers_among pair placed)) → base ≤ from
     → None ≡ acknowledgement_of from pair.writer pair.reader placed
-unacknowledged from base pair placed is low = by_order (greatest_base pair.writer pair.reader placed) (sym (is ∙ bases_same pair placed))
-  where
-    by_order : (found : ℕ) → found ≡ base
-        → None ≡ (if nat_lt from found then option_map (claim_at pair.writer pair.reader) (find (λ at. base_said pair.writer pair.reader at == found) placed) else None)
-    by_order found e =
-        let no : nat_lt from base ≡ false = grind (arith, nat_tests) in
-        rw (e, no) refl
+unacknowledged from base pair placed is low = grind (arith, nat_tests, common_steps, bases_same)
 
 -- the first answer in a datagram that claims a number is the first act that does
 pub claimed : (datagram n : ℕ) (pair : Pair) (placed : List PlacedValue)

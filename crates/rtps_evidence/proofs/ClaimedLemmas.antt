@@ -1,13 +1,12 @@
 -- What is claimed up to a datagram, and what is received by that.
-use Rattle.std.proofs.Common.{◌≡◌, ◌∙◌, ℕ, ◌<◌, ◌≤◌, ◌&&◌, ◌||◌, Bool, true, false, nat_le, nat_lt, not, max, map, filter, List, [], ◌∷◌, ◌++◌, Option, Some, None, refl, sym, ap, arith, inl, inr}
-use Rattle.std.specs.Prelude.{Contains, is_some, unwrap_or, if◌then◌else◌}
+use Rattle.std.proofs.lemmas.Grind.{common_steps}
+use Rattle.std.proofs.Common.{◌≡◌, ◌∙◌, ℕ, ◌<◌, ◌≤◌, ◌&&◌, ◌||◌, Bool, true, false, nat_le, nat_lt, not, max, map, filter, List, [], ◌∷◌, Option, Some, None, refl, sym, ap, arith, rules}
+use Rattle.std.specs.Prelude.{Contains, unwrap_or, if◌then◌else◌}
 use Rattle.std.specs.List.{cons_option, list_any}
-use Rattle.std.specs.Option.{option_map}
 use Rattle.std.proofs.lemmas.Bool.{cases_lt, and_parts, not-true, false_from_ne_true}
 use Rattle.std.proofs.lemmas.Bool.Decides.{nat_tests}
-use Rattle.std.proofs.lemmas.List.Folds.{list_any-append, list_any-from_Any}
+use Rattle.std.proofs.lemmas.List.Folds.{list_any-from_Any}
 use Rattle.std.proofs.Math.Bool.{and-false}
-use Rattle.std.specs.Cmp.{both_ways}
 use Rattle.rtps_ids.specs.declared.identity.Guid.{Guid}
 use Rattle.rtps_discovery.specs.declared.matching.Pair.{Pair}
 use Rattle.rtps_receiver.specs.Speech.{is_heard_by, is_spoken_by}
@@ -15,19 +14,18 @@ use Rattle.rtps_receiver.specs.Values.{ActValue}
 use Rattle.rtps_audit.specs.Delivery.{HasRun, IsAsked, Speech, Word, greatest}
 use Rattle.rtps_audit.specs.Placed.{PlacedValue, answer_at, answers_among, is_from, placed_in}
 use Rattle.rtps_audit.specs.RunVerdict.{IsVerdictFrom}
-use Rattle.rtps_audit.specs.Speech.{base_for, natural, speech_by, word_of}
+use Rattle.rtps_receiver.specs.Said.{natural}
+use Rattle.rtps_audit.specs.Speech.{base_for, speech_by, word_of}
 use Rattle.rtps_audit.specs.declared.answer.Answer.{Answer}
 use Rattle.rtps_audit.specs.declared.verdict.Verdict.{Verdict}
-use Rattle.rtps_audit.specs.declared.verdict.Verdict.TheVariants.{Unfounded, Conflict, Open, Complete}
 use Rattle.rtps_audit.proofs.Offered.{speaker_is_origin}
-use Rattle.rtps_evidence.specs.Amount.{stretches_have, withdrawal_has, withdrawn_before}
 use Rattle.rtps_evidence.specs.Claimed.{AreWithdrawals, IsCertaintyOf, certain_at, claims_up_to, is_unfounded, withdrawn_past, withdrawn_unclaimed}
-use Rattle.rtps_evidence.specs.Locations.{base_said, payload_in, sends, teller_at}
+use Rattle.rtps_evidence.specs.Locations.{base_said, sends}
 use Rattle.rtps_evidence.specs.Received.{claims, first_claiming, gone_before, is_certain_by, is_gone, is_received, sends_before, withdraws, withdraws_before}
-use Rattle.rtps_evidence.specs.Rising.{some_reaches}
+use Rattle.rtps_coverage.specs.Rising.{some_reaches}
 use Rattle.rtps_evidence.specs.WriterSummary.{IsHeardBy}
 use Rattle.rtps_evidence.specs.declared.amount.HeardNumbers.{HeardNumbers}
-use Rattle.rtps_evidence.specs.declared.amount.Stretch.{Stretch}
+use Rattle.rtps_coverage.specs.declared.stretch.Stretch.{Stretch}
 use Rattle.rtps_evidence.specs.declared.claimed.Certainty.{Certainty}
 use Rattle.rtps_evidence.specs.declared.withdrawal.Withdrawal.{Withdrawal}
 use Rattle.rtps_evidence.proofs.AnswerLemmas.{bases_same}
@@ -36,8 +34,7 @@ use Rattle.rtps_evidence.proofs.ReceivedRuns.{sent_before}
 use Rattle.rtps_evidence.proofs.PlacedOrder.{first_is_first, found_is_there, none_found, none_passes, placed_ordered, some_passes}
 
 or_false : (b : Bool) → (b || false) ≡ b
-or_false true = refl
-or_false false = refl
+or_false b = grind (arith, nat_tests)
 
 never_both : (b : Bool) → b ≡ true → b ≡ false → ⊥
 never_both b holds fails = let clash : true ≡ false = sym holds ∙ fails in cc
@@ -45,13 +42,6 @@ never_both b holds fails = let clash : true ≡ false = sym holds ∙ fails in c
 -- an element that passes
 any_of : {X : Type 0} (test : X → Bool) (xs : List X) (x : X) → Contains xs x → test x ≡ true → list_any test xs ≡ true
 any_of test xs x (k, lt, e) is = list_any-from_Any test xs (k, x, lt, e, is)
-
--- ---- a stretch more
-
-pub has_one_more : (old new : List Stretch) (lo hi n : ℕ) → new ≡ old ++ record { lo = lo; hi = hi } ∷ [] → stretches_have new n ≡ (stretches_have old n || (nat_le lo n && nat_lt n hi))
-has_one_more old new lo hi n is =
-    ap (λ l. stretches_have l n) is ∙ list_any-append (λ (s : Stretch). nat_le s.lo n && nat_lt n s.hi) old (record { lo = lo; hi = hi } ∷ [])
-    ∙ ap (λ b. stretches_have old n || b) (or_false (nat_le lo n && nat_lt n hi))
 
 -- ---- what is claimed
 
@@ -78,35 +68,24 @@ below_greatest number (x ∷ xs) n = of_max (number x) (greatest (map number xs)
 -- ---- who says it
 
 spoken_word : (said heard : Bool) (word : Option Word) (test : Option Word → Bool) → test None ≡ false → test (if said && heard then word else None) ≡ true → said ≡ true
-spoken_word true heard word test none is = refl
-spoken_word false heard word test none is = absurd (never_both (test None) is none)
+spoken_word said heard word test h h2 = grind (arith, nat_tests)
 
 pub sender : (writer reader : Guid) (n : ℕ) (at : PlacedValue) → sends writer reader n at ≡ true → is_from writer at ≡ true
-sender writer reader n at is =
-    speaker_is_origin writer at (spoken_word (is_spoken_by at.act writer) (is_heard_by at.act reader) (word_of at.act.body n) (λ o. is_some (payload_in o)) refl is)
+sender writer reader n at is = search rules
 
 pub withdrawer : (writer reader : Guid) (n : ℕ) (at : PlacedValue) → withdraws writer reader n at ≡ true → is_from writer at ≡ true
 withdrawer writer reader n at is = speaker_is_origin writer at (spoken_word (is_spoken_by at.act writer) (is_heard_by at.act reader) (word_of at.act.body n) is_gone refl is)
 
 -- what the reader hears of numbers that will not come is said by the writer's acts
 pub withdrawals_same : (writer reader : Guid) (placed acts : List PlacedValue) (heard : HeardNumbers) → acts ≡ filter (is_from writer) placed → IsHeardBy writer reader acts heard → AreWithdrawals writer reader placed heard.gone.items
-withdrawals_same writer reader placed acts heard same is = λ n datagram.
-    is.gone n datagram ∙ ap (list_any (withdraws_before writer reader n datagram)) same
-    ∙ any_filter (withdraws_before writer reader n datagram) (is_from writer) (λ at passes. withdrawer writer reader n at (and_parts (nat_lt at.datagram datagram) (withdraws writer reader n at) passes).1) placed
+withdrawals_same writer reader placed acts heard same is = grind (arith, nat_tests, common_steps, any_filter, withdrawer, and_parts)
 
 -- ---- what is claimed first
 
 -- where no claim stands up to a datagram, the first one stands behind it
 before_first : (pair : Pair) (placed : List PlacedValue) (answers : List Answer) (datagram n : ℕ) (claim : PlacedValue) → answers ≡ answers_among pair placed
     → Contains placed claim → claims pair.writer pair.reader n claim ≡ true → list_any (claims_up_to datagram n) answers ≡ false → datagram < claim.datagram
-before_first pair placed answers datagram n claim same among claiming none = elim (cases_lt datagram claim.datagram) [
-  | inl before ↦ before
-  | inr past ↦
-      let late : nat_le claim.datagram datagram ≡ true = grind (arith, nat_tests) in
-      let test = ap (λ b. b && claims pair.writer pair.reader n claim) late ∙ claiming in
-      let any = any_of (λ (at : PlacedValue). nat_le at.datagram datagram && claims pair.writer pair.reader n at) placed claim among test in
-      absurd (never_both (list_any (claims_up_to datagram n) answers) (ap (list_any (claims_up_to datagram n)) same ∙ claimed_same pair placed datagram n ∙ any) none)
-]
+before_first pair placed answers datagram n claim same among claiming none = grind (arith, nat_tests, common_steps, cases_lt, any_of, never_both, claimed_same)
 
 -- and the other way round
 no_claim_before : (pair : Pair) (recording : List (List ActValue)) (answers : List Answer) (datagram n : ℕ) (claim : PlacedValue) → answers ≡ answers_among pair (placed_in recording)
@@ -123,53 +102,25 @@ no_claim_before pair recording answers datagram n claim same found before =
 -- so a number is not claimed up to a datagram where that stands before the first claim
 unclaimed_before : (pair : Pair) (recording : List (List ActValue)) (answers : List Answer) (n : ℕ) (claim : PlacedValue) → answers ≡ answers_among pair (placed_in recording)
     → first_claiming pair.writer pair.reader n (placed_in recording) ≡ Some claim → (datagram : ℕ) → not (list_any (claims_up_to datagram n) answers) ≡ nat_lt datagram claim.datagram
-unclaimed_before pair recording answers n claim same found datagram =
-    let there = found_is_there (claims pair.writer pair.reader n) (placed_in recording) claim found in
-    both_ways (not (list_any (claims_up_to datagram n) answers)) (nat_lt datagram claim.datagram)
-    (λ none. let before = before_first pair (placed_in recording) answers datagram n claim same there.0 there.1 (not-true (list_any (claims_up_to datagram n) answers) none) in grind (arith, nat_tests, before))
-    (λ is. let before : datagram < claim.datagram = grind (arith, nat_tests, is) in ap not (no_claim_before pair recording answers datagram n claim same found before))
+unclaimed_before pair recording answers n claim same found datagram = grind (arith, nat_tests, common_steps, found_is_there, before_first, not-true, no_claim_before)
 
 any_same : {X : Type 0} (one other : X → Bool) → ((x : X) → one x ≡ other x) → (xs : List X) → list_any one xs ≡ list_any other xs
-any_same one other same [] = refl
-any_same one other same (x ∷ xs) = ap (λ b. b || list_any one xs) (same x) ∙ ap (λ b. other x || b) (any_same one other same xs)
+any_same one other h xs = grind (arith, nat_tests)
 
 -- by how far is claimed up to each datagram, a withdrawal stands before the claims of a number or not
 pub past_same : (items lent : List Stretch) (answers : List Answer) (withdrawals : List Withdrawal) (n : ℕ) → lent ≡ items → ((d m : ℕ) → some_reaches items d m ≡ list_any (claims_up_to d m) answers)
     → list_any (withdrawn_past lent n) withdrawals ≡ list_any (withdrawn_unclaimed answers n) withdrawals
-past_same items lent answers withdrawals n same is =
-    any_same (withdrawn_past lent n) (withdrawn_unclaimed answers n) (λ withdrawal. ap (λ b. not b && withdrawal_has n withdrawal) (ap (λ l. some_reaches l withdrawal.datagram n) same ∙ is withdrawal.datagram n)) withdrawals
+past_same items lent answers withdrawals n same is = grind (arith, nat_tests)
 
 -- withdrawals that end up to a number have none from there on
 pub none_past : (withdrawals : List Withdrawal) (answers : List Answer) (from n : ℕ) → from ≤ n → list_any (λ withdrawal. nat_lt from withdrawal.hi) withdrawals ≡ false → list_any (withdrawn_unclaimed answers n) withdrawals ≡ false
-none_past withdrawals answers from n low none = false_from_ne_true (list_any (withdrawn_unclaimed answers n) withdrawals) (λ some.
-    let at = some_passes (withdrawn_unclaimed answers n) withdrawals some in
-    let has = and_parts (nat_le at.0.lo n) (nat_lt n at.0.hi) (and_parts (not (list_any (claims_up_to at.0.datagram n) answers)) _ at.2).1 in
-    let past : nat_lt from at.0.hi ≡ true = (let t = has.1 in grind (arith, nat_tests, t)) in
-    none_passes (λ (withdrawal : Withdrawal). nat_lt from withdrawal.hi) withdrawals at.0 none at.1 past)
-
--- a withdrawal more, as far as it is not claimed
-pub past_more : (old new : List Stretch) (claims : List Stretch) (withdrawal : Withdrawal) (end lo n : ℕ) → new ≡ old ++ record { lo = lo; hi = withdrawal.hi } ∷ [] → lo ≡ max end withdrawal.lo
-    → nat_lt n end ≡ some_reaches claims withdrawal.datagram n → stretches_have new n ≡ (stretches_have old n || withdrawn_past claims n withdrawal)
-past_more old new claims withdrawal end lo n is greatest reach =
-    has_one_more old new lo withdrawal.hi n is ∙ ap (λ b. stretches_have old n || b) (clipped withdrawal.lo withdrawal.hi greatest ∙ ap (λ b. not b && withdrawal_has n withdrawal) reach)
-  where
-    clipped : (first hi : ℕ) → lo ≡ max end first → (nat_le lo n && nat_lt n hi) ≡ (not (nat_lt n end) && (nat_le first n && nat_lt n hi))
-    clipped first hi e = grind (arith, nat_tests)
-
-pub past_none : (old : Bool) (claims : List Stretch) (withdrawal : Withdrawal) (end lo n : ℕ) → withdrawal.hi ≤ lo → lo ≡ max end withdrawal.lo
-    → nat_lt n end ≡ some_reaches claims withdrawal.datagram n → old ≡ (old || withdrawn_past claims n withdrawal)
-past_none old claims withdrawal end lo n le greatest reach = sym (or_false old) ∙ ap (λ b. old || b) (none withdrawal.lo withdrawal.hi le greatest ∙ ap (λ b. not b && withdrawal_has n withdrawal) reach)
-  where
-    none : (first hi : ℕ) → hi ≤ lo → lo ≡ max end first → false ≡ (not (nat_lt n end) && (nat_le first n && nat_lt n hi))
-    none first hi le e = grind (arith, nat_tests)
+none_past withdrawals answers from n low none = grind (arith, nat_tests, common_steps, false_from_ne_true, some_passes, and_parts, none_passes)
 
 -- what is told gone before it is claimed
 gone_first : (pair : Pair) (recording : List (List ActValue)) (answers : List Answer) (withdrawals : List Withdrawal) (n : ℕ) (claim : PlacedValue) → answers ≡ answers_among pair (placed_in recording)
     → AreWithdrawals pair.writer pair.reader (placed_in recording) withdrawals → first_claiming pair.writer pair.reader n (placed_in recording) ≡ Some claim
     → list_any (withdrawn_unclaimed answers n) withdrawals ≡ list_any (withdraws_before pair.writer pair.reader n claim.datagram) (placed_in recording)
-gone_first pair recording answers withdrawals n claim same are found =
-    any_same (withdrawn_unclaimed answers n) (withdrawn_before n claim.datagram) (λ withdrawal. ap (λ b. b && withdrawal_has n withdrawal) (unclaimed_before pair recording answers n claim same found withdrawal.datagram)) withdrawals
-    ∙ are n claim.datagram
+gone_first pair recording answers withdrawals n claim same are found = grind (arith, nat_tests, common_steps, any_same, unclaimed_before)
 
 -- a number is below the greatest base where some answer claims it
 base_same : (pair : Pair) (placed : List PlacedValue) (answers : List Answer) (n : ℕ) → answers ≡ answers_among pair placed → nat_lt n (greatest (map (λ answer. natural answer.base) answers)) ≡ list_any (claims pair.writer pair.reader n) placed
@@ -261,12 +212,8 @@ founded_same from pair recording answers withdrawals n asked run same are = by (
 
 -- a verdict that is not unfounded says that a run exists
 pub has_run : (from : ℕ) (speech : Speech) (verdict : Verdict) → IsVerdictFrom from speech verdict → is_unfounded verdict ≡ false → HasRun from speech
-has_run from speech (Unfounded datagram number) is founded = absurd (let no : true ≡ false = founded in cc)
-has_run from speech (Conflict number) is founded = is.0
-has_run from speech (Open number) is founded = is.0
-has_run from speech (Complete last) is founded = is.1
+has_run from speech verdict h h2 = grind (arith, nat_tests)
 
 -- the first act that tells a number gone is one that the writer says
 pub gone_same_before : (writer reader : Guid) (n datagram : ℕ) (placed : List PlacedValue) → gone_before writer reader n datagram (filter (is_from writer) placed) ≡ gone_before writer reader n datagram placed
-gone_same_before writer reader n datagram placed =
-    ap (option_map teller_at) (find_filter (withdraws_before writer reader n datagram) (is_from writer) (λ at passes. withdrawer writer reader n at (and_parts (nat_lt at.datagram datagram) _ passes).1) placed)
+gone_same_before writer reader n datagram placed = grind (arith, nat_tests, common_steps, find_filter, withdrawer, and_parts)

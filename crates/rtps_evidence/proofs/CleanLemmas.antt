@@ -1,4 +1,5 @@
 -- The rule by counts is the rule by numbers.
+use Rattle.std.proofs.lemmas.Grind.{common_steps}
 use Rattle.std.proofs.Common.{◌≡◌, ◌∙◌, ℕ, ◌+◌, ◌-◌, ◌<◌, ◌≤◌, ◌==◌, ◌&&◌, ◌||◌, ◌⊎◌, Bool, true, false, cond, max, map, nat_lt, not, List, [], ◌∷◌, Option, Some, None, refl, sym, ap, subst, arith, inl, inr}
 use Rattle.std.specs.Prelude.{if◌then◌else◌, is_some}
 use Rattle.std.specs.List.{find}
@@ -7,7 +8,7 @@ use Rattle.std.proofs.lemmas.Bool.Decides.{nat_tests}
 use Rattle.rtps_discovery.specs.declared.matching.Pair.{Pair}
 use Rattle.rtps_audit.specs.Delivery.{greatest}
 use Rattle.rtps_audit.specs.Placed.{PlacedValue}
-use Rattle.rtps_evidence.specs.Amount.{count_in}
+use Rattle.rtps_coverage.specs.Counts.{count_in}
 use Rattle.rtps_evidence.specs.Clean.{CountsSayTail, IsBelowBase, IsPastBase, IsTail, has_all, is_open, loses_none}
 use Rattle.rtps_evidence.specs.Locations.{base_said, greatest_base}
 use Rattle.rtps_evidence.specs.Missed.{is_wanting}
@@ -17,7 +18,7 @@ use Rattle.rtps_evidence.specs.declared.location.Location.{Location}
 use Rattle.rtps_evidence.specs.declared.outcome.Outcome.{Outcome}
 use Rattle.rtps_evidence.specs.declared.outcome.Outcome.TheVariants.{Received, Arrived, Missed, Unsent, Unanswered, Likely, Unconfirmed}
 use Rattle.rtps_evidence.specs.declared.outcome.Outcomes.{Outcomes}
-use Rattle.rtps_evidence.proofs.CountLemmas.{count_all, count_none, count_same, count_split}
+use Rattle.rtps_coverage.proofs.Offered.{count_all, count_none, count_same, count_split}
 
 -- where no number has it, each has not
 none_has : (has : ℕ → Bool) (lo hi n : ℕ) → count_in has lo hi ≡ 0 → lo ≤ n → n < hi → has n ≡ false
@@ -62,60 +63,25 @@ record IsKept (held t : Bool) (outcome : Outcome) : Type 0 where
   pub nowhere : held ≡ false → t ≡ false
 
 below_base : (held r t w b u c : Bool) → IsKept held t (first_of r t w b u c) → c ≡ true → IsBelowBase held (first_of r t w b u c)
-below_base true true t w b u c k e = inl refl
-below_base true false true w b u c k e = inr refl
-below_base true false false true b u c k e = let no = k.missed in cc
-below_base true false false false false u c k e = let no = k.unsent in cc
-below_base true false false false true true c k e = let no = k.unanswered in cc
-below_base true false false false true false true k e = let no = k.likely refl in cc
-below_base true false false false true false false k e = cc
-below_base false true t w b u c k e = inl refl
-below_base false false true w b u c k e = let no = k.nowhere refl in cc
-below_base false false false true b u c k e = let no = k.missed in cc
-below_base false false false false false u c k e = let no = k.unsent in cc
-below_base false false false false true true c k e = let no = k.unanswered in cc
-below_base false false false false true false true k e = inr refl
-below_base false false false false true false false k e = cc
+below_base held r t w b u c h h2 = grind (arith, nat_tests)
 
 past_base : (held r t w b u c : Bool) → IsKept held t (first_of r t w b u c) → r ≡ false → c ≡ false → IsPastBase held (first_of r t w b u c)
-past_base held true t w b u c k e f = cc
-past_base true false true w b u c k e f = inl refl
-past_base true false false true b u c k e f = let no = k.missed in cc
-past_base true false false false false u c k e f = let no = k.unsent in cc
-past_base true false false false true true c k e f = let no = k.unanswered in cc
-past_base true false false false true false true k e f = cc
-past_base true false false false true false false k e f = inr refl
-past_base false false true w b u c k e f = let no = k.nowhere refl in cc
-past_base false false false true b u c k e f = let no = k.missed in cc
-past_base false false false false false u c k e f = let no = k.unsent in cc
-past_base false false false false true true c k e f = let no = k.unanswered in cc
-past_base false false false false true false true k e f = cc
-past_base false false false false true false false k e f = refl
+past_base held r t w b u c h h2 h3 = grind (arith, nat_tests)
 
 -- what is not lost, not likely and not unconfirmed came
 came : (r t w b u c : Bool) → IsKept true t (first_of r t w b u c) → is_outcome Unconfirmed (first_of r t w b u c) ≡ false → IsBelowBase true (first_of r t w b u c)
-came true t w b u c k e = inl refl
-came false true w b u c k e = inr refl
-came false false true b u c k e = let no = k.missed in cc
-came false false false false u c k e = let no = k.unsent in cc
-came false false false true true c k e = let no = k.unanswered in cc
-came false false false true false true k e = let no = k.likely refl in cc
-came false false false true false false k e = cc
+came r t w b u c h h2 = grind (arith, nat_tests)
 
 zero_of : (n : ℕ) → (n == 0) ≡ true → n ≡ 0
 zero_of n is = grind (arith, nat_tests, is)
 
 -- none of three numbers that are tested so is above 0
 all_zero : (a b c : ℕ) → ((a == 0) && ((b == 0) && (c == 0))) ≡ true → (a ≡ 0) × (b ≡ 0) × (c ≡ 0)
-all_zero a b c is =
-    let first = and_parts (a == 0) ((b == 0) && (c == 0)) is in
-    let rest = and_parts (b == 0) (c == 0) first.1 in
-    (zero_of a first.0, zero_of b rest.0, zero_of c rest.1)
+all_zero a b c is = grind (arith, nat_tests)
 
 -- of a pair that is held, a number that is tested so is not above 0
 zero_where : (held : Bool) (n : ℕ) → (not held || (n == 0)) ≡ true → held ≡ true → n ≡ 0
-zero_where true n is held_is = zero_of n is
-zero_where false n is held_is = cc
+zero_where held n h h2 = grind (arith, nat_tests)
 
 -- ---- the counts of a row that loses nothing, and its numbers
 
@@ -170,28 +136,18 @@ also_came true = Arrived
 also_came false = Likely
 
 is_other : (held : Bool) (kind outcome : Outcome) → is_outcome kind Received ≡ false → is_outcome kind (also_came held) ≡ false → is_outcome kind Unconfirmed ≡ false → IsAsTail held outcome → is_outcome kind outcome ≡ false
-is_other true kind outcome r l u (inl (inl is)) = ap (is_outcome kind) is ∙ r
-is_other true kind outcome r l u (inl (inr is)) = ap (is_outcome kind) is ∙ l
-is_other true kind outcome r l u (inr (inl is)) = ap (is_outcome kind) is ∙ l
-is_other true kind outcome r l u (inr (inr is)) = ap (is_outcome kind) is ∙ u
-is_other false kind outcome r l u (inl (inl is)) = ap (is_outcome kind) is ∙ r
-is_other false kind outcome r l u (inl (inr is)) = ap (is_outcome kind) is ∙ l
-is_other false kind outcome r l u (inr is) = ap (is_outcome kind) is ∙ u
+is_other held kind outcome h h2 h3 h4 = grind (arith, nat_tests)
 
 is_zero : (n : ℕ) → n ≡ 0 → (n == 0) ≡ true
 is_zero n is = grind (arith, nat_tests, is)
 
 as_tail : (held : Bool) (there : ℕ → Bool) (from last : ℕ) (since : Option Location) (pair : Pair) (acts : List PlacedValue) → IsTail held there from last since pair acts
     → (n : ℕ) → from ≤ n → n < last + 1 → IsAsTail held (outcome_of there since pair acts n)
-as_tail held there from last since pair acts tail n low high = elim (cases_lt n (greatest_base pair.writer pair.reader acts)) [
-  | inl lt ↦ inl (tail.below n low (omega arith) lt)
-  | inr ge ↦ inr (tail.others n low (omega arith) ge)
-]
+as_tail held there from last since pair acts tail n low high = grind (arith, nat_tests)
 
 none_of : (held : Bool) (there : ℕ → Bool) (kind : Outcome) (from last : ℕ) (since : Option Location) (pair : Pair) (acts : List PlacedValue) → is_outcome kind Received ≡ false → is_outcome kind (also_came held) ≡ false → is_outcome kind Unconfirmed ≡ false
     → ((n : ℕ) → from ≤ n → n < last + 1 → IsAsTail held (outcome_of there since pair acts n)) → count_of kind (outcome_of there since pair acts) from (last + 1) ≡ 0
-none_of held there kind from last since pair acts r l u tail =
-    count_none (λ n. is_outcome kind (outcome_of there since pair acts n)) from (last + 1) (λ n low high. is_other held kind (outcome_of there since pair acts n) r l u (tail n low high))
+none_of held there kind from last since pair acts r l u tail = grind (arith, nat_tests, common_steps, count_none, is_other)
 
 tail_meant : (held : Bool) (there : ℕ → Bool) (from last : ℕ) (since : Option Location) (pair : Pair) (acts : List PlacedValue) (outcomes : Outcomes) → AreOutcomes there from last since pair acts outcomes
     → ((n : ℕ) → from ≤ n → n < last + 1 → IsAsTail held (outcome_of there since pair acts n)) → loses_none held outcomes ≡ true
@@ -210,9 +166,7 @@ tail_meant false there from last since pair acts outcomes are tail =
 -- where each number came, none is unconfirmed
 whole_meant : (there : ℕ → Bool) (from last : ℕ) (since : Option Location) (pair : Pair) (acts : List PlacedValue) (outcomes : Outcomes) → AreOutcomes there from last since pair acts outcomes
     → ((n : ℕ) → from ≤ n → n ≤ last → IsBelowBase true (outcome_of there since pair acts n)) → outcomes.unconfirmed ≡ 0
-whole_meant there from last since pair acts outcomes are all =
-    are.unconfirmed
-    ∙ count_none (λ n. is_outcome Unconfirmed (outcome_of there since pair acts n)) from (last + 1) (λ n low high. elim (all n low (omega arith)) [ inl is ↦ ap (is_outcome Unconfirmed) is | inr is ↦ ap (is_outcome Unconfirmed) is ])
+whole_meant there from last since pair acts outcomes are all = grind (arith, nat_tests, common_steps, count_none)
 
 -- of a tail, the unconfirmed numbers are those from the greatest base on that have this
 unconfirmed_past : (from last base : ℕ) (outcome : ℕ → Outcome) (has : ℕ → Bool) → ((n : ℕ) → from ≤ n → n ≤ last → n < base → is_outcome Unconfirmed (outcome n) ≡ false)
@@ -243,18 +197,7 @@ tail_counted there from last since pair acts outcomes are tail =
 
 -- of a pair that is held, a number of a tail from the greatest base on is unconfirmed where it is not there
 not_there : (r t w b u c : Bool) → IsPastBase true (first_of r t w b u c) → is_outcome Unconfirmed (first_of r t w b u c) ≡ not t
-not_there true t w b u c (inl is) = cc
-not_there true t w b u c (inr is) = cc
-not_there false true w b u c is = refl
-not_there false false true b u c (inl is) = cc
-not_there false false true b u c (inr is) = cc
-not_there false false false false u c (inl is) = cc
-not_there false false false false u c (inr is) = cc
-not_there false false false true true c (inl is) = cc
-not_there false false false true true c (inr is) = cc
-not_there false false false true false true (inl is) = cc
-not_there false false false true false true (inr is) = cc
-not_there false false false true false false is = refl
+not_there r t w b u c h = grind (arith, nat_tests)
 
 held_tail_counted : (there : ℕ → Bool) (from last : ℕ) (since : Option Location) (pair : Pair) (acts : List PlacedValue) (outcomes : Outcomes) → AreOutcomes there from last since pair acts outcomes → IsTail true there from last since pair acts
     → outcomes.unconfirmed ≡ count_in (λ n. not (there n)) (max from (greatest_base pair.writer pair.reader acts)) (last + 1)

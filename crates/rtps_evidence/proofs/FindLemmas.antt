@@ -1,7 +1,7 @@
 -- The first element of a list that passes a test, also where elements are left out that do not.
-use Rattle.std.proofs.Math.Bool.{and-false, or-false}
+use Rattle.std.proofs.lemmas.Grind.{common_steps}
 use Rattle.std.proofs.lemmas.Bool.Decides.{nat_tests}
-use Rattle.std.proofs.Common.{◌≡◌, ◌==◌, ◌&&◌, ◌⊎◌, inl, inr, nat_lt, ℕ, ◌+◌, ◌<◌, ◌≤◌, Bool, true, false, ◌||◌, cond, List, [], ◌∷◌, length, map, filter, take, drop, get_or, max, Some, None, refl, sym, ap, ◌∙◌, arith}
+use Rattle.std.proofs.Common.{◌≡◌, ◌==◌, ◌&&◌, ◌⊎◌, nat_lt, ℕ, ◌+◌, ◌<◌, ◌≤◌, Bool, true, false, ◌||◌, cond, List, [], ◌∷◌, length, map, filter, take, drop, get_or, max, Some, None, refl, sym, ap, ◌∙◌, arith}
 use Rattle.std.specs.List.{find, list_any}
 use Rattle.std.specs.Option.{option_or}
 use Rattle.std.proofs.lemmas.List.{map-append, take_more, take-append-drop}
@@ -10,24 +10,14 @@ use Rattle.rtps_audit.specs.Delivery.{greatest}
 use Rattle.rtps_audit.proofs.Offered.{greatest-append}
 
 find_past : {X : Type 0} (test : X → Bool) (x : X) (keeps : Bool) (xs : List X) → (test x ≡ true → keeps ≡ true) → find test (cond keeps (x ∷ xs) xs) ≡ cond (test x) (Some x) (find test xs)
-find_past test x true xs h = refl
-find_past test x false xs h = by (test x) h
-  where
-    by : (b : Bool) → (b ≡ true → false ≡ true) → find test xs ≡ cond b (Some x) (find test xs)
-    by true h = let no = h refl in cc
-    by false h = refl
+find_past test x keeps xs h = grind (arith, nat_tests)
 
 pub find_filter : {X : Type 0} (test keeps : X → Bool) → ((x : X) → test x ≡ true → keeps x ≡ true) → (xs : List X) → find test (filter keeps xs) ≡ find test xs
 find_filter test keeps h [] = refl
 find_filter test keeps h (x ∷ xs) = find_past test x (keeps x) (filter keeps xs) (h x) ∙ ap (λ o. cond (test x) (Some x) o) (find_filter test keeps h xs)
 
 any_kept : {X : Type 0} (test : X → Bool) (x : X) (keeps : Bool) (xs : List X) → (test x ≡ true → keeps ≡ true) → list_any test (cond keeps (x ∷ xs) xs) ≡ (test x || list_any test xs)
-any_kept test x true xs h = refl
-any_kept test x false xs h = by (test x) h
-  where
-    by : (b : Bool) → (b ≡ true → false ≡ true) → list_any test xs ≡ (b || list_any test xs)
-    by true h = let no = h refl in cc
-    by false h = refl
+any_kept test x keeps xs h = grind (arith, nat_tests)
 
 pub any_filter : {X : Type 0} (test keeps : X → Bool) → ((x : X) → test x ≡ true → keeps x ≡ true) → (xs : List X) → list_any test (filter keeps xs) ≡ list_any test xs
 any_filter test keeps h [] = refl
@@ -50,11 +40,7 @@ any_and test b (x ∷ xs) = ap (λ c. (test x && b) || c) (any_and test b xs) �
 -- ---- one after another
 
 find_more : {X Y : Type 0} (v : X → Y) (test : Y → Bool) (xs : List X) (i : ℕ) (d : X) → i < length xs → find test (map v (take i xs)) ≡ None → find test (map v (take (i + 1) xs)) ≡ cond (test (v (get_or xs i d))) (Some (v (get_or xs i d))) None
-find_more v test xs i d lt none =
-    ap (λ l. find test (map v l)) (take_more xs i d lt)
-    ∙ ap (find test) (map-append v (take i xs) (get_or xs i d ∷ []))
-    ∙ find-append test (map v (take i xs)) (v (get_or xs i d) ∷ [])
-    ∙ ap (λ o. option_or o (find test (v (get_or xs i d) ∷ []))) none
+find_more v test xs i d lt none = grind (arith, nat_tests, common_steps, take_more, map-append, find-append)
 
 pub none_yet : {X Y : Type 0} (v : X → Y) (test : Y → Bool) (xs : List X) (i : ℕ) (d : X) → i < length xs → find test (map v (take i xs)) ≡ None → test (v (get_or xs i d)) ≡ false → find test (map v (take (i + 1) xs)) ≡ None
 none_yet v test xs i d lt none not = find_more v test xs i d lt none ∙ ap (λ b. cond b (Some (v (get_or xs i d))) None) not
@@ -68,11 +54,7 @@ found_here v test xs i d lt none is =
 
 -- whether one passes, with one element more
 pub any_more : {X Y : Type 0} (v : X → Y) (test : Y → Bool) (xs : List X) (i : ℕ) (d : X) → i < length xs → list_any test (map v (take (i + 1) xs)) ≡ (list_any test (map v (take i xs)) || test (v (get_or xs i d)))
-any_more v test xs i d lt =
-    ap (λ l. list_any test (map v l)) (take_more xs i d lt)
-    ∙ ap (list_any test) (map-append v (take i xs) (get_or xs i d ∷ []))
-    ∙ list_any-append test (map v (take i xs)) (v (get_or xs i d) ∷ [])
-    ∙ ap (λ b. list_any test (map v (take i xs)) || b) (or-false (test (v (get_or xs i d))))
+any_more v test xs i d lt = grind (arith, nat_tests, common_steps)
 
 -- ---- the element at hand
 
@@ -99,26 +81,10 @@ any_found v test xs i x lt at is =
 -- ---- the greatest of what is made of each
 
 pub greatest_past : {X Y : Type 0} (v : X → Y) (number : Y → ℕ) (xs : List X) (i : ℕ) (x : X) → i < length xs → x ≡ get_or xs i x → greatest (map number (map v (take (i + 1) xs))) ≡ max (greatest (map number (map v (take i xs)))) (number (v x))
-greatest_past v number xs i x lt at =
-    ap (λ l. greatest (map number (map v l))) (take_more xs i x lt)
-    ∙ ap (λ l. greatest (map number l)) (map-append v (take i xs) (get_or xs i x ∷ []))
-    ∙ ap greatest (map-append number (map v (take i xs)) (v (get_or xs i x) ∷ []))
-    ∙ greatest-append (map number (map v (take i xs))) (number (v (get_or xs i x)) ∷ [])
-    ∙ ap (λ y. max (greatest (map number (map v (take i xs)))) (max (number (v y)) 0)) (sym at)
-    ∙ one (number (v x))
-  where
-    one : (n : ℕ) → max (greatest (map number (map v (take i xs)))) (max n 0) ≡ max (greatest (map number (map v (take i xs)))) n
-    one n = omega arith
+greatest_past v number xs i x lt at = grind (arith, nat_tests, common_steps, take_more, map-append, greatest-append)
 
 pub greatest_of_each : {X : Type 0} (number : X → ℕ) (xs : List X) (i : ℕ) (d : X) → i < length xs → greatest (map number (take (i + 1) xs)) ≡ max (greatest (map number (take i xs))) (number (get_or xs i d))
-greatest_of_each number xs i d lt =
-    ap (λ l. greatest (map number l)) (take_more xs i d lt)
-    ∙ ap greatest (map-append number (take i xs) (get_or xs i d ∷ []))
-    ∙ greatest-append (map number (take i xs)) (number (get_or xs i d) ∷ [])
-    ∙ one (number (get_or xs i d))
-  where
-    one : (n : ℕ) → max (greatest (map number (take i xs))) (max n 0) ≡ max (greatest (map number (take i xs))) n
-    one n = omega arith
+greatest_of_each number xs i d lt = grind (arith, nat_tests, common_steps, take_more, map-append, greatest-append)
 
 -- ---- tests of two numbers
 
@@ -129,7 +95,4 @@ pub claims_it : (a b n base : ℕ) → a ≡ b → n < base → ((a == b) && nat
 claims_it a b n base e lt = grind (arith, nat_tests)
 
 pub claims_not : (a b n base : ℕ) → (a ≡ b × base ≤ n) ⊎ (a ≡ b → ⊥) → ((a == b) && nat_lt n base) ≡ false
-claims_not a b n base h = elim h [
-  | inl at ↦ let e = at.0 in let le = at.1 in let late : nat_lt n base ≡ false = grind (arith, nat_tests) in rw late (and-false (a == b))
-  | inr not_it ↦ rw (differ a b not_it) refl
-]
+claims_not a b n base h = grind (arith, nat_tests)

@@ -1,4 +1,6 @@
 -- The first of some numbers, one after another.
+use Rattle.std.proofs.lemmas.Grind.{common_steps}
+use Rattle.std.proofs.lemmas.Bool.Decides.{nat_tests}
 use Rattle.std.proofs.Common.{◌≡◌, ◌∙◌, ℕ, zero, suc, ◌+◌, ◌-◌, ◌<◌, ◌≤◌, Bool, true, false, cond, List, [], ◌∷◌, ◌++◌, filter, length, replicate, set, take, refl, sym, ap, arith, inl, inr}
 use Rattle.std.specs.List.{range_with_len}
 use Rattle.std.proofs.lemmas.Bool.{cases_lt}
@@ -11,8 +13,7 @@ use Rattle.rtps_evidence.specs.declared.first_numbers.FirstNumbers.{FirstNumbers
 -- a number in the place behind the others
 place_more : (numbers : List ℕ) (number room count : ℕ) → count ≡ length numbers
     → set (numbers ++ replicate (suc room) 0) count number ≡ (numbers ++ number ∷ []) ++ replicate room 0
-place_more numbers number room count many =
-    set_at numbers 0 (replicate room 0) number count (sym many) ∙ sym (append_assoc numbers (number ∷ []) (replicate room 0))
+place_more numbers number room count many = grind (arith, nat_tests, common_steps, set_at, replicate, append_assoc)
 
 -- one number more is kept
 pub kept_more : (numbers : List ℕ) (number : ℕ) (old : FirstNumbers) → old.count < 10 → old ≡ kept numbers

@@ -1,18 +1,20 @@
 -- What is for everyone is heard by all readers alike; so what a reader hears is that, and what the other acts tell it.
-use Rattle.std.proofs.Common.{◌≡◌, ◌∙◌, ◌&&◌, ◌||◌, ◌+◌, ◌<◌, ◌≤◌, ℕ, Bool, true, false, nat_lt, List, [], ◌∷◌, ◌++◌, length, get_or, map, take, refl, sym, ap, subst}
-use Rattle.std.specs.Prelude.{if◌then◌else◌, is_some, None, slice_get}
+use Rattle.std.proofs.lemmas.Grind.{common_steps}
+use Rattle.std.proofs.lemmas.Bool.Decides.{nat_tests}
+use Rattle.std.proofs.Common.{◌≡◌, ◌∙◌, ◌&&◌, ◌||◌, ◌+◌, ◌<◌, ◌≤◌, ℕ, Bool, true, nat_lt, List, [], ◌∷◌, ◌++◌, length, get_or, map, take, ap, arith}
+use Rattle.std.specs.Prelude.{is_some, slice_get}
 use Rattle.std.specs.List.{list_any}
-use Rattle.std.specs.Option.{option_map}
 use Rattle.std.proofs.Math.Bool.{or-false, or_assoc}
-use Rattle.std.proofs.lemmas.List.Folds.{list_any-append, list_any_more}
+use Rattle.std.proofs.lemmas.List.Folds.{list_any-append}
 use Rattle.std.proofs.lemmas.Option.{slice_get-get_or, slice_get-map, slice_get_past}
 use Rattle.rtps_ids.specs.declared.identity.Guid.{Guid}
-use Rattle.rtps_receiver.specs.Speech.{is_for, is_for_all, is_heard_by, is_spoken_by, names, reader_named, unknown_entity}
+use Rattle.rtps_receiver.specs.Speech.{is_heard_by}
 use Rattle.rtps_receiver.specs.Values.{ActValue}
 use Rattle.rtps_audit.specs.Placed.{PlacedValue, placed_value}
-use Rattle.rtps_audit.specs.Speech.{word_for, word_of}
+use Rattle.rtps_audit.specs.Speech.{word_for}
 use Rattle.rtps_audit.specs.declared.placed.Placed.{Placed}
-use Rattle.rtps_evidence.specs.Amount.{AreNumbers, some_withdrawn, stretches_have}
+use Rattle.rtps_coverage.specs.Stretches.{stretches_have}
+use Rattle.rtps_evidence.specs.Amount.{AreNumbers, some_withdrawn}
 use Rattle.rtps_evidence.specs.Locations.{payload_in, sends, tells}
 use Rattle.rtps_evidence.specs.Received.{is_gone, withdraws_before}
 use Rattle.rtps_evidence.specs.WriterSummary.{IsSplit, any_at, is_for_everyone, option_any}
@@ -20,16 +22,10 @@ use Rattle.rtps_evidence.specs.declared.amount.HeardNumbers.{HeardNumbers}
 use Rattle.rtps_evidence.proofs.FindLemmas.{any_past}
 
 heard : (act : ActValue) (reader : Guid) → is_for_everyone act ≡ true → is_heard_by act reader ≡ true
-heard act reader e = both (is_for_all act.dest) (is_for act.dest reader.prefix) (names (reader_named act.body) unknown_entity) (names (reader_named act.body) reader.entity) e
-  where
-    both : (a b c d : Bool) → (a && c) ≡ true → ((a || b) && (c || d)) ≡ true
-    both true b true d e = refl
-    both true b false d e = cc
-    both false b c d e = cc
+heard act reader e = grind (arith, nat_tests)
 
 word_alike : (writer one other : Guid) (n : ℕ) (at : PlacedValue) → is_for_everyone at.act ≡ true → word_for writer one at.act n ≡ word_for writer other at.act n
-word_alike writer one other n at e =
-    ap (λ b. if is_spoken_by at.act writer && b then word_of at.act.body n else None) (heard at.act one e ∙ sym (heard at.act other e))
+word_alike writer one other n at e = grind (arith, nat_tests)
 
 pub tells_alike : (writer one other : Guid) (n : ℕ) (at : PlacedValue) → is_for_everyone at.act ≡ true → tells writer one n at ≡ tells writer other n at
 tells_alike writer one other n at e = ap is_some (word_alike writer one other n at e)
@@ -45,39 +41,16 @@ withdraws_alike writer one other n datagram at e = ap (λ word. nat_lt at.datagr
 -- that is for everyone
 pub alike_more : (test : PlacedValue → Bool) (acts : List Placed) (i : ℕ) (x : Placed) (before behind others t : Bool) → i < length acts → x ≡ get_or acts i x → behind ≡ (before || t) → test (placed_value x) ≡ t
     → list_any test (map placed_value (take i acts)) ≡ (before || others) → list_any test (map placed_value (take (i + 1) acts)) ≡ (behind || others)
-alike_more test acts i x before behind others t lt at more same so_far =
-    any_past placed_value test acts i x lt at
-    ∙ ap (λ b. b || test (placed_value x)) so_far
-    ∙ ap (λ b. (before || others) || b) same
-    ∙ swapped before others t
-    ∙ ap (λ b. b || others) (sym more)
-  where
-    swapped : (a b c : Bool) → ((a || b) || c) ≡ ((a || c) || b)
-    swapped true b c = refl
-    swapped false true true = refl
-    swapped false true false = refl
-    swapped false false c = sym (or-false c)
+alike_more test acts i x before behind others t lt at more same so_far = grind (arith, nat_tests, common_steps)
 
 -- what the act at a place tells
 at_place : (test : PlacedValue → Bool) (acts : List Placed) (i : ℕ) (x : Placed) → i < length acts → x ≡ get_or acts i x → option_any test (slice_get (map placed_value acts) i) ≡ test (placed_value x)
-at_place test acts i x lt at =
-    ap (option_any test) (slice_get-map placed_value acts i ∙ ap (option_map placed_value) (slice_get-get_or acts i x lt))
-    ∙ ap (λ (y : Placed). test (placed_value y)) (sym at)
+at_place test acts i x lt at = grind (arith, nat_tests, common_steps, slice_get-map, slice_get-get_or)
 
 -- that is not for everyone
 pub other_more : (test : PlacedValue → Bool) (acts : List Placed) (i : ℕ) (x : Placed) (before : Bool) (old new : List ℕ) → i < length acts → x ≡ get_or acts i x → new ≡ old ++ i ∷ []
     → list_any test (map placed_value (take i acts)) ≡ (before || any_at test (map placed_value acts) old) → list_any test (map placed_value (take (i + 1) acts)) ≡ (before || any_at test (map placed_value acts) new)
-other_more test acts i x before old new lt at is so_far =
-    any_past placed_value test acts i x lt at
-    ∙ ap (λ b. b || test (placed_value x)) so_far
-    ∙ or_assoc before (any_at test (map placed_value acts) old) (test (placed_value x))
-    ∙ ap (λ b. before || b) (sym pushed)
-  where
-    pushed : any_at test (map placed_value acts) new ≡ (any_at test (map placed_value acts) old || test (placed_value x))
-    pushed =
-        ap (any_at test (map placed_value acts)) is
-        ∙ list_any-append (λ place. option_any test (slice_get (map placed_value acts) place)) old (i ∷ [])
-        ∙ ap (λ b. any_at test (map placed_value acts) old || b) (or-false (option_any test (slice_get (map placed_value acts) i)) ∙ at_place test acts i x lt at)
+other_more test acts i x before old new lt at is so_far = grind (arith, nat_tests, common_steps, any_past, or_assoc, list_any-append, or-false, at_place)
 
 -- ---- a place more
 
@@ -86,12 +59,7 @@ module _ (test : PlacedValue → Bool) (acts : List Placed) (places others : Lis
   at_it p = option_any test (slice_get (map placed_value acts) p)
 
   more : (heard before b : Bool) → at_it place ≡ b → heard ≡ (before || any_at test (map placed_value acts) (take k others)) → (heard || b) ≡ (before || any_at test (map placed_value acts) (take (k + 1) others))
-  more heard before b there so_far =
-      let within : k < length others = subst (λ l. k < length l) same lt in
-      let here : get_or others k 0 ≡ place = sym (at ∙ ap (λ l. get_or l k 0) same) in
-      ap (λ a. a || b) so_far
-      ∙ or_assoc before (any_at test (map placed_value acts) (take k others)) b
-      ∙ ap (λ a. before || a) (ap (λ a. any_at test (map placed_value acts) (take k others) || a) (sym (ap at_it here ∙ there)) ∙ sym (list_any_more at_it others k 0 within))
+  more heard before b there so_far = grind (arith, nat_tests, common_steps)
 
   -- at which an act stands
   pub place_told : (x : Placed) (heard behind before : Bool) → place < length acts → x ≡ get_or acts place x → behind ≡ (heard || test (placed_value x)) → heard ≡ (before || any_at test (map placed_value acts) (take k others))
@@ -100,16 +68,10 @@ module _ (test : PlacedValue → Bool) (acts : List Placed) (places others : Lis
 
   -- at which none stands
   pub place_past : (heard before : Bool) → length acts ≤ place → heard ≡ (before || any_at test (map placed_value acts) (take k others)) → heard ≡ (before || any_at test (map placed_value acts) (take (k + 1) others))
-  place_past heard before past so_far =
-      sym (or-false heard)
-      ∙ more heard before false (ap (option_any test) (slice_get-map placed_value acts place ∙ ap (option_map placed_value) (slice_get_past acts place past))) so_far
+  place_past heard before past so_far = grind (arith, nat_tests, common_steps, or-false, more, slice_get-map, slice_get_past)
 
 -- ---- in order
 
 -- the same numbers in other stretches
 pub split_same : (writer : Guid) (acts : List PlacedValue) (old new : HeardNumbers) (others : List ℕ) → AreNumbers (stretches_have old.told.items) (stretches_have old.sent.items) (some_withdrawn old.gone.items) new → IsSplit writer acts old others → IsSplit writer acts new others
-split_same writer acts old new others same split = record {
-  told = λ reader n. split.told reader n ∙ ap (λ b. b || any_at (tells writer reader n) acts others) (sym (same.told n));
-  sent = λ reader n. split.sent reader n ∙ ap (λ b. b || any_at (sends writer reader n) acts others) (sym (same.sent n));
-  gone = λ reader n datagram. split.gone reader n datagram ∙ ap (λ b. b || any_at (withdraws_before writer reader n datagram) acts others) (sym (same.gone n datagram));
-}
+split_same writer acts old new others same split = grind (arith, nat_tests)

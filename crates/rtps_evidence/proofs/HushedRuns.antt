@@ -30,10 +30,7 @@ abbrev hushed : ℕ → Speech → Speech
 hushed n speech = map (hushed_datagram n) speech
 
 word_back : (b : Bool) (found : Option Word) (word : Word) → hushed_word b found ≡ Some word → found ≡ Some word
-word_back true (Some (Told payload)) word e = absurd (let no : None ≡ Some word = e in cc)
-word_back true (Some Gone) word e = e
-word_back true None word e = e
-word_back false found word e = e
+word_back b found word h = grind (arith, nat_tests)
 
 not_told : (found : Option Word) (payload : PayloadValue) → hushed_word true found ≡ Some (Told payload) → ⊥
 not_told (Some (Told other)) payload e = let no : None ≡ Some (Told payload) = e in cc
@@ -123,8 +120,7 @@ pub record IsGoneBefore (from : ℕ) (speech : Speech) (j n : ℕ) : Type 0 wher
   pub gives : Gives from speech place act n Gone
 
 gone_stays : (b : Bool) → hushed_word b (Some Gone) ≡ Some Gone
-gone_stays true = refl
-gone_stays false = refl
+gone_stays b = grind (arith, nat_tests)
 
 founded_still : {from : ℕ} (n : ℕ) (speech : Speech) → IsFounded from speech → ((j : ℕ) → Claims from speech j n → IsGoneBefore from speech j n) → IsFounded from (hushed n speech)
 founded_still {from} n speech founded gone j m claims = by (m == n) refl (claims_back n speech j m claims)

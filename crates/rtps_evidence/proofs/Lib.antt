@@ -1,11 +1,10 @@
-pub mod CountLemmas
+pub mod AmountLemmas
 pub mod FirstNumbersLemmas
 pub mod FindLemmas
 pub mod MadeLemmas
 pub mod OriginLemmas
 pub mod Shown
 pub mod RowLemmas
-pub mod SaidLemmas
 pub mod HeardLemmas
 pub mod OneSpan
 pub mod OneExplanation
@@ -13,9 +12,7 @@ pub mod AnswerLemmas
 pub mod PlacedOrder
 pub mod HushedRuns
 pub mod ReceivedRuns
-pub mod RisingLemmas
 pub mod ClaimedLemmas
-pub mod LackingLemmas
 pub mod NotReceivedLemmas
 pub mod QuestionLemmas
 pub mod AskingLemmas

@@ -1,78 +1,56 @@
 -- The numbers that are asked for and missed.
-use Rattle.std.proofs.Common.{◌≡◌, ◌∙◌, ℕ, ◌+◌, ◌<◌, ◌≤◌, ◌&&◌, ◌||◌, Bool, true, false, cond, not, filter, get_or, length, take, List, [], ◌∷◌, Option, Some, None, refl, sym, ap, arith}
-use Rattle.std.specs.List.{cons_option, find, last_or, list_any}
+use Rattle.std.proofs.lemmas.Grind.{common_steps}
+use Rattle.std.proofs.lemmas.Bool.Decides.{nat_tests}
+use Rattle.std.proofs.Common.{◌≡◌, ◌∙◌, ℕ, ◌+◌, ◌<◌, ◌≤◌, ◌&&◌, ◌||◌, Bool, true, false, cond, not, filter, List, [], ◌∷◌, Option, Some, None, refl, sym, ap, arith, rules}
+use Rattle.std.specs.List.{cons_option, find, list_any}
 use Rattle.std.specs.Option.{option_map}
 use Rattle.std.specs.Prelude.{if◌then◌else◌}
 use Rattle.std.proofs.lemmas.Bool.{and_parts}
 use Rattle.rtps_ids.specs.declared.identity.Guid.{Guid}
 use Rattle.rtps_discovery.specs.declared.matching.Pair.{Pair}
-use Rattle.rtps_receiver.specs.Said.{said}
-use Rattle.rtps_receiver.specs.Speech.{is_heard_by, is_request, is_spoken_by}
 use Rattle.rtps_discovery.specs.Endpoint.{EndpointValue}
 use Rattle.rtps_discovery.specs.Notice.{announcement_of as notice_of, endpoint_in}
 use Rattle.rtps_audit.specs.Placed.{PlacedValue, announced_among, announced_at, is_from, is_guid}
-use Rattle.rtps_audit.specs.declared.announced_places.AnnouncedPlace.{AnnouncedPlace}
-use Rattle.rtps_audit.proofs.Offered.{speaker_is_origin}
 use Rattle.rtps_evidence.proofs.AskingLemmas.{requester_is_origin}
-use Rattle.rtps_evidence.specs.Amount.{count_in, stretches_have}
-use Rattle.rtps_evidence.specs.Claimed.{is_at}
-use Rattle.rtps_evidence.specs.Locations.{find_last, is_before, is_behind, location_of, teller_at}
-use Rattle.rtps_evidence.specs.Missed.{AreMissed, again_behind, announces, asks_for, brings, brings_before, brings_behind, first_place, gone_behind, has_guid, is_asked_in_vain, is_missed, is_wanting, missed_at, missed_by, place_announced, withdraws_behind}
-use Rattle.rtps_evidence.specs.Received.{is_received, withdraws}
+use Rattle.rtps_coverage.specs.Counts.{count_in}
+use Rattle.rtps_coverage.specs.Stretches.{stretches_have}
+use Rattle.rtps_evidence.specs.Locations.{find_last, is_behind, location_of}
+use Rattle.rtps_evidence.specs.Missed.{AreMissed, again_behind, announces, asks_for, brings, brings_before, brings_behind, first_place, gone_behind, has_guid, is_asked_in_vain, is_missed, is_wanting, missed_at, missed_by, place_announced}
+use Rattle.rtps_evidence.specs.Received.{is_received}
 use Rattle.rtps_evidence.specs.Requests.{is_in_vain, met_among, new_request, requested}
 use Rattle.rtps_evidence.specs.WriterSummary.{option_any}
-use Rattle.rtps_evidence.specs.declared.amount.Stretch.{Stretch}
+use Rattle.rtps_coverage.specs.declared.stretch.Stretch.{Stretch}
 use Rattle.rtps_evidence.specs.declared.first_missed.FirstMissed.{FirstMissed}
 use Rattle.rtps_evidence.specs.declared.teller.Teller.{Teller}
 use Rattle.rtps_evidence.specs.declared.location.Location.{Location}
 use Rattle.rtps_evidence.proofs.ClaimedLemmas.{withdrawer}
-use Rattle.rtps_evidence.proofs.CountLemmas.{count_same}
+use Rattle.rtps_coverage.proofs.Offered.{count_same}
 use Rattle.rtps_evidence.proofs.FindLemmas.{any_filter, find_filter}
 use Rattle.rtps_evidence.proofs.NotReceivedLemmas.{least_found, least_none}
 use Rattle.rtps_evidence.proofs.QuestionLemmas.{filter_filter}
 
--- ---- stretches one after another
-
--- of the first `i` stretches, this is the least number from `from` on and below `end`, or `end`
-pub record IsLeastSo (stretches : List Stretch) (from end i least : ℕ) : Type 0 where
-  pub onward : from ≤ least
-  pub within : least ≤ end
-  pub below : (n : ℕ) → from ≤ n → n < least → stretches_have (take i stretches) n ≡ false
-  pub inside : least < end → stretches_have (take i stretches) least ≡ true
-
 -- ---- what is missed
-
--- what is received is not missed
-pub received_not_missed : (since : Option Location) (writer reader : Guid) (placed : List PlacedValue) (n : ℕ) → not (is_received writer reader placed n) ≡ false → false ≡ is_missed since writer reader placed n
-received_not_missed since writer reader placed n received = sym (ap (λ b. b && is_wanting since writer reader placed n) received)
 
 -- what the reader hears of a payload is said by the writer's acts
 bringer : (writer reader : Guid) (n : ℕ) (at : PlacedValue) → brings writer reader n at ≡ true → is_from writer at ≡ true
-bringer writer reader n at is =
-    let said = (and_parts (is_spoken_by at.act writer && is_heard_by at.act reader) (is_at n (said at.act.body).brought) is).0 in
-    speaker_is_origin writer at (and_parts (is_spoken_by at.act writer) (is_heard_by at.act reader) said).0
+bringer writer reader n at is = search rules
 
 -- what the writer's acts bring is what all acts do
 pub brought_same : (place : Option Location) (writer reader : Guid) (n : ℕ) (placed : List PlacedValue) → list_any (brings_behind place writer reader n) (filter (is_from writer) placed) ≡ list_any (brings_behind place writer reader n) placed
 brought_same place writer reader n placed = any_filter (brings_behind place writer reader n) (is_from writer) (λ at passes. bringer writer reader n at (and_parts (is_behind place at) (brings writer reader n at) passes).1) placed
 
 pub brought_same_before : (since : Option Location) (place : Location) (writer reader : Guid) (n : ℕ) (placed : List PlacedValue) → list_any (brings_before since place writer reader n) (filter (is_from writer) placed) ≡ list_any (brings_before since place writer reader n) placed
-brought_same_before since place writer reader n placed =
-    any_filter (brings_before since place writer reader n) (is_from writer)
-    (λ at passes. bringer writer reader n at (and_parts (is_behind since at) (brings writer reader n at) (and_parts (is_before place at) (brings_behind since writer reader n at) passes).1).1) placed
+brought_same_before since place writer reader n placed = grind (arith, nat_tests, common_steps, any_filter, bringer, and_parts)
 
 pub sent_same : (writer reader : Guid) (n : ℕ) (placed : List PlacedValue) → list_any (brings writer reader n) (filter (is_from writer) placed) ≡ list_any (brings writer reader n) placed
 sent_same writer reader n placed = any_filter (brings writer reader n) (is_from writer) (λ at passes. bringer writer reader n at passes) placed
 
 pub again_same : (place : Location) (writer reader : Guid) (n : ℕ) (placed : List PlacedValue) → again_behind place writer reader n (filter (is_from writer) placed) ≡ again_behind place writer reader n placed
-again_same place writer reader n placed =
-    ap (option_map location_of) (find_filter (brings_behind (Some place) writer reader n) (is_from writer) (λ at passes. bringer writer reader n at (and_parts (is_behind (Some place) at) (brings writer reader n at) passes).1) placed)
+again_same place writer reader n placed = grind (arith, nat_tests, common_steps, find_filter, bringer, and_parts)
 
 -- what the reader's own acts ask for last is what all acts do
 pub last_asking_same : (writer reader : Guid) (n : ℕ) (placed : List PlacedValue) → find_last (asks_for writer reader n) (filter (is_from reader) placed) ≡ find_last (asks_for writer reader n) placed
-last_asking_same writer reader n placed =
-    ap (λ l. last_or None l) (filter_filter (asks_for writer reader n) (is_from reader)
-    (λ at passes. requester_is_origin reader writer at (and_parts (is_request at.act reader writer) ((said at.act.body).lacked n) passes).0) placed)
+last_asking_same writer reader n placed = grind (arith, nat_tests, common_steps, filter_filter, requester_is_origin, and_parts)
 
 -- the last request for a number that is lacking, behind what the writer's acts bring, tells whether it is missed
 pub missed_by_request : (since : Option Location) (pair : Pair) (placed : List PlacedValue) (n : ℕ) (lacking : ℕ → Bool) → lacking n ≡ not (is_received pair.writer pair.reader placed n)
@@ -110,37 +88,22 @@ some_missed from last least count place pair placed items lent first same is low
 pub none_missed : (from last least count : ℕ) (place : Option Location) (pair : Pair) (placed : List PlacedValue) (items lent : List Stretch) → lent ≡ items
     → ((n : ℕ) → from ≤ n → n ≤ last → stretches_have items n ≡ is_missed place pair.writer pair.reader placed n) → ((n : ℕ) → from ≤ n → n < least → stretches_have lent n ≡ false)
     → count ≡ count_in (stretches_have items) from (last + 1) → last + 1 ≤ least → AreMissed from last place pair.writer pair.reader placed (record { count = count; first = None })
-none_missed from last least count place pair placed items lent same is below counted high = record {
-  count = counted ∙ count_same (stretches_have items) (is_missed place pair.writer pair.reader placed) from (last + 1) (λ n a b. is n a (omega arith));
-  first =
-      sym (ap (missed_by pair.writer pair.reader placed)
-      (least_none (is_missed place pair.writer pair.reader placed) from (last + 1)
-      (λ m begun before. sym (is m begun (omega arith)) ∙ sym (ap (λ l. stretches_have l m) same) ∙ below m begun (omega arith))));
-}
+none_missed from last least count place pair placed items lent same is below counted high = grind (arith, nat_tests, common_steps, count_same, least_none)
 
 -- ---- who asked for it last, and what told it gone since
 
 pub gone_same_behind : (place : Location) (writer reader : Guid) (n : ℕ) (placed : List PlacedValue) → gone_behind place writer reader n (filter (is_from writer) placed) ≡ gone_behind place writer reader n placed
-gone_same_behind place writer reader n placed =
-    ap (option_map teller_at) (find_filter (withdraws_behind place writer reader n) (is_from writer) (λ at passes. withdrawer writer reader n at (and_parts (is_behind (Some place) at) (withdraws writer reader n at) passes).1) placed)
+gone_same_behind place writer reader n placed = grind (arith, nat_tests, common_steps, find_filter, withdrawer, and_parts)
 
 pub never_asked : (writer reader : Guid) (n : ℕ) (placed : List PlacedValue) (asking : Option PlacedValue) → None ≡ option_map location_of asking → ◌≡◌ {A = Option FirstMissed} None (option_map (missed_at writer reader n placed) asking)
-never_asked writer reader n placed None e = refl
-never_asked writer reader n placed (Some at) e = absurd (let no : None ≡ Some (location_of at) = e in cc)
+never_asked writer reader n placed asking h = grind (arith, nat_tests)
 
 pub asked_last : (writer reader : Guid) (n : ℕ) (placed : List PlacedValue) (asking : Option PlacedValue) (asked : Location) (again : Option Location) (gone : Option Teller) (is_sent : Bool) → Some asked ≡ option_map location_of asking
     → again ≡ again_behind asked writer reader n placed → gone ≡ gone_behind asked writer reader n placed → is_sent ≡ list_any (brings writer reader n) placed
     → ◌≡◌ {A = Option FirstMissed} (Some (record { number = n; asked = asked; again = again; gone = gone; is_sent = is_sent })) (option_map (missed_at writer reader n placed) asking)
-asked_last writer reader n placed None asked again gone is_sent e sent told brought = absurd (let no : Some asked ≡ None = e in cc)
-asked_last writer reader n placed (Some at) asked again gone is_sent e sent told brought =
-    let same : asked ≡ location_of at = (let one : Some asked ≡ Some (location_of at) = e in cc) in
-    rw (sent, told, brought, same) refl
+asked_last writer reader n placed asking asked again gone is_sent h h2 h3 h4 = grind (arith, nat_tests)
 
 -- ---- where the reader is announced
-
-pub first_of_some : (places : List AnnouncedPlace) (d : AnnouncedPlace) → 0 < length places → ◌≡◌ {A = Option Location} (Some (record { datagram = (get_or places 0 d).datagram; at = (get_or places 0 d).at })) (first_place places)
-first_of_some [] d lt = absurd (omega arith)
-first_of_some (place ∷ places) d lt = refl
 
 -- the first place that is kept is that of the first act that announces it
 pub place_same : (guid : Guid) (placed : List PlacedValue) → first_place (announced_among guid placed) ≡ place_announced guid placed

@@ -1,4 +1,6 @@
 -- The least number that is not received, and what keeps it.
+use Rattle.std.proofs.lemmas.Grind.{common_steps}
+use Rattle.std.proofs.lemmas.Bool.Decides.{nat_tests}
 use Rattle.std.proofs.Common.{◌≡◌, ◌∙◌, ℕ, zero, suc, ◌+◌, ◌-◌, ◌<◌, ◌≤◌, Bool, true, false, cond, not, List, Option, Some, None, refl, sym, ap, arith, inl, inr}
 use Rattle.std.specs.List.{find, range_with_len}
 use Rattle.std.specs.Option.{option_map}
@@ -6,15 +8,16 @@ use Rattle.std.proofs.lemmas.Bool.{cases_lt}
 use Rattle.rtps_ids.specs.declared.identity.Guid.{Guid}
 use Rattle.rtps_discovery.specs.declared.matching.Pair.{Pair}
 use Rattle.rtps_audit.specs.Placed.{PlacedValue}
-use Rattle.rtps_evidence.specs.Amount.{count_in, stretches_have}
+use Rattle.rtps_coverage.specs.Counts.{count_in}
+use Rattle.rtps_coverage.specs.Stretches.{stretches_have}
 use Rattle.rtps_evidence.specs.Claimed.{AreLacking}
 use Rattle.rtps_evidence.specs.Locations.{claim_at}
 use Rattle.rtps_evidence.specs.Received.{AreReceived, first_claiming, gone_before, is_received, kept_by, least_in}
 use Rattle.rtps_evidence.specs.declared.acknowledgement.Claim.{Claim}
-use Rattle.rtps_evidence.specs.declared.amount.Stretch.{Stretch}
+use Rattle.rtps_coverage.specs.declared.stretch.Stretch.{Stretch}
 use Rattle.rtps_evidence.specs.declared.not_received.NotReceived.{NotReceived}
 use Rattle.rtps_evidence.specs.declared.teller.Teller.{Teller}
-use Rattle.rtps_evidence.proofs.CountLemmas.{count_others, count_same}
+use Rattle.rtps_coverage.proofs.Offered.{count_others, count_same}
 
 -- ---- the least number
 
@@ -49,28 +52,18 @@ least_none has lo hi none = none_in has lo (hi - lo) (λ m low high. none m low 
 
 pub kept_unclaimed : (writer reader : Guid) (n : ℕ) (acts : List PlacedValue) (claim : Option PlacedValue) → None ≡ option_map (claim_at writer reader) claim
     → ◌≡◌ {A = NotReceived} (record { number = n; gone = None; acknowledged = None }) (kept_by writer reader n acts claim)
-kept_unclaimed writer reader n acts None e = refl
-kept_unclaimed writer reader n acts (Some claim) e = absurd (let no : None ≡ Some (claim_at writer reader claim) = e in cc)
+kept_unclaimed writer reader n acts claim h = grind (arith, nat_tests)
 
 pub kept_claimed : (writer reader : Guid) (n : ℕ) (acts : List PlacedValue) (claim : Option PlacedValue) (found : Claim) (gone : Option Teller) → Some found ≡ option_map (claim_at writer reader) claim
     → gone ≡ gone_before writer reader n found.place.datagram acts → ◌≡◌ {A = NotReceived} (record { number = n; gone = gone; acknowledged = Some found.place }) (kept_by writer reader n acts claim)
-kept_claimed writer reader n acts None found gone e is = absurd (let no : Some found ≡ None = e in cc)
-kept_claimed writer reader n acts (Some claim) found gone e is =
-    let same : found ≡ claim_at writer reader claim = (let one : Some found ≡ Some (claim_at writer reader claim) = e in cc) in
-    let place = ap (λ (c : Claim). c.place) same in
-    let told = is ∙ ap (λ (c : Claim). gone_before writer reader n c.place.datagram acts) same in
-    ap (λ (g : Option Teller). let made : NotReceived = record { number = n; gone = g; acknowledged = Some found.place } in made) told
-    ∙ ap (λ p. let made : NotReceived = record { number = n; gone = gone_before writer reader n claim.datagram acts; acknowledged = Some p } in made) place
+kept_claimed writer reader n acts claim found gone h h2 = grind (arith, nat_tests)
 
 -- ---- counted, and the least of the others
 
 -- the received numbers are those that are not lacking
 count_received : (from last count others : ℕ) (pair : Pair) (placed : List PlacedValue) (items : List Stretch) → AreLacking from last pair placed items
     → others ≡ count_in (stretches_have items) from (last + 1) → count ≡ last + 1 - from - others → count ≡ count_in (is_received pair.writer pair.reader placed) from (last + 1)
-count_received from last count others pair placed items are counted rest =
-    let all = count_others (is_received pair.writer pair.reader placed) from (last + 1) in
-    let same = count_same (stretches_have items) (λ n. not (is_received pair.writer pair.reader placed n)) from (last + 1) (λ n a b. are n a (omega arith)) in
-    omega arith
+count_received from last count others pair placed items are counted rest = grind (arith, nat_tests, common_steps, count_others, count_same)
 
 pub some_not_received : (from last least count others : ℕ) (pair : Pair) (placed : List PlacedValue) (items lent : List Stretch) (found : NotReceived) → lent ≡ items
     → AreLacking from last pair placed items → from ≤ least → stretches_have lent least ≡ true → ((n : ℕ) → from ≤ n → n < least → stretches_have lent n ≡ false)
@@ -90,10 +83,4 @@ some_not_received from last least count others pair placed items lent found same
 pub all_received : (from last least count others : ℕ) (pair : Pair) (placed : List PlacedValue) (items lent : List Stretch) → lent ≡ items
     → AreLacking from last pair placed items → ((n : ℕ) → from ≤ n → n < least → stretches_have lent n ≡ false)
     → others ≡ count_in (stretches_have items) from (last + 1) → count ≡ last + 1 - from - others → last + 1 ≤ least → AreReceived from last pair.writer pair.reader placed (record { count = count; not_received = None })
-all_received from last least count others pair placed items lent same are below counted rest high = record {
-  count = count_received from last count others pair placed items are counted rest;
-  not_received =
-      sym (ap (option_map (λ n. kept_by pair.writer pair.reader n placed (first_claiming pair.writer pair.reader n placed)))
-      (least_none (λ n. not (is_received pair.writer pair.reader placed n)) from (last + 1)
-      (λ m begun before. sym (are m begun (omega arith)) ∙ sym (ap (λ l. stretches_have l m) same) ∙ below m begun (omega arith))));
-}
+all_received from last least count others pair placed items lent same are below counted rest high = grind (arith, nat_tests, common_steps, count_received, least_none)

@@ -1,13 +1,14 @@
 -- A pair has one span, and its row one evidence.
-use Rattle.std.proofs.Common.{◌≡◌, ◌∙◌, ℕ, Bool, true, false, List, Option, Some, None, refl, sym, ap, subst, arith, inl, inr}
+use Rattle.std.proofs.lemmas.Grind.{common_steps}
+use Rattle.std.proofs.lemmas.Bool.Decides.{nat_tests}
+use Rattle.std.proofs.Common.{◌≡◌, ◌∙◌, ℕ, Bool, true, false, List, Option, Some, None, refl, sym, ap, subst, arith}
 use Rattle.std.specs.Prelude.{unwrap_or}
-use Rattle.std.proofs.lemmas.Bool.{cases_lt}
 use Rattle.rtps_receiver.specs.Values.{ActValue}
 use Rattle.rtps_discovery.specs.Directory.{DirectoryValue, IsMapOf, settled_at}
 use Rattle.rtps_discovery.specs.declared.matching.Pair.{Pair}
 use Rattle.rtps_audit.specs.Intake.{Intake, acts_together}
 use Rattle.rtps_audit.specs.Placed.{placed_in}
-use Rattle.rtps_evidence.specs.Spans.{IsExtent, IsFirstIn, IsFrom, IsLeastFrom, IsOwedFrom, IsSpan, IsVolatileIn, IsWhole, is_for_reader, is_joined_here, is_volatile, least_owed, left_in}
+use Rattle.rtps_evidence.specs.Spans.{IsExtent, IsFirstIn, IsFrom, IsLeastFrom, IsOwedFrom, IsSpan, IsVolatileIn, IsWhole, is_for_reader, is_joined_here, is_volatile, least_owed}
 use Rattle.rtps_evidence.specs.declared.location.Location.{Location}
 use Rattle.rtps_evidence.specs.declared.span.Span.{Span}
 
@@ -16,16 +17,7 @@ abbrev pub HasOneMap : Type 0
 HasOneMap = (acts : List ActValue) (map other : DirectoryValue) → IsMapOf acts map → IsMapOf acts other → map ≡ other
 
 one_least : (has : ℕ → Bool) (lo : ℕ) (one other : Option ℕ) → IsLeastFrom has lo one → IsLeastFrom has lo other → one ≡ other
-one_least has lo None None is also = refl
-one_least has lo None (Some n) is also = absurd (let no : false ≡ true = sym (is n also.0) ∙ also.1 in cc)
-one_least has lo (Some n) None is also = absurd (let no : false ≡ true = sym (also n is.0) ∙ is.1 in cc)
-one_least has lo (Some n) (Some m) is also = elim (cases_lt n m) [
-  | inl lt ↦ absurd (let no : false ≡ true = sym (also.2 n is.0 lt) ∙ is.1 in cc)
-  | inr ge ↦ elim (cases_lt m n) [
-    | inl lt ↦ absurd (let no : false ≡ true = sym (is.2 m also.0 lt) ∙ also.1 in cc)
-    | inr le ↦ let same : n ≡ m = omega arith in ap Some same
-  ]
-]
+one_least has lo one other h h2 = grind (arith, nat_tests)
 
 one_volatile : HasOneMap → (intake : Intake) (reader : _) (one other : Bool) → IsVolatileIn intake reader one → IsVolatileIn intake reader other → one ≡ other
 one_volatile unique intake reader one other is also =
@@ -53,27 +45,13 @@ one_from unique from (Some place) pair intake one other is also = by (is_joined_
     by false elsewhere = is.elsewhere elsewhere ∙ sym (also.elsewhere elsewhere)
 
 span_is : (one other : Span) → one.joined ≡ other.joined → one.is_joined_here ≡ other.is_joined_here → one.from ≡ other.from → one.until ≡ other.until → one ≡ other
-span_is one other joined here from until =
-    let with_joined : Option Location → Span = λ j. record { joined = j; is_joined_here = one.is_joined_here; from = one.from; until = one.until } in
-    let with_here : Bool → Span = λ h. record { joined = other.joined; is_joined_here = h; from = one.from; until = one.until } in
-    let with_from : ℕ → Span = λ f. record { joined = other.joined; is_joined_here = other.is_joined_here; from = f; until = one.until } in
-    let with_until : Option ℕ → Span = λ u. record { joined = other.joined; is_joined_here = other.is_joined_here; from = other.from; until = u } in
-    ap with_joined joined ∙ ap with_here here ∙ ap with_from from ∙ ap with_until until
+span_is one other joined here from until = grind (arith, nat_tests)
 
 one_span : HasOneMap → (from : ℕ) (pair : Pair) (intake : Intake) (one other : Span) → IsSpan from pair intake one → IsSpan from pair intake other → one ≡ other
-one_span unique from pair intake one other is also =
-    let joined : one.joined ≡ other.joined = is.joined ∙ sym also.joined in
-    let here = is.here ∙ ap (λ (j : Option Location). is_joined_here j pair (placed_in intake.acts)) joined ∙ sym also.here in
-    let until = is.until ∙ ap (λ (j : Option Location). left_in j pair.reader (placed_in intake.acts)) joined ∙ sym also.until in
-    span_is one other joined here
-    (one_from unique from other.joined pair intake one.from other.from (subst (λ (j : Option Location). IsFrom from j pair intake one.from) joined is.first) also.first) until
+one_span unique from pair intake one other is also = grind (arith, nat_tests, common_steps, span_is, one_from)
 
 one_whole : (from : ℕ) (pair : Pair) (intake : Intake) (one other : Span) → IsWhole from pair intake one → IsWhole from pair intake other → one ≡ other
-one_whole from pair intake one other is also =
-    let joined : one.joined ≡ other.joined = is.joined ∙ sym also.joined in
-    let here = is.here ∙ ap (λ (j : Option Location). is_joined_here j pair (placed_in intake.acts)) joined ∙ sym also.here in
-    span_is one other joined here (is.first ∙ sym also.first) (is.until ∙ sym also.until)
+one_whole from pair intake one other is also = grind (arith, nat_tests)
 
 pub one_extent : HasOneMap → (spans : Bool) (from : ℕ) (pair : Pair) (intake : Intake) (one other : Span) → IsExtent spans from pair intake one → IsExtent spans from pair intake other → one ≡ other
-one_extent unique true from pair intake one other is also = one_span unique from pair intake one other is also
-one_extent unique false from pair intake one other is also = one_whole from pair intake one other is also
+one_extent h spans from pair intake one other h2 h3 = grind (arith, nat_tests, common_steps, one_span, one_whole)

@@ -1,51 +1,46 @@
 -- What the acts of one GUID say is what all acts say, of what it alone can say.
-use Rattle.std.proofs.Common.{◌≡◌, ◌∙◌, ◌+◌, ◌-◌, ◌≤◌, ◌==◌, ◌&&◌, ℕ, Bool, true, false, max, map, filter, List, [], ◌∷◌, Option, Some, None, refl, ap, arith, not}
+use Rattle.std.proofs.lemmas.Grind.{common_steps}
+use Rattle.std.proofs.Common.{◌≡◌, ◌∙◌, ◌+◌, ◌-◌, ◌≤◌, ◌==◌, ◌&&◌, ℕ, Bool, true, max, map, filter, List, [], ◌∷◌, Option, Some, None, refl, ap, arith, not, rules}
 use Rattle.std.specs.Prelude.{if◌then◌else◌, is_some, unwrap_or}
-use Rattle.std.specs.List.{cons_option, filter_map, find}
+use Rattle.std.specs.List.{cons_option, filter_map}
 use Rattle.std.specs.Option.{option_map}
 use Rattle.std.proofs.lemmas.Bool.Decides.{nat_tests}
 use Rattle.rtps_ids.specs.declared.identity.Guid.{Guid}
 use Rattle.rtps_wire.specs.Values.{PayloadValue}
 use Rattle.rtps_receiver.specs.Speech.{is_heard_by, is_spoken_by}
 use Rattle.rtps_receiver.specs.Values.{ActValue}
-use Rattle.rtps_audit.specs.Delivery.{Word, greatest, is_asked, last_announced_from}
-use Rattle.rtps_audit.specs.Answered.{last_among}
+use Rattle.rtps_audit.specs.Delivery.{Word, greatest, last_announced_from}
 use Rattle.rtps_audit.specs.Placed.{PlacedValue, is_from, placed_in}
-use Rattle.rtps_audit.specs.Speech.{announced_for, announced_of_body, speech_by, word_for, word_of}
+use Rattle.rtps_audit.specs.Speech.{announced_of_body, speech_by, word_for, word_of}
 use Rattle.rtps_audit.proofs.Offered.{last_is_last, speaker_is_origin}
-use Rattle.rtps_evidence.specs.Locations.{announcement_at, announcement_of, differs, first_sending, first_sent, number_said, other_sending, other_sent, payload_at, payload_for, payload_in, sends, sent_at, teller_at, teller_of, tells}
+use Rattle.rtps_evidence.specs.Locations.{announcement_of, differs, first_sent, number_said, other_sent, payload_for, payload_in, sends, sent_at, teller_at, teller_of, tells}
 use Rattle.rtps_evidence.specs.Amount.{AreAmounts, is_sent, is_told}
 use Rattle.rtps_evidence.specs.declared.amount.Amounts.{Amounts}
-use Rattle.rtps_evidence.proofs.CountLemmas.{count_same}
+use Rattle.rtps_coverage.proofs.Offered.{count_same}
 use Rattle.rtps_evidence.proofs.FindLemmas.{any_filter, find_filter}
 
 -- ---- who says it
 
 some_if : {X : Type 0} (b : Bool) (o : Option X) → is_some (if b then o else None) ≡ true → b ≡ true
-some_if true o e = refl
-some_if false o e = cc
+some_if b o h = grind (arith, nat_tests)
 
 positive_if : (b : Bool) (o : Option ℕ) (n : ℕ) → unwrap_or (if b then o else None) 0 ≡ n → 1 ≤ n → b ≡ true
-positive_if true o n e low = refl
-positive_if false o n e low = absurd (omega arith)
+positive_if b o n h h2 = grind (arith, nat_tests)
 
 first_of : (a b : Bool) → (a && b) ≡ true → a ≡ true
-first_of true b e = refl
-first_of false b e = cc
+first_of a b h = grind (arith, nat_tests)
 
 tells_from : (writer reader : Guid) (n : ℕ) (placed : PlacedValue) → tells writer reader n placed ≡ true → is_from writer placed ≡ true
 tells_from writer reader n placed e = speaker_is_origin writer placed (first_of _ _ (some_if (is_spoken_by placed.act writer && is_heard_by placed.act reader) (word_of placed.act.body n) e))
 
 some_word : (word : Option Word) → is_some (payload_in word) ≡ true → is_some word ≡ true
-some_word None e = e
-some_word (Some word) e = refl
+some_word word h = grind (arith, nat_tests)
 
 sends_from : (writer reader : Guid) (n : ℕ) (placed : PlacedValue) → sends writer reader n placed ≡ true → is_from writer placed ≡ true
 sends_from writer reader n placed e = tells_from writer reader n placed (some_word (word_for writer reader placed.act n) e)
 
 differs_some : (payload : PayloadValue) (other : Option PayloadValue) → differs payload other ≡ true → is_some other ≡ true
-differs_some payload None e = cc
-differs_some payload (Some other) e = refl
+differs_some payload other h = grind (arith, nat_tests)
 
 differs_from : (writer reader : Guid) (n : ℕ) (payload : PayloadValue) (placed : PlacedValue) → differs payload (payload_for writer reader n placed) ≡ true → is_from writer placed ≡ true
 differs_from writer reader n payload placed e = sends_from writer reader n placed (differs_some payload (payload_for writer reader n placed) e)
@@ -62,26 +57,13 @@ pub teller_same : (writer reader : Guid) (n : ℕ) (acts : List PlacedValue) →
 teller_same writer reader n acts = ap (option_map teller_at) (find_filter (tells writer reader n) (is_from writer) (tells_from writer reader n) acts)
 
 pub announcement_same : (from : ℕ) (writer : Guid) (number : ℕ) (acts : List PlacedValue) → announcement_of from writer number (filter (is_from writer) acts) ≡ announcement_of from writer number acts
-announcement_same from writer number acts = by_order (is_asked from number) refl
-  where
-    by_order : (b : Bool) → is_asked from number ≡ b
-        → (if b then option_map (announcement_at number) (find (λ placed. number_said writer placed == number) (filter (is_from writer) acts)) else None) ≡ (if b then option_map (announcement_at number) (find (λ placed. number_said writer placed == number) acts) else None)
-    by_order true e =
-        let reached : 1 ≤ number = grind (arith, nat_tests) in
-        ap (option_map (announcement_at number)) (find_filter (λ placed. number_said writer placed == number) (is_from writer) (λ placed is. number_from writer number placed reached (equal_numbers _ _ is)) acts)
-    by_order false e = refl
+announcement_same from writer number acts = grind (arith, nat_tests, common_steps, find_filter, number_from, equal_numbers)
 
 pub first_same : (writer reader : Guid) (n : ℕ) (acts : List PlacedValue) → first_sent writer reader n (filter (is_from writer) acts) ≡ first_sent writer reader n acts
 first_same writer reader n acts = ap (option_map (sent_at writer reader n)) (find_filter (sends writer reader n) (is_from writer) (sends_from writer reader n) acts)
 
 pub other_same : (writer reader : Guid) (n : ℕ) (acts : List PlacedValue) → other_sent writer reader n (filter (is_from writer) acts) ≡ other_sent writer reader n acts
-other_same writer reader n acts =
-    ap (λ o. option_map (sent_at writer reader n) (other_sending writer reader n (payload_at writer reader n o) (filter (is_from writer) acts))) (find_filter (sends writer reader n) (is_from writer) (sends_from writer reader n) acts)
-    ∙ ap (option_map (sent_at writer reader n)) (by_payload (payload_at writer reader n (first_sending writer reader n acts)))
-  where
-    by_payload : (payload : Option PayloadValue) → other_sending writer reader n payload (filter (is_from writer) acts) ≡ other_sending writer reader n payload acts
-    by_payload None = refl
-    by_payload (Some payload) = find_filter (λ placed. differs payload (payload_for writer reader n placed)) (is_from writer) (differs_from writer reader n payload) acts
+other_same writer reader n acts = grind (arith, nat_tests, common_steps, find_filter, sends_from, differs_from)
 
 pub sent_same : (writer reader : Guid) (n : ℕ) (acts : List PlacedValue) → is_sent writer reader (filter (is_from writer) acts) n ≡ is_sent writer reader acts n
 sent_same writer reader n acts = any_filter (sends writer reader n) (is_from writer) (sends_from writer reader n) acts
@@ -107,8 +89,4 @@ greatest_made h (x ∷ xs) = by (h x) (greatest_made h xs)
     by (Some n) e = ap (max n) e
 
 pub last_same : (from : ℕ) (writer reader : Guid) (recording : List (List ActValue)) (greatest_one last : ℕ) → greatest_one ≡ greatest (map (number_said writer) (filter (is_from writer) (placed_in recording))) → last ≡ max greatest_one (from - 1) → last ≡ last_announced_from from (speech_by writer reader recording)
-last_same from writer reader recording greatest_one last a b =
-    let made = greatest_made (λ (placed : PlacedValue). announced_for writer placed.act) (filter (is_from writer) (placed_in recording)) in
-    let is : max (from - 1) (last_among writer (filter (is_from writer) (placed_in recording))) ≡ last_announced_from from (speech_by writer reader recording) = last_is_last from writer reader recording in
-    let same : greatest_one ≡ last_among writer (filter (is_from writer) (placed_in recording)) = a ∙ made in
-    omega arith
+last_same from writer reader recording greatest_one last a b = search (rules, greatest_made, last_is_last)

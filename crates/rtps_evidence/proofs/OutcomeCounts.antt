@@ -5,7 +5,7 @@ use Rattle.std.proofs.lemmas.Bool.{and_parts, cases_lt}
 use Rattle.std.proofs.lemmas.Bool.Decides.{nat_tests}
 use Rattle.rtps_discovery.specs.declared.matching.Pair.{Pair}
 use Rattle.rtps_audit.specs.Placed.{PlacedValue}
-use Rattle.rtps_evidence.specs.Amount.{count_in}
+use Rattle.rtps_coverage.specs.Counts.{count_in}
 use Rattle.rtps_evidence.specs.Locations.{base_said, greatest_base}
 use Rattle.rtps_evidence.specs.Missed.{is_wanting}
 use Rattle.rtps_evidence.specs.Outcomes.{AreOutcomes, ArrivedIsAllThatChanges, IsChangedAlone, is_brought, is_outcome, is_unanswered, outcome_of}
@@ -15,7 +15,7 @@ use Rattle.rtps_evidence.specs.declared.outcome.Outcome.{Outcome}
 use Rattle.rtps_evidence.specs.declared.outcome.Outcome.TheVariants.{Received, Arrived, Missed, Unsent, Unanswered, Likely, Unconfirmed}
 use Rattle.rtps_evidence.specs.declared.outcome.Outcomes.{Outcomes}
 use Rattle.rtps_evidence.proofs.CleanLemmas.{first_of, found_where, none_where}
-use Rattle.rtps_evidence.proofs.CountLemmas.{count_none, count_others, count_rest, count_same}
+use Rattle.rtps_coverage.proofs.Offered.{count_none, count_others, count_rest, count_same}
 
 -- an answer claims n where the greatest base is above it
 pub claimed_below : (pair : Pair) (acts : List PlacedValue) (n : ℕ) → nat_lt n (greatest_base pair.writer pair.reader acts) ≡ is_some (first_claiming pair.writer pair.reader n acts)
@@ -57,71 +57,29 @@ abbrev pub with_likely : Bool → Bool → Bool → Bool → Bool → Bool → B
 with_likely r t w b u c = with_unanswered r t w b u || c
 
 is_first : (r t w b u c : Bool) → is_outcome Received (first_of r t w b u c) ≡ r
-is_first true t w b u c = refl
-is_first false true w b u c = refl
-is_first false false true b u c = refl
-is_first false false false false u c = refl
-is_first false false false true true c = refl
-is_first false false false true false true = refl
-is_first false false false true false false = refl
+is_first r t w b u c = grind (arith, nat_tests)
 
 record Adds (before behind kind : Bool) : Type 0 where
   pub more : behind ≡ (before || kind)
   pub apart : (before && kind) ≡ false
 
 adds_arrived : (r t w b u c : Bool) → Adds r (with_arrived r t) (is_outcome Arrived (first_of r t w b u c))
-adds_arrived true t w b u c = record { more = refl; apart = refl }
-adds_arrived false true w b u c = record { more = refl; apart = refl }
-adds_arrived false false true b u c = record { more = refl; apart = refl }
-adds_arrived false false false false u c = record { more = refl; apart = refl }
-adds_arrived false false false true true c = record { more = refl; apart = refl }
-adds_arrived false false false true false true = record { more = refl; apart = refl }
-adds_arrived false false false true false false = record { more = refl; apart = refl }
+adds_arrived r t w b u c = grind (arith, nat_tests)
 
 adds_missed : (r t w b u c : Bool) → Adds (with_arrived r t) (with_missed r t w) (is_outcome Missed (first_of r t w b u c))
-adds_missed true t w b u c = record { more = refl; apart = refl }
-adds_missed false true w b u c = record { more = refl; apart = refl }
-adds_missed false false true b u c = record { more = refl; apart = refl }
-adds_missed false false false false u c = record { more = refl; apart = refl }
-adds_missed false false false true true c = record { more = refl; apart = refl }
-adds_missed false false false true false true = record { more = refl; apart = refl }
-adds_missed false false false true false false = record { more = refl; apart = refl }
+adds_missed r t w b u c = grind (arith, nat_tests)
 
 adds_unsent : (r t w b u c : Bool) → Adds (with_missed r t w) (with_unsent r t w b) (is_outcome Unsent (first_of r t w b u c))
-adds_unsent true t w b u c = record { more = refl; apart = refl }
-adds_unsent false true w b u c = record { more = refl; apart = refl }
-adds_unsent false false true b u c = record { more = refl; apart = refl }
-adds_unsent false false false false u c = record { more = refl; apart = refl }
-adds_unsent false false false true true c = record { more = refl; apart = refl }
-adds_unsent false false false true false true = record { more = refl; apart = refl }
-adds_unsent false false false true false false = record { more = refl; apart = refl }
+adds_unsent r t w b u c = grind (arith, nat_tests)
 
 adds_unanswered : (r t w b u c : Bool) → Adds (with_unsent r t w b) (with_unanswered r t w b u) (is_outcome Unanswered (first_of r t w b u c))
-adds_unanswered true t w b u c = record { more = refl; apart = refl }
-adds_unanswered false true w b u c = record { more = refl; apart = refl }
-adds_unanswered false false true b u c = record { more = refl; apart = refl }
-adds_unanswered false false false false u c = record { more = refl; apart = refl }
-adds_unanswered false false false true true c = record { more = refl; apart = refl }
-adds_unanswered false false false true false true = record { more = refl; apart = refl }
-adds_unanswered false false false true false false = record { more = refl; apart = refl }
+adds_unanswered r t w b u c = grind (arith, nat_tests)
 
 adds_likely : (r t w b u c : Bool) → Adds (with_unanswered r t w b u) (with_likely r t w b u c) (is_outcome Likely (first_of r t w b u c))
-adds_likely true t w b u c = record { more = refl; apart = refl }
-adds_likely false true w b u c = record { more = refl; apart = refl }
-adds_likely false false true b u c = record { more = refl; apart = refl }
-adds_likely false false false false u c = record { more = refl; apart = refl }
-adds_likely false false false true true c = record { more = refl; apart = refl }
-adds_likely false false false true false true = record { more = refl; apart = refl }
-adds_likely false false false true false false = record { more = refl; apart = refl }
+adds_likely r t w b u c = grind (arith, nat_tests)
 
 is_last : (r t w b u c : Bool) → is_outcome Unconfirmed (first_of r t w b u c) ≡ not (with_likely r t w b u c)
-is_last true t w b u c = refl
-is_last false true w b u c = refl
-is_last false false true b u c = refl
-is_last false false false false u c = refl
-is_last false false false true true c = refl
-is_last false false false true false true = refl
-is_last false false false true false false = refl
+is_last r t w b u c = grind (arith, nat_tests)
 
 -- ---- all together
 
@@ -186,16 +144,13 @@ outcomes_counted there from last since pair acts received arrived missed unsent 
 -- ---- each set with the numbers that are put to it
 
 pub missed_put : (before r t w m x : Bool) → before ≡ with_arrived r t → m ≡ (not r && w) → x ≡ (before || m) → x ≡ with_missed r t w
-missed_put before true t w m x is of_m put = put ∙ ap (λ b. b || m) is
-missed_put before false t w m x is of_m put = put ∙ ap (λ b. b || m) is ∙ ap (λ c. t || c) of_m
+missed_put before r t w m x h h2 h3 = grind (arith, nat_tests)
 
 pub unsent_put : (before r t w b u x : Bool) → before ≡ with_missed r t w → (r ≡ false → u ≡ not b) → x ≡ (before || u) → x ≡ with_unsent r t w b
-unsent_put before true t w b u x is of_u put = put ∙ ap (λ c. c || u) is
-unsent_put before false t w b u x is of_u put = put ∙ ap (λ c. c || u) is ∙ ap (λ c. (t || w) || c) (of_u refl)
+unsent_put before r t w b u x h h2 h3 = grind (arith, nat_tests)
 
 pub unanswered_put : (before r t w b s u x : Bool) → before ≡ with_unsent r t w b → (r ≡ false → s ≡ u) → x ≡ (before || s) → x ≡ with_unanswered r t w b u
-unanswered_put before true t w b s u x is of_s put = put ∙ ap (λ c. c || s) is
-unanswered_put before false t w b s u x is of_s put = put ∙ ap (λ c. c || s) is ∙ ap (λ c. ((t || w) || not b) || c) (of_s refl)
+unanswered_put before r t w b s u x h h2 h3 = grind (arith, nat_tests)
 
 -- ---- what another recording changes
 
@@ -212,13 +167,7 @@ changed there since pair acts n =
 
 -- a number that is not there did not arrive
 not_arrived : (r t w b u c : Bool) → t ≡ false → is_outcome Arrived (first_of r t w b u c) ≡ false
-not_arrived true t w b u c out = refl
-not_arrived false true w b u c out = cc
-not_arrived false false true b u c out = refl
-not_arrived false false false false u c out = refl
-not_arrived false false false true true c out = refl
-not_arrived false false false true false true out = refl
-not_arrived false false false true false false out = refl
+not_arrived r t w b u c h = grind (arith, nat_tests)
 
 none_arrived : (there : ℕ → Bool) (from last : ℕ) (since : Option Location) (pair : Pair) (acts : List PlacedValue) (outcomes : Outcomes) → ((n : ℕ) → there n ≡ false) → AreOutcomes there from last since pair acts outcomes → outcomes.arrived ≡ 0
 unfolding outcome_of

@@ -1,5 +1,6 @@
 -- The acts of a recording stand by datagram.
-use Rattle.std.proofs.Common.{◌≡◌, ℕ, zero, suc, ◌+◌, ◌≤◌, Bool, true, false, cond, filter, List, [], ◌∷◌, ◌++◌, Some, None, sym, refl, ap, subst, ◌∙◌, ◌||◌, arith, inl, inr}
+use Rattle.std.proofs.lemmas.Bool.Decides.{nat_tests}
+use Rattle.std.proofs.Common.{◌≡◌, ℕ, ◌+◌, ◌≤◌, Bool, true, false, cond, filter, List, [], ◌∷◌, ◌++◌, Some, None, sym, refl, ap, subst, ◌∙◌, ◌||◌, arith, inl, inr}
 use Rattle.std.specs.Prelude.{Contains}
 use Rattle.std.specs.List.{find, list_any}
 use Rattle.std.proofs.lemmas.List.Elements.{Contains-append_cases, Contains-append_left, Contains-append_right, Contains-push}
@@ -35,8 +36,7 @@ kept_ordered keeps low (x ∷ xs) (first, rest) = by (kept_ordered keeps x.datag
     by kept false = later low x.datagram (filter keeps xs) first kept
 
 only_one : {X : Type 0} (b x : X) → Contains (b ∷ []) x → b ≡ x
-only_one b x (zero, lt, e) = e
-only_one b x (suc k, lt, e) = absurd (omega arith)
+only_one b x h = grind (arith, nat_tests)
 
 -- each stands in no datagram below it
 pub none_lower : (low : ℕ) (xs : List PlacedValue) (x : PlacedValue) → AreOrdered low xs → Contains xs x → low ≤ x.datagram

@@ -1,11 +1,12 @@
 -- The last element that passes, and how many do, one after another; and where the last answer stands.
-use Rattle.std.proofs.Common.{◌≡◌, ◌∙◌, ℕ, zero, suc, ◌+◌, ◌-◌, ◌<◌, ◌≤◌, ◌&&◌, ◌⊎◌, Bool, true, false, cond, List, [], ◌∷◌, ◌++◌, append-nil, drop, filter, get_or, length, map, take, Option, Some, None, refl, sym, ap, subst, arith, inl, inr, pos}
+use Rattle.std.proofs.lemmas.Grind.{common_steps}
+use Rattle.std.proofs.Common.{◌≡◌, ◌∙◌, ℕ, zero, suc, ◌+◌, ◌-◌, ◌<◌, ◌≤◌, ◌&&◌, ◌⊎◌, Bool, true, false, cond, List, [], ◌∷◌, ◌++◌, drop, filter, get_or, length, map, take, Option, Some, None, refl, sym, ap, subst, arith, inl, inr, pos}
 use Rattle.std.specs.Prelude.{IfSome, is_some, if◌then◌else◌, slice_get}
 use Rattle.std.specs.List.{cons_option, drop-map, last_or}
 use Rattle.std.specs.Option.{option_map}
 use Rattle.std.proofs.lemmas.Bool.{cases_lt, and_parts}
 use Rattle.std.proofs.lemmas.Bool.Decides.{nat_tests}
-use Rattle.std.proofs.lemmas.List.{length-append, length-drop, map-append, take-append-drop, take_all, take_more}
+use Rattle.std.proofs.lemmas.List.{length-append, length-drop, take-append-drop, take_all, take_more}
 use Rattle.std.proofs.lemmas.Option.{get_or_from_slice_get, slice_get-map, slice_get_within}
 use Rattle.std.proofs.lemmas.List.Elements.{filter-append}
 use Rattle.rtps_ids.specs.declared.identity.Guid.{Guid}
@@ -13,7 +14,6 @@ use Rattle.rtps_ids.specs.declared.identity.GuidPrefix.{GuidPrefix}
 use Rattle.rtps_discovery.specs.declared.matching.Pair.{Pair}
 use Rattle.rtps_receiver.specs.Speech.{is_answer, is_for, is_heard_by, is_prefix, is_spoken_by, names_pair}
 use Rattle.rtps_receiver.specs.Values.{ActBodyValue, ActValue}
-use Rattle.rtps_receiver.specs.Values.ActBodyValue.{Data, Heartbeat, AckNack, Gap, DataFrag, NackFrag}
 use Rattle.rtps_audit.specs.Placed.{PlacedValue, answer_at, answers_among, is_from, placed_in, placed_value}
 use Rattle.rtps_audit.specs.Speech.{base_for, base_of_body}
 use Rattle.rtps_audit.specs.declared.answer.Answer.{Answer}
@@ -33,12 +33,7 @@ last_is o (y ∷ xs) x = last_is (Some y) xs x
 
 filter_past : {X Y : Type 0} (v : X → Y) (test : Y → Bool) (xs : List X) (i : ℕ) (x : X) → i < length xs → x ≡ get_or xs i x → (b : Bool) → test (v x) ≡ b
     → filter test (map v (take (i + 1) xs)) ≡ filter test (map v (take i xs)) ++ cond b (v x ∷ []) []
-filter_past v test xs i x lt at b is =
-    ap (λ l. filter test (map v l)) (take_more xs i x lt)
-    ∙ ap (filter test) (map-append v (take i xs) (get_or xs i x ∷ []))
-    ∙ filter-append test (map v (take i xs)) (v (get_or xs i x) ∷ [])
-    ∙ ap (λ y. filter test (map v (take i xs)) ++ cond (test (v y)) (v y ∷ []) []) (sym at)
-    ∙ ap (λ c. filter test (map v (take i xs)) ++ cond c (v x ∷ []) []) is
+filter_past v test xs i x lt at b is = grind (arith, nat_tests, common_steps)
 
 -- of the first `i` acts, so many pass, and the last of them stands there
 pub record IsCountedSo (test : PlacedValue → Bool) (acts : List Placed) (i n : ℕ) (place : Option Location) : Type 0 where
@@ -58,28 +53,19 @@ one_counted test acts i count last x place lt at is stands so_far =
 
 pub none_counted : (test : PlacedValue → Bool) (acts : List Placed) (i count : ℕ) (last : Option Location) (x : Placed) → i < length acts → x ≡ get_or acts i x → test (placed_value x) ≡ false
     → IsCountedSo test acts i count last → IsCountedSo test acts (i + 1) count last
-none_counted test acts i count last x lt at is so_far =
-    let more = filter_past placed_value test acts i x lt at false is ∙ append-nil (filter test (map placed_value (take i acts))) in
-    record {
-      count = so_far.count ∙ sym (ap length more);
-      last = so_far.last ∙ sym (ap (λ l. option_map location_of (last_or None l)) more);
-      few = (let few = so_far.few in omega arith);
-    }
+none_counted test acts i count last x lt at is so_far = grind (arith, nat_tests, common_steps)
 
 -- of the first `i` acts, the last that passes stands there
 pub last_passing : (test : PlacedValue → Bool) (acts : List Placed) (i : ℕ) (x : Placed) (place : Location) → i < length acts → x ≡ get_or acts i x → test (placed_value x) ≡ true → place ≡ location_of (placed_value x)
     → Some place ≡ option_map location_of (last_or None (filter test (map placed_value (take (i + 1) acts))))
-last_passing test acts i x place lt at is stands =
-    ap Some stands ∙ sym (ap (λ l. option_map location_of (last_or None l)) (filter_past placed_value test acts i x lt at true is) ∙ ap (option_map location_of) (last_is None (filter test (map placed_value (take i acts))) (placed_value x)))
+last_passing test acts i x place lt at is stands = grind (arith, nat_tests, common_steps, filter_past, last_is)
 
 pub last_failing : (test : PlacedValue → Bool) (acts : List Placed) (i : ℕ) (x : Placed) (last : Option Location) → i < length acts → x ≡ get_or acts i x → test (placed_value x) ≡ false
     → last ≡ option_map location_of (last_or None (filter test (map placed_value (take i acts)))) → last ≡ option_map location_of (last_or None (filter test (map placed_value (take (i + 1) acts))))
-last_failing test acts i x last lt at is so_far =
-    so_far ∙ sym (ap (λ l. option_map location_of (last_or None l)) (filter_past placed_value test acts i x lt at false is ∙ append-nil (filter test (map placed_value (take i acts)))))
+last_failing test acts i x last lt at is so_far = grind (arith, nat_tests, common_steps)
 
 pub last_place_more : (answers : List Answer) (i : ℕ) (d : Answer) (place : Location) → i < length answers → place ≡ place_of (get_or answers i d) → Some place ≡ option_map place_of (last_or None (take (i + 1) answers))
-last_place_more answers i d place lt is =
-    ap Some is ∙ sym (ap (λ l. option_map place_of (last_or None l)) (take_more answers i d lt) ∙ ap (option_map place_of) (last_is None (take i answers) (get_or answers i d)))
+last_place_more answers i d place lt is = grind (arith, nat_tests, common_steps, take_more, last_is)
 
 -- ---- the last answer
 
@@ -87,41 +73,7 @@ last_place_more answers i d place lt is =
 pub answer_has_base : (writer reader : Guid) (source : GuidPrefix) (dest : Option GuidPrefix) (body : ActBodyValue)
     → is_some (if is_prefix source reader.prefix && (is_for dest writer.prefix && names_pair body reader.entity writer.entity) then base_of_body body else None)
     ≡ (is_prefix source reader.prefix && (is_for dest writer.prefix && names_pair body reader.entity writer.entity))
-answer_has_base writer reader source dest (AckNack value) = by (is_prefix source reader.prefix && (is_for dest writer.prefix && names_pair (AckNack value) reader.entity writer.entity))
-  where
-    by : (b : Bool) → is_some (if b then Some value.set.base else None) ≡ b
-    by true = refl
-    by false = refl
-answer_has_base writer reader source dest (Data value) = none (is_prefix source reader.prefix) (is_for dest writer.prefix)
-  where
-    none : (a b : Bool) → is_some (if a && (b && false) then base_of_body (Data value) else None) ≡ (a && (b && false))
-    none true true = refl
-    none true false = refl
-    none false b = refl
-answer_has_base writer reader source dest (Heartbeat value) = none (is_prefix source reader.prefix) (is_for dest writer.prefix)
-  where
-    none : (a b : Bool) → is_some (if a && (b && false) then base_of_body (Heartbeat value) else None) ≡ (a && (b && false))
-    none true true = refl
-    none true false = refl
-    none false b = refl
-answer_has_base writer reader source dest (Gap value) = none (is_prefix source reader.prefix) (is_for dest writer.prefix)
-  where
-    none : (a b : Bool) → is_some (if a && (b && false) then base_of_body (Gap value) else None) ≡ (a && (b && false))
-    none true true = refl
-    none true false = refl
-    none false b = refl
-answer_has_base writer reader source dest (DataFrag value) = none (is_prefix source reader.prefix) (is_for dest writer.prefix)
-  where
-    none : (a b : Bool) → is_some (if a && (b && false) then base_of_body (DataFrag value) else None) ≡ (a && (b && false))
-    none true true = refl
-    none true false = refl
-    none false b = refl
-answer_has_base writer reader source dest (NackFrag value) = none (is_prefix source reader.prefix) (is_for dest writer.prefix)
-  where
-    none : (a b : Bool) → is_some (if a && (b && false) then base_of_body (NackFrag value) else None) ≡ (a && (b && false))
-    none true true = refl
-    none true false = refl
-    none false b = refl
+answer_has_base writer reader source dest body = grind (arith, nat_tests)
 
 last_answered : (pair : Pair) (placed : List PlacedValue) (answer : Option Answer) (act : Option PlacedValue) → option_map place_of answer ≡ option_map location_of act
     → option_map place_of (last_or answer (answers_among pair placed)) ≡ option_map location_of (last_or act (filter (λ (at : PlacedValue). is_answer at.act pair.reader pair.writer) placed))
@@ -145,12 +97,7 @@ place_answered_same pair placed = last_answered pair placed None None refl
 -- ---- what the writer says
 
 filter_kept : {X : Type 0} (test : X → Bool) (x : X) (keeps : Bool) (xs all : List X) → (test x ≡ true → keeps ≡ true) → filter test xs ≡ filter test all → filter test (cond keeps (x ∷ xs) xs) ≡ cond (test x) (x ∷ filter test all) (filter test all)
-filter_kept test x true xs all h e = ap (λ l. cond (test x) (x ∷ l) l) e
-filter_kept test x false xs all h e = by (test x) h
-  where
-    by : (b : Bool) → (b ≡ true → false ≡ true) → filter test xs ≡ cond b (x ∷ filter test all) (filter test all)
-    by true h = absurd (let clash : false ≡ true = h refl in cc)
-    by false h = e
+filter_kept test x keeps xs all h h2 = grind (arith, nat_tests)
 
 pub filter_filter : {X : Type 0} (test keeps : X → Bool) → ((x : X) → test x ≡ true → keeps x ≡ true) → (xs : List X) → filter test (filter keeps xs) ≡ filter test xs
 filter_filter test keeps h [] = refl

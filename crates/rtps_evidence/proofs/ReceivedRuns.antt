@@ -1,6 +1,6 @@
 -- Received is exact: what every run ends with, and how a run ends without a payload.
 use Rattle.std.proofs.Common.{◌≡◌, ℕ, suc, ◌+◌, ◌<◌, ◌≤◌, ◌&&◌, Bool, true, false, nat_lt, not, List, [], ◌∷◌, ◌++◌, Option, Some, None, refl, sym, ◌∙◌, ap, subst, arith, inl, inr}
-use Rattle.std.specs.Prelude.{Contains, is_some, unwrap_or}
+use Rattle.std.specs.Prelude.{Contains, unwrap_or}
 use Rattle.std.specs.List.{list_any}
 use Rattle.std.proofs.lemmas.Bool.{cases_lt, and_parts, not-true}
 use Rattle.std.proofs.lemmas.Bool.Decides.{nat_tests}
@@ -16,7 +16,7 @@ use Rattle.rtps_audit.specs.Delivery.Event.{Send, Take}
 use Rattle.rtps_audit.specs.Placed.{PlacedValue, placed_in}
 use Rattle.rtps_audit.specs.Speech.{base_for, speech_by, word_for}
 use Rattle.rtps_audit.proofs.Offered.{Follows-append, base_is_claim, claim_is_base, given_is_word, place_within, reached-sound, run_is_founded, word_is_given}
-use Rattle.rtps_evidence.specs.Locations.{base_said, payload_in}
+use Rattle.rtps_evidence.specs.Locations.{base_said}
 use Rattle.rtps_evidence.specs.Received.{HoldsPayload, ReceivedIsExact, claims, first_claiming, is_certain_by, is_gone, sends_before, withdraws, withdraws_before}
 use Rattle.rtps_evidence.proofs.HushedRuns.{IsGoneBefore, run_without_payload}
 use Rattle.rtps_evidence.proofs.PlacedOrder.{first_is_first, found_is_there, none_found, none_passes, placed_ordered, some_passes}
@@ -79,20 +79,14 @@ held_from_before {from} speech end j n ((events, follows), all) claims =
 -- ---- words and tests
 
 gone_word : (word : Option Word) → is_gone word ≡ true → word ≡ Some Gone
-gone_word (Some Gone) e = refl
-gone_word (Some (Told payload)) e = absurd (let no : false ≡ true = e in cc)
-gone_word None e = absurd (let no : false ≡ true = e in cc)
+gone_word word h = grind (arith, nat_tests)
 
 -- an act that tells a number gone before a datagram does
 passes_gone : (writer reader : Guid) (n datagram : ℕ) (at : PlacedValue) → at.datagram < datagram → word_for writer reader at.act n ≡ Some Gone → withdraws_before writer reader n datagram at ≡ true
-passes_gone writer reader n datagram at lt word =
-    let early : nat_lt at.datagram datagram ≡ true = grind (arith, nat_tests) in
-    ap (λ b. b && is_gone (word_for writer reader at.act n)) early ∙ ap is_gone word
+passes_gone writer reader n datagram at lt word = grind (arith, nat_tests)
 
 passes_sent : (writer reader : Guid) (n datagram : ℕ) (at : PlacedValue) (payload : PayloadValue) → at.datagram < datagram → word_for writer reader at.act n ≡ Some (Told payload) → sends_before writer reader n datagram at ≡ true
-passes_sent writer reader n datagram at payload lt word =
-    let early : nat_lt at.datagram datagram ≡ true = grind (arith, nat_tests) in
-    ap (λ b. b && is_some (payload_in (word_for writer reader at.act n))) early ∙ ap (λ o. is_some (payload_in o)) word
+passes_sent writer reader n datagram at payload lt word = grind (arith, nat_tests)
 
 -- an act that passes the test of a claim is an answer
 claim_there : (from : ℕ) (pair : Pair) (recording : List (List ActValue)) (n : ℕ) (at : PlacedValue) → IsAsked from n → Contains (placed_in recording) at → claims pair.writer pair.reader n at ≡ true

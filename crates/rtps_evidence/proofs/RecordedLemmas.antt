@@ -1,37 +1,31 @@
 -- What a recording has of a writer and a reader of best effort, by the acts of the writer alone.
-use Rattle.std.proofs.Common.{◌≡◌, ◌∙◌, ◌+◌, ◌-◌, ℕ, Bool, true, false, ◌≤◌, List, filter, length, max, not, take, refl, sym, ap, arith}
-use Rattle.std.specs.Prelude.{if◌then◌else◌, unwrap_or}
-use Rattle.std.specs.List.{range_with_len}
+use Rattle.std.proofs.lemmas.Grind.{common_steps}
+use Rattle.std.proofs.lemmas.Bool.Decides.{nat_tests}
+use Rattle.std.proofs.Common.{◌≡◌, ◌∙◌, ◌+◌, ◌-◌, ℕ, Bool, ◌≤◌, List, filter, max, not, refl, ap, arith}
 use Rattle.rtps_ids.specs.declared.identity.Guid.{Guid}
 use Rattle.rtps_discovery.specs.declared.matching.Pair.{Pair}
-use Rattle.rtps_receiver.specs.Speech.{is_spoken_by}
 use Rattle.rtps_audit.specs.Placed.{PlacedValue, is_from}
 use Rattle.rtps_audit.proofs.Offered.{speaker_is_origin}
-use Rattle.rtps_evidence.specs.Amount.{count_in, is_sent, stretches_have}
+use Rattle.rtps_coverage.specs.Counts.{count_in}
+use Rattle.rtps_coverage.specs.Stretches.{stretches_have}
+use Rattle.rtps_evidence.specs.Amount.{is_sent}
 use Rattle.rtps_evidence.specs.FirstNumbers.{first_ten, kept}
-use Rattle.rtps_receiver.specs.Said.{said}
-use Rattle.rtps_evidence.specs.Recorded.{AreRecordedIn, IsArrivedAmong, greatest_sent, number_sent}
-use Rattle.rtps_evidence.specs.declared.amount.Stretch.{Stretch}
+use Rattle.rtps_evidence.specs.Recorded.{AreRecordedIn, IsArrivedAmong, greatest_sent}
+use Rattle.rtps_coverage.specs.declared.stretch.Stretch.{Stretch}
 use Rattle.rtps_evidence.specs.declared.recorded.ArrivedNumbers.{ArrivedNumbers}
 use Rattle.rtps_evidence.specs.declared.recorded.Recorded.{Recorded}
 use Rattle.rtps_evidence.specs.declared.span.Span.{Span}
-use Rattle.rtps_evidence.proofs.CountLemmas.{count_same}
+use Rattle.rtps_coverage.proofs.Offered.{count_same}
 use Rattle.rtps_evidence.proofs.FirstNumbersLemmas.{first_same}
 use Rattle.rtps_evidence.proofs.OriginLemmas.{sent_same}
 use Rattle.rtps_evidence.proofs.SpanLemmas.{greatest_filter}
 
 greatest_same : (writer : Guid) (acts : List PlacedValue) → greatest_sent writer (filter (is_from writer) acts) ≡ greatest_sent writer acts
-greatest_same writer acts = greatest_filter (number_sent writer) (is_from writer) (λ x kept. by x (is_spoken_by x.act writer) refl kept) acts
-  where
-    by : (x : PlacedValue) (spoken : Bool) → is_spoken_by x.act writer ≡ spoken → is_from writer x ≡ false → (if spoken then unwrap_or (said x.act.body).brought 0 else 0) ≡ 0
-    by x false e kept = refl
-    by x true e kept = absurd (let yes = speaker_is_origin writer x e in let no : true ≡ false = sym yes ∙ kept in cc)
+greatest_same writer acts = grind (arith, nat_tests, common_steps, greatest_filter, speaker_is_origin)
 
 -- the numbers end where the first one stands behind them all
 count_ends : (has : ℕ → Bool) (from behind : ℕ) → count_in has from (max behind from) ≡ count_in has from behind
-count_ends has from behind =
-    let same : max behind from - from ≡ behind - from = omega arith in
-    ap (λ n. length (filter has (range_with_len from n))) same
+count_ends has from behind = grind (arith, nat_tests)
 
 greatest_is : (writer : Guid) (acts own : List PlacedValue) (behind : ℕ) → own ≡ filter (is_from writer) acts → behind ≡ greatest_sent writer own + 1 → behind ≡ greatest_sent writer acts + 1
 greatest_is writer acts own behind own_is is = is ∙ ap (λ l. greatest_sent writer l + 1) own_is ∙ ap (λ n. n + 1) (greatest_same writer acts)
@@ -39,23 +33,14 @@ greatest_is writer acts own behind own_is is = is ∙ ap (λ l. greatest_sent wr
 -- stretches counted up to the greatest number that the writer sent
 pub counted_in : (writer : Guid) (acts own : List PlacedValue) (stretches : List Stretch) (has : ℕ → Bool) (first from behind count : ℕ) → own ≡ filter (is_from writer) acts → from ≡ first → behind ≡ greatest_sent writer own + 1
     → ((n : ℕ) → stretches_have stretches n ≡ has n) → count ≡ count_in (stretches_have stretches) from (max behind from) → count ≡ count_in has first (greatest_sent writer acts + 1)
-counted_in writer acts own stretches has first from behind count own_is from_is behind_is same counted =
-    counted
-    ∙ count_ends (stretches_have stretches) from behind
-    ∙ count_same (stretches_have stretches) has from behind (λ n a b. same n)
-    ∙ ap (λ n. count_in has n behind) from_is
-    ∙ ap (λ n. count_in has first n) (greatest_is writer acts own behind own_is behind_is)
+counted_in writer acts own stretches has first from behind count own_is from_is behind_is same counted = grind (arith, nat_tests, common_steps, count_ends, count_same, greatest_is)
 
 -- what is counted among the writer's acts
 pub recorded_in : (span : Span) (pair : Pair) (acts own : List PlacedValue) (sent : List Stretch) (from behind : ℕ) (found : Recorded)
     → own ≡ filter (is_from pair.writer) acts → from ≡ span.from → behind ≡ greatest_sent pair.writer own + 1
     → ((n : ℕ) → stretches_have sent n ≡ is_sent pair.writer pair.reader own n)
     → found.numbers ≡ behind - from → found.recorded ≡ count_in (stretches_have sent) from (max behind from) → AreRecordedIn span pair acts found
-recorded_in span pair acts own sent from behind found own_is from_is behind_is sent_is numbers recorded = record {
-  numbers = numbers ∙ ap (λ n. n - from) (greatest_is pair.writer acts own behind own_is behind_is) ∙ ap (λ n. greatest_sent pair.writer acts + 1 - n) from_is;
-  recorded = counted_in pair.writer acts own sent (is_sent pair.writer pair.reader acts) span.from from behind found.recorded own_is from_is behind_is
-      (λ n. sent_is n ∙ ap (λ l. is_sent pair.writer pair.reader l n) own_is ∙ sent_same pair.writer pair.reader n acts) recorded;
-}
+recorded_in span pair acts own sent from behind found own_is from_is behind_is sent_is numbers recorded = grind (arith, nat_tests, common_steps, greatest_is, counted_in, sent_same)
 
 -- the greatest number that the writer sent, or the one before the first
 ends_behind : (greatest from last : ℕ) → 1 ≤ from → last ≡ max greatest (from - 1) → last + 1 ≡ max (greatest + 1) from
@@ -63,9 +48,7 @@ ends_behind greatest from last low is = omega arith
 
 -- the first ones end where the first number stands behind them all
 first_ends : (has : ℕ → Bool) (from behind : ℕ) → first_ten has from (max behind from) ≡ first_ten has from behind
-first_ends has from behind =
-    let same : max behind from - from ≡ behind - from = omega arith in
-    ap (λ n. take 10 (filter has (range_with_len from n))) same
+first_ends has from behind = grind (arith, nat_tests)
 
 -- of the numbers that are there, what is counted and named up to the greatest that the writer sent
 pub arrived_among : (writer : Guid) (acts own : List PlacedValue) (stretches : List Stretch) (there : ℕ → Bool) (first from last : ℕ)

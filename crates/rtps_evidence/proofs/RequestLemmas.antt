@@ -1,13 +1,11 @@
 -- The last requests for numbers, one act more at a time.
-use Rattle.std.proofs.Common.{◌≡◌, ◌∙◌, ℕ, ◌+◌, ◌-◌, ◌^◌, ◌<◌, ◌≤◌, ◌==◌, ◌&&◌, ◌||◌, Bool, true, false, cond, nat_le, nat_lt, filter, get_or, length, map, take, List, [], ◌∷◌, ◌++◌, Option, Some, None, refl, sym, ap, arith, inl, inr}
-use Rattle.std.specs.Cmp.{nat_cmp_is}
+use Rattle.std.proofs.lemmas.Grind.{common_steps}
+use Rattle.std.proofs.Common.{◌≡◌, ◌∙◌, ℕ, ◌+◌, ◌-◌, ◌^◌, ◌<◌, ◌≤◌, ◌==◌, ◌&&◌, ◌||◌, Bool, true, false, cond, nat_le, nat_lt, filter, get_or, length, map, take, List, [], ◌∷◌, ◌++◌, Option, Some, None, refl, sym, ap, arith}
 use Rattle.std.specs.List.{last_or, list_any}
 use Rattle.std.specs.Map.{lookup}
 use Rattle.std.specs.Option.{option_map}
 use Rattle.std.specs.Ordering.{is_eq, nat_cmp}
 use Rattle.std.specs.Prelude.{All, min}
-use Rattle.std.specs.declared.cmp.Ordering.TheVariants.{Less, Equal, Greater}
-use Rattle.std.proofs.lemmas.Bool.{cases_lt}
 use Rattle.std.proofs.lemmas.Bool.Decides.{nat_tests}
 use Rattle.std.proofs.lemmas.List.{map-append, take_more}
 use Rattle.std.proofs.lemmas.List.Elements.{All-head, All-tail}
@@ -25,86 +23,19 @@ use Rattle.rtps_evidence.specs.declared.missed_numbers.Request.{Request}
 -- ---- the keys of the map are numbers
 
 pub is_key : (a b : ℕ) → is_eq (nat_cmp a b) ≡ (a == b)
-is_key a b = elim (cases_lt a b) [
-  | inl lt ↦ let no : (a == b) ≡ false = grind (arith, nat_tests) in ap is_eq (sym (nat_cmp_is a b Less lt)) ∙ sym no
-  | inr ge ↦ elim (cases_lt b a) [
-    | inl gt ↦ let no : (a == b) ≡ false = grind (arith, nat_tests) in ap is_eq (sym (nat_cmp_is a b Greater gt)) ∙ sym no
-    | inr le ↦ let same : a ≡ b = omega arith in let yes : (a == b) ≡ true = grind (arith, nat_tests) in ap is_eq (sym (nat_cmp_is a b Equal same)) ∙ sym yes
-  ]
-]
+is_key a b = grind (arith, nat_tests)
 
 pub put_one : (old new : Option Request) (x : Request) (number n : ℕ) (lacks : ℕ → Bool) → lacks number ≡ true → new ≡ cond (is_eq (nat_cmp number n)) (Some x) old → new ≡ cond ((number == n) && lacks n) (Some x) old
-put_one old new x number n lacks is put = put ∙ ap (λ b. cond b (Some x) old) (is_key number n) ∙ by (number == n) refl
-  where
-    by : (b : Bool) → (number == n) ≡ b → cond b (Some x) old ≡ cond (b && lacks n) (Some x) old
-    by true at = let same : number ≡ n = grind (arith, nat_tests, at) in ap (λ b. cond b (Some x) old) (sym is ∙ ap lacks same)
-    by false at = refl
+put_one old new x number n lacks is put = grind (arith, nat_tests)
 
 pub put_none : (old : Option Request) (x : Request) (number n : ℕ) (lacks : ℕ → Bool) → lacks number ≡ false → old ≡ cond ((number == n) && lacks n) (Some x) old
-put_none old x number n lacks is = by (number == n) refl
-  where
-    by : (b : Bool) → (number == n) ≡ b → old ≡ cond (b && lacks n) (Some x) old
-    by true at = let same : number ≡ n = grind (arith, nat_tests, at) in ap (λ b. cond b (Some x) old) (sym is ∙ ap lacks same)
-    by false at = refl
-
--- what is put for one set of numbers and then for another is put for both
-pub put_both : (a b lacks : Bool) (old : Option Request) (x : Request) → cond (b && lacks) (Some x) (cond (a && lacks) (Some x) old) ≡ cond ((a || b) && lacks) (Some x) old
-put_both true true true old x = refl
-put_both true true false old x = refl
-put_both true false true old x = refl
-put_both true false false old x = refl
-put_both false true true old x = refl
-put_both false true false old x = refl
-put_both false false lacks old x = refl
+put_none old x number n lacks is = grind (arith, nat_tests)
 
 pub range_more : (lo i n : ℕ) → lo ≤ i → (nat_le lo n && nat_lt n (i + 1)) ≡ ((nat_le lo n && nat_lt n i) || (i == n))
-range_more lo i n le = elim (cases_lt n i) [
-  | inl lt ↦
-      let one : nat_lt n (i + 1) ≡ true = grind (arith, nat_tests) in
-      let two : nat_lt n i ≡ true = grind (arith, nat_tests) in
-      let three : (i == n) ≡ false = grind (arith, nat_tests) in
-      rw (one, two, three) (no_more (nat_le lo n && true))
-  | inr ge ↦ elim (cases_lt i n) [
-    | inl past ↦
-        let one : nat_lt n (i + 1) ≡ false = grind (arith, nat_tests) in
-        let two : nat_lt n i ≡ false = grind (arith, nat_tests) in
-        let three : (i == n) ≡ false = grind (arith, nat_tests) in
-        rw (one, two, three) (no_more (nat_le lo n && false))
-    | inr at ↦
-        let one : nat_lt n (i + 1) ≡ true = grind (arith, nat_tests) in
-        let two : nat_le lo n ≡ true = grind (arith, nat_tests) in
-        let three : (i == n) ≡ true = grind (arith, nat_tests) in
-        rw (one, two, three) (sym (always (nat_lt n i)))
-  ]
-]
-  where
-    no_more : (b : Bool) → b ≡ (b || false)
-    no_more true = refl
-    no_more false = refl
-
-    always : (b : Bool) → (b || true) ≡ true
-    always true = refl
-    always false = refl
-
-pub none_in_range : (lo n : ℕ) (lacks : Bool) (old : Option Request) (x : Request) → old ≡ cond ((nat_le lo n && nat_lt n lo) && lacks) (Some x) old
-none_in_range lo n lacks old x = ap (λ b. cond (b && lacks) (Some x) old) none
-  where
-    nothing : (b : Bool) → false ≡ (b && false)
-    nothing true = refl
-    nothing false = refl
-
-    none : false ≡ (nat_le lo n && nat_lt n lo)
-    none = elim (cases_lt n lo) [
-      | inl lt ↦ let one : nat_le lo n ≡ false = grind (arith, nat_tests) in rw one refl
-      | inr ge ↦ let one : nat_lt n lo ≡ false = grind (arith, nat_tests) in rw one (nothing (nat_le lo n))
-    ]
+range_more lo i n le = grind (arith, nat_tests)
 
 pub none_so_far : (n : ℕ) (member lacks : Bool) (old : Option Request) (x : Request) → old ≡ cond ((member && nat_lt n 0) && lacks) (Some x) old
-none_so_far n member lacks old x = let none : nat_lt n 0 ≡ false = grind (arith, nat_tests) in rw none (by member)
-  where
-    by : (b : Bool) → old ≡ cond ((b && false) && lacks) (Some x) old
-    by true = refl
-    by false = refl
+none_so_far n member lacks old x = grind (arith, nat_tests)
 
 -- ---- the requests of a reader's acts
 
@@ -137,63 +68,25 @@ last_of_more test xs x = ap (last_or None) (filtered xs) ∙ by (test x)
 
 pub requested_more : (pair : Pair) (xs : List PlacedValue) (x : PlacedValue) (lacks : ℕ → Bool) (n : ℕ)
     → cond (asks_for pair.writer pair.reader n x && lacks n) (Some (new_request (location_of x))) (requested pair xs lacks n) ≡ requested pair (xs ++ x ∷ []) lacks n
-requested_more pair xs x lacks n =
-    by (lacks n) (asks_for pair.writer pair.reader n x)
-    ∙ sym (ap (λ o. cond (lacks n) (option_map (λ (asking : PlacedValue). new_request (location_of asking)) o) None) (last_of_more (asks_for pair.writer pair.reader n) xs x))
-  where
-    last : Option PlacedValue
-    last = find_last (asks_for pair.writer pair.reader n) xs
-
-    by : (l b : Bool) → cond (b && l) (Some (new_request (location_of x))) (cond l (option_map (λ (asking : PlacedValue). new_request (location_of asking)) last) None)
-        ≡ cond l (option_map (λ (asking : PlacedValue). new_request (location_of asking)) (cond b (Some x) last)) None
-    by true true = refl
-    by true false = refl
-    by false true = refl
-    by false false = refl
-
-pub none_requested : (pair : Pair) (lacks : ℕ → Bool) (n : ℕ) → None ≡ requested pair [] lacks n
-none_requested pair lacks n = by (lacks n)
-  where
-    by : (b : Bool) → ◌≡◌ {A = Option Request} None (cond b None None)
-    by true = refl
-    by false = refl
+requested_more pair xs x lacks n = grind (arith, nat_tests, common_steps, last_of_more)
 
 -- ---- what a writer's acts bring
 
 or_no : (b : Bool) → (b || false) ≡ b
-or_no true = refl
-or_no false = refl
-
-pub met_start : (since : Option Location) (pair : Pair) (n : ℕ) (old : Option Request) → old ≡ option_map (met_among since pair n []) old
-met_start since pair n None = refl
-met_start since pair n (Some request) = rw (or_no request.is_met, or_no request.is_again) refl
+or_no b = grind (arith, nat_tests)
 
 -- behind an act that brings the number, and behind one that does not
 met_true : (m k a : Bool) → ((m || k) || a) ≡ (m || (k || ((a && true) || false)))
-met_true true k a = refl
-met_true false true a = refl
-met_true false false true = refl
-met_true false false false = refl
+met_true m k a = grind (arith, nat_tests)
 
 met_false : (m k a : Bool) → (m || k) ≡ (m || (k || ((a && false) || false)))
-met_false true k a = refl
-met_false false true a = refl
-met_false false false true = refl
-met_false false false false = refl
+met_false m k a = grind (arith, nat_tests)
 
 again_true : (m k a b : Bool) → ((m || k) || (a && b)) ≡ (m || (k || ((a && (b && true)) || false)))
-again_true true k a b = refl
-again_true false true a b = refl
-again_true false false true true = refl
-again_true false false true false = refl
-again_true false false false b = refl
+again_true m k a b = grind (arith, nat_tests)
 
 again_false : (m k a b : Bool) → (m || k) ≡ (m || (k || ((a && (b && false)) || false)))
-again_false true k a b = refl
-again_false false true a b = refl
-again_false false false true true = refl
-again_false false false true false = refl
-again_false false false false b = refl
+again_false m k a b = grind (arith, nat_tests)
 
 pub met_more : (since : Option Location) (pair : Pair) (n : ℕ) (xs : List PlacedValue) (x : PlacedValue) (old : Option Request)
     → option_map (met_by since pair n x) (option_map (met_among since pair n xs) old) ≡ option_map (met_among since pair n (xs ++ x ∷ [])) old
@@ -269,39 +162,8 @@ one_in_vain (entry ∷ entries) n request found is = by (λ more. one_in_vain en
     by onward false at found = ap (λ b. (is_in_vain entry.1 && (entry.0 == n)) || b) (onward found) ∙ or_yes (is_in_vain entry.1 && (entry.0 == n))
 
 pub found_in_vain : (find : ℕ → Option Request) (entries : List (ℕ × Request)) (n : ℕ) → AreFound find entries → find n ≡ lookup (λ key. is_eq (nat_cmp n key)) entries → some_in_vain entries n ≡ option_any is_in_vain (find n)
-found_in_vain find entries n found is = by (option_any is_in_vain (find n)) refl
-  where
-    some : (o : Option Request) → find n ≡ o → option_any is_in_vain o ≡ true → some_in_vain entries n ≡ true
-    some None at passes = absurd (let never : false ≡ true = passes in cc)
-    some (Some request) at passes = one_in_vain entries n request (sym is ∙ at) passes
-
-    by : (b : Bool) → option_any is_in_vain (find n) ≡ b → some_in_vain entries n ≡ b
-    by true passes = some (find n) refl passes
-    by false out = none_in_vain find entries n found out
+found_in_vain find entries n found is = grind (arith, nat_tests, common_steps, one_in_vain, none_in_vain)
 
 -- a number as a stretch, as long as there is a number behind it
 pub alone : (m n hi : ℕ) → hi ≡ min (m + 1) (2 ^ 64 - 1) → n < 2 ^ 63 → (nat_le m n && nat_lt n hi) ≡ (m == n)
-alone m n hi ends small = elim (cases_lt n m) [
-  | inl lt ↦ let one : nat_le m n ≡ false = grind (arith, nat_tests) in let two : (m == n) ≡ false = grind (arith, nat_tests) in rw (one, two) refl
-  | inr ge ↦ elim (cases_lt m n) [
-    | inl past ↦ let one : nat_lt n hi ≡ false = (let le : hi ≤ n = omega arith in grind (arith, nat_tests, le)) in let two : (m == n) ≡ false = grind (arith, nat_tests) in rw (one, two) (nothing (nat_le m n))
-    | inr at ↦ let one : nat_le m n ≡ true = grind (arith, nat_tests) in let two : nat_lt n hi ≡ true = (let lt : n < hi = omega arith in grind (arith, nat_tests, lt)) in let three : (m == n) ≡ true = grind (arith, nat_tests) in rw (one, two, three) refl
-  ]
-]
-  where
-    nothing : (b : Bool) → (b && false) ≡ false
-    nothing true = refl
-    nothing false = refl
-
--- one entry more, of those that are left
-pub vain_pushed : (missed new : Bool) (entry : ℕ × Request) (left rest : List (ℕ × Request)) (all : Bool) (n : ℕ) → left ≡ entry ∷ rest → is_in_vain entry.1 ≡ true → new ≡ (missed || (entry.0 == n))
-    → (missed || some_in_vain left n) ≡ all → (new || some_in_vain rest n) ≡ all
-vain_pushed missed new entry left rest all n is in_vain pushed so_far =
-    ap (λ b. b || some_in_vain rest n) pushed
-    ∙ grouped missed (entry.0 == n) (some_in_vain rest n)
-    ∙ ap (λ b. missed || ((b && (entry.0 == n)) || some_in_vain rest n)) (sym in_vain)
-    ∙ ap (λ l. missed || some_in_vain l n) (sym is) ∙ so_far
-  where
-    grouped : (a b c : Bool) → ((a || b) || c) ≡ (a || (b || c))
-    grouped true b c = refl
-    grouped false b c = refl
+alone m n hi ends small = grind (arith, nat_tests)

@@ -1,11 +1,12 @@
 -- What can be seen at places, as the speech of the recording has it.
-use Rattle.std.proofs.Common.{◌≡◌, ◌+◌, ◌<◌, ◌≤◌, ℕ, List, Option, Some, None, refl, ap, arith}
+use Rattle.std.proofs.lemmas.Bool.Decides.{nat_tests}
+use Rattle.std.proofs.Common.{◌≡◌, ◌+◌, ◌<◌, ◌≤◌, ℕ, List, Option, Some, None, ap, arith}
 use Rattle.std.specs.Prelude.{Contains, unwrap_or}
 use Rattle.rtps_discovery.specs.declared.matching.Pair.{Pair}
 use Rattle.rtps_wire.specs.Values.{PayloadValue}
 use Rattle.rtps_receiver.specs.Values.{ActValue}
 use Rattle.rtps_audit.specs.Delivery.{Claims, IsAsked, Word}
-use Rattle.rtps_audit.specs.Delivery.Word.{Told, Gone}
+use Rattle.rtps_audit.specs.Delivery.Word.{Told}
 use Rattle.rtps_audit.specs.Placed.{PlacedValue}
 use Rattle.rtps_audit.specs.PlainVerdict.{IsSpoken}
 use Rattle.rtps_audit.specs.Speech.{announced_for, base_for, speech_by, word_for}
@@ -14,17 +15,13 @@ use Rattle.rtps_evidence.specs.Locations.{base_said, payload_in}
 use Rattle.rtps_evidence.specs.Certificates.{ClaimsAt, CompleteIsShown, ConflictIsShown, OpenIsShown, SendsAt, UnfoundedIsShown}
 
 some_above : (o : Option ℕ) (n : ℕ) → n < unwrap_or o 0 → (m : ℕ) × (o ≡ Some m) × (n < m)
-some_above None n lt = absurd (omega arith)
-some_above (Some m) n lt = (m, refl, lt)
+some_above o n h = grind (arith, nat_tests)
 
 some_at : (o : Option ℕ) (n : ℕ) → 1 ≤ n → n ≤ unwrap_or o 0 → (m : ℕ) × (o ≡ Some m) × (n ≤ m)
-some_at None n low le = absurd (omega arith)
-some_at (Some m) n low le = (m, refl, le)
+some_at o n h h2 = grind (arith, nat_tests)
 
 told_word : (word : Option Word) (payload : PayloadValue) → payload_in word ≡ Some payload → word ≡ Some (Told payload)
-told_word None payload e = cc
-told_word (Some Gone) payload e = cc
-told_word (Some (Told other)) payload e = let same : other ≡ payload = (let h = e in cc) in ap (λ p. Some (Told p)) same
+told_word word payload h = grind (arith, nat_tests)
 
 claims_there : (from : ℕ) (pair : Pair) (recording : List (List ActValue)) (n : ℕ) (at : PlacedValue) → IsAsked from n → ClaimsAt pair recording n at
     → (j : ℕ) × Claims from (speech_by pair.writer pair.reader recording) j n × (at.datagram ≡ j + 1)

@@ -1,87 +1,61 @@
 -- Where a reader joins and leaves, and from which number on.
-use Rattle.std.proofs.Common.{◌≡◌, ◌∙◌, ℕ, ◌+◌, ◌<◌, ◌≤◌, ◌^◌, ◌&&◌, ◌||◌, Bool, true, false, cond, nat_lt, max, map, filter, get_or, length, take, List, [], ◌∷◌, Option, Some, None, refl, sym, ap, subst, arith, inl, inr}
-use Rattle.std.specs.Prelude.{IfSome, if◌then◌else◌, min, unwrap_or}
+use Rattle.std.proofs.lemmas.Grind.{common_steps}
+use Rattle.std.proofs.Common.{◌≡◌, ◌∙◌, ℕ, ◌+◌, ◌<◌, ◌≤◌, ◌^◌, ◌&&◌, ◌||◌, Bool, true, false, cond, nat_lt, max, map, filter, get_or, length, take, List, [], ◌∷◌, Option, Some, None, refl, sym, ap, subst, arith}
+use Rattle.std.specs.Prelude.{IfSome, unwrap_or}
 use Rattle.std.specs.List.{cons_option, find, list_any}
 use Rattle.std.specs.Option.{option_map}
-use Rattle.std.proofs.lemmas.Bool.{and_parts, cases_lt}
+use Rattle.std.proofs.lemmas.Bool.{and_parts}
 use Rattle.std.proofs.lemmas.Bool.Decides.{nat_tests}
 use Rattle.rtps_ids.specs.declared.identity.Guid.{Guid}
 use Rattle.rtps_discovery.specs.Leaving.{is_one_of, leaves}
 use Rattle.rtps_discovery.specs.declared.matching.Pair.{Pair}
-use Rattle.rtps_receiver.specs.Speech.{is_request, is_spoken_by, origin_of}
+use Rattle.rtps_receiver.specs.Speech.{is_request, origin_of}
 use Rattle.rtps_receiver.specs.Values.{ActValue}
-use Rattle.rtps_receiver.specs.Said.{IsRangeOf, numbers_have, said}
+use Rattle.rtps_receiver.specs.Said.{numbers_have, said}
 use Rattle.rtps_receiver.specs.declared.said.Numbers.{Numbers}
 use Rattle.rtps_audit.specs.Delivery.{greatest}
 use Rattle.rtps_audit.specs.Placed.{PlacedValue, answer_at, answers_among, is_from}
-use Rattle.rtps_audit.specs.Speech.{announced_of_body, base_for}
+use Rattle.rtps_audit.specs.Speech.{base_for}
 use Rattle.rtps_audit.proofs.Offered.{speaker_is_origin}
 use Rattle.rtps_evidence.proofs.AskingLemmas.{requester_is_origin}
 use Rattle.rtps_evidence.specs.Locations.{is_before, is_behind}
 use Rattle.rtps_evidence.specs.Missed.{asks_for, brings_behind}
-use Rattle.rtps_evidence.specs.Spans.{IsLeastFrom, announced_before, claims_at_before, claims_before, is_for_reader, leaves_behind, lesser_of, number_before}
+use Rattle.rtps_evidence.specs.Spans.{IsLeastFrom, announced_before, claims_at_before, claims_before, is_for_reader, leaves_behind, lesser_of}
 use Rattle.rtps_evidence.specs.declared.location.Location.{Location}
 use Rattle.rtps_evidence.proofs.MissedLemmas.{brought_same}
-use Rattle.rtps_evidence.proofs.FindLemmas.{any_filter, any_past}
+use Rattle.rtps_evidence.proofs.FindLemmas.{any_filter}
 use Rattle.rtps_evidence.proofs.PlacedOrder.{AreOrdered}
 
 -- ---- the least number that has it
 
 pub least_same : (one other : ℕ → Bool) (lo : ℕ) (o : Option ℕ) → ((n : ℕ) → one n ≡ other n) → IsLeastFrom other lo o → IsLeastFrom one lo o
-least_same one other lo None same least = λ n le. same n ∙ least n le
-least_same one other lo (Some number) same (onward, is, below) = (onward, same number ∙ is, λ n le lt. same n ∙ below n le lt)
+least_same one other lo o h h2 = grind (arith, nat_tests)
 
 neither : (a b : Bool) → a ≡ false → b ≡ false → (a || b) ≡ false
-neither true b e f = cc
-neither false b e f = f
+neither a b h h2 = grind (arith, nat_tests)
 
 first : (a b : Bool) → a ≡ true → (a || b) ≡ true
-first true b e = refl
-first false b e = cc
+first a b h = grind (arith, nat_tests)
 
 second : (a b : Bool) → b ≡ true → (a || b) ≡ true
-second true b e = refl
-second false b e = e
+second a b h = grind (arith, nat_tests)
 
 pub least_either : (one other : ℕ → Bool) (lo : ℕ) (a b : Option ℕ) → IsLeastFrom one lo a → IsLeastFrom other lo b → IsLeastFrom (λ n. one n || other n) lo (lesser_of a b)
-least_either one other lo None None x y = λ n le. neither _ _ (x n le) (y n le)
-least_either one other lo None (Some b) x (onward, is, below) = (onward, second _ _ is, λ n le lt. neither _ _ (x n le) (below n le lt))
-least_either one other lo (Some a) None (onward, is, below) y = (onward, first _ _ is, λ n le lt. neither _ _ (below n le lt) (y n le))
-least_either one other lo (Some a) (Some b) (a_onward, a_is, a_below) (b_onward, b_is, b_below) = elim (cases_lt a b) [
-  | inl lt ↦
-      let e : a ≡ min a b = omega arith in
-      subst (λ m. IsLeastFrom (λ n. one n || other n) lo (Some m)) e (a_onward, first _ _ a_is, λ n le below. neither _ _ (a_below n le below) (b_below n le (omega arith)))
-  | inr ge ↦
-      let e : b ≡ min a b = omega arith in
-      subst (λ m. IsLeastFrom (λ n. one n || other n) lo (Some m)) e (b_onward, second _ _ b_is, λ n le below. neither _ _ (a_below n le (omega arith)) (b_below n le below))
-]
+least_either one other lo a b h h2 = grind (arith, nat_tests)
 
 pub least_more : {X Y : Type 0} (v : X → Y) (test : ℕ → Y → Bool) (xs : List X) (i : ℕ) (x : X) (lo : ℕ) (one other found : Option ℕ) → i < length xs → x ≡ get_or xs i x
     → IsLeastFrom (λ n. list_any (test n) (map v (take i xs))) lo one → IsLeastFrom (λ n. test n (v x)) lo other → found ≡ lesser_of one other
     → IsLeastFrom (λ n. list_any (test n) (map v (take (i + 1) xs))) lo found
-least_more v test xs i x lo one other found lt at so_far here is =
-    subst (λ o. IsLeastFrom (λ n. list_any (test n) (map v (take (i + 1) xs))) lo o) (sym is)
-    (least_same (λ n. list_any (test n) (map v (take (i + 1) xs))) (λ n. list_any (test n) (map v (take i xs)) || test n (v x)) lo (lesser_of one other)
-    (λ n. any_past v (test n) xs i x lt at)
-    (least_either (λ n. list_any (test n) (map v (take i xs))) (λ n. test n (v x)) lo one other so_far here))
+least_more v test xs i x lo one other found lt at so_far here is = grind (arith, nat_tests, common_steps)
 
 pub lesser_below : (one other found : Option ℕ) → IfSome one (λ number. number < 2 ^ 63) → IfSome other (λ number. number < 2 ^ 63) → found ≡ lesser_of one other → IfSome found (λ number. number < 2 ^ 63)
-lesser_below one other found low under is = subst (λ o. IfSome o (λ number. number < 2 ^ 63)) (sym is) (by one other low under)
-  where
-    by : (one other : Option ℕ) → IfSome one (λ number. number < 2 ^ 63) → IfSome other (λ number. number < 2 ^ 63) → IfSome (lesser_of one other) (λ number. number < 2 ^ 63)
-    by None other low under = under
-    by (Some one) None low under = low
-    by (Some one) (Some other) low under = omega arith
+lesser_below one other found low under is = grind (arith, nat_tests)
 
 -- ---- the numbers that an act asks for
 
-pub least_of_range : (numbers : Numbers) (lo start end : ℕ) → IsRangeOf numbers lo start end → IsLeastFrom (numbers_have numbers) lo (Some start)
-least_of_range numbers lo start end range = (range.onward, range.within start (omega arith) range.some, range.before)
-
 pub asked_least : (pair : Pair) (placed : PlacedValue) (lacked : Numbers) (lo : ℕ) (o : Option ℕ) → is_request placed.act pair.reader pair.writer ≡ true → ((n : ℕ) → numbers_have lacked n ≡ (said placed.act.body).lacked n)
     → IsLeastFrom (numbers_have lacked) lo o → IsLeastFrom (λ n. asks_for pair.writer pair.reader n placed) lo o
-asked_least pair placed lacked lo o answers are least =
-    least_same (λ n. asks_for pair.writer pair.reader n placed) (numbers_have lacked) lo o (λ n. ap (λ b. b && (said placed.act.body).lacked n) answers ∙ sym (are n)) least
+asked_least pair placed lacked lo o answers are least = grind (arith, nat_tests)
 
 -- ---- the same by the acts of one
 
@@ -104,8 +78,7 @@ claims_same pair place (x ∷ placed) = by (base_for pair.writer pair.reader x.a
     by (Some base) said h = ap (λ b. (is_before place x && nat_lt 1 base) || b) h ∙ sym (ap (λ o. (is_before place x && nat_lt 1 (unwrap_or o 0)) || rest) said)
 
 pub asked_same : (pair : Pair) (n : ℕ) (placed : List PlacedValue) → list_any (asks_for pair.writer pair.reader n) (filter (is_from pair.reader) placed) ≡ list_any (asks_for pair.writer pair.reader n) placed
-asked_same pair n placed = any_filter (asks_for pair.writer pair.reader n) (is_from pair.reader) (λ at h.
-    requester_is_origin pair.reader pair.writer at (and_parts (is_request at.act pair.reader pair.writer) ((said at.act.body).lacked n) h).0) placed
+asked_same pair n placed = grind (arith, nat_tests, common_steps, any_filter, requester_is_origin, and_parts)
 
 -- the greatest of what is 0 for all that are left out
 pub greatest_filter : (number : PlacedValue → ℕ) (keeps : PlacedValue → Bool) → ((x : PlacedValue) → keeps x ≡ false → number x ≡ 0) → (placed : List PlacedValue) → greatest (map number (filter keeps placed)) ≡ greatest (map number placed)
@@ -117,12 +90,7 @@ greatest_filter number keeps none (x ∷ placed) = by (keeps x) refl (greatest_f
     by false kept h = let zero = none x kept in omega (arith, h)
 
 pub announced_same : (writer : Guid) (place : Location) (placed : List PlacedValue) → announced_before place writer (filter (is_from writer) placed) ≡ announced_before place writer placed
-announced_same writer place placed = greatest_filter (number_before place writer) (is_from writer) (λ x kept. by x (is_before place x) (is_spoken_by x.act writer) refl kept) placed
-  where
-    by : (x : PlacedValue) (before spoken : Bool) → is_spoken_by x.act writer ≡ spoken → is_from writer x ≡ false → (if before then unwrap_or (if spoken then announced_of_body x.act.body else None) 0 else 0) ≡ 0
-    by x false spoken e kept = refl
-    by x true false e kept = refl
-    by x true true e kept = absurd (let yes = speaker_is_origin writer x e in let no : true ≡ false = sym yes ∙ kept in cc)
+announced_same writer place placed = grind (arith, nat_tests, common_steps, greatest_filter, speaker_is_origin)
 
 -- ---- who leaves first
 
@@ -131,19 +99,16 @@ AtLeast low None = Unit {0}
 AtLeast low (Some n) = low ≤ n
 
 lesser_left : (low : ℕ) (o : Option ℕ) → AtLeast low o → lesser_of (Some low) o ≡ Some low
-lesser_left low None h = refl
-lesser_left low (Some n) h = let le : low ≤ n = h in let e : min low n ≡ low = omega arith in ap (λ m. Some m) e
+lesser_left low o h = grind (arith, nat_tests)
 
 lesser_right : (low : ℕ) (o : Option ℕ) → AtLeast low o → lesser_of o (Some low) ≡ Some low
-lesser_right low None h = refl
-lesser_right low (Some n) h = let le : low ≤ n = h in let e : min n low ≡ low = omega arith in ap (λ m. Some m) e
+lesser_right low o h = grind (arith, nat_tests)
 
 abbrev pub datagram_of : Option PlacedValue → Option ℕ
 datagram_of o = option_map (λ (placed : PlacedValue). placed.datagram) o
 
 found_past : (test : PlacedValue → Bool) (x : PlacedValue) (xs : List PlacedValue) (k : Bool) → find test (cond k (x ∷ xs) xs) ≡ cond k (cond (test x) (Some x) (find test xs)) (find test xs)
-found_past test x xs true = refl
-found_past test x xs false = refl
+found_past test x xs k = grind (arith, nat_tests)
 
 later_found : (test keeps : PlacedValue → Bool) (low : ℕ) (xs : List PlacedValue) → AreOrdered low xs → AtLeast low (datagram_of (find test (filter keeps xs)))
 later_found test keeps low [] ordered = tt
@@ -193,8 +158,4 @@ pub for_reader : (pair : Pair) (place : Location) (placed : List PlacedValue) (o
     → IsLeastFrom (λ n. list_any (brings_behind (Some place) pair.writer pair.reader n) (filter (is_from pair.writer) placed)) owed brought
     → IsLeastFrom (λ n. list_any (asks_for pair.writer pair.reader n) (filter (is_from pair.reader) placed)) owed asked
     → found ≡ lesser_of brought asked → IsLeastFrom (is_for_reader place pair placed) owed found
-for_reader pair place placed owed brought asked found b a is =
-    subst (λ o. IsLeastFrom (is_for_reader place pair placed) owed o) (sym is)
-    (least_either (λ n. list_any (brings_behind (Some place) pair.writer pair.reader n) placed) (λ n. list_any (asks_for pair.writer pair.reader n) placed) owed brought asked
-    (least_same (λ n. list_any (brings_behind (Some place) pair.writer pair.reader n) placed) _ owed brought (λ n. sym (brought_same (Some place) pair.writer pair.reader n placed)) b)
-    (least_same (λ n. list_any (asks_for pair.writer pair.reader n) placed) _ owed asked (λ n. sym (asked_same pair n placed)) a))
+for_reader pair place placed owed brought asked found b a is = grind (arith, nat_tests, common_steps, least_either, least_same, brought_same, asked_same)

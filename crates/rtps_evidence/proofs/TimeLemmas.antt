@@ -1,8 +1,9 @@
 -- The greatest of times and their greatest step back, one after another.
-use Rattle.std.proofs.Common.{◌≡◌, ◌∙◌, ℕ, ◌+◌, ◌<◌, ◌||◌, List, [], ◌∷◌, ◌++◌, get_or, length, map, max, take, below_more, Option, Some, None, refl, sym, ap, arith}
+use Rattle.std.proofs.lemmas.Grind.{common_steps}
+use Rattle.std.proofs.lemmas.Bool.Decides.{nat_tests}
+use Rattle.std.proofs.Common.{◌≡◌, ◌∙◌, ℕ, ◌+◌, ◌<◌, ◌||◌, List, [], ◌∷◌, ◌++◌, get_or, length, map, max, take, Option, Some, None, refl, sym, ap, arith}
 use Rattle.std.specs.Prelude.{is_some}
-use Rattle.std.proofs.Math.Seq.{get_or-append_seam}
-use Rattle.std.proofs.lemmas.List.{get_or_append_left, map-append, take_more}
+use Rattle.std.proofs.lemmas.List.{map-append, take_more}
 use Rattle.rtps_audit.specs.Delivery.{greatest}
 use Rattle.rtps_audit.proofs.Offered.{greatest-append}
 use Rattle.rtps_evidence.specs.Times.{are_there, back_from, end_of, later_of, step_back}
@@ -10,14 +11,10 @@ use Rattle.rtps_evidence.specs.Times.{are_there, back_from, end_of, later_of, st
 -- ---- the end
 
 later_last : (one other third : Option ℕ) → later_of one (later_of other third) ≡ later_of (later_of one other) third
-later_last None other third = refl
-later_last (Some a) None third = refl
-later_last (Some a) (Some b) None = refl
-later_last (Some a) (Some b) (Some c) = ap Some (let e : max a (max b c) ≡ max (max a b) c = omega arith in e)
+later_last one other third = grind (arith, nat_tests)
 
 later_none : (one : Option ℕ) → later_of one None ≡ one
-later_none None = refl
-later_none (Some a) = refl
+later_none one = grind (arith, nat_tests)
 
 end_push : (times : List (Option ℕ)) (time : Option ℕ) → end_of (times ++ time ∷ []) ≡ later_of (end_of times) time
 end_push [] time = later_none time
@@ -29,10 +26,7 @@ end_more times i lt = ap end_of (take_more times i None lt) ∙ end_push (take i
 -- the ends up to each, with one more
 pub ends_more : (times ends more : List (Option ℕ)) (i : ℕ) (latest : Option ℕ) → more ≡ ends ++ latest ∷ [] → length ends ≡ i → latest ≡ end_of (take (i + 1) times)
     → ((k : ℕ) → k < i → get_or ends k None ≡ end_of (take (k + 1) times)) → (k : ℕ) → k < i + 1 → get_or more k None ≡ end_of (take (k + 1) times)
-ends_more times ends more i latest is size last each =
-    below_more (λ k. get_or more k None ≡ end_of (take (k + 1) times)) i
-    (λ k lt. ap (λ l. get_or l k None) is ∙ get_or_append_left ends (latest ∷ []) None k (omega arith) ∙ each k lt)
-    (ap (λ l. get_or l i None) is ∙ ap (λ n. get_or (ends ++ latest ∷ []) n None) (sym size) ∙ get_or-append_seam ends latest [] None ∙ last)
+ends_more times ends more i latest is size last each = grind (arith, nat_tests, common_steps)
 
 -- some time is there where the list has an end
 pub there_is_end : (times : List (Option ℕ)) → is_some (end_of times) ≡ are_there times
@@ -48,16 +42,7 @@ there_is_end (time ∷ times) = either time (end_of times) ∙ ap (λ b. is_some
 
 -- the step from the later of two times is the greater of the steps from them
 back_later : (one other time : Option ℕ) → back_from (later_of one other) time ≡ max (back_from one time) (back_from other time)
-back_later None other time = by (back_from other time)
-  where
-    by : (n : ℕ) → n ≡ max 0 n
-    by n = omega arith
-back_later (Some a) None time = by (back_from (Some a) time)
-  where
-    by : (n : ℕ) → n ≡ max n 0
-    by n = omega arith
-back_later (Some a) (Some b) None = omega arith
-back_later (Some a) (Some b) (Some c) = omega arith
+back_later one other time = grind (arith, nat_tests)
 
 step_push : (times : List (Option ℕ)) (time : Option ℕ) → step_back (times ++ time ∷ []) ≡ max (step_back times) (back_from (end_of times) time)
 step_push [] time = omega arith

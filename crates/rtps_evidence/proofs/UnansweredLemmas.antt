@@ -1,27 +1,22 @@
 -- The walk over what a pair said ends in silence where its words are true.
-use Rattle.std.proofs.Common.{◌≡◌, ◌∙◌, ℕ, suc, ◌≤◌, ◌==◌, ◌&&◌, ◌||◌, Bool, true, false, cond, not, filter, length, pos, List, [], ◌∷◌, ◌++◌, Option, Some, None, refl, sym, ap, subst, arith}
-use Rattle.std.specs.Prelude.{if◌then◌else◌, is_some}
+use Rattle.std.proofs.lemmas.Grind.{common_steps}
+use Rattle.std.proofs.lemmas.Bool.Decides.{nat_tests}
+use Rattle.std.proofs.Common.{◌≡◌, ◌∙◌, ℕ, suc, ◌≤◌, ◌&&◌, ◌||◌, Bool, true, false, cond, not, filter, length, pos, List, [], ◌∷◌, ◌++◌, Option, Some, None, refl, sym, ap, subst, arith, rules}
+use Rattle.std.specs.Prelude.{is_some}
 use Rattle.std.specs.List.{cons_option, find, list_any}
-use Rattle.std.specs.Option.{option_map}
 use Rattle.std.proofs.lemmas.Bool.{and_parts}
 use Rattle.std.proofs.lemmas.List.Elements.{filter-append}
 use Rattle.std.proofs.lemmas.List.Folds.{list_any-append}
 use Rattle.rtps_ids.specs.declared.identity.Guid.{Guid}
-use Rattle.rtps_ids.specs.declared.identity.GuidPrefix.{GuidPrefix}
 use Rattle.rtps_discovery.specs.declared.matching.Pair.{Pair}
-use Rattle.rtps_receiver.specs.Speech.{is_answer, is_for, is_heard_by, is_prefix, is_spoken_by, names, names_pair, writer_named}
-use Rattle.rtps_receiver.specs.Values.{ActBodyValue}
-use Rattle.rtps_receiver.specs.Values.ActBodyValue.{Data, Heartbeat, AckNack, Gap, DataFrag, NackFrag}
-use Rattle.rtps_wire.specs.Values.{PayloadValue}
-use Rattle.rtps_audit.specs.Delivery.Word.{Told}
+use Rattle.rtps_receiver.specs.Speech.{is_answer, is_spoken_by}
 use Rattle.rtps_audit.specs.Placed.{PlacedValue, answer_at, answers_among, is_from}
-use Rattle.rtps_audit.specs.Speech.{base_for, word_of}
+use Rattle.rtps_audit.specs.Speech.{base_for}
 use Rattle.rtps_audit.specs.declared.answer.Answer.{Answer}
-use Rattle.rtps_audit.proofs.Offered.{speaker_is_origin}
-use Rattle.rtps_evidence.specs.Locations.{is_before, is_behind, location_of}
-use Rattle.rtps_evidence.specs.Outcomes.{Silence, answered, answers_left, asked_about, heard, is_answered, is_offered, is_silent, is_unanswered, told_gone, walked_all}
-use Rattle.rtps_evidence.specs.Outcomes.Silence.{Unasked, Once, Again, Answered, Silent, Ended}
-use Rattle.rtps_evidence.specs.Questions.{is_question, place_of, questions_behind}
+use Rattle.rtps_evidence.specs.Locations.{is_before, location_of}
+use Rattle.rtps_evidence.specs.Outcomes.{Silence, answered, answers_left, asked_about, heard, is_answered, is_silent, is_unanswered, told_gone, walked_all}
+use Rattle.rtps_evidence.specs.Outcomes.Silence.{Unasked, Once, Again, Answered}
+use Rattle.rtps_evidence.specs.Questions.{place_of}
 use Rattle.rtps_evidence.specs.Received.{is_gone, withdraws}
 use Rattle.rtps_evidence.specs.UnansweredLaw.{AreInOrder, IsUnanswered, UnansweredIsByItsWords, answers_between, asks_about, asks_before, is_data_frag}
 use Rattle.rtps_evidence.specs.declared.location.Location.{Location}
@@ -32,21 +27,16 @@ use Rattle.rtps_evidence.proofs.SilenceLemmas.{stays_told, told_twice}
 -- ---- tests
 
 and_no : (b : Bool) → (b && false) ≡ false
-and_no true = refl
-and_no false = refl
+and_no b = grind (arith, nat_tests)
 
 or_true : (b : Bool) → (b || true) ≡ true
-or_true true = refl
-or_true false = refl
+or_true b = grind (arith, nat_tests)
 
 or_no : (b : Bool) → (b || false) ≡ b
-or_no true = refl
-or_no false = refl
+or_no b = grind (arith, nat_tests)
 
 never : (a b : Bool) → (a && (b && false)) ≡ true → false ≡ true
-never true true e = e
-never true false e = e
-never false b e = e
+never a b h = grind (arith, nat_tests)
 
 -- none of these passes
 abbrev NoneOf : (PlacedValue → Bool) → List PlacedValue → Type 0
@@ -105,72 +95,27 @@ any_kept test (x ∷ xs) = by (test x) (any_kept test xs)
     by false e = e
 
 some_length : (xs : List PlacedValue) → is_some (first_item xs) ≡ true → 1 ≤ length xs
-some_length [] is = absurd (let no : false ≡ true = is in cc)
-some_length (x ∷ xs) is = omega arith
+some_length xs h = grind (arith, nat_tests)
 
 length_some : (xs : List PlacedValue) → 1 ≤ length xs → is_some (first_item xs) ≡ true
-length_some [] le = absurd (omega arith)
-length_some (x ∷ xs) le = refl
+length_some xs h = grind (arith, nat_tests)
 
 -- ---- acts
 
 answer_unspoken : (reader writer : Guid) (x : PlacedValue) → is_answer x.act reader writer ≡ true → is_spoken_by x.act writer ≡ false
-answer_unspoken reader writer x is = by x.act.source x.act.dest x.act.body is
-  where
-    by : (source : GuidPrefix) (dest : Option GuidPrefix) (body : ActBodyValue) → (is_prefix source reader.prefix && (is_for dest writer.prefix && names_pair body reader.entity writer.entity)) ≡ true
-        → (is_prefix source writer.prefix && names (writer_named body) writer.entity) ≡ false
-    by source dest (AckNack value) is = and_no (is_prefix source writer.prefix)
-    by source dest (Data value) is = absurd (let no : false ≡ true = never _ _ is in cc)
-    by source dest (Heartbeat value) is = absurd (let no : false ≡ true = never _ _ is in cc)
-    by source dest (Gap value) is = absurd (let no : false ≡ true = never _ _ is in cc)
-    by source dest (DataFrag value) is = absurd (let no : false ≡ true = never _ _ is in cc)
-    by source dest (NackFrag value) is = absurd (let no : false ≡ true = never _ _ is in cc)
+answer_unspoken reader writer x is = grind (arith, nat_tests)
 
 other_unspoken : (writer : Guid) (x : PlacedValue) → is_from writer x ≡ false → is_spoken_by x.act writer ≡ false
-other_unspoken writer x from = by (is_spoken_by x.act writer) refl
-  where
-    by : (b : Bool) → is_spoken_by x.act writer ≡ b → is_spoken_by x.act writer ≡ false
-    by true at = absurd (let no : false ≡ true = sym from ∙ speaker_is_origin writer x at in cc)
-    by false at = at
+other_unspoken writer x from = search rules
 
 answer_whole : (reader writer : Guid) (x : PlacedValue) → is_answer x.act reader writer ≡ true → is_data_frag x.act.body ≡ false
-answer_whole reader writer x is = by (is_prefix x.act.source reader.prefix) (is_for x.act.dest writer.prefix) x.act.body is
-  where
-    by : (a b : Bool) (body : ActBodyValue) → (a && (b && names_pair body reader.entity writer.entity)) ≡ true → is_data_frag body ≡ false
-    by a b (AckNack value) is = refl
-    by a b (Data value) is = refl
-    by a b (Heartbeat value) is = refl
-    by a b (Gap value) is = refl
-    by a b (DataFrag value) is = absurd (let no : false ≡ true = never a b is in cc)
-    by a b (NackFrag value) is = refl
+answer_whole reader writer x is = grind (arith, nat_tests)
 
 gone_whole : (writer reader : Guid) (n : ℕ) (x : PlacedValue) → withdraws writer reader n x ≡ true → is_data_frag x.act.body ≡ false
-gone_whole writer reader n x is = by (is_spoken_by x.act writer && is_heard_by x.act reader) x.act.body is
-  where
-    told : (b c : Bool) (payload : Option PayloadValue) → is_gone (cond b (cond c (option_map Told payload) None) None) ≡ false
-    told true true (Some payload) = refl
-    told true true None = refl
-    told true false payload = refl
-    told false c payload = refl
-
-    by : (b : Bool) (body : ActBodyValue) → is_gone (if b then word_of body n else None) ≡ true → is_data_frag body ≡ false
-    by b (AckNack value) is = refl
-    by b (Data value) is = refl
-    by b (Heartbeat value) is = refl
-    by b (Gap value) is = refl
-    by b (DataFrag value) is = absurd (let no : false ≡ true = sym (told b (n == value.number) value.told) ∙ is in cc)
-    by b (NackFrag value) is = refl
+gone_whole writer reader n x is = grind (arith, nat_tests)
 
 asks_whole : (since : Option Location) (pair : Pair) (n : ℕ) (x : PlacedValue) → asks_about since pair n x ≡ true → is_data_frag x.act.body ≡ false
-asks_whole since pair n x is = by (questions_behind since pair.writer pair.reader x) x.act.body is
-  where
-    by : (b : Bool) (body : ActBodyValue) → (b && is_offered body n) ≡ true → is_data_frag body ≡ false
-    by b (AckNack value) is = refl
-    by b (Data value) is = refl
-    by b (Heartbeat value) is = refl
-    by b (Gap value) is = refl
-    by b (DataFrag value) is = absurd (let no : false ≡ true = sym (and_no b) ∙ is in cc)
-    by b (NackFrag value) is = refl
+asks_whole since pair n x is = grind (arith, nat_tests)
 
 -- ---- answers among acts
 
@@ -191,11 +136,7 @@ answer_first pair x xs is = by (base_for pair.writer pair.reader x.act) refl (an
     }
 
 answer_past : (pair : Pair) (x : PlacedValue) (xs : List PlacedValue) → is_answer x.act pair.reader pair.writer ≡ false → answers_among pair (x ∷ xs) ≡ answers_among pair xs
-answer_past pair x xs is = by (base_for pair.writer pair.reader x.act) refl (answer_has_base pair.writer pair.reader x.act.source x.act.dest x.act.body ∙ is)
-  where
-    by : (base : Option ℕ) → base_for pair.writer pair.reader x.act ≡ base → is_some (base_for pair.writer pair.reader x.act) ≡ false → answers_among pair (x ∷ xs) ≡ answers_among pair xs
-    by None at has = ap (λ o. cons_option (answer_at x.datagram x.act.at o) (answers_among pair xs)) at
-    by (Some base) at has = absurd (let no : true ≡ false = sym (ap is_some at) ∙ has in cc)
+answer_past pair x xs is = grind (arith, nat_tests)
 
 -- those that stand at no place before one are left there
 record Stay (place : Location) (answers : List Answer) : Type 0 where
@@ -260,36 +201,16 @@ same_waits pair x xs answers waits is all =
 -- ---- how far it came, in one walk over all acts
 
 answered_twice : (s : Silence) → answered (answered s) ≡ answered s
-answered_twice Unasked = refl
-answered_twice Once = refl
-answered_twice Again = refl
-answered_twice Answered = refl
-answered_twice Silent = refl
-answered_twice Ended = refl
+answered_twice s = grind (arith, nat_tests)
 
 silent_answered : (s : Silence) → is_silent (answered s) ≡ is_silent s
-silent_answered Unasked = refl
-silent_answered Once = refl
-silent_answered Again = refl
-silent_answered Answered = refl
-silent_answered Silent = refl
-silent_answered Ended = refl
+silent_answered s = grind (arith, nat_tests)
 
 silent_asked : (s : Silence) → is_silent (asked_about s) ≡ is_silent s
-silent_asked Unasked = refl
-silent_asked Once = refl
-silent_asked Again = refl
-silent_asked Answered = refl
-silent_asked Silent = refl
-silent_asked Ended = refl
+silent_asked s = grind (arith, nat_tests)
 
 told_answered : (s : Silence) → answered (told_gone s) ≡ told_gone s
-told_answered Unasked = refl
-told_answered Once = refl
-told_answered Again = refl
-told_answered Answered = refl
-told_answered Silent = refl
-told_answered Ended = refl
+told_answered s = grind (arith, nat_tests)
 
 module _ (since : Option Location) (pair : Pair) (n : ℕ) where
   abbrev goes : PlacedValue → Bool
@@ -302,35 +223,13 @@ module _ (since : Option Location) (pair : Pair) (n : ℕ) where
   answers x = is_answer x.act pair.reader pair.writer
 
   unspoken_stays : (x : PlacedValue) → is_spoken_by x.act pair.writer ≡ false → (goes x ≡ false) × (asks x ≡ false)
-  unspoken_stays x out = (
-    ap (λ b. is_gone (if b && is_heard_by x.act pair.reader then word_of x.act.body n else None)) out,
-    ap (λ b. (is_behind since x && (b && (is_heard_by x.act pair.reader && is_question x.act.body))) && is_offered x.act.body n) out ∙ by (is_behind since x),
-  )
-    where
-      by : (b : Bool) → ((b && false) && is_offered x.act.body n) ≡ false
-      by true = refl
-      by false = refl
-
-  no_answer : (x : PlacedValue) → is_spoken_by x.act pair.writer ≡ true → answers x ≡ false
-  no_answer x is = by (answers x) refl
-    where
-      by : (b : Bool) → answers x ≡ b → answers x ≡ false
-      by true at = absurd (let no : true ≡ false = sym is ∙ answer_unspoken pair.reader pair.writer x at in cc)
-      by false at = at
+  unspoken_stays x out = grind (arith, nat_tests)
 
   gone_no_answer : (x : PlacedValue) → goes x ≡ true → answers x ≡ false
-  gone_no_answer x is = by (is_spoken_by x.act pair.writer) refl
-    where
-      by : (b : Bool) → is_spoken_by x.act pair.writer ≡ b → answers x ≡ false
-      by true at = no_answer x at
-      by false at = absurd (let no : false ≡ true = sym (unspoken_stays x at).0 ∙ is in cc)
+  gone_no_answer x is = grind (arith, nat_tests)
 
   asks_no_answer : (x : PlacedValue) → asks x ≡ true → answers x ≡ false
-  asks_no_answer x is = by (is_spoken_by x.act pair.writer) refl
-    where
-      by : (b : Bool) → is_spoken_by x.act pair.writer ≡ b → answers x ≡ false
-      by true at = no_answer x at
-      by false at = absurd (let no : false ≡ true = sym (unspoken_stays x at).1 ∙ is in cc)
+  asks_no_answer x is = grind (arith, nat_tests)
 
   unheard : (x : PlacedValue) (s : Silence) → goes x ≡ false → asks x ≡ false → heard since pair n x s ≡ s
   unheard x s out none = ap (λ b. cond b (told_gone s) (cond (asks x) (asked_about s) s)) out ∙ ap (λ b. cond b (asked_about s) s) none
@@ -479,13 +378,7 @@ module _ (since : Option Location) (pair : Pair) (n : ℕ) where
       by false false false = refl
 
   told_at : (s : Silence) (before : List PlacedValue) (g : PlacedValue) (rest : List PlacedValue) → goes g ≡ true → is_silent (merged s (before ++ g ∷ rest)) ≡ ends (merged s before)
-  told_at s before g rest is =
-      ap is_silent (merged_on s before (g ∷ rest) ∙ ap (λ t. merged t rest) (here (merged s before)) ∙ stays_gone (merged s before) rest)
-    where
-      here : (t : Silence) → step g t ≡ told_gone t
-      here t =
-          ap (λ a. cond a (answered t) (heard since pair n g t)) (gone_no_answer g is)
-          ∙ ap (λ w. cond w (told_gone t) (cond (asks g) (asked_about t) t)) is
+  told_at s before g rest is = grind (arith, nat_tests, common_steps, merged_on, stays_gone, gone_no_answer, asks)
 
   asked_at : (one : List PlacedValue) (q : PlacedValue) (two : List PlacedValue) → NoneOf goes (one ++ q ∷ two) → NoneOf asks one → asks q ≡ true → ends (merged Unasked (one ++ q ∷ two)) ≡ (list_any asks two && not (list_any answers two))
   asked_at one q two none unasked is =
@@ -504,9 +397,7 @@ module _ (since : Option Location) (pair : Pair) (n : ℕ) where
 -- ---- by places
 
 none_there : (test : PlacedValue → Bool) (place : Location) (xs : List PlacedValue) → Each (λ (y : PlacedValue). NotAfter place (location_of y)) xs → filter (λ x. is_before place x && test x) xs ≡ []
-none_there test place xs later =
-    none_kept (λ x. is_before place x && test x) xs
-    (each_weaker (λ (y : PlacedValue). NotAfter place (location_of y)) (λ (y : PlacedValue). (is_before place y && test y) ≡ false) (λ y le. ap (λ b. b && test y) (is_not_before place (location_of y) le)) xs later)
+none_there test place xs later = grind (arith, nat_tests, common_steps, none_kept, each_weaker, NotAfter, is_not_before)
 
 kept_before : (test : PlacedValue → Bool) (place : Location) (before rest : List PlacedValue) → Each (λ (y : PlacedValue). Before (location_of y) place) before → Each (λ (y : PlacedValue). NotAfter place (location_of y)) rest
     → filter (λ x. is_before place x && test x) (before ++ rest) ≡ filter test before
@@ -611,8 +502,7 @@ first_found since pair acts n g at order =
     ∙ sym (find_kept (asks_about since pair n) at.before)
 
 not_true : (b : Bool) → not b ≡ true → b ≡ false
-not_true true is = absurd (let no : false ≡ true = is in cc)
-not_true false is = refl
+not_true b h = grind (arith, nat_tests)
 
 said : (since : Option Location) (pair : Pair) (acts : List PlacedValue) (n : ℕ) → AreInOrder acts → is_unanswered since pair acts n ≡ true → IsUnanswered since pair acts n
 said since pair acts n order is = by (find (withdraws pair.writer pair.reader n) acts) refl

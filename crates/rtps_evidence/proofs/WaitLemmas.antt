@@ -1,28 +1,26 @@
 -- The first answer behind a place, the longest of some waits, one after another, and that there is none without times.
-use Rattle.std.proofs.Common.{◌≡◌, ◌∙◌, ℕ, zero, suc, ◌+◌, ◌-◌, ◌<◌, ◌≤◌, ◌==◌, ◌&&◌, Bool, true, false, cond, nat_lt, List, [], ◌∷◌, ◌++◌, add-one, append-nil, filter, get_or, length, map, max, take, Option, Some, None, refl, sym, ap, arith, inl, inr}
+use Rattle.std.proofs.lemmas.Grind.{common_steps}
+use Rattle.std.proofs.Common.{◌≡◌, ◌∙◌, ℕ, zero, suc, ◌+◌, ◌-◌, ◌<◌, ◌≤◌, ◌==◌, Bool, true, false, cond, nat_lt, List, [], ◌∷◌, ◌++◌, add-one, append-nil, filter, get_or, length, map, max, take, Option, Some, None, refl, sym, ap, arith, inl, inr}
 use Rattle.std.specs.Prelude.{slice_get}
 use Rattle.std.specs.List.{cons_option, find}
 use Rattle.std.specs.Option.{option_or}
 use Rattle.std.proofs.lemmas.Bool.{and_parts, cases_lt}
 use Rattle.std.proofs.lemmas.Bool.Decides.{nat_tests}
 use Rattle.std.proofs.lemmas.List.{map-append}
-use Rattle.std.proofs.lemmas.List.Elements.{filter-append, filter_map-append}
+use Rattle.std.proofs.lemmas.List.Elements.{filter_map-append}
 use Rattle.std.proofs.lemmas.List.Folds.{find-append}
 use Rattle.rtps_discovery.specs.declared.matching.Pair.{Pair}
-use Rattle.rtps_receiver.specs.Speech.{is_heard_by, is_spoken_by}
 use Rattle.rtps_audit.specs.Delivery.{greatest}
 use Rattle.rtps_audit.specs.Placed.{PlacedValue, is_from, placed_value}
 use Rattle.rtps_audit.specs.declared.answer.Answer.{Answer}
 use Rattle.rtps_audit.specs.declared.placed.Placed.{Placed}
 use Rattle.rtps_audit.proofs.Offered.{greatest-append, speaker_is_origin}
-use Rattle.rtps_evidence.specs.Locations.{is_behind, location_of}
-use Rattle.rtps_evidence.specs.Questions.{is_question, place_of, questions_behind}
+use Rattle.rtps_evidence.specs.Locations.{location_of}
 use Rattle.rtps_evidence.specs.Times.{are_there, time_of}
 use Rattle.rtps_evidence.specs.Waits.{HasPassed, answered_at, answers_behind, ended_at, length_of, longer_of, longest, precedes, questions_of, told_of, wait_from, wait_of, waits_of}
 use Rattle.rtps_evidence.specs.declared.location.Location.{Location}
 use Rattle.rtps_evidence.specs.declared.waits.Wait.{Wait}
 use Rattle.rtps_evidence.proofs.QuestionLemmas.{filter_filter}
-use Rattle.rtps_evidence.proofs.RequestLemmas.{taken_more}
 
 -- ---- the first element that passes, where those before it do not
 
@@ -34,8 +32,7 @@ none_then {X} test x rest none = by (test x) refl none
     by false is none = (is, none)
 
 none_first : {X : Type 0} (test : X → Bool) (xs : List X) → find test (take zero xs) ≡ None
-none_first test [] = refl
-none_first test (x ∷ xs) = refl
+none_first test xs = grind (arith, nat_tests)
 
 pub none_past : {X : Type 0} (test : X → Bool) (xs : List X) (k : ℕ) (d : X) → k < length xs → find test (take k xs) ≡ None → test (get_or xs k d) ≡ false → find test (take (k + 1) xs) ≡ None
 none_past {X} test xs k d lt none is = rw add-one (by xs k lt none is)
@@ -77,11 +74,7 @@ not_behind : (one other place : Location) → precedes other one ≡ false → p
 not_behind one other place late early = grind (arith, nat_tests)
 
 pub passed_on : (answers : List Answer) (passed : ℕ) (one other : Location) → precedes other one ≡ false → HasPassed answers passed one → HasPassed answers passed other
-passed_on answers passed one other late has =
-    record {
-      within = has.within;
-      none = none_weaker (answers_behind one) (answers_behind other) (λ answer early. not_behind one other (place_of answer) late early) (take passed answers) has.none;
-    }
+passed_on answers passed one other late has = grind (arith, nat_tests, common_steps, none_weaker, not_behind)
 
 -- ---- the longest wait, with one more
 
@@ -139,50 +132,26 @@ longest_push (one ∷ waits) wait =
     ∙ sym (ap (λ o. longer_of o (Some wait)) there.1)
 
 pub longest_more : (waits : List Wait) (wait : Option Wait) → longest (waits ++ cons_option wait []) ≡ longer_of (longest waits) wait
-longest_more waits None = ap longest (append-nil waits) ∙ by (longest waits)
-  where
-    by : (one : Option Wait) → one ≡ longer_of one None
-    by None = refl
-    by (Some one) = refl
-longest_more waits (Some wait) = longest_push waits wait
+longest_more waits wait = grind (arith, nat_tests, common_steps, append-nil, longest_push)
 
 pub waits_more : (times : List (Option ℕ)) (end : Option ℕ) (answers : List Answer) (questions : List PlacedValue) (question : PlacedValue)
     → longest (waits_of times end answers (questions ++ question ∷ [])) ≡ longer_of (longest (waits_of times end answers questions)) (wait_from times end answers question)
-waits_more times end answers questions question =
-    ap longest (filter_map-append (wait_from times end answers) questions (question ∷ [])) ∙ longest_more (waits_of times end answers questions) (wait_from times end answers question)
+waits_more times end answers questions question = grind (arith, nat_tests, common_steps, filter_map-append, longest_more)
 
 -- ---- the questions, one after another
 
 pub questions_more : (test : PlacedValue → Bool) (acts : List Placed) (i : ℕ) (x : Placed) → i < length acts → x ≡ get_or acts i x → (b : Bool) → test (placed_value x) ≡ b
     → filter test (map placed_value (take (i + 1) acts)) ≡ filter test (map placed_value (take i acts)) ++ cond b (placed_value x ∷ []) []
-questions_more test acts i x lt at b is =
-    ap (filter test) (taken_more acts i x lt at)
-    ∙ filter-append test (map placed_value (take i acts)) (placed_value x ∷ [])
-    ∙ ap (λ c. filter test (map placed_value (take i acts)) ++ cond c (placed_value x ∷ []) []) is
+questions_more test acts i x lt at b is = grind (arith, nat_tests, common_steps)
 
 -- those of the writer's acts are those of all acts
 pub questions_same : (since : Option Location) (pair : Pair) (acts : List PlacedValue) → questions_of since pair (filter (is_from pair.writer) acts) ≡ questions_of since pair acts
-questions_same since pair acts = filter_filter (questions_behind since pair.writer pair.reader) (is_from pair.writer) (λ at passes. speaker_is_origin pair.writer at (spoken at passes)) acts
-  where
-    spoken : (at : PlacedValue) → questions_behind since pair.writer pair.reader at ≡ true → is_spoken_by at.act pair.writer ≡ true
-    spoken at passes =
-        let parts = and_parts (is_behind since at) (is_spoken_by at.act pair.writer && (is_heard_by at.act pair.reader && is_question at.act.body)) passes in
-        (and_parts (is_spoken_by at.act pair.writer) (is_heard_by at.act pair.reader && is_question at.act.body) parts.1).0
+questions_same since pair acts = grind (arith, nat_tests, common_steps, filter_filter, speaker_is_origin, and_parts)
 
 -- ---- where no datagram has a time
 
-none_timed : (times : List (Option ℕ)) (k : ℕ) → are_there times ≡ false → get_or times k None ≡ None
-none_timed [] k lacks = refl
-none_timed (None ∷ times) zero lacks = refl
-none_timed (None ∷ times) (suc k) lacks = none_timed times k lacks
-none_timed (Some time ∷ times) k lacks = absurd (let yes : true ≡ false = lacks in cc)
-
 untimed : (times : List (Option ℕ)) (number : ℕ) → are_there times ≡ false → time_of times number ≡ None
-untimed times number lacks = by (nat_lt 0 number)
-  where
-    by : (b : Bool) → cond b (get_or times (number - 1) None) None ≡ None
-    by true = none_timed times (number - 1) lacks
-    by false = refl
+untimed times number lacks = grind (arith, nat_tests, common_steps)
 
 no_waits : (times : List (Option ℕ)) (end : Option ℕ) (answers : List Answer) (questions : List PlacedValue) → are_there times ≡ false → waits_of times end answers questions ≡ []
 no_waits times end answers [] lacks = refl

@@ -1,26 +1,15 @@
 -- How many numbers have a payload, are gone, or have no word. own: numbers go up to 2^63 - 1, so they are counted by stretches
 -- of them and never one by one.
-use Rattle.std.specs.Prelude.{ℕ, Bool, ◌-◌, ◌+◌, ◌≡◌, ◌&&◌, nat_le, nat_lt, not, List, filter, length}
-use Rattle.std.specs.List.{list_any, range_with_len}
+use Rattle.std.specs.Prelude.{ℕ, Bool, ◌+◌, ◌≡◌, ◌&&◌, nat_le, nat_lt, not, List}
+use Rattle.std.specs.List.{list_any}
 use Rattle.rtps_ids.specs.declared.identity.Guid.{Guid}
 use Rattle.rtps_audit.specs.Placed.{PlacedValue}
+use Rattle.rtps_coverage.specs.Counts.{count_in}
+use Rattle.rtps_coverage.specs.Stretches.{stretches_have}
 use Rattle.rtps_evidence.specs.Locations.{sends, tells}
 use Rattle.rtps_evidence.specs.declared.amount.Amounts.{Amounts}
 use Rattle.rtps_evidence.specs.declared.amount.HeardNumbers.{HeardNumbers}
-use Rattle.rtps_evidence.specs.declared.amount.Stretch.{Stretch}
 use Rattle.rtps_evidence.specs.declared.withdrawal.Withdrawal.{Withdrawal}
-
--- how many of the numbers from lo on and below hi have it
-abbrev pub count_in : (ℕ → Bool) → ℕ → ℕ → ℕ
-count_in has lo hi = length (filter has (range_with_len lo (hi - lo)))
-
--- whether a stretch has a number
-abbrev pub stretch_has : ℕ → Stretch → Bool
-stretch_has n stretch = nat_le stretch.lo n && nat_lt n stretch.hi
-
--- whether some stretch does
-abbrev pub stretches_have : List Stretch → ℕ → Bool
-stretches_have stretches n = list_any (stretch_has n) stretches
 
 -- whether the reader hears a word for n from the writer, by some act
 abbrev pub is_told : Guid → Guid → List PlacedValue → ℕ → Bool

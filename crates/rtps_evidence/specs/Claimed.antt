@@ -6,14 +6,15 @@ use Rattle.rtps_ids.specs.declared.identity.Guid.{Guid}
 use Rattle.rtps_discovery.specs.declared.matching.Pair.{Pair}
 use Rattle.rtps_audit.specs.Delivery.{greatest}
 use Rattle.rtps_audit.specs.Placed.{PlacedValue}
-use Rattle.rtps_audit.specs.Speech.{natural}
+use Rattle.rtps_receiver.specs.Said.{natural}
 use Rattle.rtps_audit.specs.declared.answer.Answer.{Answer}
 use Rattle.rtps_audit.specs.declared.verdict.Verdict.{Verdict}
 use Rattle.rtps_audit.specs.declared.verdict.Verdict.TheVariants.{Unfounded, Conflict, Open, Complete}
-use Rattle.rtps_evidence.specs.Amount.{some_withdrawn, stretches_have, withdrawal_has}
+use Rattle.rtps_coverage.specs.Stretches.{stretches_have}
+use Rattle.rtps_evidence.specs.Amount.{some_withdrawn, withdrawal_has}
 use Rattle.rtps_evidence.specs.Received.{is_received, withdraws_before}
-use Rattle.rtps_evidence.specs.Rising.{AreRising, some_reaches}
-use Rattle.rtps_evidence.specs.declared.amount.Stretch.{Stretch}
+use Rattle.rtps_coverage.specs.Rising.{AreRising, some_reaches}
+use Rattle.rtps_coverage.specs.declared.stretch.Stretch.{Stretch}
 use Rattle.rtps_evidence.specs.declared.claimed.Certainty.{Certainty}
 use Rattle.rtps_evidence.specs.declared.withdrawal.Withdrawal.{Withdrawal}
 
@@ -57,8 +58,3 @@ is_unfounded (Unfounded datagram number) = true
 is_unfounded (Conflict number) = false
 is_unfounded (Open number) = false
 is_unfounded (Complete last) = false
-
--- the number is there, and is n
-abbrev pub is_at : ℕ → Option ℕ → Bool
-is_at n None = false
-is_at n (Some number) = number == n

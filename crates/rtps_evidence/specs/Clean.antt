@@ -6,7 +6,7 @@ use Rattle.rtps_discovery.specs.declared.matching.Pair.{Pair}
 use Rattle.rtps_audit.specs.Placed.{PlacedValue}
 use Rattle.rtps_audit.specs.declared.verdict.Verdict.{Verdict}
 use Rattle.rtps_audit.specs.declared.verdict.Verdict.TheVariants.{Unfounded, Conflict, Open, Complete}
-use Rattle.rtps_evidence.specs.Amount.{count_in}
+use Rattle.rtps_coverage.specs.Counts.{count_in}
 use Rattle.rtps_evidence.specs.Locations.{greatest_base}
 use Rattle.rtps_evidence.specs.Outcomes.{AreOutcomes, outcome_of}
 use Rattle.rtps_evidence.specs.declared.location.Location.{Location}

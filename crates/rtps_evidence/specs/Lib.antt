@@ -1,7 +1,6 @@
 pub mod Locations
 pub mod Amount
 pub mod FirstNumbers
-pub mod Rising
 pub mod Received
 pub mod OtherSide
 pub mod Recorded

@@ -8,14 +8,14 @@ use Rattle.std.specs.Str.{bytes_eq}
 use Rattle.rtps_ids.specs.declared.identity.Guid.{Guid}
 use Rattle.rtps_wire.specs.Values.{PayloadValue}
 use Rattle.rtps_wire.specs.Values.PayloadValue.{Absent, Whole, Key}
-use Rattle.rtps_receiver.specs.Said.{SaidValue, nothing, said}
+use Rattle.rtps_receiver.specs.Said.{SaidValue, natural, nothing, said}
 use Rattle.rtps_receiver.specs.Speech.{is_heard_by, is_spoken_by}
 use Rattle.rtps_receiver.specs.Values.{ActBodyValue}
 use Rattle.rtps_receiver.specs.Values.ActBodyValue.{Data as DataAct, Heartbeat as HeartbeatAct, AckNack as AckNackAct, Gap as GapAct, DataFrag as DataFragAct, NackFrag as NackFragAct}
 use Rattle.rtps_audit.specs.Delivery.{Word, greatest, is_asked}
 use Rattle.rtps_audit.specs.Delivery.Word.{Told, Gone}
 use Rattle.rtps_audit.specs.Placed.{PlacedValue}
-use Rattle.rtps_audit.specs.Speech.{announced_for, base_for, natural, word_for}
+use Rattle.rtps_audit.specs.Speech.{announced_for, base_for, word_for}
 use Rattle.rtps_audit.specs.declared.answer.Answer.{Answer}
 use Rattle.rtps_evidence.specs.declared.location.Location.{Location}
 use Rattle.rtps_evidence.specs.declared.location.Kind.{Kind}

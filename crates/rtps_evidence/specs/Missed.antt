@@ -5,14 +5,13 @@ use Rattle.std.specs.Prelude.{ℕ, Bool, false, ◌+◌, ◌≡◌, ◌&&◌, �
 use Rattle.std.specs.List.{find, list_any}
 use Rattle.std.specs.Option.{option_map}
 use Rattle.rtps_ids.specs.declared.identity.Guid.{Guid}
-use Rattle.rtps_receiver.specs.Said.{said}
+use Rattle.rtps_receiver.specs.Said.{is_at, said}
 use Rattle.rtps_receiver.specs.Speech.{is_heard_by, is_request, is_spoken_by}
 use Rattle.rtps_discovery.specs.Endpoint.{EndpointValue}
 use Rattle.rtps_discovery.specs.Notice.{announcement_of as notice_of, endpoint_in}
 use Rattle.rtps_audit.specs.Placed.{PlacedValue, is_guid}
 use Rattle.rtps_audit.specs.declared.announced_places.AnnouncedPlace.{AnnouncedPlace}
-use Rattle.rtps_evidence.specs.Amount.{count_in}
-use Rattle.rtps_evidence.specs.Claimed.{is_at}
+use Rattle.rtps_coverage.specs.Counts.{count_in}
 use Rattle.rtps_evidence.specs.Locations.{find_last, is_before, is_behind, location_of, teller_at}
 use Rattle.rtps_evidence.specs.Received.{is_received, least_in, withdraws}
 use Rattle.rtps_evidence.specs.declared.location.Location.{Location}

@@ -8,8 +8,9 @@ use Rattle.rtps_policies.specs.Namings.{AreNamingsOf, named_in}
 use Rattle.rtps_audit.specs.Index.{IsIndexBy}
 use Rattle.rtps_audit.specs.Intake.{Intake}
 use Rattle.rtps_audit.specs.Placed.{placed_in}
-use Rattle.rtps_evidence.specs.Amount.{is_sent, stretches_have}
-use Rattle.rtps_evidence.specs.declared.amount.Stretch.{Stretch}
+use Rattle.rtps_coverage.specs.Stretches.{stretches_have}
+use Rattle.rtps_evidence.specs.Amount.{is_sent}
+use Rattle.rtps_coverage.specs.declared.stretch.Stretch.{Stretch}
 use Rattle.rtps_evidence.specs.declared.other_side.OtherSide.{OtherSide}
 use Rattle.rtps_evidence.specs.declared.other_side.Sides.{Sides}
 

@@ -10,9 +10,11 @@ use Rattle.rtps_receiver.specs.Values.{ActBodyValue, ActValue}
 use Rattle.rtps_receiver.specs.Values.ActBodyValue.{Data, Heartbeat, AckNack, Gap, DataFrag, NackFrag}
 use Rattle.rtps_audit.specs.Delivery.{DeliveryState, Ends}
 use Rattle.rtps_audit.specs.Placed.{PlacedValue, answers_among, is_from, placed_in}
-use Rattle.rtps_audit.specs.Speech.{natural, speech_by}
+use Rattle.rtps_receiver.specs.Said.{natural}
+use Rattle.rtps_audit.specs.Speech.{speech_by}
 use Rattle.rtps_audit.specs.declared.answer.Answer.{Answer}
-use Rattle.rtps_evidence.specs.Amount.{count_in, is_sent}
+use Rattle.rtps_coverage.specs.Counts.{count_in}
+use Rattle.rtps_evidence.specs.Amount.{is_sent}
 use Rattle.rtps_evidence.specs.FirstNumbers.{first_ten}
 use Rattle.rtps_evidence.specs.Locations.{location_of}
 use Rattle.rtps_evidence.specs.Missed.{brings_behind, is_wanting}

@@ -12,7 +12,7 @@ use Rattle.rtps_audit.specs.Delivery.{DeliveryState, Ends, HasRun, IsAsked, Word
 use Rattle.rtps_audit.specs.Delivery.Word.{Told, Gone}
 use Rattle.rtps_audit.specs.Placed.{PlacedValue, placed_in}
 use Rattle.rtps_audit.specs.Speech.{speech_by, word_for}
-use Rattle.rtps_evidence.specs.Amount.{count_in}
+use Rattle.rtps_coverage.specs.Counts.{count_in}
 use Rattle.rtps_evidence.specs.Locations.{base_said, location_of, sends, teller_at}
 use Rattle.rtps_evidence.specs.declared.teller.Teller.{Teller}
 use Rattle.rtps_evidence.specs.declared.not_received.NotReceived.{NotReceived}

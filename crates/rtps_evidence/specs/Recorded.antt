@@ -10,7 +10,8 @@ use Rattle.rtps_audit.specs.Delivery.{greatest}
 use Rattle.rtps_audit.specs.Intake.{Intake}
 use Rattle.rtps_audit.specs.Placed.{PlacedValue, placed_in}
 use Rattle.rtps_audit.specs.Said.{datagrams_until}
-use Rattle.rtps_evidence.specs.Amount.{count_in, is_sent}
+use Rattle.rtps_coverage.specs.Counts.{count_in}
+use Rattle.rtps_evidence.specs.Amount.{is_sent}
 use Rattle.rtps_evidence.specs.FirstNumbers.{first_ten, kept}
 use Rattle.rtps_evidence.specs.OtherSide.{OtherRecording, is_held, is_there}
 use Rattle.rtps_evidence.specs.Spans.{IsExtent}

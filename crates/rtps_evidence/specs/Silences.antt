@@ -2,7 +2,7 @@
 -- heard began up to it, so that which numbers were asked about is told by how far the HEARTBEATs went.
 use Rattle.std.specs.Prelude.{ℕ, Bool, true, false, ◌≡◌, ◌≤◌, ◌<◌, ◌⊎◌, map}
 use Rattle.rtps_audit.specs.Placed.{placed_value}
-use Rattle.rtps_evidence.specs.Amount.{stretches_have}
+use Rattle.rtps_coverage.specs.Stretches.{stretches_have}
 use Rattle.rtps_evidence.specs.Outcomes.{Silence, walked_all}
 use Rattle.rtps_evidence.specs.Outcomes.Silence.{Unasked, Once, Again, Answered, Silent, Ended}
 use Rattle.rtps_evidence.specs.Spans.{since_of}

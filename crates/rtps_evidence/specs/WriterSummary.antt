@@ -9,7 +9,8 @@ use Rattle.rtps_audit.specs.Delivery.{last_announced_from}
 use Rattle.rtps_audit.specs.Placed.{PlacedValue, is_from, placed_in}
 use Rattle.rtps_audit.specs.Said.{datagrams_until}
 use Rattle.rtps_audit.specs.Speech.{speech_by}
-use Rattle.rtps_evidence.specs.Amount.{AreNumbers, is_sent, is_told, some_withdrawn, stretches_have}
+use Rattle.rtps_coverage.specs.Stretches.{stretches_have}
+use Rattle.rtps_evidence.specs.Amount.{AreNumbers, is_sent, is_told, some_withdrawn}
 use Rattle.rtps_evidence.specs.Locations.{announcement_of, sends, tells}
 use Rattle.rtps_evidence.specs.Received.{withdraws_before}
 use Rattle.rtps_evidence.specs.declared.amount.HeardNumbers.{HeardNumbers}

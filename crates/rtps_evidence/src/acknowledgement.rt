@@ -1,10 +1,10 @@
-ghost use Rattle.std.specs.Prelude.{ℕ, ◌≡◌, ◌<◌, ◌==◌, ◌&&◌, ◌^◌, map, nat_lt, List};
+ghost use Rattle.std.specs.Prelude.{◌≡◌, ◌<◌, ◌==◌, ◌&&◌, ◌^◌, map, nat_lt, List};
 ghost use Rattle.std.specs.List.{find};
 ghost use Rattle.rtps_discovery.specs.declared.matching.Pair.{Pair as PairValue};
 ghost use Rattle.rtps_receiver.specs.Values.{ActValue};
 ghost use Rattle.rtps_audit.specs.Delivery.{greatest};
 ghost use Rattle.rtps_audit.specs.Placed.{answers_among, placed_in};
-ghost use Rattle.rtps_audit.specs.Speech.{natural};
+ghost use Rattle.rtps_receiver.specs.Said.{natural};
 ghost use Rattle.rtps_evidence.specs.Locations.{acknowledgement_of, claim_in as claim_in_lem, claim_of};
 
 use crate::location::Location;

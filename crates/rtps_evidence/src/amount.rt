@@ -1,14 +1,15 @@
-ghost use Rattle.std.specs.Prelude.{ℕ, true, false, ◌≡◌, ◌-◌, ◌<◌, ◌≤◌, ◌||◌, ◌^◌, IfOk, IfSome, List, OnOk};
-ghost use Rattle.std.specs.List.Sorted.{IsNonDecreasingBy};
-ghost use Rattle.rtps_receiver.specs.Said.{numbers_have};
+ghost use Rattle.std.specs.Prelude.{ℕ, ◌≡◌, ◌-◌, ◌<◌, ◌≤◌, ◌||◌, ◌^◌, IfOk, IfSome, List, OnOk};
+ghost use Rattle.rtps_receiver.specs.Said.{is_at, numbers_have};
 ghost use Rattle.rtps_audit.specs.Placed.{placed_value};
-ghost use Rattle.rtps_evidence.specs.Amount.{AreAmounts, count_in, is_sent, is_told, stretch_has, stretches_have};
-ghost use Rattle.rtps_evidence.specs.Claimed.{is_at};
+ghost use Rattle.rtps_coverage.specs.Stretches.{stretches_have};
+ghost use Rattle.rtps_evidence.specs.Amount.{AreAmounts, is_sent, is_told};
 ghost use Rattle.rtps_evidence.specs.Locations.{sends, tells};
 
-use crate::heard::heard;
+use crate::said_to::said_to;
 use crate::withdrawal::{Withdrawal, push_withdrawn};
 use rtps_audit::Placed;
+use rtps_coverage::Stretch;
+use rtps_coverage::stretches::{count_of, in_order, push};
 use rtps_discovery::Pair;
 use rtps_ids::{Memory, SeqNum};
 use rtps_receiver::Numbers;
@@ -30,117 +31,12 @@ pub(crate) struct Amounts {
     pub(crate) untold: u64,
 }
 
-/// The numbers from `lo` on and below `hi`; there may be none.
-#[derive(Clone, Copy)]
-pub(crate) struct Stretch {
-    pub(crate) lo: u64,
-    pub(crate) hi: u64,
-}
-
 /// The numbers that have a word by what is heard, those that have a payload, and those that are told gone.
 #[derive(Drop)]
 pub(crate) struct HeardNumbers {
     pub(crate) told: Vec<Stretch>,
     pub(crate) sent: Vec<Stretch>,
     pub(crate) gone: Vec<Withdrawal>,
-}
-
-/// How many of the numbers from `from` on and below `end` lie in these stretches, which stand in the order of their
-/// beginnings.
-fn count_in_order(stretches: &[Stretch], from: u64, end: u64) -> u64
-    requires sorted { IsNonDecreasingBy (λ stretch. stretch.lo) stretches.now }
-    requires ordered { from ≤ end }
-    ensures { result ≡ count_in (stretches_have stretches.now) from end }
-{
-    let mut reached = from;
-    let mut count = 0;
-    for stretch in stretches {
-        let lo = stretch.lo.max(reached);
-        let hi = stretch.hi.min(end);
-        if lo < hi {
-            count += hi - lo;
-            reached = hi;
-        }
-    }
-    count
-}
-
-/// How many of the numbers from `from` on and below `end` lie in these stretches. It puts them in another order.
-pub(crate) fn count_of(stretches: &mut Vec<Stretch>, from: u64, end: u64) -> Result<u64, Memory>
-    requires { from ≤ end }
-    ensures count { IfOk result (λ count. count ≡ count_in (stretches_have stretches.old.items) from end) }
-    ensures same { OnOk result ((n : ℕ) → stretches_have stretches.new.items n ≡ stretches_have stretches.old.items n) }
-{
-    stretches.sort_by_key(|stretch| stretch.lo)?;
-    Ok(count_in_order(stretches, from, end))
-}
-
-/// The least number from `from` on and below `end` that a stretch has, or `end`.
-pub(crate) fn least_inside(stretches: &[Stretch], from: u64, end: u64) -> u64
-    requires { from ≤ end }
-    ensures onward { from ≤ result }
-    ensures within { result ≤ end }
-    ensures below { (n : ℕ) → from ≤ n → n < result → stretches_have stretches.now n ≡ false }
-    ensures inside { result < end → stretches_have stretches.now result ≡ true }
-{
-    let mut least = end;
-    for stretch in stretches {
-        let lo = stretch.lo.max(from);
-        if lo < stretch.hi && lo < least {
-            least = lo;
-        }
-    }
-    least
-}
-
-/// The stretch that two make, where the second begins in the first or at its end.
-fn joined(first: Stretch, second: Stretch) -> Option<Stretch>
-    ensures { IfSome result (λ whole. (n : ℕ) → stretch_has n whole ≡ (stretch_has n first || stretch_has n second)) }
-{
-    if second.lo < first.lo || first.hi < second.lo {
-        return None;
-    }
-    Some(Stretch {
-        lo: first.lo,
-        hi: first.hi.max(second.hi),
-    })
-}
-
-/// Appends a stretch, or joins it to the last one. After `Memory` the stretches are of no use.
-pub(crate) fn push(stretches: &mut Vec<Stretch>, stretch: Stretch) -> Result<(), Memory>
-    ensures { OnOk result ((n : ℕ) → stretches_have stretches.new.items n ≡ (stretches_have stretches.old.items n || stretch_has n stretch)) }
-{
-    let Some(last) = stretches.pop() else {
-        stretches.push(stretch)?;
-        return Ok(());
-    };
-    if let Some(whole) = joined(last, stretch) {
-        stretches.push(whole)?;
-        return Ok(());
-    }
-    stretches.push(last)?;
-    stretches.push(stretch)?;
-    Ok(())
-}
-
-/// The numbers of these stretches in order, in as few stretches as they make.
-fn in_order(alloc: Global, stretches: &mut Vec<Stretch>) -> Result<Vec<Stretch>, Memory>
-    ensures { IfOk result (λ few. (n : ℕ) → stretches_have few.items n ≡ stretches_have stretches.old.items n) }
-{
-    stretches.sort_by_key(|stretch| stretch.lo)?;
-    let few = push_all(alloc, stretches)?;
-    Ok(few)
-}
-
-/// The numbers of these stretches, each joined to the one before where they meet.
-fn push_all(alloc: Global, stretches: &[Stretch]) -> Result<Vec<Stretch>, Memory>
-    ensures { IfOk result (λ few. (n : ℕ) → stretches_have few.items n ≡ stretches_have stretches.now n) }
-{
-    let mut few = Vec::new(alloc);
-    for stretch in stretches {
-        push(&mut few, *stretch)?;
-    }
-    Ok(few)
 }
 
 /// Appends these numbers, range by range. After `Memory` the stretches are of no use.
@@ -194,7 +90,7 @@ impl HeardNumbers {
             (λ n. stretches_have self.old.sent.items n || sends pair.writer pair.reader n (placed_value placed.now))
             (λ n datagram. some_withdrawn self.old.gone.items n datagram || withdraws_before pair.writer pair.reader n datagram (placed_value placed.now)) self.new) }
     {
-        let said = heard(placed, pair);
+        let said = said_to(placed, pair);
         push_numbers(&mut self.told, &said.gone)?;
         push_number(&mut self.told, said.told)?;
         push_number(&mut self.sent, said.told)?;

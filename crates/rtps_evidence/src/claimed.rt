@@ -1,14 +1,14 @@
 ghost use Rattle.std.specs.Prelude.{ℕ, ◌≡◌, ◌≤◌, nat_lt, IfOk};
 ghost use Rattle.std.specs.List.{list_any};
-ghost use Rattle.rtps_evidence.specs.Amount.{stretches_have};
+ghost use Rattle.rtps_coverage.specs.Stretches.{stretches_have};
 ghost use Rattle.rtps_evidence.specs.Claimed.{certain_at, claims_up_to, withdrawn_past, withdrawn_unclaimed};
-ghost use Rattle.rtps_evidence.specs.Rising.{AreRising, some_reaches};
+ghost use Rattle.rtps_coverage.specs.Rising.{AreRising, some_reaches};
 
 use crate::acknowledgement::greatest_base;
-use crate::amount::Stretch;
-use crate::rising::{end_at, rising};
 use crate::withdrawal::Withdrawal;
 use rtps_audit::Answer;
+use rtps_coverage::Stretch;
+use rtps_coverage::rising::{end_at, rising};
 use rtps_ids::{Memory, SeqNum};
 use std::alloc::Global;
 

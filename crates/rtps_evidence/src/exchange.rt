@@ -1,11 +1,11 @@
 ghost use Rattle.std.specs.Prelude.{◌≡◌};
 ghost use Rattle.rtps_evidence.specs.Spans.{since_of as since_of_lem};
 
-use crate::amount::Stretch;
 use crate::listener::Listener;
 use crate::span::Span;
 use crate::times::Times;
 use rtps_audit::Said;
+use rtps_coverage::Stretch;
 use rtps_discovery::Pair;
 use rtps_ids::SeqNum;
 

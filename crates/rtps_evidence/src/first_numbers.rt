@@ -1,9 +1,11 @@
 ghost use Rattle.std.specs.Prelude.{ℕ, ◌≡◌, ◌≤◌, ◌<◌, ◌+◌, ◌++◌, ◌∷◌, [], not, IfOk, List};
-ghost use Rattle.rtps_evidence.specs.Amount.{stretches_have};
+ghost use Rattle.rtps_coverage.specs.Stretches.{stretches_have};
 ghost use Rattle.rtps_evidence.specs.FirstNumbers.{first_ten, kept, numbers_of};
 
-use crate::amount::{AskedNumbers, Stretch, least_inside};
+use crate::amount::AskedNumbers;
 use crate::lacking::others_of;
+use rtps_coverage::Stretch;
+use rtps_coverage::stretches::least_inside;
 use rtps_ids::Memory;
 use std::alloc::Global;
 

@@ -2,7 +2,7 @@ ghost use Rattle.std.specs.Prelude.{◌≡◌, ◌<◌, ◌^◌, filter, map, Li
 ghost use Rattle.rtps_receiver.specs.Values.{ActValue};
 ghost use Rattle.rtps_audit.specs.Placed.{answers_among, is_from, placed_in, placed_value};
 ghost use Rattle.rtps_audit.specs.Said.{IsSaid};
-ghost use Rattle.rtps_audit.specs.Speech.{natural as natural_lem};
+ghost use Rattle.rtps_receiver.specs.Said.{natural as natural_lem};
 ghost use Rattle.rtps_evidence.specs.Grounds.{grounds_by, grounds_value, number_in};
 ghost use Rattle.rtps_evidence.specs.Grounds.GroundsValue.{ConflictGrounds, OpenGrounds};
 ghost use Rattle.rtps_evidence.specs.Locations.{first_sent as first_sent_lem, other_sent as other_sent_lem, teller_of};

@@ -4,11 +4,11 @@ ghost use Rattle.rtps_audit.specs.Delivery.{last_announced_from};
 ghost use Rattle.rtps_audit.specs.Placed.{placed_in};
 ghost use Rattle.rtps_audit.specs.Said.{IsSaid};
 ghost use Rattle.rtps_audit.specs.Speech.{speech_by};
-ghost use Rattle.rtps_evidence.specs.Amount.{stretches_have};
+ghost use Rattle.rtps_coverage.specs.Stretches.{stretches_have};
 ghost use Rattle.rtps_evidence.specs.Claimed.{AreLacking};
 ghost use Rattle.rtps_evidence.specs.Clean.{has_all as has_all_lem, is_clean as is_clean_lem, is_complete as is_complete_lem, is_open as is_open_lem, is_tail as is_tail_lem, is_whole as is_whole_lem, loses_none as loses_none_lem};
 ghost use Rattle.rtps_evidence.specs.Missed.{is_missed};
-ghost use Rattle.rtps_evidence.specs.Rising.{AreRising};
+ghost use Rattle.rtps_coverage.specs.Rising.{AreRising};
 ghost use Rattle.rtps_evidence.specs.Spans.{since_of};
 
 use crate::acknowledgement::greatest_base;

@@ -1,44 +1,22 @@
 ghost use Rattle.std.specs.Prelude.{ℕ, ◌≡◌, ◌≤◌, ◌<◌, ◌||◌, not, nat_lt, map, IfOk};
 ghost use Rattle.std.specs.List.{list_any};
-ghost use Rattle.std.specs.List.Sorted.{IsNonDecreasingBy};
 ghost use Rattle.rtps_receiver.specs.Values.{ActValue};
 ghost use Rattle.rtps_audit.specs.Delivery.{greatest};
-ghost use Rattle.rtps_audit.specs.Speech.{natural};
-ghost use Rattle.rtps_evidence.specs.Amount.{stretches_have};
+ghost use Rattle.rtps_receiver.specs.Said.{natural};
+ghost use Rattle.rtps_coverage.specs.Stretches.{stretches_have};
 ghost use Rattle.rtps_evidence.specs.Claimed.{is_unfounded as is_unfounded_lem, withdrawn_unclaimed};
 
 use crate::acknowledgement::greatest_base;
-use crate::amount::{AskedNumbers, HeardNumbers, Stretch};
+use crate::amount::{AskedNumbers, HeardNumbers};
 use crate::claimed::{Certainty, gone_among};
 use crate::exchange::Exchange;
 use crate::received::received_among;
 use crate::withdrawal::Withdrawal;
 use rtps_audit::{Answer, Verdict};
+use rtps_coverage::Stretch;
+use rtps_coverage::stretches::outside;
 use rtps_ids::Memory;
 use std::alloc::Global;
-
-/// The numbers from `from` on and below `end` that none of these stretches has. Other numbers may be among them.
-pub(crate) fn outside(
-    alloc: Global,
-    stretches: &[Stretch],
-    from: u64,
-    end: u64,
-) -> Result<Vec<Stretch>, Memory>
-    requires { IsNonDecreasingBy (λ stretch. stretch.lo) stretches.now }
-    ensures { IfOk result (λ rest. (n : ℕ) → from ≤ n → n < end → stretches_have rest.items n ≡ not (stretches_have stretches.now n)) }
-{
-    let mut rest = Vec::new(alloc);
-    let mut at = from;
-    for stretch in stretches {
-        rest.push(Stretch {
-            lo: at,
-            hi: stretch.lo,
-        })?;
-        at = at.max(stretch.lo).max(stretch.hi);
-    }
-    rest.push(Stretch { lo: at, hi: end })?;
-    Ok(rest)
-}
 
 /// The numbers that are asked for and that none of these stretches has. Other numbers may be among them. It puts the stretches in
 /// another order.

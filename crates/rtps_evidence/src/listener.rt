@@ -1,10 +1,10 @@
 ghost use Rattle.std.specs.Prelude.{ℕ, ◌≡◌, ◌<◌, ◌^◌, IfSome};
 ghost use Rattle.rtps_audit.specs.Placed.{placed_value};
-ghost use Rattle.rtps_evidence.specs.Claimed.{is_at};
+ghost use Rattle.rtps_receiver.specs.Said.{is_at};
 ghost use Rattle.rtps_evidence.specs.Missed.{brings as brings_lem, brings_behind};
 
-use crate::heard::heard;
 use crate::location::{Location, is_behind};
+use crate::said_to::said_to;
 use rtps_audit::Placed;
 use rtps_discovery::Pair;
 
@@ -21,7 +21,7 @@ pub(crate) fn number_behind(placed: &Placed<'_>, listener: &Listener) -> Option<
     ensures brought { (n : ℕ) → brings_behind listener.now.since listener.now.pair.writer listener.now.pair.reader n (placed_value placed.now) ≡ is_at n result }
 {
     if is_behind(listener.since, placed) {
-        heard(placed, listener.pair).brought
+        said_to(placed, listener.pair).brought
     } else {
         None
     }
@@ -31,5 +31,5 @@ pub(crate) fn number_behind(placed: &Placed<'_>, listener: &Listener) -> Option<
 pub(crate) fn brings(placed: &Placed<'_>, pair: Pair, number: u64) -> bool
     ensures { result ≡ brings_lem pair.writer pair.reader number (placed_value placed.now) }
 {
-    heard(placed, pair).brought == Some(number)
+    said_to(placed, pair).brought == Some(number)
 }

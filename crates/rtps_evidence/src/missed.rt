@@ -2,13 +2,15 @@ ghost use Rattle.std.specs.Prelude.{ℕ, ◌≡◌, ◌≤◌, IfOk, List};
 ghost use Rattle.rtps_receiver.specs.Values.{ActValue};
 ghost use Rattle.rtps_audit.specs.Placed.{placed_in};
 ghost use Rattle.rtps_audit.specs.Said.{IsSaid};
-ghost use Rattle.rtps_evidence.specs.Amount.{stretches_have};
+ghost use Rattle.rtps_coverage.specs.Stretches.{stretches_have};
 ghost use Rattle.rtps_evidence.specs.Missed.{AreMissed, is_missed};
 ghost use Rattle.rtps_evidence.specs.Spans.{since_of};
 
-use crate::amount::{AskedNumbers, Stretch, count_of, least_inside};
+use crate::amount::AskedNumbers;
 use crate::exchange::Exchange;
 use crate::first_missed::{FirstMissed, first_missed_at};
+use rtps_coverage::Stretch;
+use rtps_coverage::stretches::{count_of, least_inside};
 use rtps_ids::Memory;
 
 /// Of the numbers that are asked for: how many are missed, and the least of them.

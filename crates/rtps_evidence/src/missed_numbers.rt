@@ -6,22 +6,23 @@ ghost use Rattle.rtps_receiver.specs.Said.{numbers_have};
 ghost use Rattle.rtps_receiver.specs.Values.{ActValue};
 ghost use Rattle.rtps_audit.specs.Placed.{placed_in, placed_value};
 ghost use Rattle.rtps_audit.specs.Said.{IsSaid};
-ghost use Rattle.rtps_evidence.specs.Amount.{stretches_have};
-ghost use Rattle.rtps_evidence.specs.Locations.{find_last, location_of as location_of_lem};
+ghost use Rattle.rtps_coverage.specs.Stretches.{stretches_have};
+ghost use Rattle.rtps_evidence.specs.Locations.{location_of as location_of_lem};
 ghost use Rattle.rtps_evidence.specs.Missed.{asks_for, is_missed};
 ghost use Rattle.rtps_evidence.specs.Received.{is_received};
 ghost use Rattle.rtps_evidence.specs.Requests.{is_in_vain as is_in_vain_lem, met_among, met_by, new_request as new_request_lem, requested};
-ghost use Rattle.rtps_evidence.specs.Rising.{AreRising};
+ghost use Rattle.rtps_coverage.specs.Rising.{AreRising};
 ghost use Rattle.rtps_evidence.specs.Spans.{since_of};
 ghost use Rattle.rtps_evidence.specs.WriterSummary.{option_any};
 
-use crate::amount::{Stretch, push};
 use crate::exchange::Exchange;
-use crate::heard::heard;
 use crate::listener::Listener;
 use crate::location::{Location, is_before, is_behind, location_of};
-use crate::rising::end_at;
+use crate::said_to::said_to;
 use rtps_audit::Placed;
+use rtps_coverage::Stretch;
+use rtps_coverage::rising::end_at;
+use rtps_coverage::stretches::push;
 use rtps_ids::Memory;
 use rtps_receiver::Numbers;
 use std::alloc::Global;
@@ -173,7 +174,7 @@ fn note_bringing(
     ensures { OnOk result ((n : ℕ) → get nat_cmp requests.new n
         ≡ option_map (met_by listener.now.since listener.now.pair n (placed_value placed.now)) (get nat_cmp requests.old n)) }
 {
-    let Some(number) = heard(placed, listener.pair).brought else {
+    let Some(number) = said_to(placed, listener.pair).brought else {
         return Ok(());
     };
     let met = match requests.get(&number) {

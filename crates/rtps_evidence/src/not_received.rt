@@ -1,16 +1,16 @@
-ghost use Rattle.std.specs.Prelude.{ℕ, ◌≡◌, ◌<◌, ◌^◌, map, nat_lt, List};
+ghost use Rattle.std.specs.Prelude.{◌≡◌, ◌<◌, ◌^◌, map, nat_lt, List};
 ghost use Rattle.std.specs.List.{find};
 ghost use Rattle.rtps_receiver.specs.Values.{ActValue};
 ghost use Rattle.rtps_audit.specs.Placed.{placed_in, placed_value};
 ghost use Rattle.rtps_audit.specs.Said.{IsSaid};
-ghost use Rattle.rtps_audit.specs.Speech.{natural};
+ghost use Rattle.rtps_receiver.specs.Said.{natural};
 ghost use Rattle.rtps_evidence.specs.Locations.{claim_in as claim_in_lem};
 ghost use Rattle.rtps_evidence.specs.Received.{first_claiming, gone_before, kept_by, withdraws as withdraws_lem, withdraws_before as withdraws_before_lem};
 
 use crate::acknowledgement::{Claim, claim_in};
 use crate::exchange::Exchange;
-use crate::heard::heard;
 use crate::location::Location;
+use crate::said_to::said_to;
 use crate::teller::{Teller, teller_at};
 use rtps_audit::{Answer, Placed};
 use rtps_discovery::Pair;
@@ -43,7 +43,7 @@ pub(crate) fn withdraws(placed: &Placed<'_>, pair: Pair, number: u64) -> bool
     requires { number < 2 ^ 63 }
     ensures { result ≡ withdraws_lem pair.writer pair.reader number (placed_value placed.now) }
 {
-    let said = heard(placed, pair);
+    let said = said_to(placed, pair);
     said.gone.has(number)
 }
 

@@ -1,11 +1,12 @@
 ghost use Rattle.std.specs.Prelude.{ℕ, ◌≡◌, IfOk, Option};
 ghost use Rattle.rtps_audit.specs.Placed.{placed_in};
-ghost use Rattle.rtps_evidence.specs.Amount.{is_sent, stretches_have};
+ghost use Rattle.rtps_coverage.specs.Stretches.{stretches_have};
+ghost use Rattle.rtps_evidence.specs.Amount.{is_sent};
 
-use crate::amount::Stretch;
 use crate::recorded::sent_among;
 use crate::times::Times;
 use rtps_audit::Index;
+use rtps_coverage::Stretch;
 use rtps_discovery::Pair;
 use rtps_ids::Memory;
 use rtps_policies::{Naming, Namings};

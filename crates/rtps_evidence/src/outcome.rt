@@ -1,23 +1,26 @@
-ghost use Rattle.std.specs.Prelude.{ℕ, Bool, true, ◌≡◌, ◌≤◌, ◌+◌, ◌||◌, ◌&&◌, map, IfOk, OnOk, List};
+ghost use Rattle.std.specs.Prelude.{ℕ, Bool, true, ◌≡◌, ◌≤◌, ◌+◌, ◌||◌, map, IfOk, OnOk, List};
 ghost use Rattle.std.specs.List.{list_any};
 ghost use Rattle.rtps_receiver.specs.Values.{ActValue};
 ghost use Rattle.rtps_audit.specs.Placed.{PlacedValue, placed_in, placed_value};
 ghost use Rattle.rtps_audit.specs.Said.{IsSaid};
-ghost use Rattle.rtps_evidence.specs.Amount.{count_in, stretches_have};
+ghost use Rattle.rtps_coverage.specs.Counts.{count_in};
+ghost use Rattle.rtps_coverage.specs.Stretches.{stretches_have};
 ghost use Rattle.rtps_evidence.specs.Claimed.{AreLacking};
 ghost use Rattle.rtps_evidence.specs.Missed.{brings_behind, is_missed};
-ghost use Rattle.rtps_evidence.specs.Rising.{AreRising};
+ghost use Rattle.rtps_coverage.specs.Rising.{AreRising};
 ghost use Rattle.rtps_evidence.specs.Spans.{since_of};
 
 use crate::acknowledgement::greatest_base;
-use crate::amount::{AskedNumbers, Stretch, count_of, push};
+use crate::amount::AskedNumbers;
 use crate::exchange::Exchange;
 use crate::first_numbers::FirstNumbers;
-use crate::lacking::{others_of, outside};
+use crate::lacking::others_of;
 use crate::listener::{Listener, number_behind};
-use crate::rising::end_at;
 use crate::silence::find_silent;
 use rtps_audit::Placed;
+use rtps_coverage::Stretch;
+use rtps_coverage::rising::end_at;
+use rtps_coverage::stretches::{count_of, outside, push};
 use rtps_ids::Memory;
 use std::alloc::Global;
 

@@ -1,20 +1,22 @@
-ghost use Rattle.std.specs.Prelude.{ℕ, ◌≡◌, ◌<◌, ◌^◌, ◌&&◌, ◌||◌, map, IfOk, IfSome, OnOk, List};
+ghost use Rattle.std.specs.Prelude.{ℕ, ◌≡◌, ◌<◌, ◌&&◌, ◌||◌, map, IfOk, OnOk, List};
 ghost use Rattle.std.specs.List.{list_any};
 ghost use Rattle.rtps_receiver.specs.Values.{ActValue};
 ghost use Rattle.rtps_audit.specs.Placed.{placed_in, placed_value};
 ghost use Rattle.rtps_audit.specs.Said.{IsSaid};
-ghost use Rattle.rtps_evidence.specs.Amount.{stretches_have};
+ghost use Rattle.rtps_coverage.specs.Stretches.{stretches_have};
 ghost use Rattle.rtps_evidence.specs.Claimed.{AreLacking, certain_at};
 ghost use Rattle.rtps_evidence.specs.Locations.{sends};
 ghost use Rattle.rtps_evidence.specs.Received.{AreReceived};
-ghost use Rattle.rtps_evidence.specs.Rising.{AreRising};
+ghost use Rattle.rtps_coverage.specs.Rising.{AreRising};
 
-use crate::amount::{AskedNumbers, Stretch, count_of, least_inside, push};
+use crate::amount::AskedNumbers;
 use crate::claimed::Certainty;
 use crate::exchange::Exchange;
-use crate::heard::heard;
 use crate::not_received::{NotReceived, not_received_at};
+use crate::said_to::said_to;
 use rtps_audit::Placed;
+use rtps_coverage::Stretch;
+use rtps_coverage::stretches::{count_of, least_inside, push};
 use rtps_discovery::Pair;
 use rtps_ids::Memory;
 use std::alloc::Global;
@@ -33,7 +35,7 @@ fn push_received(
         ≡ (stretches_have received.old.items n
         || (certain_at certainty.now placed.now.datagram n && sends pair.writer pair.reader n (placed_value placed.now)))) }
 {
-    let Some(number) = heard(placed, pair).told else {
+    let Some(number) = said_to(placed, pair).told else {
         return Ok(());
     };
     if certainty.covers(placed.datagram as u64, number) {

@@ -3,17 +3,20 @@ ghost use Rattle.rtps_audit.specs.Delivery.{greatest};
 ghost use Rattle.rtps_audit.specs.Index.{IsIndexBy};
 ghost use Rattle.rtps_audit.specs.Intake.{Intake};
 ghost use Rattle.rtps_audit.specs.Placed.{placed_value};
-ghost use Rattle.rtps_evidence.specs.Amount.{is_sent, stretches_have};
+ghost use Rattle.rtps_coverage.specs.Stretches.{stretches_have};
+ghost use Rattle.rtps_evidence.specs.Amount.{is_sent};
 ghost use Rattle.rtps_evidence.specs.OtherSide.{AreSides, Beside};
 ghost use Rattle.rtps_evidence.specs.Recorded.{IsArrivedBy, IsRecordedBy, number_sent as number_sent_lem};
 
-use crate::amount::{AskedNumbers, Stretch, count_of, push_number};
+use crate::amount::{AskedNumbers, push_number};
 use crate::exchange::Extent;
 use crate::first_numbers::FirstNumbers;
-use crate::heard::heard;
 use crate::judgement::span_of;
 use crate::other_side::{Arrivals, Sides};
+use crate::said_to::said_to;
 use rtps_audit::{Index, Placed, Said};
+use rtps_coverage::Stretch;
+use rtps_coverage::stretches::count_of;
 use rtps_discovery::Pair;
 use rtps_ids::{Guid, Memory, SeqNum};
 use std::alloc::Global;
@@ -69,7 +72,7 @@ pub(crate) fn sent_among(
 {
     let mut sent = Vec::new(alloc);
     for placed in acts {
-        push_number(&mut sent, heard(placed, pair).told)?;
+        push_number(&mut sent, said_to(placed, pair).told)?;
     }
     Ok(sent)
 }

@@ -5,8 +5,8 @@ ghost use Rattle.rtps_wire.specs.Values.{payload_value};
 ghost use Rattle.rtps_audit.specs.Placed.{placed_value};
 ghost use Rattle.rtps_evidence.specs.Locations.{differs, first_sent as first_sent_lem, is_same as is_same_lem, other_sent as other_sent_lem, payload_for as payload_for_lem, sent_at, sent_value};
 
-use crate::heard::heard;
 use crate::location::{Location, location_of};
+use crate::said_to::said_to;
 use rtps_audit::Placed;
 use rtps_discovery::Pair;
 use rtps_wire::Payload;
@@ -22,7 +22,7 @@ pub struct Sent<'a> {
 fn payload_for<'a>(placed: &Placed<'a>, pair: Pair, number: u64) -> Option<Payload<'a>>
     ensures { option_map payload_value result ≡ payload_for_lem pair.writer pair.reader number (placed_value placed.now) }
 {
-    let said = heard(placed, pair);
+    let said = said_to(placed, pair);
     if said.told == Some(number) {
         said.payload.copied()
     } else {

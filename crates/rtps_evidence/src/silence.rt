@@ -1,23 +1,24 @@
-ghost use Rattle.std.specs.Prelude.{ℕ, true, ◌≡◌, ◌≤◌, ◌<◌, ◌&&◌, ◌||◌, not, nat_le, nat_lt, drop, length, if◌then◌else◌, IfOk, OnOk, List};
+ghost use Rattle.std.specs.Prelude.{ℕ, true, ◌≡◌, ◌≤◌, ◌<◌, ◌&&◌, ◌||◌, nat_le, nat_lt, drop, length, if◌then◌else◌, IfOk, OnOk, List};
 ghost use Rattle.rtps_receiver.specs.Said.{numbers_have};
 ghost use Rattle.rtps_receiver.specs.Values.{ActValue};
 ghost use Rattle.rtps_audit.specs.Placed.{placed_in, placed_value};
 ghost use Rattle.rtps_audit.specs.Said.{IsSaid};
-ghost use Rattle.rtps_evidence.specs.Amount.{stretches_have};
-ghost use Rattle.rtps_evidence.specs.Locations.{location_of as location_of_lem};
+ghost use Rattle.rtps_coverage.specs.Stretches.{stretches_have};
 ghost use Rattle.rtps_evidence.specs.Outcomes.{Silence, answered, answers_before as answers_before_lem, answers_left, asked_about, heard as heard_lem, is_answered, is_unanswered, told_gone};
 ghost use Rattle.rtps_evidence.specs.Outcomes.Silence.{Unasked};
 ghost use Rattle.rtps_evidence.specs.Silences.{IsAfter, IsAt};
 ghost use Rattle.rtps_evidence.specs.Spans.{since_of};
 
-use crate::amount::{AskedNumbers, Stretch, push};
+use crate::amount::AskedNumbers;
 use crate::exchange::Exchange;
-use crate::heard::heard;
 use crate::lacking::others_of;
 use crate::listener::Listener;
 use crate::location::{Location, location_of};
 use crate::questions::asks_behind;
+use crate::said_to::said_to;
 use rtps_audit::{Answer, Placed};
+use rtps_coverage::Stretch;
+use rtps_coverage::stretches::push;
 use rtps_ids::Memory;
 use rtps_receiver::Numbers;
 use std::alloc::Global;
@@ -127,7 +128,7 @@ impl Walk {
         ensures { OnOk result ((n : ℕ) (silence : Silence) → IsAt n silence self.old
             → IsAt n (heard_lem listener.now.since listener.now.pair n (placed_value placed.now) silence) self.new) }
     {
-        let said = heard(placed, listener.pair);
+        let said = said_to(placed, listener.pair);
         self.withdraw_all(&said.gone)?;
         if asks_behind(placed, listener.pair, listener.since) {
             self.ask(said.announced + 1);

@@ -2,8 +2,8 @@ ghost use Rattle.std.specs.Prelude.{◌≡◌, ◌<◌, ◌^◌, map};
 ghost use Rattle.rtps_audit.specs.Placed.{placed_value};
 ghost use Rattle.rtps_evidence.specs.Locations.{teller_at as teller_at_lem, teller_of, tells as tells_lem};
 
-use crate::heard::heard;
 use crate::location::{Kind, Location, kind_of, location_of};
+use crate::said_to::said_to;
 use rtps_audit::Placed;
 use rtps_discovery::Pair;
 
@@ -20,7 +20,7 @@ fn tells(placed: &Placed<'_>, pair: Pair, number: u64) -> bool
     requires { number < 2 ^ 63 }
     ensures { result ≡ tells_lem pair.writer pair.reader number (placed_value placed.now) }
 {
-    let said = heard(placed, pair);
+    let said = said_to(placed, pair);
     said.gone.has(number) || said.told == Some(number)
 }
 

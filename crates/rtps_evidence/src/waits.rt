@@ -2,7 +2,7 @@ ghost use Rattle.std.specs.Prelude.{◌≡◌, find, map, slice_get, List};
 ghost use Rattle.rtps_receiver.specs.Values.{ActValue};
 ghost use Rattle.rtps_audit.specs.Placed.{placed_value};
 ghost use Rattle.rtps_audit.specs.Said.{IsSaid};
-ghost use Rattle.rtps_evidence.specs.Questions.{place_of as place_of_lem, questions_behind};
+ghost use Rattle.rtps_evidence.specs.Questions.{place_of as place_of_lem};
 ghost use Rattle.rtps_evidence.specs.Waits.{HasPassed, answered_at, answers_behind, is_told as is_told_lem, longer_of, longest, precedes as precedes_lem, questions_of, told_of, told_wait as told_wait_lem, wait_between as wait_between_lem, waits_of};
 
 use crate::exchange::Exchange;

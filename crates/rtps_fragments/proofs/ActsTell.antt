@@ -1,4 +1,6 @@
 -- Of any writer and reader, a recording with pieces and its acts with the samples among them tell alike.
+use Rattle.std.proofs.lemmas.Grind.{common_steps}
+use Rattle.std.proofs.lemmas.Bool.Decides.{nat_tests}
 use Rattle.std.proofs.Common.{◌≡◌, ℕ, zero, suc, ◌+◌, ◌-◌, ◌<◌, ◌≤◌, max, Bool, true, false, cond, List, [], ◌∷◌, ◌++◌, length, map, Option, Some, None, slice_get, take, refl, sym, ◌∙◌, ap, subst, arith, inl, inr, ◌⊎◌, append_assoc, append-nil}
 use Rattle.std.specs.Prelude.{Contains, unwrap_or}
 use Rattle.std.specs.List.{cons_option, filter_map, flat_map}
@@ -9,7 +11,6 @@ use Rattle.rtps_ids.specs.declared.identity.Guid.{Guid}
 use Rattle.rtps_wire.specs.Values.{PayloadValue}
 use Rattle.rtps_receiver.specs.Speech.{entity_from, reader_named, unknown_entity, writer_named}
 use Rattle.rtps_receiver.specs.Values.{ActBodyValue, ActValue}
-use Rattle.rtps_receiver.specs.Values.ActBodyValue.{Data, Heartbeat, AckNack, Gap, DataFrag, NackFrag}
 use Rattle.rtps_audit.specs.Delivery.{Claims, Datagram, Gives, IsAsked, Word, greatest, last_announced_from}
 use Rattle.rtps_audit.specs.Delivery.Word.{Told}
 use Rattle.rtps_audit.specs.Said.{datagrams_until}
@@ -19,14 +20,14 @@ use Rattle.rtps_fragments.specs.FragmentDelivery.{Fragment, FragmentDatagram, Is
 use Rattle.rtps_fragments.specs.FragmentVerdict.{IsSaidBefore, IsSentBefore}
 use Rattle.rtps_fragments.specs.Laws.{ActsStayWithoutPieces, ActsTellAlike, ArePieceActs, FirstDatagramsTellAlike, FirstDatagramsTellTheSame, HasFragmentsWithin, IsPieceAct, TellsAlike}
 use Rattle.rtps_fragments.specs.Samples.{came_of, payloads_of, samples_of}
-use Rattle.rtps_fragments.specs.Sending.{piece_acts_of, sending_of}
+use Rattle.rtps_fragments.specs.FragmentWalk.{piece_acts_of, sending_of}
 use Rattle.rtps_fragments.specs.SampleActs.{PieceAct, acts_and_samples, acts_with_samples, datagrams_and_samples, fragment_speech_of, fragments_in, offers_of, piece_acts_in, piece_for, samples_told}
 use Rattle.rtps_fragments.proofs.ActsAnd.{all_stay, length-acts, take_acts}
 use Rattle.rtps_fragments.proofs.AlikeBySamples.{IsGivenBefore, IsHadBefore, put_together, samples_alike}
 use Rattle.rtps_fragments.proofs.Audiences.{flat_from, flat_has}
 use Rattle.rtps_fragments.proofs.FragmentsBefore.{fragments_before, place_of, sent_by, there_at}
 use Rattle.rtps_fragments.proofs.HeardLemmas.{heard-append, heard-cons, heard_has, heard_of, heard_one}
-use Rattle.rtps_fragments.proofs.HearingLemmas.{reader_told, silence_told}
+use Rattle.rtps_fragments.proofs.AudienceNewsLemmas.{reader_told, silence_told}
 use Rattle.rtps_fragments.proofs.SampleActLemmas.{IsAllTold, IsSampleOf, NamesAll, TellsReader, act_or_sample, act_there, heard_is, hears_part, parts_told, sample_is_put, sample_spoken}
 use Rattle.rtps_fragments.proofs.ToldLemmas.{IsPut}
 
@@ -145,20 +146,10 @@ put_at writer reader n shape payload recording j named among =
 -- ---- parts
 
 pub announcer_named : (body : ActBodyValue) (n : ℕ) → announced_of_body body ≡ Some n → writer_named body ≡ Some (entity_from body)
-announcer_named (Data value) n e = refl
-announcer_named (DataFrag value) n e = refl
-announcer_named (Heartbeat value) n e = refl
-announcer_named (Gap value) n e = refl
-announcer_named (AckNack value) n e = cc
-announcer_named (NackFrag value) n e = cc
+announcer_named body n h = grind (arith, nat_tests)
 
 pub reader_announced : (body : ActBodyValue) (n : ℕ) → announced_of_body body ≡ Some n → reader_named body ≡ Some (unwrap_or (reader_named body) unknown_entity)
-reader_announced (Data value) n e = refl
-reader_announced (DataFrag value) n e = refl
-reader_announced (Heartbeat value) n e = refl
-reader_announced (Gap value) n e = refl
-reader_announced (AckNack value) n e = cc
-reader_announced (NackFrag value) n e = cc
+reader_announced body n h = grind (arith, nat_tests)
 
 pub fragment_bounds : (n : ℕ) (shape : Shape) (i : ℕ) (parts : List (List ℕ)) (f : Fragment) → Contains (fragments_from n shape i parts) f → (i ≤ f.index) × (f.index < i + length parts) × (f.shape ≡ shape)
 fragment_bounds n shape i [] f among = absurd (contains_none f among)
@@ -250,10 +241,7 @@ module _ (from : ℕ) (writer reader : Guid) (recording : List (List PieceAct)) 
 
   told_from : (i : ℕ) (datagram : Datagram) → slice_get (speech_by writer reader (datagrams_and_samples [] recording)) i ≡ Some datagram
       → (own : List PieceAct) × (slice_get recording i ≡ Some own) × (said_by writer reader (acts_and_samples (parts_before recording i) own) ≡ datagram)
-  told_from i datagram at =
-      let (acts, stands, is) = mapped_get (said_by writer reader) (datagrams_and_samples [] recording) i datagram at in
-      let (own, there, made) = samples_from [] recording i acts stands in
-      (own, there, ap (said_by writer reader) made ∙ is)
+  told_from i datagram at = grind (arith, nat_tests, common_steps, mapped_get, samples_from)
 
   -- an act with a word gives it
   act_gives : (i n : ℕ) (word : Word) (datagram : List PieceAct) (act : ActValue) → slice_get recording i ≡ Some datagram → Contains (acts_and_samples (parts_before recording i) datagram) act
@@ -396,20 +384,14 @@ take_mapped (suc n) [] = refl
 take_mapped (suc n) (octets ∷ recording) = ap (λ rest. piece_acts_of octets ∷ rest) (take_mapped n recording)
 
 pub sent_until : (until : Option ℕ) (recording : List (List ℕ)) → datagrams_until until (sending_of recording) ≡ sending_of (datagrams_until until recording)
-sent_until None recording = refl
-sent_until (Some datagram) recording = take_mapped (datagram - 1) recording
+sent_until until recording = grind (arith, nat_tests, common_steps, take_mapped)
 
 pub first_datagrams_tell_the_same : FirstDatagramsTellTheSame
 first_datagrams_tell_the_same None recording = refl
 first_datagrams_tell_the_same (Some datagram) recording = sym (take_acts samples_told [] (datagram - 1) (sending_of recording)) ∙ ap acts_with_samples (sent_until (Some datagram) recording)
 
 taken_there : {X : Type 0} (n : ℕ) (xs : List X) (x : X) → Contains (take n xs) x → Contains xs x
-taken_there zero xs x among = absurd (contains_none x among)
-taken_there (suc n) [] x among = among
-taken_there (suc n) (y ∷ ys) x among = elim (contains_cases y (take n ys) x among) [
-  | inl here ↦ subst (Contains (y ∷ ys)) here (contains_head y ys)
-  | inr there ↦ contains_tail y ys x (taken_there n ys x there)
-]
+taken_there n xs x h = grind (arith, nat_tests, common_steps)
 
 pub first_datagrams_tell_alike : FirstDatagramsTellAlike
 first_datagrams_tell_alike from writer reader None recording parts = acts_tell_alike from writer reader recording parts

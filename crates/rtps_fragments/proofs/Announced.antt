@@ -1,5 +1,7 @@
 -- The samples of built-in writers that are noted, one after another, and all at once.
-use Rattle.std.proofs.Common.{◌≡◌, ℕ, zero, suc, Bool, true, false, cond, ◌&&◌, List, [], ◌∷◌, ◌++◌, map, Option, Some, None, refl, sym, ◌∙◌, ap, subst, inl, inr, ◌⊎◌, append_assoc, append-nil}
+use Rattle.std.proofs.lemmas.Grind.{common_steps}
+use Rattle.std.proofs.lemmas.Bool.Decides.{nat_tests}
+use Rattle.std.proofs.Common.{◌≡◌, ℕ, zero, suc, Bool, true, false, cond, ◌&&◌, List, [], ◌∷◌, ◌++◌, map, Option, Some, None, refl, sym, ◌∙◌, ap, subst, inl, inr, ◌⊎◌, append_assoc, append-nil, arith}
 use Rattle.std.specs.Prelude.{Contains, get_or, is_some, nat_le}
 use Rattle.std.specs.List.{flat_map}
 use Rattle.std.proofs.lemmas.List.Elements.{Contains-append_cases, Contains-append_left, Contains-append_right}
@@ -82,8 +84,7 @@ act_or_note before (part ∷ acts) act among =
 module _ (all : List PieceAct) (named : (part : PieceAct) (piece : Piece) → Contains all part → part.piece ≡ Some piece → NamesItsWriter part.act) where
   -- the act is spoken by the writer that it is from
   spoken_by_own : (part : PieceAct) → NamesItsWriter part.act → is_spoken_by part.act (origin_of part.act) ≡ true
-  spoken_by_own part names_it =
-      ap (λ o. is_prefix part.act.source part.act.source && names o (entity_from part.act.body)) names_it ∙ and_from (is_prefix part.act.source part.act.source) _ (own_prefix part.act.source) (own_entity (entity_from part.act.body))
+  spoken_by_own part names_it = grind (arith, nat_tests, common_steps, and_from, own_prefix, own_entity)
 
   note_is_sent : (act : ActValue) → IsNoteOf all act → Contains (acts_to_note all) act
   note_is_sent act note =

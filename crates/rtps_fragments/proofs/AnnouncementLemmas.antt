@@ -1,5 +1,7 @@
 -- The acts of a recording that may announce something, with one datagram more.
-use Rattle.std.proofs.Common.{◌≡◌, ◌∙◌, ℕ, ◌+◌, List, [], ◌∷◌, ◌++◌, filter, length, map, refl, sym, ap}
+use Rattle.std.proofs.lemmas.Grind.{common_steps}
+use Rattle.std.proofs.lemmas.Bool.Decides.{nat_tests}
+use Rattle.std.proofs.Common.{◌≡◌, ◌∙◌, ℕ, ◌+◌, List, [], ◌∷◌, ◌++◌, filter, length, map, sym, ap, arith}
 use Rattle.std.proofs.lemmas.List.Elements.{filter-append}
 use Rattle.rtps_wire.specs.declared.counts.Tally.{Tally}
 use Rattle.rtps_receiver.specs.Values.{ActValue}
@@ -22,8 +24,4 @@ datagram_next recording acts place at = ap (filter is_announcement) (sym (placed
 pub indexed_more : (intake : Intake) (tally : Tally) (acts announcing : List ActValue) (old new : Indexed) (datagram : ℕ) → datagram ≡ length intake.announcing + 1 → IsIndexedBy intake old
     → IsIndexBy (intake_more intake tally acts announcing) new.index → map placed_value new.announcements.items ≡ map placed_value old.announcements.items ++ announcements_at datagram announcing
     → IsIndexedBy (intake_more intake tally acts announcing) new
-indexed_more intake tally acts announcing old new datagram number was is found = record {
-  index = is;
-  announcements = found ∙ ap (λ before. before ++ announcements_at datagram announcing) was.announcements ∙ ap (λ n. announcements_in intake.announcing ++ announcements_at n announcing) number
-      ∙ sym (datagram_next intake.announcing announcing (length intake.announcing) refl);
-}
+indexed_more intake tally acts announcing old new datagram number was is found = grind (arith, nat_tests, common_steps, datagram_next)

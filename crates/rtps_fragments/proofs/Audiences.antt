@@ -1,17 +1,18 @@
 -- The audiences of a sample: what comes to each, and the one by which a reader hears just what it hears.
-use Rattle.std.proofs.Common.{◌≡◌, ℕ, Bool, true, false, cond, ◌&&◌, List, [], ◌∷◌, ◌++◌, map, filter, Option, Some, None, refl, sym, ◌∙◌, ap, subst, inl, inr, ◌⊎◌, append-nil}
+use Rattle.std.proofs.lemmas.Grind.{common_steps}
+use Rattle.std.proofs.lemmas.Bool.Decides.{nat_tests}
+use Rattle.std.proofs.Common.{◌≡◌, ℕ, Bool, true, false, cond, List, [], ◌∷◌, ◌++◌, map, filter, Option, Some, None, refl, sym, ◌∙◌, ap, subst, inl, inr, ◌⊎◌, arith, rules}
 use Rattle.std.specs.Prelude.{Contains, ◌||◌}
 use Rattle.std.specs.List.{flat_map, list_any}
 use Rattle.std.proofs.lemmas.Bool.{cases_Bool}
-use Rattle.std.proofs.lemmas.List.Concat.{flat_map-append}
-use Rattle.std.proofs.lemmas.List.Elements.{Contains-append_left, Contains-append_right, Contains-append_cases, filter-append}
+use Rattle.std.proofs.lemmas.List.Elements.{Contains-append_left, Contains-append_right, Contains-append_cases}
 use Rattle.std.proofs.lemmas.Slice.Eq.{bytes_eq-Decides}
 use Rattle.rtps_ids.specs.declared.identity.EntityId.{EntityId}
 use Rattle.rtps_ids.specs.declared.identity.GuidPrefix.{GuidPrefix}
-use Rattle.rtps_receiver.specs.Speech.{is_entity, is_for, is_for_all, is_prefix, unknown_entity}
+use Rattle.rtps_receiver.specs.Speech.{is_entity, is_for, is_prefix, unknown_entity}
 use Rattle.rtps_receiver.specs.declared.speech.Audience.{Audience}
 use Rattle.rtps_audit.proofs.Offered.{contains_cases, contains_head, contains_mapped, contains_none, contains_tail, kept_if_passed, kept_is_there, mapped_contains}
-use Rattle.rtps_fragments.specs.Listeners.{AreNamed, Hearing, Offer, begins, came_to, everyone, has_name, has_no_name, hearing_of, hears, hears_all, is_for_audience, is_known, is_same_dest, named_so, silence, with_news}
+use Rattle.rtps_fragments.specs.Listeners.{AreNamed, AudienceNews, Offer, begins, came_to, everyone, has_name, has_no_name, hearing_of, hears, hears_all, is_for_audience, is_known, is_same_dest, named_so, silence, with_news}
 use Rattle.rtps_fragments.specs.declared.listeners.Name.{Name}
 use Rattle.rtps_fragments.specs.declared.listeners.Name.TheVariants.{Dest, Reader}
 
@@ -30,22 +31,16 @@ pub own_entity : (entity : EntityId) → is_entity entity entity ≡ true
 own_entity entity = (bytes_eq-Decides entity.0 entity.0).1 refl
 
 pub dest_is : (one other : Option GuidPrefix) → is_same_dest one other ≡ true → one ≡ other
-dest_is (Some one) (Some other) e = ap Some (prefix_is one other e)
-dest_is (Some one) None e = cc
-dest_is None (Some other) e = cc
-dest_is None None e = refl
+dest_is one other h = search rules
 
 own_dest : (dest : Option GuidPrefix) → is_same_dest dest dest ≡ true
-own_dest (Some dest) = own_prefix dest
-own_dest None = refl
+own_dest dest = grind (arith, nat_tests, common_steps, own_prefix)
 
 pub for_is : (dest : Option GuidPrefix) (prefix : GuidPrefix) → is_for dest prefix ≡ true → dest ≡ Some prefix
-for_is (Some dest) prefix e = ap Some (prefix_is dest prefix e)
-for_is None prefix e = cc
+for_is dest prefix h = search (rules, prefix_is)
 
 or_own : (a b : Bool) → b ≡ false → (a || a) ≡ (a || b)
-or_own true b e = refl
-or_own false b e = sym e
+or_own a b h = grind (arith, nat_tests)
 
 -- ---- lists
 
@@ -67,32 +62,13 @@ none_of_all test [] none = refl
 none_of_all test (y ∷ ys) none = ap (λ b. b || list_any test ys) (none y (contains_head y ys)) ∙ none_of_all test ys (λ x among. none x (contains_tail y ys x among))
 
 pub any_from : {X : Type 0} (test : X → Bool) (xs : List X) (x : X) → Contains xs x → test x ≡ true → list_any test xs ≡ true
-any_from test [] x among is = absurd (contains_none x among)
-any_from test (y ∷ ys) x among is = elim (contains_cases y ys x among) [
-  | inl here ↦ first (test y) (ap test here ∙ is)
-  | inr there ↦ later (test y) (any_from test ys x there is)
-]
-  where
-    first : (b : Bool) → b ≡ true → (b || list_any test ys) ≡ true
-    first true e = refl
-    first false e = cc
-
-    later : (b : Bool) → list_any test ys ≡ true → (b || list_any test ys) ≡ true
-    later true e = refl
-    later false e = e
+any_from test xs x h h2 = grind (arith, nat_tests, common_steps)
 
 neither : (a b : Bool) → (a || b) ≡ false → (a ≡ false) × (b ≡ false)
-neither true b e = cc
-neither false b e = (refl, e)
+neither a b h = grind (arith, nat_tests)
 
 pub none_is : {X : Type 0} (test : X → Bool) (xs : List X) (x : X) → list_any test xs ≡ false → Contains xs x → test x ≡ false
-none_is test [] x none among = absurd (contains_none x among)
-none_is test (y ∷ ys) x none among =
-    let (never, rest) = neither (test y) (list_any test ys) none in
-    elim (contains_cases y ys x among) [
-      | inl here ↦ subst (λ z. test z ≡ false) here never
-      | inr there ↦ none_is test ys x rest there
-    ]
+none_is test xs x h h2 = grind (arith, nat_tests, common_steps)
 
 pub flat_has : {X Y : Type 0} (f : X → List Y) (xs : List X) (x : X) (y : Y) → Contains xs x → Contains (f x) y → Contains (flat_map f xs) y
 flat_has f [] x y among made = absurd (contains_none x among)
@@ -121,8 +97,7 @@ any_of test xs any = elim (any_or_none test xs) [
 
 -- an element of a list with others behind it
 pub among_more : {X : Type 0} (b : Bool) (xs ys : List X) (x : X) → Contains xs x → Contains (cond b xs (xs ++ ys)) x
-among_more true xs ys x among = among
-among_more false xs ys x among = Contains-append_left xs ys x among
+among_more b xs ys x h = grind (arith, nat_tests, common_steps, Contains-append_left)
 
 -- ---- what comes to an audience
 
@@ -130,49 +105,30 @@ pub came_same : (news : List Offer) (one other : Audience) → ((offer : Offer) 
 came_same news one other agree = ap (flat_map (λ (o : Offer). o.came)) (filter_alike (λ (o : Offer). is_for_audience o.audience one) (λ (o : Offer). is_for_audience o.audience other) news agree)
 
 pub came_to-more : (audience : Audience) (news : List Offer) (offer : Offer) → came_to audience (news ++ offer ∷ []) ≡ came_to audience news ++ cond (is_for_audience offer.audience audience) offer.came []
-came_to-more audience news offer =
-    let comes : Offer → Bool = λ o. is_for_audience o.audience audience in
-    ap (flat_map (λ (o : Offer). o.came)) (filter-append comes news (offer ∷ [])) ∙ flat_map-append (λ (o : Offer). o.came) (filter comes news) (filter comes (offer ∷ []))
-    ∙ ap (λ cs. came_to audience news ++ cs) (by (comes offer))
-  where
-    by : (b : Bool) → flat_map (λ (o : Offer). o.came) (cond b (offer ∷ []) []) ≡ cond b offer.came []
-    by true = append-nil offer.came
-    by false = refl
+came_to-more audience news offer = grind (arith, nat_tests, common_steps)
 
 -- ---- a name more
 
 -- what was for an audience without the name came to those of it that have the name, where nobody had it
 for_named : (name : Name) (one audience : Audience) → has_name name one ≡ false → has_no_name name audience ≡ true → is_for_audience one (named_so name audience) ≡ is_for_audience one audience
-for_named (Dest dest) one audience never free = ap (λ b. b && (is_entity one.reader unknown_entity || is_entity one.reader audience.reader)) (by one.dest audience.dest never free)
-  where
-    by : (d a : Option GuidPrefix) → is_same_dest d dest ≡ false → is_for_all a ≡ true → (is_for_all d || is_same_dest d dest) ≡ (is_for_all d || is_same_dest d a)
-    by None a never free = refl
-    by (Some d) None never free = never
-    by (Some d) (Some a) never free = cc
-for_named (Reader reader) one audience never free =
-    ap (λ b. (is_for_all one.dest || is_same_dest one.dest audience.dest) && b)
-    (ap (λ b. is_entity one.reader unknown_entity || b) never ∙ or_false (is_entity one.reader unknown_entity) ∙ ap (λ e. is_entity one.reader unknown_entity || is_entity one.reader e) (sym (entity_is audience.reader unknown_entity free)))
-  where
-    or_false : (b : Bool) → (b || false) ≡ (b || b)
-    or_false true = refl
-    or_false false = refl
+for_named name one audience h h2 = search rules
 
-pub came_named : (hearing : Hearing) → AreNamed hearing → (name : Name) → list_any (has_name name) hearing.audiences ≡ false → (audience : Audience) → has_no_name name audience ≡ true
+pub came_named : (hearing : AudienceNews) → AreNamed hearing → (name : Name) → list_any (has_name name) hearing.audiences ≡ false → (audience : Audience) → has_no_name name audience ≡ true
     → came_to (named_so name audience) hearing.news ≡ came_to audience hearing.news
 came_named hearing named name none audience free =
     came_same hearing.news (named_so name audience) audience (λ offer among. for_named name offer.audience audience (none_is (has_name name) hearing.audiences offer.audience none (named offer among)) free)
 
 -- each audience stays one
-pub stays_among : (hearing : Hearing) (name : Name) (audience : Audience) → Contains hearing.audiences audience → Contains (begins hearing name).audiences audience
+pub stays_among : (hearing : AudienceNews) (name : Name) (audience : Audience) → Contains hearing.audiences audience → Contains (begins hearing name).audiences audience
 stays_among hearing name audience among = among_more (list_any (has_name name) hearing.audiences) hearing.audiences (map (named_so name) (filter (has_no_name name) hearing.audiences)) audience among
 
-pub named_begins : (hearing : Hearing) (name : Name) → AreNamed hearing → AreNamed (begins hearing name)
+pub named_begins : (hearing : AudienceNews) (name : Name) → AreNamed hearing → AreNamed (begins hearing name)
 named_begins hearing name named offer among = stays_among hearing name offer.audience (named offer among)
 
 -- ---- the audiences of a sample
 
 -- Everyone is one, and so is each destination with each reader; each news was for one.
-pub record IsSound (hearing : Hearing) : Type 0 where
+pub record IsSound (hearing : AudienceNews) : Type 0 where
   pub all : Contains hearing.audiences everyone
   pub closed : (one other : Audience) → Contains hearing.audiences one → Contains hearing.audiences other → Contains hearing.audiences (record { dest = one.dest; reader = other.reader })
   pub named : AreNamed hearing
@@ -191,11 +147,7 @@ module _ (auds : List Audience) (name : Name) where
       (from, kept_is_there (has_no_name name) auds from kept, is)
 
   free_everyone : has_no_name name everyone ≡ true
-  free_everyone = by name
-    where
-      by : (n : Name) → has_no_name n everyone ≡ true
-      by (Dest dest) = refl
-      by (Reader reader) = own_entity unknown_entity
+  free_everyone = grind (arith, nat_tests)
 
 abbrev Pairs : List Audience → Type 0
 Pairs auds = (one other : Audience) → Contains auds one → Contains auds other → Contains auds (record { dest = one.dest; reader = other.reader })
@@ -232,7 +184,7 @@ pairs_named : (auds : List Audience) (name : Name) (b : Bool) → Contains auds 
 pairs_named auds name true all pairs = pairs
 pairs_named auds name false all pairs = pairs_begun auds name all pairs
 
-begins_sound : (hearing : Hearing) (name : Name) → IsSound hearing → IsSound (begins hearing name)
+begins_sound : (hearing : AudienceNews) (name : Name) → IsSound hearing → IsSound (begins hearing name)
 begins_sound hearing name sound = record {
   all = stays_among hearing name everyone sound.all;
   closed = pairs_named hearing.audiences name (list_any (has_name name) hearing.audiences) sound.all sound.closed;
@@ -240,7 +192,7 @@ begins_sound hearing name sound = record {
 }
 
 -- some audience has the name
-name_there : (hearing : Hearing) (name : Name) → IsSound hearing → (audience : Audience) × Contains (begins hearing name).audiences audience × (has_name name audience ≡ true)
+name_there : (hearing : AudienceNews) (name : Name) → IsSound hearing → (audience : Audience) × Contains (begins hearing name).audiences audience × (has_name name audience ≡ true)
 name_there hearing name sound = by (any_or_none (has_name name) hearing.audiences)
   where
     own_name : (n : Name) (audience : Audience) → has_name n (named_so n audience) ≡ true
@@ -257,7 +209,7 @@ name_there hearing name sound = by (any_or_none (has_name name) hearing.audience
           own_name name everyone,
         )
 
-heard_sound : (hearing : Hearing) (offer : Offer) → IsSound hearing → IsSound (with_news (begins (begins hearing (Dest offer.audience.dest)) (Reader offer.audience.reader)) offer)
+heard_sound : (hearing : AudienceNews) (offer : Offer) → IsSound hearing → IsSound (with_news (begins (begins hearing (Dest offer.audience.dest)) (Reader offer.audience.reader)) offer)
 heard_sound hearing offer sound =
     let first = begins hearing (Dest offer.audience.dest) in
     let second = begins first (Reader offer.audience.reader) in
@@ -281,31 +233,24 @@ heard_sound hearing offer sound =
       ];
     }
 
-pub hears_sound : (hearing : Hearing) (offer : Offer) → IsSound hearing → IsSound (hears hearing offer)
+pub hears_sound : (hearing : AudienceNews) (offer : Offer) → IsSound hearing → IsSound (hears hearing offer)
 hears_sound hearing offer sound = by (is_known hearing offer)
   where
     by : (b : Bool) → IsSound (cond b hearing (with_news (begins (begins hearing (Dest offer.audience.dest)) (Reader offer.audience.reader)) offer))
     by true = sound
     by false = heard_sound hearing offer sound
 
-pub all_sound : (hearing : Hearing) (offers : List Offer) → IsSound hearing → IsSound (hears_all hearing offers)
+pub all_sound : (hearing : AudienceNews) (offers : List Offer) → IsSound hearing → IsSound (hears_all hearing offers)
 all_sound hearing [] sound = sound
 all_sound hearing (offer ∷ offers) sound = all_sound (hears hearing offer) offers (hears_sound hearing offer sound)
 
 pub silence_sound : IsSound silence
-silence_sound = record {
-  all = contains_head everyone [];
-  closed = λ one other first second. subst (λ (a : Audience). Contains (everyone ∷ []) (record { dest = a.dest; reader = other.reader })) (only one first) (subst (λ (a : Audience). Contains (everyone ∷ []) (record { dest = None; reader = a.reader })) (only other second) (contains_head everyone []));
-  named = λ offer among. absurd (contains_none offer among);
-}
-  where
-    only : (audience : Audience) → Contains (everyone ∷ []) audience → everyone ≡ audience
-    only audience among = elim (contains_cases everyone [] audience among) [ inl here ↦ here | inr nothing ↦ absurd (contains_none audience nothing) ]
+silence_sound = grind (arith, nat_tests)
 
 pub sound_of : (offers : List Offer) → IsSound (hearing_of offers)
 sound_of offers = all_sound silence offers silence_sound
 
 -- one more of them
-pub hears-more : (hearing : Hearing) (offers : List Offer) (offer : Offer) → hears_all hearing (offers ++ offer ∷ []) ≡ hears (hears_all hearing offers) offer
+pub hears-more : (hearing : AudienceNews) (offers : List Offer) (offer : Offer) → hears_all hearing (offers ++ offer ∷ []) ≡ hears (hears_all hearing offers) offer
 hears-more hearing [] offer = refl
 hears-more hearing (first ∷ offers) offer = hears-more (hears hearing first) offers offer

@@ -1,71 +1,32 @@
 -- The DATA_FRAG that are counted of a recording with its samples: no more of a datagram than without.
-use Rattle.std.proofs.Common.{◌≡◌, ℕ, ◌+◌, ◌≤◌, Bool, true, false, ◌&&◌, List, [], ◌∷◌, ◌++◌, drop, map, Option, Some, None, refl, sym, ap, subst, arith}
-use Rattle.std.specs.Prelude.{is_none, sum_by}
-use Rattle.std.proofs.lemmas.Bool.Decides.{Decides-eqb}
+use Rattle.std.proofs.Common.{◌≡◌, ℕ, ◌+◌, ◌≤◌, List, [], ◌∷◌, ◌++◌, map, Option, Some, None, refl, arith, rules}
+use Rattle.std.specs.Prelude.{sum_by}
+use Rattle.std.proofs.lemmas.Bool.Decides.{nat_tests}
 use Rattle.std.proofs.lemmas.List.Elements.{All-weaker}
-use Rattle.std.proofs.lemmas.List.Sums.{count_by-le-length, sum_by-append, sum_by-cons}
+use Rattle.std.proofs.lemmas.List.Sums.{sum_by-append, sum_by-cons}
 use Rattle.rtps_wire.proofs.Offered.{only_data_frags_have_fragments}
-use Rattle.rtps_wire.specs.DataFrag.{DataFragValue, data_frag_at}
 use Rattle.rtps_wire.specs.Reading.{reading_of}
 use Rattle.rtps_wire.specs.Tally.{fragments_in, is_fragment}
-use Rattle.rtps_wire.specs.Values.{BodyValue, ItemValue}
-use Rattle.rtps_wire.specs.Values.BodyValue.{Data, Heartbeat, AckNack, Gap, InfoTs, InfoDst, InfoSrc, Skipped}
+use Rattle.rtps_wire.specs.Values.{ItemValue}
 use Rattle.rtps_wire.specs.declared.counts.Tally.{Tally}
 use Rattle.rtps_wire.specs.declared.header.Header.{Header}
-use Rattle.rtps_wire.specs.declared.nack_frag.NackFrag.{NackFrag}
 use Rattle.rtps_receiver.specs.Acts.{act_body, gathered, state_at_start, state_behind}
-use Rattle.rtps_receiver.specs.Values.{ActBodyValue}
 use Rattle.rtps_receiver.specs.declared.state.State.{State}
-use Rattle.rtps_audit.proofs.Offered.{if_some}
 use Rattle.rtps_fragments.specs.Laws.{FragmentsAreCounted, NoMoreFragmentsAreCounted, OnlyDataFragsHaveFragments}
 use Rattle.rtps_fragments.specs.RecordedSamples.{tally_with}
 use Rattle.rtps_fragments.specs.SampleActs.{PieceAct, piece_acts_in}
 use Rattle.rtps_fragments.specs.SamplesSent.{is_left, pieces_left}
-use Rattle.rtps_wire.specs.FragmentItem.{asks_at, fragments_at, is_skipped_data_frag}
-use Rattle.rtps_fragments.specs.Sending.{one_unusable, piece_acts_of, piece_acts_of_item, piece_acts_with, sending_of, skipped_acts, unusable_among, unusable_in}
-use Rattle.rtps_fragments.proofs.SendingLemmas.{at_most_one, one_of, unusable-item, unusable_act, unusable_some}
+use Rattle.rtps_fragments.specs.FragmentWalk.{one_unusable, piece_acts_of, piece_acts_of_item, piece_acts_with, sending_of, unusable_among, unusable_in}
+use Rattle.rtps_fragments.proofs.FragmentWalkLemmas.{one_of, unusable-item}
 
 -- ---- one item
 
-frag_is_fragment : (body : BodyValue) → one_of (is_skipped_data_frag body) ≤ one_of (is_fragment body)
-frag_is_fragment (Skipped id) = by (is_skipped_data_frag (Skipped id)) refl
-  where
-    by : (b : Bool) → is_skipped_data_frag (Skipped id) ≡ b → one_of b ≤ one_of (is_fragment (Skipped id))
-    by false e = omega arith
-    by true e = subst (λ n. 1 ≤ one_of (is_fragment (Skipped n))) (sym ((Decides-eqb id 0x16).0 e)) (omega arith)
-frag_is_fragment (Data value) = omega arith
-frag_is_fragment (Heartbeat value) = omega arith
-frag_is_fragment (AckNack value) = omega arith
-frag_is_fragment (Gap value) = omega arith
-frag_is_fragment (InfoTs time) = omega arith
-frag_is_fragment (InfoDst prefix) = omega arith
-frag_is_fragment (InfoSrc version vendor prefix) = omega arith
-
 unusable_is_fragment : (octets : List ℕ) (item : ItemValue) → one_unusable octets item ≤ one_of (is_fragment item.body)
-unusable_is_fragment octets item = let frag = frag_is_fragment item.body in let less = both (is_skipped_data_frag item.body) (is_none (fragments_at octets item)) in omega arith
-  where
-    both : (a b : Bool) → one_of (a && b) ≤ one_of a
-    both true b = at_most_one b
-    both false b = omega arith
+unusable_is_fragment octets item = grind (arith, nat_tests)
 
 module _ (all : List PieceAct) (octets : List ℕ) where
   item_at_most : (state : State) (item : ItemValue) → one_unusable octets item + pieces_left all (piece_acts_of_item octets state item (act_body item.body)) ≤ one_of (is_fragment item.body)
-  item_at_most state item = by (act_body item.body) refl
-    where
-      of : (o : Option DataFragValue) (asks : Option NackFrag) → fragments_at octets item ≡ o → one_unusable octets item + pieces_left all (skipped_acts state item o asks) ≤ one_of (is_fragment item.body)
-      of None None e = let less = unusable_is_fragment octets item in omega arith
-      of None (Some asks) e = let less = unusable_is_fragment octets item in omega arith
-      of (Some value) asks e =
-          let none = unusable_some octets item value e in
-          let fragment : one_of (is_fragment item.body) ≡ 1 = ap one_of (if_some (is_fragment item.body) (data_frag_at (drop item.at octets)) value e).0 in
-          let left = count_by-le-length (λ (other : PieceAct). is_left all other.act other.piece) (skipped_acts state item (Some value) asks) in
-          omega arith
-
-      by : (body : Option ActBodyValue) → act_body item.body ≡ body → one_unusable octets item + pieces_left all (piece_acts_of_item octets state item body) ≤ one_of (is_fragment item.body)
-      by None e = of (fragments_at octets item) (asks_at octets item) refl
-      by (Some body) e =
-          let none = unusable_act octets item body e in
-          omega arith
+  item_at_most state item = grind (arith, nat_tests)
 
   items_at_most : (start : State) (before items : List ItemValue) → unusable_among octets items + pieces_left all (gathered (λ s i. piece_acts_of_item octets s i (act_body i.body)) start before items) ≤ fragments_in items
   items_at_most start before [] = omega arith
@@ -112,7 +73,4 @@ counted recording = each (piece_acts_in (sending_of recording)) recording
         omega arith
 
 pub only_data_frags : OnlyDataFragsHaveFragments
-only_data_frags datagram =
-    All-weaker (λ (item : ItemValue). (value : DataFragValue) → data_frag_at (drop item.at datagram) ≡ Some value → item.body ≡ Skipped 0x16)
-    (λ (item : ItemValue). (value : DataFragValue) → data_frag_at (drop item.at datagram) ≡ Some value → is_skipped_data_frag item.body ≡ true)
-    (λ item is value e. ap is_skipped_data_frag (is value e)) (reading_of datagram).items (only_data_frags_have_fragments datagram)
+only_data_frags datagram = search (rules, All-weaker, only_data_frags_have_fragments)

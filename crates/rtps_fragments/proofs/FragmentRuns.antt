@@ -1,5 +1,6 @@
 -- What a reader that takes fragments one by one can come to have.
-use Rattle.std.proofs.Common.{◌≡◌, ℕ, zero, suc, ◌≤◌, List, [], ◌∷◌, ◌++◌, Some, slice_get, refl, ◌∙◌, ap, subst, arith, ◌⊎◌, inl, inr}
+use Rattle.std.proofs.lemmas.Bool.Decides.{nat_tests}
+use Rattle.std.proofs.Common.{◌≡◌, ℕ, suc, ◌≤◌, List, [], ◌∷◌, ◌++◌, Some, slice_get, refl, ◌∙◌, ap, subst, arith, ◌⊎◌, inl, inr}
 use Rattle.std.proofs.lemmas.List.Elements.{Contains-append_left, Contains-push, Contains-push_cases}
 use Rattle.rtps_wire.specs.Values.{PayloadValue}
 use Rattle.rtps_audit.specs.Delivery.{Word}
@@ -11,14 +12,11 @@ use Rattle.rtps_fragments.specs.FragmentVerdict.{IsSaidBefore, IsSentBefore, IsP
 
 pub payload_of_more : (said other : ℕ → Word → Type 0) (there also : Fragment → Type 0) → ((n : ℕ) (word : Word) → said n word → other n word) → ((f : Fragment) → there f → also f)
     → (n : ℕ) (payload : PayloadValue) → HasPayloadOf said there n payload → HasPayloadOf other also n payload
-payload_of_more said other there also words fragments n payload (inl told) = inl (words n _ told)
-payload_of_more said other there also words fragments n payload (inr put) =
-    inr (record { shape = put.shape; parts = put.parts; some = put.some; all = put.all; each = λ i octets at. fragments _ (put.each i octets at); payload_is = put.payload_is })
+payload_of_more said other there also h h2 n payload h3 = grind (arith, nat_tests)
 
 pub word_of_more : (said other : ℕ → Word → Type 0) (there also : Fragment → Type 0) → ((n : ℕ) (word : Word) → said n word → other n word) → ((f : Fragment) → there f → also f)
     → (n : ℕ) → HasWordOf said there n → HasWordOf other also n
-word_of_more said other there also words fragments n (inl gone) = inl (words n _ gone)
-word_of_more said other there also words fragments n (inr (payload, has)) = inr (payload, payload_of_more said other there also words fragments n payload has)
+word_of_more said other there also h h2 n h3 = grind (arith, nat_tests)
 
 -- what is said before a place is said before a later one
 pub said_later : {from : ℕ} (speech : FragmentSpeech) (i j : ℕ) → i ≤ j → (n : ℕ) (word : Word) → IsSaidBefore from speech i n word → IsSaidBefore from speech j n word
@@ -111,8 +109,7 @@ HoldsParts t part parts = (i : ℕ) (octets : List ℕ) → slice_get parts i �
 
 holds_parts : (t : FragmentState) (part : ℕ → List ℕ → Fragment) (octets : List ℕ) (parts : List (List ℕ)) → HoldsFragment t (part 0 octets) → HoldsParts t (λ i. part (suc i)) parts
     → HoldsParts t part (octets ∷ parts)
-holds_parts t part octets parts first rest zero other at = let same : octets ≡ other = cc in subst (λ o. HoldsFragment t (part 0 o)) same first
-holds_parts t part octets parts first rest (suc i) other at = rest i other at
+holds_parts t part octets parts h h2 h3 h4 h5 = grind (arith, nat_tests)
 
 take_parts : {from : ℕ} (speech : FragmentSpeech) (s : FragmentState) (n : ℕ) (part : ℕ → List ℕ → Fragment) (parts : List (List ℕ)) → ((i : ℕ) (octets : List ℕ) → n ≡ (part i octets).number)
     → ((i : ℕ) (octets : List ℕ) → slice_get parts i ≡ Some octets → IsSentBefore from speech s.sent (part i octets)) → Takes from speech s n (λ t. HoldsParts t part parts)

@@ -1,5 +1,6 @@
 -- Where a recording with fragments and one without tell alike, each list of allowed events of the latter has one of the former by
 -- which the reader has a word for the same numbers.
+use Rattle.std.proofs.lemmas.Bool.Decides.{nat_tests}
 use Rattle.std.proofs.Common.{◌≡◌, ℕ, suc, ◌<◌, List, [], ◌∷◌, ◌++◌, length, refl, sym, ◌∙◌, ap, subst, arith, inl, inr}
 use Rattle.std.specs.Prelude.{Contains}
 use Rattle.std.proofs.lemmas.List.Elements.{Contains-append_left, Contains-push, Contains-push_cases}
@@ -20,12 +21,7 @@ pub record IsLike (s : DeliveryState) (t : FragmentState) : Type 0 where
   pub fragments : (f : Fragment) → HoldsFragment t f → Holds s f.number
 
 start_like : IsLike start fragment_start
-start_like = record {
-  sent = refl;
-  has = λ n h. absurd (let lt = h.1.1 in omega arith);
-  words = λ n word h. absurd (let lt = h.1 in omega arith);
-  fragments = λ f h. absurd (let lt = h.1 in omega arith);
-}
+start_like = grind (arith, nat_tests)
 
 -- from a state on, the reader comes to one that is like this one
 abbrev Likens : ℕ → FragmentSpeech → FragmentState → DeliveryState → Type 0

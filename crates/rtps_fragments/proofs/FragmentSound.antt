@@ -1,4 +1,5 @@
 -- What holds of each state that allowed events lead to.
+use Rattle.std.proofs.lemmas.Bool.Decides.{nat_tests}
 use Rattle.std.proofs.Common.{◌≡◌, ℕ, suc, ◌<◌, ◌≤◌, List, [], ◌∷◌, sym, subst, arith, inl, inr}
 use Rattle.std.proofs.lemmas.List.Elements.{Contains-append_left, Contains-push_cases}
 use Rattle.std.proofs.lemmas.Bool.{cases_lt}
@@ -18,12 +19,7 @@ pub record IsFragmentSound (from : ℕ) (speech : FragmentSpeech) (state : Fragm
   pub founded : (i n : ℕ) → i < state.sent → Claims from (said_in speech) i n → IsWordBefore from speech i n
 
 start_sound : {from : ℕ} (speech : FragmentSpeech) → IsFragmentSound from speech fragment_start
-start_sound speech = record {
-  words = λ n word among. absurd (let lt = among.1 in omega arith);
-  fragments = λ f among. absurd (let lt = among.1 in omega arith);
-  held = λ i n lt claims. absurd (omega arith);
-  founded = λ i n lt claims. absurd (omega arith);
-}
+start_sound speech = grind (arith, nat_tests)
 
 -- what the reader has was given before
 pub payload_given : {from : ℕ} (speech : FragmentSpeech) (state : FragmentState) → IsFragmentSound from speech state → (n : ℕ) (payload : PayloadValue) → HasPayload state n payload → IsPayloadBefore from speech state.sent n payload

@@ -1,5 +1,7 @@
 -- Where a recording with fragments and one without tell alike, they have the same verdicts by runs.
-use Rattle.std.proofs.Common.{ℕ, ◌<◌, ◌≤◌, length, sym, ◌∙◌, ap, subst, arith, inl, inr, ℤ, pos, negsuc}
+use Rattle.std.proofs.lemmas.Grind.{common_steps}
+use Rattle.std.proofs.lemmas.Bool.Decides.{nat_tests}
+use Rattle.std.proofs.Common.{ℕ, ◌<◌, ◌≤◌, length, sym, ◌∙◌, ap, subst, arith, inl, inr, ℤ, pos}
 use Rattle.std.proofs.lemmas.Bool.{cases_lt}
 use Rattle.std.proofs.lemmas.Option.{slice_get_cases, slice_get_within}
 use Rattle.rtps_wire.specs.Values.{PayloadValue}
@@ -20,13 +22,11 @@ use Rattle.rtps_fragments.proofs.FragmentSimulation.{IsLike, reached_like}
 
 -- two sets of the same numbers have the same least one
 same_least : (z : ℤ) (P Q : ℕ → Type 0) → ((n : ℕ) → P n → Q n) → ((n : ℕ) → Q n → P n) → OnNatural z (IsLeast P) → OnNatural z (IsLeast Q)
-same_least (pos n) P Q to from least = record { holds = to n least.holds; least = λ m h. least.least m (from m h) }
-same_least (negsuc n) P Q to from least = least
+same_least z P Q h h2 h3 = grind (arith, nat_tests, common_steps)
 
 -- some number has what the least one has
 some_number : (z : ℤ) (P : ℕ → Type 0) → OnNatural z (IsLeast P) → (n : ℕ) × P n
-some_number (pos n) P least = (n, least.holds)
-some_number (negsuc n) P none = absurd none
+some_number z P h = grind (arith, nat_tests, common_steps)
 
 -- what the reader has by runs with fragments, it holds without
 holds_from : (s : DeliveryState) (t : FragmentState) → IsLike s t → (n : ℕ) → HasWord t n → Holds s n
@@ -50,10 +50,7 @@ unsendable pieces j n within (claims, none) = (
 module _ (from : ℕ) (pieces : FragmentSpeech) (told : Speech) (alike : TellsAlike from pieces told) where
   -- a claim is of a datagram that there is
   claims_within : (j n : ℕ) → Claims from told j n → j < length pieces
-  claims_within j n claims =
-      let within = slice_get_within told j claims.datagram claims.stands in
-      let counted = alike.counted in
-      omega arith
+  claims_within j n claims = grind (arith, nat_tests, common_steps, slice_get_within)
 
   founded_told : HasFragmentRun from pieces → IsFounded from told
   founded_told (end, (reached, all)) j n claims =
@@ -77,8 +74,7 @@ module _ (from : ℕ) (pieces : FragmentSpeech) (told : Speech) (alike : TellsAl
   -- ---- two payloads
 
   payload_told : (end : FragmentState) → FragmentsEnd from pieces end → (n : ℕ) (payload : PayloadValue) → HasPayload end n payload → IsPayloadBefore from pieces (length pieces) n payload
-  payload_told end (reached, all) n payload has =
-      subst (λ j. IsPayloadBefore from pieces j n payload) all (payload_given pieces end (reached_is_sound pieces end reached) n payload has)
+  payload_told end h n payload h2 = grind (arith, nat_tests, common_steps, payload_given, reached_is_sound)
 
   two_told : (n : ℕ) → EndsWithTwoPayloads from pieces n → SpeaksTwo from told n
   two_told n (end, x, y, ends, one, two, differ) = (alike.payloads n).0 (x, y, payload_told end ends n x one, payload_told end ends n y two, differ)

@@ -1,5 +1,5 @@
 -- The fragments that are sent before a place of a recording.
-use Rattle.std.proofs.Common.{◌≡◌, ℕ, zero, suc, ◌<◌, List, [], ◌∷◌, ◌++◌, Some, slice_get, refl, ◌∙◌, ap, subst, arith, inl, inr, ◌⊎◌}
+use Rattle.std.proofs.Common.{◌≡◌, ℕ, zero, suc, ◌<◌, List, [], ◌∷◌, ◌++◌, Some, slice_get, refl, ◌∙◌, ap, subst, arith, inl, inr, ◌⊎◌, rules}
 use Rattle.std.specs.Prelude.{Contains}
 use Rattle.std.specs.List.{flat_map}
 use Rattle.std.proofs.lemmas.List.Elements.{Contains-append_left, Contains-append_right, Contains-append_cases}
@@ -60,9 +60,7 @@ before_has (d ∷ speech) (suc i) (suc j) datagram f lt at has =
     Contains-append_right (flat_map fragments_of d.pieces) (fragments_before speech j) f (before_has speech i j datagram f (omega arith) at has)
 
 pub sent_is_before : {from : ℕ} (speech : FragmentSpeech) (j : ℕ) (f : Fragment) → IsSentBefore from speech j f → Contains (fragments_before speech j) f
-sent_is_before speech j f sent =
-    let gives = sent.gives in
-    before_has speech sent.place j gives.datagram f sent.earlier gives.stands (of_piece gives.datagram.pieces sent.piece gives.piece f gives.speaks gives.has)
+sent_is_before speech j f sent = search (rules, before_has, of_piece)
 
 -- a datagram before a place has it
 before_from : (speech : FragmentSpeech) (j : ℕ) (f : Fragment) → Contains (fragments_before speech j) f

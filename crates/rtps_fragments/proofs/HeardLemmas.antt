@@ -1,5 +1,7 @@
 -- The fragments that are heard among acts, whoever hears them.
-use Rattle.std.proofs.Common.{◌≡◌, ℕ, Bool, true, false, cond, List, [], ◌∷◌, ◌++◌, map, filter, Option, Some, None, refl, ◌∙◌, ap, subst, inl, inr, ◌⊎◌, append-nil}
+use Rattle.std.proofs.lemmas.Grind.{common_steps}
+use Rattle.std.proofs.lemmas.Bool.Decides.{nat_tests}
+use Rattle.std.proofs.Common.{◌≡◌, ℕ, Bool, true, false, List, [], ◌∷◌, ◌++◌, map, filter, Option, Some, None, refl, ◌∙◌, ap, subst, inl, inr, ◌⊎◌, append-nil, arith}
 use Rattle.std.specs.Prelude.{Contains}
 use Rattle.std.specs.List.{flat_map}
 use Rattle.std.proofs.lemmas.List.Concat.{flat_map-append}
@@ -17,8 +19,7 @@ abbrev pub heard_of : (PieceAct → Bool) → List PieceAct → List Fragment
 heard_of hears parts = flat_map (λ part. fragments_in part.piece) (filter hears parts)
 
 pub heard-append : (hears : PieceAct → Bool) (xs ys : List PieceAct) → heard_of hears (xs ++ ys) ≡ heard_of hears xs ++ heard_of hears ys
-heard-append hears xs ys =
-    ap (flat_map (λ (part : PieceAct). fragments_in part.piece)) (filter-append hears xs ys) ∙ flat_map-append (λ (part : PieceAct). fragments_in part.piece) (filter hears xs) (filter hears ys)
+heard-append hears xs ys = grind (arith, nat_tests, common_steps, filter-append, flat_map-append)
 
 -- those of one act
 abbrev pub heard_one : Bool → Option Piece → List Fragment
@@ -26,11 +27,7 @@ heard_one true piece = fragments_in piece
 heard_one false piece = []
 
 pub heard-cons : (hears : PieceAct → Bool) (part : PieceAct) (parts : List PieceAct) → heard_of hears (part ∷ parts) ≡ heard_one (hears part) part.piece ++ heard_of hears parts
-heard-cons hears part parts = by (hears part)
-  where
-    by : (b : Bool) → flat_map (λ (p : PieceAct). fragments_in p.piece) (cond b (part ∷ filter hears parts) (filter hears parts)) ≡ heard_one b part.piece ++ heard_of hears parts
-    by true = refl
-    by false = refl
+heard-cons hears part parts = grind (arith, nat_tests)
 
 -- with one act more
 pub heard-more : (hears : PieceAct → Bool) (parts : List PieceAct) (part : PieceAct) → heard_of hears (parts ++ part ∷ []) ≡ heard_of hears parts ++ heard_one (hears part) part.piece

@@ -1,4 +1,6 @@
 -- What an index takes in of a recording with its samples, with one datagram more.
+use Rattle.std.proofs.lemmas.Grind.{common_steps}
+use Rattle.std.proofs.lemmas.Bool.Decides.{nat_tests}
 use Rattle.std.proofs.Common.{◌≡◌, ℕ, ◌+◌, ◌<◌, ◌≤◌, List, [], ◌∷◌, ◌++◌, drop, length, map, take, get_or, Bor, Option, Some, None, slice_get, refl, sym, ◌∙◌, ap, subst, arith, inl, inr}
 use Rattle.std.specs.Prelude.{Contains}
 use Rattle.std.specs.Global.{Vec}
@@ -26,8 +28,8 @@ use Rattle.rtps_fragments.specs.Merging.{IsFragmentAct, merged_from, sents_from,
 use Rattle.rtps_fragments.specs.RecordedSamples.{by_datagram, tally_with}
 use Rattle.rtps_fragments.specs.SampleActs.{PieceAct, acts_and, acts_with_samples, piece_acts_in, samples_told}
 use Rattle.rtps_wire.specs.FragmentItem.{asks_at, fragments_at}
-use Rattle.rtps_fragments.specs.Sending.{piece_acts_of, piece_acts_of_item, piece_acts_with, piece_of, sending_of, skipped_acts, unusable_in}
-use Rattle.rtps_fragments.specs.Telling.{SentValue, ToldValue, in_turn, overheard_behind, told_behind, told_value}
+use Rattle.rtps_fragments.specs.FragmentWalk.{piece_acts_of, piece_acts_of_item, piece_acts_with, piece_of, sending_of, skipped_acts, unusable_in}
+use Rattle.rtps_fragments.specs.ToldSamples.{SentValue, ToldValue, in_turn, overheard_behind, told_behind, told_value}
 use Rattle.rtps_fragments.specs.Whole.{tally_left, tally_with_fragments}
 use Rattle.rtps_fragments.specs.declared.merging.SampleForm.{SampleForm}
 use Rattle.rtps_fragments.specs.declared.merging.SampleForm.TheVariants.{ForAudience, ForEveryone}
@@ -50,28 +52,7 @@ gathered_from gives start before (item ∷ items) x among = elim (Contains-appen
 ]
 
 fragment_of_item : (octets : List ℕ) (state : State) (item : ItemValue) (body : Option ActBodyValue) (one : PieceAct) (piece : Piece) → Contains (piece_acts_of_item octets state item body) one → one.piece ≡ Some piece → IsFragmentAct one piece
-fragment_of_item octets state item (Some body) one piece among is = elim (contains_cases _ [] one among) [
-  | inl same ↦ absurd (let clash : None ≡ Some piece = ap (λ (p : PieceAct). p.piece) same ∙ is in cc)
-  | inr none ↦ absurd (contains_none one none)
-]
-fragment_of_item octets state item None one piece among is = by (fragments_at octets item) (asks_at octets item) among
-  where
-    by : (o : Option DataFragValue) (asks : Option NackFrag) → Contains (skipped_acts state item o asks) one → IsFragmentAct one piece
-    by None None among = absurd (contains_none one among)
-    by None (Some asks) among = elim (contains_cases _ [] one among) [
-      | inl same ↦ absurd (let clash : None ≡ Some piece = ap (λ (p : PieceAct). p.piece) same ∙ is in cc)
-      | inr none ↦ absurd (contains_none one none)
-    ]
-    by (Some value) asks among = elim (contains_cases _ [] one among) [
-      | inl same ↦
-          let piece_is : piece_of value ≡ piece = (let h : Some (piece_of value) ≡ Some piece = ap (λ (p : PieceAct). p.piece) same ∙ is in cc) in
-          record {
-            value = record { reader = value.reader; writer = value.writer; number = value.number; told = None };
-            body = ap (λ (p : PieceAct). p.act.body) (sym same);
-            number = ap (λ (p : Piece). p.number) piece_is;
-          }
-      | inr none ↦ absurd (contains_none one none)
-    ]
+fragment_of_item octets state item body one piece h h2 = grind (arith, nat_tests, common_steps)
 
 -- a piece has fragments of its shape
 piece_of_item : (octets : List ℕ) (state : State) (item : ItemValue) (body : Option ActBodyValue) (one : PieceAct) (piece : Piece) → Contains (piece_acts_of_item octets state item body) one → one.piece ≡ Some piece → IsPieceAct one piece

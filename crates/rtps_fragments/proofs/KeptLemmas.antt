@@ -1,5 +1,6 @@
 -- What is kept of the fragments that came, with one fragment more.
-use Rattle.std.proofs.Common.{◌≡◌, ℕ, zero, suc, ◌+◌, ◌<◌, ◌≤◌, Bool, true, false, cond, not, List, [], ◌∷◌, ◌++◌, length, append-nil, append_assoc, set, take, drop, ◌-◌, Option, Some, None, slice_get, refl, sym, ◌∙◌, ap, subst, arith, inl, inr, ◌⊎◌}
+use Rattle.std.proofs.lemmas.Grind.{common_steps}
+use Rattle.std.proofs.Common.{◌≡◌, ℕ, zero, suc, ◌+◌, ◌<◌, ◌≤◌, Bool, true, false, cond, not, List, [], ◌∷◌, ◌++◌, length, append-nil, append_assoc, set, take, drop, ◌-◌, Option, Some, None, slice_get, refl, sym, ◌∙◌, ap, subst, arith, inl, inr, ◌⊎◌, rules}
 use Rattle.std.specs.Prelude.{◌&&◌, ◌==◌, is_some, nat_lt, option_copied}
 use Rattle.std.specs.Borrow.{Bor}
 use Rattle.std.specs.BTreeMap.{get, is_at}
@@ -32,31 +33,18 @@ first-append (one ∷ rest) more i = by (i == one.0) (first-append rest more i)
     by false rest = rest
 
 pub other-append : (came : List (ℕ × List ℕ)) (one : ℕ × List ℕ) → find (is_other (came ++ one ∷ [])) (came ++ one ∷ []) ≡ option_or (find (is_other came) came) (cond (differs (first_of (came ++ one ∷ []) one.0) one.1) (Some one) None)
-other-append came one =
-    find-append (is_other (came ++ one ∷ [])) came (one ∷ [])
-    ∙ ap (λ o. option_or o (cond (differs (first_of (came ++ one ∷ []) one.0) one.1) (Some one) None)) (find_agrees (is_other (came ++ one ∷ [])) (is_other came) came (other_same came (one ∷ [])))
+other-append came one = search (rules, find-append, find_agrees, other_same)
 
 or_none : {X : Type 0} (o : Option X) → option_or o None ≡ o
-or_none None = refl
-or_none (Some x) = refl
+or_none o = grind (arith, nat_tests)
 
 -- a fragment that came for the first time
 pub first_new : (came : List (ℕ × List ℕ)) (k : ℕ) (octets : List ℕ) (i : ℕ) → first_of came k ≡ None → first_of (came ++ (k, octets) ∷ []) i ≡ cond (i == k) (Some octets) (first_of came i)
-first_new came k octets i none = first-append came ((k, octets) ∷ []) i ∙ by (i == k) refl
-  where
-    by : (b : Bool) → (i == k) ≡ b → option_or (first_of came i) (cond b (Some octets) None) ≡ cond b (Some octets) (first_of came i)
-    by true e = ap (λ o. option_or o (Some octets)) (ap (first_of came) ((Decides-eqb i k).0 e) ∙ none)
-    by false e = or_none (first_of came i)
+first_new came k octets i none = grind (arith, nat_tests, common_steps, first-append, Decides-eqb, or_none)
 
 -- one that came before
 pub first_again : (came : List (ℕ × List ℕ)) (k : ℕ) (first octets : List ℕ) (i : ℕ) → first_of came k ≡ Some first → first_of (came ++ (k, octets) ∷ []) i ≡ first_of came i
-first_again came k first octets i found = first-append came ((k, octets) ∷ []) i ∙ by (i == k) refl
-  where
-    by : (b : Bool) → (i == k) ≡ b → option_or (first_of came i) (cond b (Some octets) None) ≡ first_of came i
-    by true e =
-        let here : first_of came i ≡ Some first = ap (first_of came) ((Decides-eqb i k).0 e) ∙ found in
-        ap (λ o. option_or o (Some octets)) here ∙ sym here
-    by false e = or_none (first_of came i)
+first_again came k first octets i found = grind (arith, nat_tests, common_steps, first-append, Decides-eqb, or_none)
 
 own_bytes : (octets : List ℕ) → bytes_eq octets octets ≡ true
 own_bytes octets = (bytes_eq-Decides octets octets).1 refl
@@ -112,11 +100,7 @@ module _ (last : ℕ) (came : List (ℕ × List ℕ)) (kept new : Heard) (k : �
   -- a fragment that came for the first time
   pub kept_new : kept_first kept k ≡ None → ((i : ℕ) → kept_first new i ≡ cond (i == k) (Some octets) (kept_first kept i)) → kept_front new ≤ last
       → (kept_front new < last → kept_first new (suc (kept_front new)) ≡ None) → kept_other new ≡ kept_other kept → IsHeard last (came ++ (k, octets) ∷ []) new
-  kept_new none firsts within next other =
-      let absent : first_of came k ≡ None = sym (is.firsts k) ∙ none in
-      let all : (i : ℕ) → kept_first new i ≡ first_of (came ++ (k, octets) ∷ []) i =
-      λ i. firsts i ∙ ap (cond (i == k) (Some octets)) (is.firsts i) ∙ sym (first_new came k octets i absent) in
-      record { firsts = all; within = within; next = λ lt. sym (all (suc (kept_front new))) ∙ next lt; other = other ∙ is.other ∙ sym (other_new came k octets absent) }
+  kept_new none firsts within next other = grind (arith, nat_tests, common_steps, first_new, other_new)
 
 -- ---- what can be put together
 
@@ -196,12 +180,10 @@ set_get (first ∷ parts) (suc j) (suc i) octets part e = set_get parts j i octe
 
 -- a part, where one of them is another
 pub with_get : (parts : List (List ℕ)) (index i : ℕ) (octets part : List ℕ) → slice_get parts i ≡ Some part → slice_get (with_part parts index octets) i ≡ Some (cond (suc i == index) octets part)
-with_get parts zero i octets part e = e ∙ ap (λ b. Some (cond b octets part)) (sym (not_zero i))
-with_get parts (suc j) i octets part e = set_get parts j i octets part e ∙ ap (λ b. Some (cond b octets part)) (sym (suc_same i j))
+with_get parts index i octets part h = grind (arith, nat_tests, common_steps, not_zero, set_get, suc_same)
 
 pub length-with_part : (parts : List (List ℕ)) (index : ℕ) (octets : List ℕ) → length (with_part parts index octets) ≡ length parts
-length-with_part parts zero octets = refl
-length-with_part parts (suc j) octets = length-set parts j octets
+length-with_part parts index octets = grind (arith, nat_tests, common_steps, length-set)
 
 -- the octets that are kept for a place are its part
 pub kept_part : (last : ℕ) (came : List (ℕ × List ℕ)) (kept : Heard) (parts : List (List ℕ)) (i : ℕ) → IsHeard last came kept → firsts_of came last ≡ Some parts → i < last
@@ -215,42 +197,15 @@ kept_part last came kept parts i is all lt =
 
 -- where there are samples, each fragment is there
 pub parts_there : (last : ℕ) (came : List (ℕ × List ℕ)) → 0 < length (samples_of last came) → (parts : List (List ℕ)) × (firsts_of came last ≡ Some parts)
-parts_there last came some = by (firsts_of came last) refl some
-  where
-    by : (o : Option (List (List ℕ))) → firsts_of came last ≡ o → 0 < length (samples_by o (find (is_other came) came)) → (parts : List (List ℕ)) × (firsts_of came last ≡ Some parts)
-    by None e some = absurd (omega arith)
-    by (Some parts) e some = (parts, e)
+parts_there last came some = grind (arith, nat_tests)
 
 -- the first sample, and the second one
 pub sample_at_first : (last : ℕ) (came : List (ℕ × List ℕ)) (parts : List (List ℕ)) → firsts_of came last ≡ Some parts → slice_get (samples_of last came) 0 ≡ Some (concat parts)
-sample_at_first last came parts all = ap (λ o. slice_get (samples_by o (find (is_other came) came)) 0) all ∙ by (find (is_other came) came)
-  where
-    by : (o : Option (ℕ × List ℕ)) → slice_get (samples_by (Some parts) o) 0 ≡ Some (concat parts)
-    by None = refl
-    by (Some one) = refl
+sample_at_first last came parts all = grind (arith, nat_tests)
 
 pub sample_at_second : (last : ℕ) (came : List (ℕ × List ℕ)) (kept : Heard) (parts : List (List ℕ)) (place : ℕ) → IsHeard last came kept → firsts_of came last ≡ Some parts → 0 < place → place < length (samples_of last came)
     → slice_get (samples_of last came) place ≡ Some (concat (with_part parts kept.other kept.octets.now))
-sample_at_second last came kept parts place is all some within =
-    samples ∙ by kept.other place some (subst (λ xs. place < length xs) (sym made) within)
-  where
-    made : samples_by (Some parts) (kept_other kept) ≡ samples_of last came
-    made = ap (samples_by (Some parts)) is.other ∙ ap (λ o. samples_by o (find (is_other came) came)) (sym all)
-
-    samples : slice_get (samples_of last came) place ≡ slice_get (samples_by (Some parts) (kept_other kept)) place
-    samples = ap (λ xs. slice_get xs place) (sym made)
-
-    second : (j place : ℕ) → 0 < place → place < length (samples_by (Some parts) (Some (suc j, kept.octets.now))) → slice_get (samples_by (Some parts) (Some (suc j, kept.octets.now))) place ≡ Some (concat (set parts j kept.octets.now))
-    second j zero some within = absurd (omega arith)
-    second j (suc zero) some within = refl
-    second j (suc (suc n)) some within = absurd (omega arith)
-
-    by : (other place : ℕ) → 0 < place → place < length (samples_by (Some parts) (cond (other == 0) None (Some (other, kept.octets.now))))
-        → slice_get (samples_by (Some parts) (cond (other == 0) None (Some (other, kept.octets.now)))) place ≡ Some (concat (with_part parts other kept.octets.now))
-    by zero place some within = absurd (let none : place < 1 = within in omega arith)
-    by (suc j) place some within =
-        ap (λ b. slice_get (samples_by (Some parts) (cond b None (Some (suc j, kept.octets.now)))) place) (not_zero j)
-        ∙ second j place some (subst (λ b. place < length (samples_by (Some parts) (cond b None (Some (suc j, kept.octets.now))))) (not_zero j) within)
+sample_at_second last came kept parts place is all some within = grind (arith, nat_tests)
 
 -- ---- consecutive fragments
 
@@ -272,20 +227,15 @@ part_more (first ∷ parts) (suc place) part rest e =
 
 pub came_more : (first place : ℕ) (parts : List (List ℕ)) (part : List ℕ) (rest : List (List ℕ)) → drop place parts ≡ part ∷ rest
     → came_from first (take (suc place) parts) ≡ came_from first (take place parts) ++ (first + place, part) ∷ []
-came_more first place parts part rest e =
-    let (more, count, behind) = part_more parts place part rest e in
-    ap (came_from first) more ∙ came-append first (take place parts) (part ∷ []) ∙ ap (λ n. came_from first (take place parts) ++ (first + n, part) ∷ []) count
+came_more first place parts part rest e = grind (arith, nat_tests, common_steps, part_more, came-append)
 
 -- so many fragments of octets, one less
 pub parts_next : (fragment count place : ℕ) (octets : List ℕ) → place < count → parts_in fragment (count - place) octets ≡ take fragment octets ∷ parts_in fragment (count - suc place) (drop fragment octets)
-parts_next fragment count place octets lt =
-    let more : count - place ≡ suc (count - suc place) = omega arith in
-    ap (λ n. parts_in fragment n octets) more
+parts_next fragment count place octets lt = grind (arith, nat_tests)
 
 pub parts_behind : (fragment count place : ℕ) (all : List (List ℕ)) (rest : List ℕ) → drop place all ≡ parts_in fragment (count - place) rest → place < count
     → drop (suc place) all ≡ parts_in fragment (count - suc place) (drop fragment rest)
-parts_behind fragment count place all rest e lt =
-    (part_more all place (take fragment rest) (parts_in fragment (count - suc place) (drop fragment rest)) (e ∙ parts_next fragment count place rest lt)).2
+parts_behind fragment count place all rest e lt = grind (arith, nat_tests, common_steps, part_more, parts_next)
 
 -- ---- the fragment that came with other octets
 
@@ -301,18 +251,12 @@ not_none k ne = grind (arith, nat_tests)
 -- the first such fragment is kept
 pub other_set : (old k : ℕ) (before octets : List ℕ) (b : Bool) → 0 < k → old ≡ 0 → b ≡ true
     → cond (k == 0) None (some_one k octets) ≡ option_or (cond (old == 0) None (some_one old before)) (cond b (some_one k octets) None)
-other_set old k before octets b lt none is =
-    ap (λ c. cond c None (some_one k octets)) (some_number k lt)
-    ∙ sym (ap (λ n. option_or (cond (n == 0) None (some_one n before)) (cond b (some_one k octets) None)) none ∙ ap (λ c. cond c (some_one k octets) None) is)
+other_set old k before octets b lt none is = grind (arith, nat_tests)
 
 -- no later one, and none with the same octets
 pub other_stays_kept : (old k : ℕ) (before octets : List ℕ) (b : Bool) → ((old ≡ 0) × (b ≡ false)) ⊎ (old ≡ 0 → ⊥)
     → cond (old == 0) None (some_one old before) ≡ option_or (cond (old == 0) None (some_one old before)) (cond b (some_one k octets) None)
-other_stays_kept old k before octets b (inl (none, is)) =
-    sym (ap (λ c. option_or (cond (old == 0) None (some_one old before)) (cond c (some_one k octets) None)) is ∙ or_none _)
-other_stays_kept old k before octets b (inr some) =
-    let is = not_none old some in
-    ap (λ c. cond c None (some_one old before)) is ∙ sym (ap (λ c. option_or (cond c None (some_one old before)) (cond b (some_one k octets) None)) is)
+other_stays_kept old k before octets b h = grind (arith, nat_tests)
 
 -- ---- the octets of a sample, fragment by fragment
 
@@ -329,19 +273,10 @@ module _ (last : ℕ) (came : List (ℕ × List ℕ)) (kept : Heard) (parts : Li
       ∙ ap (λ old. old ++ cond (suc i == index) octets found.0) (sym so)
 
   pub joined_with : i + 1 ≡ index → so_far ++ octets ≡ concat (take (i + 1) (with_part parts index octets))
-  joined_with e =
-      let same : (suc i == index) ≡ true = (Decides-eqb (suc i) index).1 (omega arith) in
-      sym (next ∙ ap (λ b. so_far ++ cond b octets found.0) same)
+  joined_with e = grind (arith, nat_tests, common_steps, Decides-eqb, next, found)
 
   pub joined_first : (i + 1 ≡ index → ⊥) → (part : List ℕ) → kept_first kept (i + 1) ≡ Some part → so_far ++ part ≡ concat (take (i + 1) (with_part parts index octets))
-  joined_first ne part has =
-      let more : suc i ≡ i + 1 = omega arith in
-      let same : part ≡ found.0 = same_part part found.0 (sym has ∙ ap (kept_first kept) (sym more) ∙ found.2) in
-      let other : (suc i == index) ≡ false = not_same (suc i) index (λ e. ne (sym more ∙ e)) in
-      ap (λ p. so_far ++ p) same ∙ sym (next ∙ ap (λ b. so_far ++ cond b octets found.0) other)
-    where
-      not_same : (a b : ℕ) → (a ≡ b → ⊥) → (a == b) ≡ false
-      not_same a b ne = grind (arith, nat_tests)
+  joined_first ne part has = grind (arith, nat_tests, common_steps, found, same_part, next)
 
 -- ---- consecutive fragments, one after another
 
@@ -356,8 +291,7 @@ came_step first count fragment place index parts rest octets left lt at is =
 pub piece_step : (last first count fragment place index : ℕ) (parts : List (List ℕ)) (rest octets : List ℕ) (came : List (ℕ × List ℕ)) (new : Heard) → drop place parts ≡ parts_in fragment (count - place) rest → place < count
     → index ≡ first + place → octets ≡ take fragment rest → IsHeard last ((came ++ came_from first (take place parts)) ++ (index, octets) ∷ []) new
     → IsHeard last (came ++ came_from first (take (place + 1) parts)) new
-piece_step last first count fragment place index parts rest octets came new left lt at is kept =
-    subst (λ cs. IsHeard last cs new) (append_assoc came (came_from first (take place parts)) ((index, octets) ∷ []) ∙ ap (λ cs. came ++ cs) (sym (came_step first count fragment place index parts rest octets left lt at is))) kept
+piece_step last first count fragment place index parts rest octets came new left lt at is kept = grind (arith, nat_tests, common_steps, append_assoc, came_step)
 
 -- all of them have a property where those so far do, and not where the next one does not
 pub all_step : (test : ℕ × List ℕ → Bool) (so_far : List (ℕ × List ℕ)) (one : ℕ × List ℕ) → list_all test so_far ≡ true → test one ≡ true → list_all test (so_far ++ one ∷ []) ≡ true

@@ -11,7 +11,7 @@ pub mod AlikeBySamples
 pub mod SamplesTell
 pub mod Audiences
 pub mod HeardLemmas
-pub mod HearingLemmas
+pub mod AudienceNewsLemmas
 pub mod SampleActLemmas
 pub mod ActsAnd
 pub mod ActsTell
@@ -22,7 +22,7 @@ pub mod SamplesAlone
 pub mod KeptLemmas
 pub mod ListenerLemmas
 pub mod OkLemmas
-pub mod TellingLemmas
+pub mod ToldSampleLemmas
 pub mod OverheardLemmas
 pub mod ToldSoFar
 pub mod NumberLemmas
@@ -31,7 +31,7 @@ pub mod MergingLemmas
 pub mod NoteLemmas
 pub mod Announced
 pub mod MergedSteps
-pub mod SendingLemmas
+pub mod FragmentWalkLemmas
 pub mod SampleSteps
 pub mod WholeLemmas
 pub mod IndexSteps

@@ -1,4 +1,6 @@
 -- The listeners of a sample, one after another.
+use Rattle.std.proofs.lemmas.Grind.{common_steps}
+use Rattle.std.proofs.lemmas.Bool.Decides.{nat_tests}
 use Rattle.std.proofs.Common.{◌≡◌, ℕ, not, drop, zero, suc, ◌+◌, ◌<◌, ◌≤◌, Bool, true, false, List, [], ◌∷◌, ◌++◌, get_or, length, map, filter, take, cond, set, slice_get, Some, refl, sym, ◌∙◌, ap, subst, arith, inl, inr, ◌⊎◌, append-nil, append_assoc}
 use Rattle.std.specs.Prelude.{All, ◌||◌}
 use Rattle.std.specs.List.{flat_map, list_any}
@@ -8,20 +10,18 @@ use Rattle.std.proofs.lemmas.List.Concat.{flat_map-append}
 use Rattle.std.proofs.lemmas.List.{get_or-map, get_or_default, length-map, map-append, map-set, set-get_or, take_all}
 use Rattle.std.proofs.lemmas.Option.{get_or_from_slice_get, slice_get-get_or, slice_get-map, slice_get_read, slice_get_within}
 use Rattle.std.specs.Option.{option_map}
-use Rattle.std.proofs.lemmas.List.Elements.{All-append, All-cons, All-get_or, All-nil, All-same, filter-append}
+use Rattle.std.proofs.lemmas.List.Elements.{All-append, All-get_or, All-same}
 use Rattle.std.proofs.lemmas.List.Folds.{list_any_at, list_any_more}
 use Rattle.rtps_receiver.specs.declared.speech.Audience.{Audience}
 use Rattle.rtps_fragments.specs.Heard.{IsHeard}
-use Rattle.rtps_fragments.specs.Listeners.{AreNamed, Hearing, Offer, begins, came_to, everyone, has_name, has_no_name, hears, is_had, is_known, named_so, samples_for, silence, tells, told_between, told_by_audience, with_news}
+use Rattle.rtps_fragments.specs.Listeners.{AreNamed, AudienceNews, Offer, begins, came_to, everyone, has_name, has_no_name, hears, is_had, is_known, named_so, samples_for, silence, tells, told_between, told_by_audience, with_news}
 use Rattle.rtps_fragments.specs.Making.{AreListeners, AreSoFar, IsListener}
 use Rattle.rtps_fragments.specs.FragmentDelivery.{Shape, payload_by}
-use Rattle.rtps_fragments.specs.Telling.{ToldValue, told_each}
+use Rattle.rtps_fragments.specs.ToldSamples.{ToldValue, told_each}
 use Rattle.rtps_fragments.specs.declared.listeners.Listener.{Listener}
 use Rattle.rtps_fragments.specs.declared.listeners.Name.{Name}
 use Rattle.rtps_fragments.specs.declared.listeners.Name.TheVariants.{Dest, Reader}
 use Rattle.rtps_fragments.proofs.Audiences.{came_named}
-use Rattle.rtps_fragments.proofs.SampleLemmas.{none_yet}
-use Rattle.rtps_fragments.proofs.ToldSoFar.{drop_at}
 
 -- ---- tests of each
 
@@ -56,30 +56,17 @@ taken_more xs i x lt is = let more : i + 1 ≡ suc i = omega arith in ap (λ n. 
 
 -- the first one
 pub are_one : (last : ℕ) (one : Listener) (listeners : List Listener) → listeners ≡ one ∷ [] → one.audience ≡ everyone → IsHeard last [] one.heard → one.told ≡ 0 → AreListeners last silence silence listeners
-are_one last one listeners is audience came told = record {
-  audiences = ap (map (λ (l : Listener). l.audience)) is ∙ ap (λ a. a ∷ []) audience;
-  each = All-same (λ (l : Listener). IsListener last [] [] l) listeners (one ∷ []) is (All-cons (λ (l : Listener). IsListener last [] [] l) one [] (record { came = came; told = told ∙ sym (ap length (none_yet last)) }) (All-nil (λ (l : Listener). IsListener last [] [] l)));
-}
+are_one last one listeners is audience came told = grind (arith, nat_tests)
 
 -- the audiences of copies with one more
 pub copies_more : (name : Name) (listeners : List Listener) (i : ℕ) (x : Listener) (b : Bool) → i < length listeners → x ≡ get_or listeners i x → has_no_name name x.audience ≡ b
     → map (named_so name) (filter (has_no_name name) (map (λ (l : Listener). l.audience) (take (i + 1) listeners)))
     ≡ map (named_so name) (filter (has_no_name name) (map (λ (l : Listener). l.audience) (take i listeners))) ++ cond b (named_so name x.audience ∷ []) []
-copies_more name listeners i x b lt is free =
-    let auds = map (λ (l : Listener). l.audience) (take i listeners) in
-    ap (λ ls. map (named_so name) (filter (has_no_name name) (map (λ (l : Listener). l.audience) ls))) (taken_more listeners i x lt is)
-    ∙ ap (λ xs. map (named_so name) (filter (has_no_name name) xs)) (map-append (λ (l : Listener). l.audience) (take i listeners) (x ∷ []))
-    ∙ ap (map (named_so name)) (filter-append (has_no_name name) auds (x.audience ∷ [])) ∙ map-append (named_so name) (filter (has_no_name name) auds) (filter (has_no_name name) (x.audience ∷ []))
-    ∙ ap (λ xs. map (named_so name) (filter (has_no_name name) auds) ++ xs) (ap (λ c. map (named_so name) (cond c (x.audience ∷ []) [])) free ∙ by b)
-  where
-    by : (b : Bool) → map (named_so name) (cond b (x.audience ∷ []) []) ≡ cond b (named_so name x.audience ∷ []) []
-    by true = refl
-    by false = refl
+copies_more name listeners i x b lt is free = grind (arith, nat_tests, common_steps)
 
-module _ (last : ℕ) (before now : Hearing) (listeners : List Listener) (are : AreListeners last before now listeners) where
+module _ (last : ℕ) (before now : AudienceNews) (listeners : List Listener) (are : AreListeners last before now listeners) where
   pub own : (i : ℕ) (x : Listener) → i < length listeners → x ≡ get_or listeners i x → IsListener last (came_to x.audience before.news) (came_to x.audience now.news) x
-  own i x lt is = subst (λ (l : Listener). IsListener last (came_to l.audience before.news) (came_to l.audience now.news) l) (sym is)
-      (All-get_or (λ (l : Listener). IsListener last (came_to l.audience before.news) (came_to l.audience now.news) l) listeners i x lt are.each)
+  own i x lt is = grind (arith, nat_tests, common_steps, All-get_or)
 
 pub own_copy : (last : ℕ) (heard : Audience → List (ℕ × List ℕ)) (listeners : List Listener) (i : ℕ) (x : Listener) → i < length listeners → x ≡ get_or listeners i x
     → All (λ listener. IsListener last (heard listener.audience) (heard listener.audience) listener) listeners → IsListener last (heard x.audience) (heard x.audience) x
@@ -87,13 +74,10 @@ own_copy last heard listeners i x lt is each = subst (λ (l : Listener). IsListe
 
 -- ---- audiences with a name more
 
-module _ (last : ℕ) (hearing : Hearing) (name : Name) (old : List Listener) (named : AreNamed hearing) (are : AreListeners last hearing hearing old) where
+module _ (last : ℕ) (hearing : AudienceNews) (name : Name) (old : List Listener) (named : AreNamed hearing) (are : AreListeners last hearing hearing old) where
   -- the name is not new
   pub are_as_before : list_any (has_name name) (map (λ (l : Listener). l.audience) old) ≡ true → AreListeners last (begins hearing name) (begins hearing name) old
-  are_as_before is = record {
-    audiences = are.audiences ∙ sym (ap (λ b. cond b hearing.audiences (hearing.audiences ++ map (named_so name) (filter (has_no_name name) hearing.audiences))) (ap (list_any (has_name name)) (sym are.audiences) ∙ is));
-    each = are.each;
-  }
+  are_as_before is = grind (arith, nat_tests)
 
   abbrev heard : Audience → List (ℕ × List ℕ)
   heard audience = came_to audience hearing.news
@@ -127,7 +111,7 @@ slice_get-set (y ∷ ys) (suc i) (suc j) v x e = elim (slice_get-set ys i j v x 
   | inr (apart, is) ↦ inr ((λ ne. apart (omega (arith, ne))), is)
 ]
 
-module _ (last : ℕ) (before now next_before next : Hearing) where
+module _ (last : ℕ) (before now next_before next : AudienceNews) where
   pub none_so_far : (listeners : List Listener) → AreListeners last before now listeners → AreSoFar last before now next_before next 0 listeners
   none_so_far listeners are = record {
     audiences = are.audiences;
@@ -169,32 +153,18 @@ same_read xs i x y lt one other = one ∙ get_or_default xs i x y lt ∙ sym oth
 -- ---- what is told
 
 -- the samples from a place on that no wider audience has
-abbrev pub told_left : ℕ → Hearing → Audience → ℕ → List (Audience × List ℕ)
+abbrev pub told_left : ℕ → AudienceNews → Audience → ℕ → List (Audience × List ℕ)
 told_left last now audience place = map (λ octets. (audience, octets)) (filter (λ octets. not (is_had last now audience octets)) (drop place (samples_for last now audience)))
 
-left_step : (last : ℕ) (now : Hearing) (audience : Audience) (place : ℕ) (octets : List ℕ) (b : Bool) → slice_get (samples_for last now audience) place ≡ Some octets → is_had last now audience octets ≡ b
+left_step : (last : ℕ) (now : AudienceNews) (audience : Audience) (place : ℕ) (octets : List ℕ) (b : Bool) → slice_get (samples_for last now audience) place ≡ Some octets → is_had last now audience octets ≡ b
     → told_left last now audience place ≡ cond b (told_left last now audience (place + 1)) ((audience, octets) ∷ told_left last now audience (place + 1))
-left_step last now audience place octets b at had =
-    let fresh : List ℕ → Bool = λ o. not (is_had last now audience o) in
-    let pair : List ℕ → Audience × List ℕ = λ o. (audience, o) in
-    let more : suc place ≡ place + 1 = omega arith in
-    ap (λ xs. map pair (filter fresh xs)) (drop_at (samples_for last now audience) place octets at ∙ ap (λ n. octets ∷ drop n (samples_for last now audience)) more)
-    ∙ ap (λ c. map pair (cond (not c) (octets ∷ filter fresh (drop (place + 1) (samples_for last now audience))) (filter fresh (drop (place + 1) (samples_for last now audience))))) had ∙ by b
-  where
-    by : (b : Bool)
-        → map (λ o. (audience, o)) (cond (not b) (octets ∷ filter (λ o. not (is_had last now audience o)) (drop (place + 1) (samples_for last now audience))) (filter (λ o. not (is_had last now audience o)) (drop (place + 1) (samples_for last now audience))))
-        ≡ cond b (told_left last now audience (place + 1)) ((audience, octets) ∷ told_left last now audience (place + 1))
-    by true = refl
-    by false = refl
+left_step last now audience place octets b at had = grind (arith, nat_tests)
 
-module _ (act : ℕ) (shape : Shape) (last : ℕ) (now : Hearing) (audience : Audience) (place : ℕ) (octets : List ℕ) (at : slice_get (samples_for last now audience) place ≡ Some octets) where
+module _ (act : ℕ) (shape : Shape) (last : ℕ) (now : AudienceNews) (audience : Audience) (place : ℕ) (octets : List ℕ) (at : slice_get (samples_for last now audience) place ≡ Some octets) where
   -- one that is told
   pub told_one : (told new : List ToldValue) → is_had last now audience octets ≡ false → new ≡ told ++ record { act = act; audience = audience; payload = payload_by shape octets } ∷ []
       → new ++ told_each act shape (told_left last now audience (place + 1)) ≡ told ++ told_each act shape (told_left last now audience place)
-  told_one told new had is =
-      let one : ToldValue = record { act = act; audience = audience; payload = payload_by shape octets } in
-      ap (λ xs. xs ++ told_each act shape (told_left last now audience (place + 1))) is ∙ append_assoc told (one ∷ []) (told_each act shape (told_left last now audience (place + 1)))
-      ∙ ap (λ xs. told ++ told_each act shape xs) (sym (left_step last now audience place octets false at had))
+  told_one told new had is = grind (arith, nat_tests, common_steps)
 
   -- and one that a wider audience has
   pub told_none : (told new : List ToldValue) → is_had last now audience octets ≡ true → new ≡ told
@@ -202,18 +172,17 @@ module _ (act : ℕ) (shape : Shape) (last : ℕ) (now : Hearing) (audience : Au
   told_none told new had is = ap (λ xs. xs ++ told_each act shape (told_left last now audience (place + 1))) is ∙ ap (λ xs. told ++ told_each act shape xs) (sym (left_step last now audience place octets true at had))
 
 -- behind the last one
-pub left_over : (last : ℕ) (now : Hearing) (audience : Audience) (place : ℕ) → length (samples_for last now audience) ≤ place → told_left last now audience place ≡ []
+pub left_over : (last : ℕ) (now : AudienceNews) (audience : Audience) (place : ℕ) → length (samples_for last now audience) ≤ place → told_left last now audience place ≡ []
 left_over last now audience place past = ap (λ xs. map (λ octets. (audience, octets)) (filter (λ octets. not (is_had last now audience octets)) xs)) (drop_of_length-le (samples_for last now audience) past)
 
-pub audience_at : (last : ℕ) (before now : Hearing) (listeners : List Listener) (i : ℕ) (x : Listener) → AreListeners last before now listeners → i < length listeners → x ≡ get_or listeners i x → slice_get now.audiences i ≡ Some x.audience
-audience_at last before now listeners i x are lt is =
-    ap (λ xs. slice_get xs i) (sym are.audiences) ∙ slice_get-map (λ (l : Listener). l.audience) listeners i ∙ ap (option_map (λ (l : Listener). l.audience)) (slice_get_read listeners (length listeners) i x refl lt is)
+pub audience_at : (last : ℕ) (before now : AudienceNews) (listeners : List Listener) (i : ℕ) (x : Listener) → AreListeners last before now listeners → i < length listeners → x ≡ get_or listeners i x → slice_get now.audiences i ≡ Some x.audience
+audience_at last before now listeners i x are lt is = grind (arith, nat_tests, common_steps, slice_get-map, slice_get_read)
 
-pub count_is : (last : ℕ) (before now : Hearing) (listeners : List Listener) → AreListeners last before now listeners → length now.audiences ≡ length listeners
+pub count_is : (last : ℕ) (before now : AudienceNews) (listeners : List Listener) → AreListeners last before now listeners → length now.audiences ≡ length listeners
 count_is last before now listeners are = ap length (sym are.audiences) ∙ length-map listeners (λ (l : Listener). l.audience)
 
 -- the audiences up to one more
-pub told_on : (act : ℕ) (shape : Shape) (last : ℕ) (before now : Hearing) (i : ℕ) (audience : Audience) (start told new : List ToldValue) → slice_get now.audiences i ≡ Some audience
+pub told_on : (act : ℕ) (shape : Shape) (last : ℕ) (before now : AudienceNews) (i : ℕ) (audience : Audience) (start told new : List ToldValue) → slice_get now.audiences i ≡ Some audience
     → told ≡ start ++ told_each act shape (flat_map (told_by_audience last before now) (take i now.audiences)) → new ≡ told ++ told_each act shape (told_by_audience last before now audience)
     → new ≡ start ++ told_each act shape (flat_map (told_by_audience last before now) (take (i + 1) now.audiences))
 told_on act shape last before now i audience start told new at so is =
@@ -228,14 +197,14 @@ told_on act shape last before now i audience start told new at so is =
 
 -- ---- what is known
 
-pub heard_known : (hearing : Hearing) (offer : Offer) → is_known hearing offer ≡ true → hears hearing offer ≡ hearing
+pub heard_known : (hearing : AudienceNews) (offer : Offer) → is_known hearing offer ≡ true → hears hearing offer ≡ hearing
 heard_known hearing offer known = ap (λ b. cond b hearing (with_news (begins (begins hearing (Dest offer.audience.dest)) (Reader offer.audience.reader)) offer)) known
 
-pub heard_new : (hearing : Hearing) (offer : Offer) → is_known hearing offer ≡ false → hears hearing offer ≡ with_news (begins (begins hearing (Dest offer.audience.dest)) (Reader offer.audience.reader)) offer
+pub heard_new : (hearing : AudienceNews) (offer : Offer) → is_known hearing offer ≡ false → hears hearing offer ≡ with_news (begins (begins hearing (Dest offer.audience.dest)) (Reader offer.audience.reader)) offer
 heard_new hearing offer new = ap (λ b. cond b hearing (with_news (begins (begins hearing (Dest offer.audience.dest)) (Reader offer.audience.reader)) offer)) new
 
 -- where nothing is heard, nothing is told
-pub same_tells : (last : ℕ) (hearing : Hearing) → told_between last hearing hearing ≡ []
+pub same_tells : (last : ℕ) (hearing : AudienceNews) → told_between last hearing hearing ≡ []
 same_tells last hearing = each hearing.audiences
   where
     none : (audience : Audience) → told_by_audience last hearing hearing audience ≡ []
@@ -245,6 +214,5 @@ same_tells last hearing = each hearing.audiences
     each [] = refl
     each (audience ∷ audiences) = ap (λ xs. xs ++ flat_map (told_by_audience last hearing hearing) audiences) (none audience) ∙ each audiences
 
-pub nothing_told : (last : ℕ) (hearing : Hearing) (offer : Offer) (act : ℕ) (shape : Shape) (told : List ToldValue) → hears hearing offer ≡ hearing → told ≡ told ++ told_each act shape (tells last hearing offer)
-nothing_told last hearing offer act shape told known =
-    sym (ap (λ (h : Hearing). told ++ told_each act shape (told_between last hearing h)) known ∙ ap (λ xs. told ++ told_each act shape xs) (same_tells last hearing) ∙ append-nil told)
+pub nothing_told : (last : ℕ) (hearing : AudienceNews) (offer : Offer) (act : ℕ) (shape : Shape) (told : List ToldValue) → hears hearing offer ≡ hearing → told ≡ told ++ told_each act shape (tells last hearing offer)
+nothing_told last hearing offer act shape told known = grind (arith, nat_tests, common_steps, same_tells, append-nil)

@@ -1,8 +1,10 @@
 -- What is kept of samples in the making, with fragments more.
-use Rattle.std.proofs.Common.{◌≡◌, ℕ, suc, Bool, true, false, cond, List, [], ◌∷◌, ◌++◌, filter, map, Some, None, slice_get, refl, sym, ◌∙◌, ap, subst, inl, inr, append-nil}
-use Rattle.std.specs.Prelude.{Contains, ◌||◌}
+use Rattle.std.proofs.lemmas.Grind.{common_steps}
+use Rattle.std.proofs.lemmas.Bool.Decides.{nat_tests}
+use Rattle.std.proofs.Common.{◌≡◌, ℕ, Bool, true, false, cond, List, [], ◌∷◌, ◌++◌, filter, map, Some, None, slice_get, refl, sym, ◌∙◌, ap, subst, inl, inr, append-nil, arith}
+use Rattle.std.specs.Prelude.{Contains}
 use Rattle.std.specs.BTreeMap.{get}
-use Rattle.std.specs.BTreeSet.{BTreeSet, contains}
+use Rattle.std.specs.BTreeSet.{contains}
 use Rattle.std.specs.List.{flat_map}
 use Rattle.std.specs.Ordering.{is_eq}
 use Rattle.std.proofs.lemmas.Bool.{cases_Bool, or_left}
@@ -14,25 +16,24 @@ use Rattle.rtps_receiver.specs.declared.speech.Audience.{Audience}
 use Rattle.rtps_audit.proofs.Offered.{contains_head, contains_none, contains_tail}
 use Rattle.rtps_fragments.specs.Announcing.{is_built_in}
 use Rattle.rtps_fragments.specs.FragmentDelivery.{last_fragment}
-use Rattle.rtps_fragments.specs.Heard.{IsHeard, kept_front}
-use Rattle.rtps_fragments.specs.Listeners.{Hearing, Offer, begins, came_to, everyone, has_no_name, hearing_of, hears, hears_all, is_for_audience, is_known, named_so, silence, with_name, with_news}
+use Rattle.rtps_fragments.specs.Heard.{IsHeard}
+use Rattle.rtps_fragments.specs.Listeners.{AudienceNews, Offer, came_to, everyone, hearing_of, hears, hears_all, is_for_audience, silence}
 use Rattle.rtps_fragments.specs.Making.{AreMakings, HasMaking, IsEverything, IsMaking, all_came}
 use Rattle.rtps_fragments.specs.Samples.{has_sample}
-use Rattle.rtps_fragments.specs.Telling.{SentValue, ToldValue, is_sample, offer_of, offers, overheard_behind, overheard_by_offers, sample_cmp, shape_of, told_by_sent}
+use Rattle.rtps_fragments.specs.ToldSamples.{SentValue, ToldValue, is_sample, offer_of, offers, overheard_behind, overheard_by_offers, sample_cmp, shape_of, told_by_sent}
 use Rattle.rtps_fragments.specs.Whole.{is_number, is_put, key_number, number_cmp}
 use Rattle.rtps_fragments.specs.declared.heard.Heard.{Heard}
 use Rattle.rtps_fragments.specs.declared.listeners.Listener.{Listener}
-use Rattle.rtps_fragments.specs.declared.listeners.Name.TheVariants.{Dest, Reader}
 use Rattle.rtps_fragments.specs.declared.making.Making.{Making}
 use Rattle.rtps_fragments.specs.declared.making.Makings.{Makings}
 use Rattle.rtps_fragments.specs.declared.piece.SampleKey.{SampleKey}
 use Rattle.rtps_fragments.specs.declared.whole.SampleNumber.{SampleNumber}
 use Rattle.rtps_fragments.proofs.Audiences.{own_entity, sound_of}
-use Rattle.rtps_fragments.proofs.HearingLemmas.{AreAlike, all_alike, has_reader, heard_by, news_sent}
+use Rattle.rtps_fragments.proofs.AudienceNewsLemmas.{AreAlike, all_alike, has_reader, heard_by, news_sent}
 use Rattle.rtps_fragments.proofs.ListenerLemmas.{audience_at, own}
 use Rattle.rtps_fragments.proofs.NumberLemmas.{whole_here, whole_not_here}
 use Rattle.rtps_fragments.proofs.OverheardLemmas.{offers-more, offers_came}
-use Rattle.rtps_fragments.proofs.TellingLemmas.{own_sample, sample_is}
+use Rattle.rtps_fragments.proofs.ToldSampleLemmas.{own_sample, sample_is}
 
 -- all that came, with one offer more
 pub came-more : (offers : List Offer) (offer : Offer) → flat_map (λ (o : Offer). o.came) (offers ++ offer ∷ []) ≡ flat_map (λ (o : Offer). o.came) offers ++ offer.came
@@ -47,18 +48,10 @@ all_kept : {X : Type 0} (test : X → Bool) (xs : List X) → ((x : X) → Conta
 all_kept test [] each = refl
 all_kept test (x ∷ xs) each = ap (λ b. cond b (x ∷ filter test xs) (filter test xs)) (each x (contains_head x xs)) ∙ ap (λ ys. x ∷ ys) (all_kept test xs (λ y among. each y (contains_tail x xs y among)))
 
-one_everyone : (hearing : Hearing) (offer : Offer) → offer.audience ≡ everyone → hearing.audiences ≡ everyone ∷ [] → (hears hearing offer).audiences ≡ everyone ∷ []
-one_everyone hearing offer same is = by (is_known hearing offer)
-  where
-    base : with_name (with_name (everyone ∷ []) (Dest None)) (Reader unknown_entity) ≡ everyone ∷ []
-    base = ap (λ b. cond (b || false) (everyone ∷ []) ((everyone ∷ []) ++ map (named_so (Reader unknown_entity)) (filter (has_no_name (Reader unknown_entity)) (everyone ∷ [])))) (own_entity unknown_entity)
+one_everyone : (hearing : AudienceNews) (offer : Offer) → offer.audience ≡ everyone → hearing.audiences ≡ everyone ∷ [] → (hears hearing offer).audiences ≡ everyone ∷ []
+one_everyone hearing offer same is = grind (arith, nat_tests)
 
-    by : (b : Bool) → (cond b hearing (with_news (begins (begins hearing (Dest offer.audience.dest)) (Reader offer.audience.reader)) offer)).audiences ≡ everyone ∷ []
-    by true = is
-    by false =
-        ap (λ (a : Audience). with_name (with_name hearing.audiences (Dest a.dest)) (Reader a.reader)) same ∙ ap (λ (xs : List Audience). with_name (with_name xs (Dest None)) (Reader unknown_entity)) is ∙ base
-
-only_everyone : (hearing : Hearing) (offers : List Offer) → AreForAll offers → hearing.audiences ≡ everyone ∷ [] → (hears_all hearing offers).audiences ≡ everyone ∷ []
+only_everyone : (hearing : AudienceNews) (offers : List Offer) → AreForAll offers → hearing.audiences ≡ everyone ∷ [] → (hears_all hearing offers).audiences ≡ everyone ∷ []
 only_everyone hearing [] all is = is
 only_everyone hearing (offer ∷ offers) all is = only_everyone (hears hearing offer) offers (λ o among. all o (contains_tail offer offers o among)) (one_everyone hearing offer (all offer (contains_head offer offers)) is)
 
@@ -75,12 +68,7 @@ heard_all offers all =
     subst (λ x. AreAlike x (came_to everyone news)) mine (subst (AreAlike (heard_by anyone offers)) its (all_alike anyone silence offers [] ((λ i. refl), refl)))
 
 heard_alike : (last : ℕ) (one other : List (ℕ × List ℕ)) (kept : Heard) → AreAlike one other → IsHeard last other kept → IsHeard last one kept
-heard_alike last one other kept (firsts, others) is = record {
-  firsts = λ i. is.firsts i ∙ sym (firsts i);
-  within = is.within;
-  next = λ lt. firsts (suc (kept_front kept)) ∙ is.next lt;
-  other = is.other ∙ sym others;
-}
+heard_alike last one other kept h h2 = grind (arith, nat_tests)
 
 module _ (key : SampleKey) (offers : List Offer) (making : Making) (is : IsMaking key offers making) where
   -- there is an audience
@@ -142,10 +130,7 @@ module _ (before : List SentValue) (sent : SentValue) (old new : Makings) (are :
           by true e = let clash : true ≡ false = sym (own_sample sent.key) ∙ ap (is_sample sent.key) (sym (sample_is key sent.key e)) ∙ apart in cc
 
   put_is : (whole : Bool) → whole ≡ has_sample (last_fragment (shape_of sent.key)) (flat_map (λ (o : Offer). o.came) (offers sent.key before ++ offer_of sent ∷ [])) → is_put (before ++ sent ∷ []) sent.key ≡ whole
-  put_is whole is =
-      ap (has_sample (last_fragment (shape_of sent.key)))
-      (sym (offers_came sent.key (before ++ sent ∷ [])) ∙ ap (flat_map (λ (o : Offer). o.came)) (offers-more sent.key before sent ∙ ap (λ b. offers sent.key before ++ cond b (offer_of sent ∷ []) []) (own_sample sent.key)))
-      ∙ sym is
+  put_is whole is = grind (arith, nat_tests, common_steps, offers_came, offers-more, own_sample)
 
   -- some sample of the number is whole now
   pub makings_whole : true ≡ has_sample (last_fragment (shape_of sent.key)) (flat_map (λ (o : Offer). o.came) (offers sent.key before ++ offer_of sent ∷ []))
@@ -157,7 +142,4 @@ module _ (before : List SentValue) (sent : SentValue) (old new : Makings) (are :
 
   -- this one is not
   pub makings_not : false ≡ has_sample (last_fragment (shape_of sent.key)) (flat_map (λ (o : Offer). o.came) (offers sent.key before ++ offer_of sent ∷ [])) → new.whole ≡ old.whole → AreMakings (before ++ sent ∷ []) new
-  makings_not is same = record {
-    each = each_more;
-    whole = λ number. ap (λ (set : BTreeSet SampleNumber). contains number_cmp set number) same ∙ are.whole number ∙ sym (whole_not_here before sent number (put_is false is));
-  }
+  makings_not is same = grind (arith, nat_tests, common_steps, each_more, whole_not_here, put_is)

@@ -1,46 +1,39 @@
 -- What is sent tells the samples that acts tell.
-use Rattle.std.proofs.Common.{◌≡◌, ℕ, suc, ◌<◌, ◌≤◌, Bool, true, false, cond, ◌&&◌, List, [], ◌∷◌, ◌++◌, map, Option, Some, None, refl, sym, ◌∙◌, ap, subst, arith, inl, inr, append_assoc, append-nil}
+use Rattle.std.proofs.lemmas.Grind.{common_steps}
+use Rattle.std.proofs.Common.{◌≡◌, ℕ, suc, ◌<◌, ◌≤◌, Bool, true, false, cond, ◌&&◌, List, [], ◌∷◌, ◌++◌, map, Option, Some, None, refl, sym, ◌∙◌, ap, subst, arith, inl, inr, append_assoc, append-nil, rules}
 use Rattle.std.specs.Prelude.{Contains, ◌==◌, unwrap_or}
 use Rattle.std.proofs.lemmas.Bool.Decides.{Decides-eqb, nat_tests}
-use Rattle.std.proofs.lemmas.List.{map-append}
-use Rattle.std.proofs.lemmas.List.Elements.{Contains-append_cases, Contains-append_left, Contains-append_right, filter-append}
+use Rattle.std.proofs.lemmas.List.Elements.{Contains-append_cases, Contains-append_left, Contains-append_right}
 use Rattle.std.specs.Cmp.{both_ways}
 use Rattle.std.proofs.lemmas.Bool.{and_parts, and_from}
 use Rattle.rtps_ids.specs.declared.identity.Guid.{Guid}
 use Rattle.rtps_receiver.specs.Speech.{entity_from, is_spoken_by, origin_of, writer_named}
 use Rattle.rtps_receiver.specs.Values.{ActBodyValue, ActValue, FragmentValue}
-use Rattle.rtps_receiver.specs.Values.ActBodyValue.{Data, Heartbeat, AckNack, Gap, DataFrag, NackFrag}
+use Rattle.rtps_receiver.specs.Values.ActBodyValue.{DataFrag}
 use Rattle.rtps_audit.specs.Speech.{announced_of_body}
-use Rattle.rtps_audit.proofs.Offered.{contains_cases, contains_head, contains_mapped, contains_none, contains_tail}
+use Rattle.rtps_audit.proofs.Offered.{contains_head, contains_mapped, contains_none, contains_tail}
 use Rattle.rtps_fragments.specs.Heard.{came_from}
 use Rattle.rtps_fragments.specs.FragmentDelivery.{Piece, Shape, last_fragment, payload_by}
 use Rattle.rtps_fragments.specs.Listeners.{Offer, hearing_of, tells}
 use Rattle.rtps_fragments.specs.Merging.{IsFragmentAct, act_as, acts_told, key_of, merged_from, run_of, run_past, sent_in, sents_from, sents_in}
 use Rattle.rtps_fragments.specs.Samples.{is_of}
 use Rattle.rtps_fragments.specs.SampleActs.{PieceAct, act_of_told, acts_and, offered, offers_of, piece_acts_in, samples_told, sent_to_whom}
-use Rattle.rtps_fragments.specs.Telling.{SentValue, ToldValue, in_turn, is_sample, offer_of, offers, sent_of, shape_of, told_behind}
+use Rattle.rtps_fragments.specs.ToldSamples.{SentValue, ToldValue, in_turn, is_sample, offer_of, offers, shape_of, told_behind}
 use Rattle.rtps_fragments.specs.declared.merging.SampleForm.{SampleForm}
 use Rattle.rtps_fragments.specs.declared.merging.SampleForm.TheVariants.{ForAudience}
 use Rattle.rtps_fragments.specs.declared.piece.SampleKey.{SampleKey}
-use Rattle.rtps_fragments.proofs.Audiences.{own_entity, own_prefix}
-use Rattle.rtps_fragments.proofs.SampleActLemmas.{offers-append, offers_none, offers_one, spoken_is_origin}
-use Rattle.rtps_fragments.proofs.TellingLemmas.{own_sample, sample_is}
+use Rattle.rtps_fragments.proofs.SampleActLemmas.{offers_none, offers_one, spoken_is_origin}
+use Rattle.rtps_fragments.proofs.ToldSampleLemmas.{own_sample, sample_is}
 use Rattle.rtps_fragments.proofs.ToldLemmas.{own_shape, same_sample}
 
 -- ---- one act
 
 module _ (one : PieceAct) (piece : Piece) (frag : IsFragmentAct one piece) where
   pub named : writer_named one.act.body ≡ Some (entity_from one.act.body)
-  named = by one.act.body frag.body
-    where
-      by : (body : ActBodyValue) → body ≡ DataFrag frag.value → writer_named body ≡ Some (entity_from body)
-      by body e = subst (λ b. writer_named b ≡ Some (entity_from b)) (sym e) refl
+  named = grind (arith, nat_tests)
 
   pub spoken_by_own : is_spoken_by one.act (origin_of one.act) ≡ true
-  spoken_by_own = by one.act.body frag.body
-    where
-      by : (body : ActBodyValue) → body ≡ DataFrag frag.value → is_spoken_by (record one.act { body = body }) (record { prefix = one.act.source; entity = entity_from body }) ≡ true
-      by body e = subst (λ b. is_spoken_by (record one.act { body = b }) (record { prefix = one.act.source; entity = entity_from b }) ≡ true) (sym e) (and_from _ _ (own_prefix one.act.source) (own_entity frag.value.writer))
+  spoken_by_own = search rules
 
   -- the act is of a sample by both tests
   pub same_test : (key : SampleKey) → is_sample key (key_of one.act piece) ≡ (is_spoken_by one.act key.writer && is_of key.number (shape_of key) piece.number piece.shape)
@@ -75,21 +68,10 @@ abbrev pub AreSent : List PieceAct → List SentValue → Type 0
 AreSent acts sents = (key : SampleKey) → offers key sents ≡ offers_of key.writer key.number (shape_of key) acts
 
 pub sent_both : (acts more : List PieceAct) (sents others : List SentValue) → AreSent acts sents → AreSent more others → AreSent (acts ++ more) (sents ++ others)
-sent_both acts more sents others one other key =
-    ap (map offer_of) (filter-append (λ (s : SentValue). is_sample key s.key) sents others) ∙ map-append offer_of (sent_of key sents) (sent_of key others)
-    ∙ ap (λ xs. xs ++ offers key others) (one key) ∙ ap (λ xs. offers_of key.writer key.number (shape_of key) acts ++ xs) (other key) ∙ sym (offers-append key.writer key.number (shape_of key) acts more)
+sent_both acts more sents others one other key = grind (arith, nat_tests, common_steps)
 
 pub sent_one : (i : ℕ) (one : PieceAct) → ((piece : Piece) → one.piece ≡ Some piece → IsFragmentAct one piece) → AreSent (one ∷ []) (sent_in i one.act one.piece)
-sent_one i one frag key = by one.piece refl
-  where
-    as_offer : (piece : Piece) (b : Bool) → map offer_of (cond b (sent_by_act i one.act piece ∷ []) []) ≡ cond b (offered one.act piece ∷ []) []
-    as_offer piece true = refl
-    as_offer piece false = refl
-
-    by : (o : Option Piece) → one.piece ≡ o → offers key (sent_in i one.act o) ≡ offers_of key.writer key.number (shape_of key) (one ∷ [])
-    by None e = sym (offers_none key.writer key.number (shape_of key) one e)
-    by (Some piece) e =
-        as_offer piece (is_sample key (key_of one.act piece)) ∙ ap (λ b. cond b (offered one.act piece ∷ []) []) (same_test one piece (frag piece e) key) ∙ sym (offers_one key.writer key.number (shape_of key) one piece e)
+sent_one i one frag key = grind (arith, nat_tests, common_steps, offers_none, same_test, offers_one)
 
 -- what acts send, from any place on
 pub sent_acts : (i : ℕ) (acts : List PieceAct) → AreFragmentActs acts → AreSent acts (sents_from i acts)
@@ -117,16 +99,10 @@ act_told form act told = act_as form act (unwrap_or (announced_of_body act.body)
 
 -- of a DATA_FRAG they are those that it tells
 pub acts_are : (form : SampleForm) (act : ActValue) (value : FragmentValue) (told : List ToldValue) → act.body ≡ DataFrag value → acts_told form act act.body told ≡ map (act_told form act) told
-acts_are form act value told e =
-    ap (λ b. acts_told form act b told) e ∙ ap (λ n. map (act_as form act n) told) (sym (ap (λ b. unwrap_or (announced_of_body b) 0) e))
+acts_are form act value told e = grind (arith, nat_tests, common_steps)
 
 pub no_acts : (form : SampleForm) (act : ActValue) (body : ActBodyValue) → acts_told form act body [] ≡ []
-no_acts form act (DataFrag value) = refl
-no_acts form act (Data value) = refl
-no_acts form act (Heartbeat value) = refl
-no_acts form act (AckNack value) = refl
-no_acts form act (NackFrag value) = refl
-no_acts form act (Gap value) = refl
+no_acts form act body = grind (arith, nat_tests)
 
 pub number_is : (one : PieceAct) (piece : Piece) → IsFragmentAct one piece → unwrap_or (announced_of_body one.act.body) 0 ≡ piece.number
 number_is one piece frag = ap (λ b. unwrap_or (announced_of_body b) 0) frag.body ∙ frag.number
@@ -134,12 +110,10 @@ number_is one piece frag = ap (λ b. unwrap_or (announced_of_body b) 0) frag.bod
 -- ---- places
 
 pub if_among : {X : Type 0} (b : Bool) (xs : List X) (x : X) → Contains (cond b xs []) x → Contains xs x
-if_among true xs x among = among
-if_among false xs x among = absurd (contains_none x among)
+if_among b xs x h = grind (arith, nat_tests, common_steps, contains_none)
 
 pub sent_at : (i : ℕ) (act : ActValue) (o : Option Piece) (sent : SentValue) → Contains (sent_in i act o) sent → sent.act ≡ i
-sent_at i act None sent among = absurd (contains_none sent among)
-sent_at i act (Some piece) sent among = elim (contains_cases (sent_by_act i act piece) [] sent among) [ inl is ↦ ap (λ (s : SentValue). s.act) (sym is) | inr none ↦ absurd (contains_none sent none) ]
+sent_at i act o sent h = grind (arith, nat_tests)
 
 pub sent_behind : (i : ℕ) (acts : List PieceAct) (sent : SentValue) → Contains (sents_from i acts) sent → i ≤ sent.act
 sent_behind i [] sent among = absurd (contains_none sent among)
@@ -165,10 +139,7 @@ runs i (one ∷ own) rest here past =
 -- the first of these acts, with what is told at its place
 pub merged_one : (form : SampleForm) (i : ℕ) (act : ActValue) (acts : List ActValue) (own rest : List ToldValue) → ((one : ToldValue) → Contains own one → one.act ≡ i) → ((one : ToldValue) → Contains rest one → i < one.act)
     → merged_from form i (act ∷ acts) (own ++ rest) ≡ act ∷ (acts_told form act act.body own ++ merged_from form (suc i) acts rest)
-merged_one form i act acts own rest here past =
-    let parts = runs i own rest here past in
-    ap (λ ts. act ∷ (acts_told form act act.body ts ++ merged_from form (suc i) acts (run_past i (own ++ rest)))) parts.0
-    ∙ ap (λ ts. act ∷ (acts_told form act act.body own ++ merged_from form (suc i) acts ts)) parts.1
+merged_one form i act acts own rest here past = grind (arith, nat_tests, common_steps, runs)
 
 -- ---- the acts of a datagram
 

@@ -1,5 +1,7 @@
 -- What is sent tells the samples of built-in writers that acts tell a reader which hears everything.
-use Rattle.std.proofs.Common.{◌≡◌, ℕ, Bool, true, false, cond, ◌&&◌, List, [], ◌∷◌, ◌++◌, length, map, drop, filter, refl, sym, ◌∙◌, ap}
+use Rattle.std.proofs.lemmas.Grind.{common_steps}
+use Rattle.std.proofs.lemmas.Bool.Decides.{nat_tests}
+use Rattle.std.proofs.Common.{◌≡◌, ℕ, Bool, true, false, cond, ◌&&◌, List, [], ◌∷◌, length, map, drop, filter, refl, sym, ◌∙◌, ap, arith}
 use Rattle.std.specs.List.{filter_map, flat_map}
 use Rattle.std.proofs.lemmas.List.{drop-map, length-map}
 use Rattle.std.proofs.lemmas.List.Elements.{filter_map-append}
@@ -8,14 +10,14 @@ use Rattle.rtps_receiver.specs.Speech.{entity_from, is_spoken_by, origin_of}
 use Rattle.rtps_audit.proofs.Offered.{contains_mapped}
 use Rattle.rtps_fragments.specs.Announcing.{announcing_with, is_built_in, notes_told}
 use Rattle.rtps_fragments.specs.Heard.{came_from}
-use Rattle.rtps_fragments.specs.FragmentDelivery.{Fragment, Piece, fragments_of, last_fragment, payload_by}
+use Rattle.rtps_fragments.specs.FragmentDelivery.{Fragment, Piece, last_fragment, payload_by}
 use Rattle.rtps_fragments.specs.Laws.{HasNoPieces}
 use Rattle.rtps_fragments.specs.Listeners.{Offer, everyone}
 use Rattle.rtps_fragments.specs.Merging.{key_of}
-use Rattle.rtps_fragments.specs.Samples.{came_of, payloads_of, samples_of, told_by}
+use Rattle.rtps_fragments.specs.Samples.{came_of, told_by}
 use Rattle.rtps_fragments.specs.SampleActs.{PieceAct, offers_of}
 use Rattle.rtps_fragments.specs.SamplesSent.{noted_act, sent_by}
-use Rattle.rtps_fragments.specs.Telling.{SentValue, ToldValue, overheard, overheard_behind, samples_more, shape_of, told_as, told_by_sent}
+use Rattle.rtps_fragments.specs.ToldSamples.{SentValue, ToldValue, overheard, overheard_behind, samples_more, shape_of, told_as, told_by_sent}
 use Rattle.rtps_fragments.specs.declared.merging.SampleForm.TheVariants.{ForEveryone}
 use Rattle.rtps_fragments.specs.declared.piece.SampleKey.{SampleKey}
 use Rattle.rtps_fragments.proofs.ActsAnd.{all_stay}
@@ -31,8 +33,7 @@ abbrev pub Overhears : List PieceAct → List SentValue → Type 0
 Overhears acts sents = (key : SampleKey) → overheard key sents ≡ filter_map (came_of key.number (shape_of key)) (sent_by key.writer acts)
 
 and_true : (b : Bool) → b ≡ (b && true)
-and_true true = refl
-and_true false = refl
+and_true b = grind (arith, nat_tests)
 
 all_pass : (offers : List Offer) → filter (λ offer. true) offers ≡ offers
 all_pass [] = refl
@@ -46,17 +47,7 @@ overhears acts sents are key =
 -- the payloads that are told are those of the samples that are told
 payloads_more : (before : List Fragment) (came : List (ℕ × List ℕ)) (piece : Piece) → came ≡ filter_map (came_of piece.number piece.shape) before
     → map (payload_by piece.shape) (samples_more (last_fragment piece.shape) came (came_from piece.first piece.parts)) ≡ told_by before piece
-payloads_more before came piece is =
-    let shape = piece.shape in
-    let last = last_fragment shape in
-    let old = filter_map (came_of piece.number shape) before in
-    let new = old ++ came_from piece.first piece.parts in
-    let parts : filter_map (came_of piece.number shape) (before ++ fragments_of piece) ≡ new =
-    filter_map-append (came_of piece.number shape) before (fragments_of piece) ∙ ap (λ cs. old ++ cs) (piece_came piece.number shape piece true (own_shape piece.number shape)) in
-    ap (λ cs. map (payload_by shape) (samples_more last cs (came_from piece.first piece.parts))) is
-    ∙ sym (drop-map (payload_by shape) (length (samples_of last old)) (samples_of last new))
-    ∙ ap (λ k. drop k (map (payload_by shape) (samples_of last new))) (sym (length-map (samples_of last old) (payload_by shape)))
-    ∙ ap (λ cs. drop (length (payloads_of piece.number shape before)) (map (payload_by shape) (samples_of last cs))) (sym parts)
+payloads_more before came piece is = grind (arith, nat_tests, common_steps, filter_map-append, piece_came, own_shape, drop-map, length-map)
 
 -- a listener that hears everything is told so
 pub noted_as_samples : TellsAs ForEveryone overheard_behind notes_told

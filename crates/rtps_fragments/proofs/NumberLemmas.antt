@@ -1,4 +1,5 @@
 -- The numbers of which some sample can be put together, with fragments more.
+use Rattle.std.proofs.lemmas.Grind.{common_steps}
 use Rattle.std.proofs.Common.{◌≡◌, ℕ, ◌+◌, ◌≤◌, Bool, true, false, cond, ◌&&◌, nat_lt, List, [], ◌∷◌, ◌++◌, length, refl, sym, ◌∙◌, ap, subst, arith, inl, inr, ◌⊎◌}
 use Rattle.std.specs.Cmp.{IsTotalOrder, both_ways}
 use Rattle.std.proofs.lemmas.Bool.{cases_Bool, and_from, and_parts}
@@ -10,14 +11,14 @@ use Rattle.rtps_ids.specs.declared.identity.Guid.{Guid}
 use Rattle.rtps_audit.proofs.Offered.{contains_cases, contains_head, contains_none}
 use Rattle.rtps_fragments.specs.FragmentDelivery.{last_fragment}
 use Rattle.rtps_fragments.specs.Samples.{has_sample, samples_of}
-use Rattle.rtps_fragments.specs.Telling.{SentValue, is_sample, overheard, shape_of}
+use Rattle.rtps_fragments.specs.ToldSamples.{SentValue, is_sample, overheard, shape_of}
 use Rattle.rtps_fragments.specs.Whole.{has_whole, is_number, is_put, number_cmp, key_number}
 use Rattle.rtps_fragments.specs.declared.piece.SampleKey.{SampleKey}
 use Rattle.rtps_fragments.specs.declared.whole.SampleNumber.{SampleNumber}
 use Rattle.rtps_fragments.proofs.Audiences.{any_from, any_of}
 use Rattle.rtps_fragments.proofs.OverheardLemmas.{other_sample, overheard-more}
 use Rattle.rtps_fragments.proofs.SampleLemmas.{samples_grow}
-use Rattle.rtps_fragments.proofs.TellingLemmas.{eq_then, guid_is, guids_total, number_is, own_eq, own_sample, sample_is}
+use Rattle.rtps_fragments.proofs.ToldSampleLemmas.{eq_then, guid_is, guids_total, number_is, own_eq, own_sample, sample_is}
 
 -- ---- numbers
 
@@ -46,8 +47,7 @@ more_samples last came more e =
     grows a b e le = grind (arith, nat_tests)
 
 put_stays : (before : List SentValue) (sent : SentValue) (key : SampleKey) → is_put before key ≡ true → is_put (before ++ sent ∷ []) key ≡ true
-put_stays before sent key e =
-    ap (has_sample (last_fragment (shape_of key))) (overheard-more key before sent) ∙ more_samples (last_fragment (shape_of key)) (overheard key before) (cond (is_sample key sent.key) sent.came []) e
+put_stays before sent key e = grind (arith, nat_tests, common_steps, overheard-more, more_samples)
 
 module _ (before : List SentValue) (sent : SentValue) (number : SampleNumber) where
   -- the test by all fragments
@@ -55,10 +55,7 @@ module _ (before : List SentValue) (sent : SentValue) (number : SampleNumber) wh
   passes one = is_number number (key_number one.key) && is_put (before ++ sent ∷ []) one.key
 
   whole_stays : has_whole before number ≡ true → has_whole (before ++ sent ∷ []) number ≡ true
-  whole_stays e =
-      let (one, among, has) = any_of (λ (s : SentValue). is_number number (key_number s.key) && is_put before s.key) before e in
-      let (same, put) = and_parts (is_number number (key_number one.key)) (is_put before one.key) has in
-      any_from passes (before ++ sent ∷ []) one (Contains-append_left before (sent ∷ []) one among) (and_from _ _ same (put_stays before sent one.key put))
+  whole_stays e = grind (arith, nat_tests, common_steps, any_of, and_parts, any_from, Contains-append_left, and_from, put_stays)
 
   -- a sample that can be put together now is the one of these fragments, or could be before
   whole_from : has_whole (before ++ sent ∷ []) number ≡ true → ((is_number number (key_number sent.key) ≡ true) × (is_put (before ++ sent ∷ []) sent.key ≡ true)) ⊎ (has_whole before number ≡ true)
@@ -100,10 +97,4 @@ module _ (before : List SentValue) (sent : SentValue) (number : SampleNumber) wh
 
   -- with others
   pub whole_not_here : is_put (before ++ sent ∷ []) sent.key ≡ false → has_whole (before ++ sent ∷ []) number ≡ has_whole before number
-  whole_not_here none = both_ways _ _ to whole_stays
-    where
-      to : has_whole (before ++ sent ∷ []) number ≡ true → has_whole before number ≡ true
-      to e = elim (whole_from e) [
-        | inl (same, put) ↦ absurd (let clash : true ≡ false = sym put ∙ none in cc)
-        | inr old ↦ old
-      ]
+  whole_not_here none = grind (arith, nat_tests, common_steps, whole_stays, whole_from)

@@ -1,34 +1,21 @@
 -- What came of samples, whoever they were sent to, with fragments more.
-use Rattle.std.proofs.Common.{◌≡◌, Bool, true, false, cond, List, [], ◌∷◌, ◌++◌, map, refl, ◌∙◌, ap, append-nil}
+use Rattle.std.proofs.lemmas.Grind.{common_steps}
+use Rattle.std.proofs.lemmas.Bool.Decides.{nat_tests}
+use Rattle.std.proofs.Common.{◌≡◌, false, cond, List, [], ◌∷◌, ◌++◌, map, refl, ◌∙◌, ap, append-nil, arith}
 use Rattle.std.specs.List.{flat_map}
-use Rattle.std.proofs.lemmas.List.{map-append}
-use Rattle.std.proofs.lemmas.List.Concat.{flat_map-append}
-use Rattle.std.proofs.lemmas.List.Elements.{filter-append}
 use Rattle.rtps_fragments.specs.Listeners.{Offer}
-use Rattle.rtps_fragments.specs.Telling.{SentValue, is_sample, offer_of, offers, overheard, sent_of}
+use Rattle.rtps_fragments.specs.ToldSamples.{SentValue, is_sample, offer_of, offers, overheard, sent_of}
 use Rattle.rtps_fragments.specs.declared.piece.SampleKey.{SampleKey}
 
 pub overheard-more : (key : SampleKey) (before : List SentValue) (sent : SentValue) → overheard key (before ++ sent ∷ []) ≡ overheard key before ++ cond (is_sample key sent.key) sent.came []
-overheard-more key before sent =
-    ap (flat_map (λ (s : SentValue). s.came)) (filter-append (λ (s : SentValue). is_sample key s.key) before (sent ∷ []))
-    ∙ flat_map-append (λ (s : SentValue). s.came) (sent_of key before) (cond (is_sample key sent.key) (sent ∷ []) []) ∙ ap (λ cs. overheard key before ++ cs) (by (is_sample key sent.key))
-  where
-    by : (b : Bool) → flat_map (λ (s : SentValue). s.came) (cond b (sent ∷ []) []) ≡ cond b sent.came []
-    by true = append-nil sent.came
-    by false = refl
+overheard-more key before sent = grind (arith, nat_tests, common_steps)
 
 pub other_sample : (key : SampleKey) (before : List SentValue) (sent : SentValue) → is_sample key sent.key ≡ false → overheard key (before ++ sent ∷ []) ≡ overheard key before
 other_sample key before sent apart = overheard-more key before sent ∙ ap (λ b. overheard key before ++ cond b sent.came []) apart ∙ append-nil (overheard key before)
 
 -- what is sent of a sample, with one act more
 pub offers-more : (key : SampleKey) (before : List SentValue) (sent : SentValue) → offers key (before ++ sent ∷ []) ≡ offers key before ++ cond (is_sample key sent.key) (offer_of sent ∷ []) []
-offers-more key before sent =
-    ap (map offer_of) (filter-append (λ (s : SentValue). is_sample key s.key) before (sent ∷ [])) ∙ map-append offer_of (sent_of key before) (sent_of key (sent ∷ []))
-    ∙ ap (λ os. offers key before ++ os) (by (is_sample key sent.key))
-  where
-    by : (b : Bool) → map offer_of (cond b (sent ∷ []) []) ≡ cond b (offer_of sent ∷ []) []
-    by true = refl
-    by false = refl
+offers-more key before sent = grind (arith, nat_tests, common_steps)
 
 pub offers_came : (key : SampleKey) (sents : List SentValue) → flat_map (λ (o : Offer). o.came) (offers key sents) ≡ overheard key sents
 offers_came key sents = by (sent_of key sents)

@@ -1,9 +1,10 @@
 -- Recordings without pieces, and pieces of no sample.
+use Rattle.std.proofs.lemmas.Grind.{common_steps}
 use Rattle.std.proofs.Common.{◌≡◌, ℕ, suc, ◌≤◌, Bool, true, false, not, ◌&&◌, List, [], ◌∷◌, Option, Some, None, refl, sym, ◌∙◌, ap, subst, arith, inl, inr}
 use Rattle.std.specs.Prelude.{Contains, ◌==◌, ◌||◌}
 use Rattle.std.specs.List.{list_any}
 use Rattle.std.proofs.lemmas.Bool.{cases_Bool, and_from, and_parts}
-use Rattle.std.proofs.lemmas.Bool.Decides.{Decides-eqb}
+use Rattle.std.proofs.lemmas.Bool.Decides.{Decides-eqb, nat_tests}
 use Rattle.std.proofs.lemmas.Option.{slice_get_cases}
 use Rattle.rtps_ids.specs.declared.identity.Guid.{Guid}
 use Rattle.rtps_wire.specs.Values.{PayloadValue}
@@ -46,8 +47,7 @@ none_from test (y ∷ ys) none = both (test y) (none y (contains_head y ys)) (no
     both false e f = f
 
 some_payload : (payloads : List PayloadValue) (payload : PayloadValue) → Contains payloads payload → is_some_payload payloads ≡ true
-some_payload [] payload among = absurd (contains_none payload among)
-some_payload (first ∷ payloads) payload among = refl
+some_payload payloads payload h = grind (arith, nat_tests, common_steps, contains_none)
 
 first_payload : (payloads : List PayloadValue) → is_some_payload payloads ≡ true → (payload : PayloadValue) × Contains payloads payload
 first_payload [] e = cc

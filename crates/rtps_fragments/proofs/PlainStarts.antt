@@ -1,6 +1,7 @@
 -- The datagrams behind the first ones, of which no submessage belongs to fragments: they tell what they tell behind these.
+use Rattle.std.proofs.lemmas.Grind.{common_steps}
+use Rattle.std.proofs.lemmas.Bool.Decides.{nat_tests}
 use Rattle.std.proofs.Common.{◌≡◌, ℕ, zero, suc, ◌+◌, ◌-◌, ◌≤◌, List, [], ◌∷◌, ◌++◌, drop, length, map, take, slice_get, refl, sym, ◌∙◌, ap, arith, subst}
-use Rattle.std.specs.Global.{Vec}
 use Rattle.std.proofs.lemmas.List.{length-map}
 use Rattle.std.proofs.lemmas.List.Elements.{All-contains}
 use Rattle.rtps_wire.specs.Reading.{reading_of}
@@ -10,11 +11,10 @@ use Rattle.rtps_receiver.specs.Values.{ActValue}
 use Rattle.rtps_audit.proofs.Offered.{contains_head, contains_tail}
 use Rattle.rtps_fragments.specs.Merging.{sents_from, sents_in}
 use Rattle.rtps_fragments.specs.RecordedSamples.{AreSamplesOf, IsWithoutFragments, by_datagram}
-use Rattle.rtps_fragments.specs.Sending.{piece_acts_of, sending_of}
-use Rattle.rtps_fragments.specs.Telling.{SentValue, ToldValue, overheard_behind, told_behind, told_value}
+use Rattle.rtps_fragments.specs.FragmentWalk.{piece_acts_of, sending_of}
+use Rattle.rtps_fragments.specs.ToldSamples.{SentValue, ToldValue}
 use Rattle.rtps_fragments.specs.Whole.{AreWholeIn}
 use Rattle.rtps_fragments.specs.declared.samples.Samples.{Samples}
-use Rattle.rtps_fragments.specs.declared.told_sample.ToldSample.{ToldSample}
 use Rattle.rtps_fragments.proofs.SampleSteps.{length-told}
 use Rattle.rtps_fragments.proofs.WithoutFragments.{EachWithout, datagram_plain, plain}
 
@@ -52,12 +52,10 @@ module _ (recording : List (List ℕ)) (n : ℕ) (samples : Samples) (without : 
   whole_behind = subst (λ (ss : List SentValue). AreWholeIn ss samples.whole) (sym (sent_behind recording n (each_of (take n recording) without))) are.whole
 
   pub told_count : length samples.told.items ≡ length (drop n recording)
-  told_count =
-      sym (length-map samples.told.items (λ (t : Vec ToldSample). map told_value t.items)) ∙ ap length are.told ∙ length-told told_behind [] (sending_of (drop n recording)) ∙ length-map (drop n recording) piece_acts_of
+  told_count = grind (arith, nat_tests, common_steps, length-map, length-told)
 
   pub overheard_count : length samples.overheard.items ≡ length (drop n recording)
-  overheard_count =
-      sym (length-map samples.overheard.items (λ (t : Vec ToldSample). map told_value t.items)) ∙ ap length are.overheard ∙ length-told overheard_behind [] (sending_of (drop n recording)) ∙ length-map (drop n recording) piece_acts_of
+  overheard_count = grind (arith, nat_tests, common_steps, length-map, length-told)
 
   pub past : (tell : List SentValue → SentValue → List ToldValue) (i : ℕ) → n ≤ i
       → slice_get (by_datagram tell [] (sending_of recording)) i ≡ slice_get (by_datagram tell [] (sending_of (drop n recording))) (i - n)

@@ -1,15 +1,14 @@
 -- The samples that are told as acts of one datagram, for one writer and one reader.
-use Rattle.std.proofs.Common.{◌≡◌, ℕ, suc, Bool, true, false, cond, ◌&&◌, List, [], ◌∷◌, ◌++◌, map, filter, Option, Some, None, refl, sym, ◌∙◌, ap, subst, inl, inr, ◌⊎◌, append_assoc, append-nil}
+use Rattle.std.proofs.lemmas.Grind.{common_steps}
+use Rattle.std.proofs.Common.{◌≡◌, ℕ, suc, Bool, true, false, cond, ◌&&◌, List, [], ◌∷◌, ◌++◌, map, filter, Option, Some, None, refl, sym, ◌∙◌, ap, subst, inl, inr, ◌⊎◌, append_assoc, append-nil, arith, rules}
 use Rattle.std.specs.Prelude.{Contains, ◌==◌}
 use Rattle.std.specs.List.{cons_option, filter_map, flat_map}
-use Rattle.std.proofs.lemmas.Bool.Decides.{Decides-eqb}
+use Rattle.std.proofs.lemmas.Bool.Decides.{Decides-eqb, nat_tests}
 use Rattle.std.proofs.lemmas.List.Concat.{flat_map-append}
 use Rattle.std.proofs.lemmas.List.Elements.{Contains-append_left, Contains-append_right, Contains-append_cases, filter-append, filter_map-append}
 use Rattle.std.proofs.lemmas.Bool.{and_from, and_parts}
 use Rattle.std.proofs.Math.Bool.{and-false}
-use Rattle.rtps_ids.specs.declared.identity.EntityId.{EntityId}
 use Rattle.rtps_ids.specs.declared.identity.Guid.{Guid}
-use Rattle.rtps_ids.specs.declared.identity.GuidPrefix.{GuidPrefix}
 use Rattle.rtps_wire.specs.Values.{PayloadValue}
 use Rattle.rtps_receiver.specs.Speech.{entity_from, is_among, is_heard_by, is_prefix, is_spoken_by, names, origin_of, reader_named, writer_named}
 use Rattle.rtps_receiver.specs.Values.{ActValue}
@@ -23,9 +22,9 @@ use Rattle.rtps_fragments.specs.FragmentDelivery.{Fragment, Piece, Shape, fragme
 use Rattle.rtps_fragments.specs.Listeners.{Offer, came_to, hearing_of, hears, is_for_audience, silence, tells}
 use Rattle.rtps_fragments.specs.Samples.{came_of, is_of, samples_of}
 use Rattle.rtps_fragments.specs.SampleActs.{PieceAct, act_of_told, acts_and_samples, acts_of_sample, fragments_in, is_piece_of, offered, offered_by, offers_of, sample_act, samples_told, sent_to_whom}
-use Rattle.rtps_fragments.proofs.Audiences.{entity_is, flat_from, hears-more, prefix_is, sound_of}
+use Rattle.rtps_fragments.proofs.Audiences.{flat_from, hears-more, sound_of}
 use Rattle.rtps_fragments.proofs.HeardLemmas.{heard-cons, heard_of, heard_one}
-use Rattle.rtps_fragments.proofs.HearingLemmas.{AllTold, ToldNow, all_told, has_reader, heard_by, kept_passes, news_sent, told_is_put, wide_has}
+use Rattle.rtps_fragments.proofs.AudienceNewsLemmas.{AllTold, ToldNow, all_told, has_reader, heard_by, kept_passes, news_sent, told_is_put, wide_has}
 use Rattle.rtps_fragments.proofs.ToldLemmas.{IsPut, fragment_of, if_then, none_came, own_shape, same_sample}
 
 -- ---- who speaks
@@ -35,11 +34,7 @@ abbrev pub NamesItsWriter : ActValue → Type 0
 NamesItsWriter act = writer_named act.body ≡ Some (entity_from act.body)
 
 pub spoken_is_origin : (act : ActValue) (writer : Guid) → NamesItsWriter act → is_spoken_by act writer ≡ true → origin_of act ≡ writer
-spoken_is_origin act writer named spoken =
-    let (prefix, entity) = and_parts (is_prefix act.source writer.prefix) (names (writer_named act.body) writer.entity) spoken in
-    let from : GuidPrefix → Guid = λ p. record { prefix = p; entity = entity_from act.body } in
-    let of : EntityId → Guid = λ e. record { prefix = writer.prefix; entity = e } in
-    ap from (prefix_is act.source writer.prefix prefix) ∙ ap of (entity_is (entity_from act.body) writer.entity (subst (λ o. names o writer.entity ≡ true) named entity))
+spoken_is_origin act writer named spoken = search rules
 
 -- a sample is from where its act is from
 pub sample_spoken : (act : ActValue) (n : ℕ) (audience : Audience) (payload : PayloadValue) (writer : Guid) → NamesItsWriter act → is_spoken_by (sample_act act n audience payload) writer ≡ is_spoken_by act writer
@@ -60,18 +55,11 @@ heard_alike act reader named = ap (λ o. is_among act.dest o reader) (sym named)
 -- ---- what is sent of a sample
 
 pub offers-append : (writer : Guid) (n : ℕ) (shape : Shape) (xs ys : List PieceAct) → offers_of writer n shape (xs ++ ys) ≡ offers_of writer n shape xs ++ offers_of writer n shape ys
-offers-append writer n shape xs ys =
-    ap (flat_map (λ (one : PieceAct). offered_by one.act one.piece)) (filter-append (λ (one : PieceAct). is_spoken_by one.act writer && is_piece_of n shape one.piece) xs ys)
-    ∙ flat_map-append (λ (one : PieceAct). offered_by one.act one.piece) (acts_of_sample writer n shape xs) (acts_of_sample writer n shape ys)
+offers-append writer n shape xs ys = grind (arith, nat_tests, common_steps)
 
 -- by one act
 pub offers_one : (writer : Guid) (n : ℕ) (shape : Shape) (part : PieceAct) (piece : Piece) → part.piece ≡ Some piece → offers_of writer n shape (part ∷ []) ≡ cond (is_spoken_by part.act writer && is_of n shape piece.number piece.shape) (offered part.act piece ∷ []) []
-offers_one writer n shape part piece is =
-    ap (λ o. flat_map (λ (one : PieceAct). offered_by one.act one.piece) (cond (is_spoken_by part.act writer && is_piece_of n shape o) (part ∷ []) [])) is ∙ by (is_spoken_by part.act writer && is_of n shape piece.number piece.shape)
-  where
-    by : (b : Bool) → flat_map (λ (one : PieceAct). offered_by one.act one.piece) (cond b (part ∷ []) []) ≡ cond b (offered part.act piece ∷ []) []
-    by true = ap (λ o. offered_by part.act o ++ []) is
-    by false = refl
+offers_one writer n shape part piece is = grind (arith, nat_tests)
 
 pub offers_none : (writer : Guid) (n : ℕ) (shape : Shape) (part : PieceAct) → part.piece ≡ None → offers_of writer n shape (part ∷ []) ≡ []
 offers_none writer n shape part is = ap (λ b. flat_map (λ (one : PieceAct). offered_by one.act one.piece) (cond b (part ∷ []) [])) (ap (λ o. is_spoken_by part.act writer && is_piece_of n shape o) is ∙ and-false (is_spoken_by part.act writer))
@@ -94,10 +82,7 @@ offers_from writer n shape acts offer among =
     ]
 
 only_here : {X : Type 0} (x : X) (xs : List X) (y : X) → Contains (x ∷ []) y → Contains (x ∷ xs) y
-only_here x xs y among = elim (contains_cases x [] y among) [
-  | inl here ↦ subst (Contains (x ∷ xs)) here (contains_head x xs)
-  | inr nothing ↦ absurd (contains_none y nothing)
-]
+only_here x xs y among = grind (arith, nat_tests)
 
 -- ---- fragments of a sample
 
@@ -181,9 +166,7 @@ module _ (writer reader : Guid) where
 
   sample_word : (act : ActValue) (number : ℕ) (audience : Audience) (payload : PayloadValue) (n : ℕ) → is_spoken_by (sample_act act number audience payload) writer ≡ true
       → is_among audience.dest (Some audience.reader) reader ≡ true → number ≡ n → word_for writer reader (sample_act act number audience payload) n ≡ Some (Told payload)
-  sample_word act number audience payload n spoken heard same =
-      ap (λ b. cond b (word_of (sample_act act number audience payload).body n) None) (and_from _ _ spoken heard)
-      ∙ ap (λ b. cond b (Some (Told payload)) None) ((Decides-eqb n number).1 (sym same))
+  sample_word act number audience payload n spoken heard same = grind (arith, nat_tests)
 
   -- one of these acts has the payload of n as its word for the reader
   abbrev pub TellsReader : List ActValue → ℕ → PayloadValue → Type 0
@@ -358,8 +341,8 @@ module _ (writer reader : Guid) where
       let (spoken, has) = and_parts (is_spoken_by made writer) (is_heard_by made reader) test in
       let speaks = sym (sample_spoken sample.part.act piece.number sample.audience payload writer own) ∙ spoken in
       let origin = spoken_is_origin sample.part.act writer own speaks in
-      let (number, is) = if_then (n == piece.number) (Told payload) word value in
-      let same = sym ((Decides-eqb n piece.number).0 number) in
+      let (number, is) = if_then (piece.number == n) (Told payload) word value in
+      let same = (Decides-eqb piece.number n).0 number in
       let came = came_to sample.audience (hears (hearing_of offers) offer).news in
       let put = mapped_contains (payload_by shape) (samples_of (last_fragment shape) came) sample.octets (told_is_put (last_fragment shape) (hearing_of offers) offer sample.audience sample.octets sample.told) in
       let put_there = subst (λ cs. Contains (map (payload_by shape) (samples_of (last_fragment shape) cs)) payload) (sym (came_back piece.number shape came)) put in

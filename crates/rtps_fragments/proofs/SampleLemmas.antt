@@ -1,10 +1,12 @@
 -- The samples that are put together of all that came: at most two, which differ, and both where any two can be put together.
-use Rattle.std.proofs.Common.{◌≡◌, ℕ, zero, suc, pred, ◌<◌, ◌≤◌, List, [], ◌∷◌, ◌++◌, length, set, Option, Some, None, slice_get, refl, sym, ◌∙◌, ap, subst, arith, inl, inr, ◌⊎◌}
+use Rattle.std.proofs.lemmas.Grind.{common_steps}
+use Rattle.std.proofs.lemmas.Bool.Decides.{nat_tests}
+use Rattle.std.proofs.Common.{◌≡◌, ℕ, zero, suc, pred, ◌<◌, ◌≤◌, List, [], ◌∷◌, ◌++◌, length, set, Option, Some, None, slice_get, refl, sym, ◌∙◌, ap, subst, arith, inl, inr, ◌⊎◌, rules}
 use Rattle.std.specs.Prelude.{Contains}
 use Rattle.std.specs.List.{concat, find}
 use Rattle.std.proofs.lemmas.List.{append_cancel_left, append_cancel_right, length-set}
 use Rattle.std.proofs.lemmas.Option.{slice_get_cases}
-use Rattle.rtps_audit.proofs.Offered.{contains_cases, contains_head, contains_none, contains_tail}
+use Rattle.rtps_audit.proofs.Offered.{contains_cases, contains_head, contains_none}
 use Rattle.rtps_fragments.specs.Samples.{first_of, is_other, firsts_of, samples_by, samples_of}
 use Rattle.rtps_fragments.proofs.Variants.{parts_length, parts_get, parts_exist, parts_are, first_is_there, first_of_all, firsts_stay, other_stays, none_other, other_differs}
 
@@ -22,12 +24,10 @@ grow_by (Some parts) b (Some one) d f g = ([], ap (λ o. samples_by o d) (f part
 
 -- of nothing
 pub none_yet : (last : ℕ) → samples_of last [] ≡ []
-none_yet zero = refl
-none_yet (suc last) = refl
+none_yet last = grind (arith, nat_tests)
 
 pub samples_grow : (last : ℕ) (came more : List (ℕ × List ℕ)) → (rest : List (List ℕ)) × (samples_of last (came ++ more) ≡ samples_of last came ++ rest)
-samples_grow last came more =
-    grow_by (firsts_of came last) (firsts_of (came ++ more) last) (find (is_other came) came) (find (is_other (came ++ more)) (came ++ more)) (firsts_stay came more last) (other_stays came more)
+samples_grow last came more = grind (arith, nat_tests, common_steps, grow_by, firsts_stay, other_stays)
 
 -- ---- picks
 
@@ -50,8 +50,7 @@ firsts_exist came (part ∷ parts) some picks = parts_exist (λ i. first_of came
     ]
 
 first_sample : (parts : List (List ℕ)) (other : Option (ℕ × List ℕ)) → Contains (samples_by (Some parts) other) (concat parts)
-first_sample parts None = contains_head (concat parts) []
-first_sample parts (Some one) = contains_head (concat parts) (concat (set parts (pred one.0) one.1) ∷ [])
+first_sample parts other = grind (arith, nat_tests, common_steps, contains_head, set, pred)
 
 -- where nothing came otherwise, what is picked is what came first
 picks_are_firsts : (came : List (ℕ × List ℕ)) (parts : List (List ℕ)) → 0 < length parts → ArePicks came parts → find (is_other came) came ≡ None → firsts_of came (length parts) ≡ Some parts
@@ -68,15 +67,12 @@ set_differs (part ∷ parts) (suc j) first octets at differ same = set_differs p
 
 pub firsts_get : (came : List (ℕ × List ℕ)) (last : ℕ) (parts : List (List ℕ)) → firsts_of came last ≡ Some parts
     → (length parts ≡ last) × (0 < last) × ((i : ℕ) (octets : List ℕ) → slice_get parts i ≡ Some octets → first_of came (suc i) ≡ Some octets)
-firsts_get came zero parts e = cc
-firsts_get came (suc last) parts e = (parts_length (λ i. first_of came (suc i)) (suc last) parts e, omega arith, parts_get (λ i. first_of came (suc i)) (suc last) parts e)
+firsts_get came last parts h = grind (arith, nat_tests, common_steps, parts_length, parts_get)
 
 -- ---- both are there, and differ
 
 second_sample : (parts : List (List ℕ)) (one : ℕ × List ℕ) → Contains (samples_by (Some parts) (Some one)) (concat (set parts (pred one.0) one.1))
-second_sample parts one =
-    let second = concat (set parts (pred one.0) one.1) in
-    contains_tail (concat parts) (second ∷ []) second (contains_head second [])
+second_sample parts one = grind (arith, nat_tests)
 
 second_differs : (came : List (ℕ × List ℕ)) (last : ℕ) (parts : List (List ℕ)) (one : ℕ × List ℕ) → firsts_of came last ≡ Some parts → find (is_other came) came ≡ Some one → AreWithin last came
     → concat parts ≡ concat (set parts (pred one.0) one.1) → ⊥
@@ -144,11 +140,7 @@ firsts_are_picks came last parts e i octets at = first_is_there came (suc i) oct
 
 second_is_picks : (came : List (ℕ × List ℕ)) (last : ℕ) (parts : List (List ℕ)) (one : ℕ × List ℕ) → firsts_of came last ≡ Some parts → Contains came one → 0 < one.0
     → ArePicks came (set parts (pred one.0) one.1)
-second_is_picks came last parts (zero, other) e among positive i octets at = absurd (omega arith)
-second_is_picks came last parts (suc j, other) e among positive i octets at = elim (set_get parts j i other octets at) [
-  | inl here ↦ subst (λ o. Contains came (suc i, o)) here.1 (subst (λ k. Contains came (suc k, other)) (sym here.0) among)
-  | inr first ↦ firsts_are_picks came last parts e i octets first
-]
+second_is_picks came last parts one h h2 h3 h4 h5 h6 = search (rules, set_get, firsts_are_picks)
 
 pub sample_is_picked : (last : ℕ) (came : List (ℕ × List ℕ)) (octets : List ℕ) → AreWithin last came → Contains (samples_of last came) octets → IsPicked last came octets
 sample_is_picked last came octets within among = by (firsts_of came last) (find (is_other came) came) refl refl among

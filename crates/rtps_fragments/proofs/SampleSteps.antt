@@ -1,12 +1,12 @@
 -- What the datagrams of a recording send and tell, with one datagram more.
-use Rattle.std.proofs.Common.{◌≡◌, ℕ, zero, suc, ◌+◌, ◌<◌, List, [], ◌∷◌, ◌++◌, length, map, take, get_or, Some, slice_get, Bor, refl, sym, ◌∙◌, ap, append_assoc, append-nil}
-use Rattle.std.proofs.lemmas.Grind.{flat_map-append}
-use Rattle.std.proofs.lemmas.List.{map-append, take_more}
+use Rattle.std.proofs.lemmas.Bool.Decides.{nat_tests}
+use Rattle.std.proofs.Common.{◌≡◌, ℕ, zero, suc, ◌+◌, ◌<◌, List, [], ◌∷◌, ◌++◌, length, map, take, get_or, Some, slice_get, Bor, refl, sym, ◌∙◌, ap, append_assoc, append-nil, arith}
+use Rattle.std.proofs.lemmas.Grind.{flat_map-append, common_steps}
 use Rattle.rtps_fragments.specs.Merging.{sents_from, sents_in}
 use Rattle.rtps_fragments.specs.RecordedSamples.{by_datagram}
 use Rattle.rtps_fragments.specs.SampleActs.{PieceAct}
-use Rattle.rtps_fragments.specs.Sending.{piece_acts_of, sending_of}
-use Rattle.rtps_fragments.specs.Telling.{SentValue, ToldValue, in_turn}
+use Rattle.rtps_fragments.specs.FragmentWalk.{piece_acts_of, sending_of}
+use Rattle.rtps_fragments.specs.ToldSamples.{SentValue, ToldValue, in_turn}
 
 -- the octets of datagrams
 abbrev pub octets_of : List (Bor (List ℕ)) → List (List ℕ)
@@ -14,9 +14,7 @@ octets_of xs = map (λ datagram. datagram.now) xs
 
 -- the acts of each datagram so far, with one more
 pub sending_next : (xs : List (Bor (List ℕ))) (i : ℕ) (d : Bor (List ℕ)) → i < length xs → sending_of (octets_of (take (i + 1) xs)) ≡ sending_of (octets_of (take i xs)) ++ piece_acts_of (get_or xs i d).now ∷ []
-sending_next xs i d lt =
-    ap (λ ys. sending_of (octets_of ys)) (take_more xs i d lt) ∙ ap (map piece_acts_of) (map-append (λ (datagram : Bor (List ℕ)). datagram.now) (take i xs) (get_or xs i d ∷ []))
-    ∙ map-append piece_acts_of (octets_of (take i xs)) ((get_or xs i d).now ∷ [])
+sending_next xs i d lt = grind (arith, nat_tests, common_steps)
 
 pub sents_next : (recording : List (List PieceAct)) (acts : List PieceAct) → sents_in (recording ++ acts ∷ []) ≡ sents_in recording ++ sents_from 0 acts
 sents_next recording acts = flat_map-append (sents_from 0) recording (acts ∷ []) ∙ ap (λ ss. sents_in recording ++ ss) (append-nil (sents_from 0 acts))

@@ -1,9 +1,10 @@
 -- The payloads that pieces tell, one piece after another, are those that are put together of all their fragments.
-use Rattle.std.proofs.Common.{◌≡◌, ℕ, suc, Bool, true, false, cond, not, List, [], ◌∷◌, ◌++◌, length, map, drop, Option, Some, None, refl, sym, ◌∙◌, ap, subst, inl, inr, ◌⊎◌, append_assoc, append-nil}
-use Rattle.std.specs.Prelude.{Contains, ◌==◌}
+use Rattle.std.proofs.lemmas.Grind.{common_steps}
+use Rattle.std.proofs.Common.{◌≡◌, ℕ, suc, Bool, true, false, cond, List, [], ◌∷◌, ◌++◌, length, map, drop, Option, Some, None, refl, sym, ◌∙◌, ap, subst, inl, inr, ◌⊎◌, append_assoc, append-nil, arith, rules}
+use Rattle.std.specs.Prelude.{Contains}
 use Rattle.std.specs.List.{filter_map, flat_map, cons_option}
-use Rattle.std.proofs.lemmas.Bool.{cases_Bool, and_parts, and_from}
-use Rattle.std.proofs.lemmas.Bool.Decides.{Decides-eqb}
+use Rattle.std.proofs.lemmas.Bool.{cases_Bool}
+use Rattle.std.proofs.lemmas.Bool.Decides.{Decides-eqb, nat_tests}
 use Rattle.std.proofs.lemmas.List.{map-append}
 use Rattle.std.proofs.lemmas.List.Elements.{filter_map-append, Contains-append_left, Contains-append_right, Contains-append_cases}
 use Rattle.std.proofs.Math.Seq.{drop-append_seam}
@@ -12,44 +13,16 @@ use Rattle.rtps_audit.specs.Delivery.{Word}
 use Rattle.rtps_audit.specs.Delivery.Word.{Told}
 use Rattle.rtps_audit.proofs.Offered.{contains_mapped, contains_none, made_from, makes, mapped_contains}
 use Rattle.rtps_fragments.specs.FragmentDelivery.{Shape, last_fragment, payload_by, Fragment, Piece, fragments_from, fragments_of}
-use Rattle.rtps_fragments.specs.Samples.{is_shape, is_of, came_of, samples_of, payloads_of, told_by, tell, acts_told}
+use Rattle.rtps_fragments.specs.Samples.{is_of, came_of, samples_of, payloads_of, told_by, tell, acts_told}
 use Rattle.rtps_fragments.proofs.SampleLemmas.{samples_grow}
 
 -- ---- which fragments are of a sample
 
-same_flag : (a b : Bool) → (cond a b (not b)) ≡ true → a ≡ b
-same_flag true true e = refl
-same_flag true false e = cc
-same_flag false true e = cc
-same_flag false false e = refl
-
-own_flag : (a : Bool) → (cond a a (not a)) ≡ true
-own_flag true = refl
-own_flag false = refl
-
-shape_is : (one other : Shape) → one.sample ≡ other.sample → one.fragment ≡ other.fragment → one.is_key ≡ other.is_key → one ≡ other
-shape_is one other sample fragment key =
-    let a : ℕ → Shape = λ n. record { sample = n; fragment = one.fragment; is_key = one.is_key } in
-    let b : ℕ → Shape = λ n. record { sample = other.sample; fragment = n; is_key = one.is_key } in
-    let c : Bool → Shape = λ k. record { sample = other.sample; fragment = other.fragment; is_key = k } in
-    ap a sample ∙ ap b fragment ∙ ap c key
-
-same_shape : (one other : Shape) → is_shape one other ≡ true → one ≡ other
-same_shape one other e =
-    let (sample, rest) = and_parts (one.sample == other.sample) _ e in
-    let (fragment, key) = and_parts (one.fragment == other.fragment) _ rest in
-    shape_is one other ((Decides-eqb one.sample other.sample).0 sample) ((Decides-eqb one.fragment other.fragment).0 fragment) (same_flag one.is_key other.is_key key)
-
 pub own_shape : (n : ℕ) (shape : Shape) → is_of n shape n shape ≡ true
-own_shape n shape =
-    let sample = (Decides-eqb shape.sample shape.sample).1 refl in
-    let fragment = (Decides-eqb shape.fragment shape.fragment).1 refl in
-    and_from (n == n) _ ((Decides-eqb n n).1 refl) (and_from (shape.sample == shape.sample) _ sample (and_from (shape.fragment == shape.fragment) _ fragment (own_flag shape.is_key)))
+own_shape n shape = grind (arith, nat_tests)
 
 pub same_sample : (n : ℕ) (shape : Shape) (number : ℕ) (other : Shape) → is_of n shape number other ≡ true → (number ≡ n) × (other ≡ shape)
-same_sample n shape number other e =
-    let (is, also) = and_parts (number == n) _ e in
-    ((Decides-eqb number n).0 is, same_shape other shape also)
+same_sample n shape number other e = grind (arith, nat_tests)
 
 -- ---- what came of a sample are its fragments
 
@@ -57,15 +30,10 @@ abbrev pub fragment_of : ℕ → Shape → ℕ × List ℕ → Fragment
 fragment_of n shape one = record { number = n; shape = shape; index = one.0; octets = one.1 }
 
 fragment_is : (f : Fragment) (n : ℕ) (shape : Shape) (one : ℕ × List ℕ) → f.number ≡ n → f.shape ≡ shape → ◌≡◌ {A = ℕ × List ℕ} (f.index, f.octets) one → f ≡ fragment_of n shape one
-fragment_is f n shape one number same is =
-    let a : ℕ → Fragment = λ m. record { number = m; shape = f.shape; index = f.index; octets = f.octets } in
-    let b : Shape → Fragment = λ s. record { number = n; shape = s; index = f.index; octets = f.octets } in
-    let c : ℕ × List ℕ → Fragment = λ p. fragment_of n shape p in
-    ap a number ∙ ap b same ∙ ap c is
+fragment_is f n shape one number same is = grind (arith, nat_tests)
 
 pub if_then : {X : Type 0} (b : Bool) (x y : X) → cond b (Some x) None ≡ Some y → (b ≡ true) × (x ≡ y)
-if_then true x y e = (refl, (let h = e in cc))
-if_then false x y e = cc
+if_then b x y h = grind (arith, nat_tests)
 
 pub came_is_there : (n : ℕ) (shape : Shape) (fragments : List Fragment) (one : ℕ × List ℕ) → Contains (filter_map (came_of n shape) fragments) one → Contains fragments (fragment_of n shape one)
 came_is_there n shape fragments one among =
@@ -75,8 +43,7 @@ came_is_there n shape fragments one among =
     subst (Contains fragments) (fragment_is f n shape one number same pair) there
 
 pub there_came : (n : ℕ) (shape : Shape) (fragments : List Fragment) (one : ℕ × List ℕ) → Contains fragments (fragment_of n shape one) → Contains (filter_map (came_of n shape) fragments) one
-there_came n shape fragments one among =
-    makes (came_of n shape) fragments (fragment_of n shape one) one among (ap (λ b. cond b (Some one) None) (own_shape n shape))
+there_came n shape fragments one among = search (rules, makes, own_shape)
 
 -- no fragment of another sample came
 pub none_came : (n : ℕ) (shape : Shape) (number : ℕ) (other : Shape) (i : ℕ) (parts : List (List ℕ)) → is_of n shape number other ≡ false → filter_map (came_of n shape) (fragments_from number other i parts) ≡ []
@@ -146,7 +113,7 @@ put_or_told : (n : ℕ) (before : List Fragment) (piece : Piece) (payload : Payl
 put_or_told n before piece payload (shape, among) = elim (come_or_told n shape before piece payload among) [
   | inl old ↦ inl (shape, old)
   | inr (number, shapes, new) ↦
-      inr (tell piece.number payload, mapped_contains (tell piece.number) (told_by before piece) payload new, ap (λ b. cond b (Some (Told payload)) None) ((Decides-eqb n piece.number).1 (sym number)))
+      inr (tell piece.number payload, mapped_contains (tell piece.number) (told_by before piece) payload new, ap (λ b. cond b (Some (Told payload)) None) ((Decides-eqb piece.number n).1 number))
 ]
 
 -- and by pieces more
@@ -171,10 +138,7 @@ told_is_come n before piece payload number there =
 
 told_is_put : (n : ℕ) (before : List Fragment) (piece : Piece) (act : ℕ → Option Word) (word : Word) → Contains (map (tell piece.number) (told_by before piece)) act → act n ≡ Some word
     → (payload : PayloadValue) × (word ≡ Told payload) × IsPut n (before ++ fragments_of piece) payload
-told_is_put n before piece act word among says =
-    let (payload, there, is) = contains_mapped (tell piece.number) (told_by before piece) act among in
-    let (test, told) = if_then (n == piece.number) (Told payload) word (ap (λ (f : ℕ → Option Word). f n) is ∙ says) in
-    (payload, sym told, told_is_come n before piece payload (sym ((Decides-eqb n piece.number).0 test)) there)
+told_is_put n before piece act word among says = grind (arith, nat_tests, common_steps, contains_mapped, if_then, told_is_come, Decides-eqb)
 
 -- and what pieces tell
 pub acts_are_put : (n : ℕ) (before : List Fragment) (pieces : List Piece) (act : ℕ → Option Word) (word : Word) → Contains (acts_told before pieces) act → act n ≡ Some word

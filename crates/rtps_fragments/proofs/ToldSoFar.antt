@@ -1,10 +1,10 @@
 -- The samples that are told, one after another.
-use Rattle.std.proofs.Common.{◌≡◌, ℕ, zero, suc, ◌+◌, ◌<◌, get_or, take, List, [], ◌∷◌, ◌++◌, length, map, drop, Some, slice_get, sym, ◌∙◌, ap, arith, append_assoc, append-nil}
-use Rattle.std.proofs.Math.Seq.{take-suc}
-use Rattle.std.proofs.lemmas.List.{map-append}
+use Rattle.std.proofs.lemmas.Grind.{common_steps}
+use Rattle.std.proofs.lemmas.Bool.Decides.{nat_tests}
+use Rattle.std.proofs.Common.{◌≡◌, ℕ, zero, suc, ◌+◌, ◌<◌, get_or, take, List, [], ◌∷◌, ◌++◌, length, map, drop, Some, slice_get, sym, ◌∙◌, ap, arith, append_assoc, append-nil, rules}
 use Rattle.rtps_receiver.specs.declared.speech.Audience.{Audience}
 use Rattle.rtps_fragments.specs.FragmentDelivery.{Shape, payload_by}
-use Rattle.rtps_fragments.specs.Telling.{SentValue, ToldValue, in_turn, sent_value, told_as}
+use Rattle.rtps_fragments.specs.ToldSamples.{SentValue, ToldValue, in_turn, sent_value, told_as}
 use Rattle.rtps_fragments.specs.declared.piece.SentFragments.{SentFragments}
 
 pub drop_at : {X : Type 0} (xs : List X) (i : ℕ) (x : X) → slice_get xs i ≡ Some x → drop i xs ≡ x ∷ drop (suc i) xs
@@ -16,11 +16,7 @@ module _ (act : ℕ) (audience : Audience) (shape : Shape) where
   -- with one more
   pub told_step : (told new : List ToldValue) (samples : List (List ℕ)) (place : ℕ) (octets : List ℕ) → new ≡ told ++ record { act = act; audience = audience; payload = payload_by shape octets } ∷ [] → slice_get samples place ≡ Some octets
       → new ++ told_as act audience shape (drop (place + 1) samples) ≡ told ++ told_as act audience shape (drop place samples)
-  told_step told new samples place octets is at =
-      let one : ToldValue = record { act = act; audience = audience; payload = payload_by shape octets } in
-      let more : place + 1 ≡ suc place = omega arith in
-      ap (λ xs. xs ++ told_as act audience shape (drop (place + 1) samples)) is ∙ append_assoc told (one ∷ []) (told_as act audience shape (drop (place + 1) samples))
-      ∙ ap (λ n. told ++ one ∷ told_as act audience shape (drop n samples)) more ∙ ap (λ xs. told ++ told_as act audience shape xs) (sym (drop_at samples place octets at))
+  told_step told new samples place octets is at = search (rules, append_assoc, drop_at)
 
 -- what one act more tells
 pub in_turn-more : (tell : List SentValue → SentValue → List ToldValue) (before sents : List SentValue) (sent : SentValue) → in_turn tell before (sents ++ sent ∷ []) ≡ in_turn tell before sents ++ tell (before ++ sents) sent
@@ -32,6 +28,4 @@ in_turn-more tell before (first ∷ sents) sent =
 
 -- the elements up to one more
 pub sents-more : (sents : List SentFragments) (i : ℕ) (d : SentFragments) → i < length sents → map sent_value (take (i + 1) sents) ≡ map sent_value (take i sents) ++ sent_value (get_or sents i d) ∷ []
-sents-more sents i d lt =
-    let more : i + 1 ≡ suc i = omega arith in
-    ap (λ n. map sent_value (take n sents)) more ∙ ap (map sent_value) (take-suc sents i d lt) ∙ map-append sent_value (take i sents) (get_or sents i d ∷ [])
+sents-more sents i d lt = grind (arith, nat_tests, common_steps)

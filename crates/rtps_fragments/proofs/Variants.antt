@@ -1,11 +1,10 @@
 -- What is put together of all that came of one sample.
-use Rattle.std.proofs.Common.{◌≡◌, ℕ, zero, suc, ◌<◌, Bool, true, false, cond, not, List, [], ◌∷◌, ◌++◌, length, Option, Some, None, slice_get, refl, sym, ◌∙◌, ap, subst, arith, inl, inr, ◌⊎◌}
+use Rattle.std.proofs.Common.{◌≡◌, ℕ, zero, suc, ◌<◌, Bool, true, false, cond, not, List, [], ◌∷◌, ◌++◌, length, Option, Some, None, slice_get, refl, sym, ◌∙◌, ap, subst, arith, inl, inr, ◌⊎◌, rules}
 use Rattle.std.specs.Prelude.{Contains, ◌==◌}
 use Rattle.std.specs.List.{find}
-use Rattle.std.specs.Option.{option_or}
 use Rattle.std.specs.Str.{bytes_eq}
 use Rattle.std.proofs.lemmas.Bool.{cases_Bool}
-use Rattle.std.proofs.lemmas.Bool.Decides.{Decides-eqb}
+use Rattle.std.proofs.lemmas.Bool.Decides.{Decides-eqb, nat_tests}
 use Rattle.std.proofs.lemmas.List.Folds.{find-append}
 use Rattle.std.proofs.lemmas.Slice.Eq.{bytes_eq-Decides}
 use Rattle.rtps_audit.proofs.Offered.{contains_cases, contains_head, contains_none, contains_tail}
@@ -15,9 +14,7 @@ use Rattle.rtps_fragments.specs.Samples.{first_of, differs, is_other, cons_some,
 
 -- what an element before a list is made of
 cons_from : {X : Type 0} (o : Option X) (rest : Option (List X)) (xs : List X) → cons_some o rest ≡ Some xs → (x : X) × (ys : List X) × (o ≡ Some x) × (rest ≡ Some ys) × (x ∷ ys ≡ xs)
-cons_from (Some x) (Some ys) xs e = (x, ys, refl, refl, (let h = e in cc))
-cons_from (Some x) None xs e = cc
-cons_from None rest xs e = cc
+cons_from o rest xs h = grind (arith, nat_tests)
 
 pub parts_length : (octets : ℕ → Option (List ℕ)) (count : ℕ) (parts : List (List ℕ)) → parts_by octets count ≡ Some parts → length parts ≡ count
 parts_length octets zero parts e = let same : [] ≡ parts = (let h = e in cc) in ap length (sym same)
@@ -138,9 +135,7 @@ other_same came more x among =
 
 -- what first came otherwise stays so
 pub other_stays : (came more : List (ℕ × List ℕ)) (one : ℕ × List ℕ) → find (is_other came) came ≡ Some one → find (is_other (came ++ more)) (came ++ more) ≡ Some one
-other_stays came more one e =
-    find-append (is_other (came ++ more)) came more
-    ∙ ap (λ o. option_or o (find (is_other (came ++ more)) more)) (find_agrees (is_other (came ++ more)) (is_other came) came (other_same came more) ∙ e)
+other_stays came more one e = search (rules, find-append, find_agrees, other_same)
 
 -- where nothing came otherwise, all that came is what came first
 pub none_other : (came : List (ℕ × List ℕ)) → find (is_other came) came ≡ None → (i : ℕ) (octets : List ℕ) → Contains came (i, octets) → first_of came i ≡ Some octets

@@ -1,44 +1,36 @@
 -- Pieces of no sample, by what is sent and by acts.
-use Rattle.std.proofs.Common.{◌≡◌, ℕ, suc, ◌+◌, Bool, true, false, not, ◌&&◌, nat_lt, List, [], ◌∷◌, ◌++◌, length, map, Option, Some, None, refl, sym, ◌∙◌, ap, subst, arith}
+use Rattle.std.proofs.lemmas.Grind.{common_steps}
+use Rattle.std.proofs.Common.{◌≡◌, ℕ, suc, ◌+◌, Bool, true, false, not, ◌&&◌, List, [], ◌∷◌, ◌++◌, Option, Some, None, refl, sym, ◌∙◌, ap, subst, arith}
 use Rattle.std.specs.Prelude.{◌==◌, ◌||◌}
 use Rattle.std.specs.Cmp.{both_ways}
-use Rattle.std.specs.List.{filter_map, list_any}
+use Rattle.std.specs.List.{list_any}
 use Rattle.std.proofs.lemmas.Bool.{and_from, and_parts}
 use Rattle.std.proofs.lemmas.Bool.Decides.{Decides-eqb, nat_tests}
 use Rattle.std.proofs.lemmas.List.Elements.{Contains-append_left, Contains-append_right}
 use Rattle.std.proofs.lemmas.List.Folds.{list_any-append}
-use Rattle.std.proofs.lemmas.List.Sums.{sum_by-append, sum_by-cons}
+use Rattle.std.proofs.lemmas.List.Sums.{sum_by-cons}
 use Rattle.rtps_ids.specs.declared.identity.Guid.{Guid}
 use Rattle.rtps_receiver.specs.Speech.{is_spoken_by, origin_of}
 use Rattle.rtps_audit.proofs.Offered.{contains_head, contains_tail}
-use Rattle.rtps_fragments.specs.FragmentDelivery.{Piece, last_fragment, payload_by}
+use Rattle.rtps_fragments.specs.FragmentDelivery.{Piece}
 use Rattle.rtps_fragments.specs.Merging.{IsFragmentAct, key_of, sent_in, sents_from, sents_in}
-use Rattle.rtps_fragments.specs.Samples.{came_of, has_sample, payloads_of, samples_of}
+use Rattle.rtps_fragments.specs.Samples.{payloads_of}
 use Rattle.rtps_fragments.specs.SampleActs.{PieceAct, piece_acts_in}
 use Rattle.rtps_fragments.specs.SamplesSent.{is_left, is_some_payload, is_whole, pieces_left, sent_by}
-use Rattle.rtps_fragments.specs.Telling.{SentValue}
+use Rattle.rtps_fragments.specs.ToldSamples.{SentValue}
 use Rattle.rtps_fragments.specs.Whole.{has_whole, is_number, is_put, left_among, key_number}
 use Rattle.rtps_fragments.specs.declared.whole.SampleNumber.{SampleNumber}
 use Rattle.rtps_fragments.proofs.MergingLemmas.{AreFragmentActs, named, sent_by_act, spoken_by_own}
 use Rattle.rtps_fragments.proofs.NoteLemmas.{Overhears}
 use Rattle.rtps_fragments.proofs.NumberLemmas.{own_number, same_number}
 use Rattle.rtps_fragments.proofs.SampleActLemmas.{spoken_is_origin}
-use Rattle.rtps_fragments.proofs.SendingLemmas.{one_of}
+use Rattle.rtps_fragments.proofs.FragmentWalkLemmas.{one_of}
 
 -- ---- pieces of no sample
 
-some_as : (shape : _) (samples : List (List ℕ)) → is_some_payload (map (payload_by shape) samples) ≡ nat_lt 0 (length samples)
-some_as shape [] = refl
-some_as shape (sample ∷ samples) = less (length samples)
-  where
-    less : (n : ℕ) → true ≡ nat_lt 0 (suc n)
-    less n = grind (arith, nat_tests)
-
 module _ (all : List PieceAct) (sall : List SentValue) (same : Overhears all sall) where
   put_alike : (one : PieceAct) (piece : Piece) → is_put sall (key_of one.act piece) ≡ is_some_payload (payloads_of piece.number piece.shape (sent_by (origin_of one.act) all))
-  put_alike one piece =
-      ap (has_sample (last_fragment piece.shape)) (same (key_of one.act piece))
-      ∙ sym (some_as piece.shape (samples_of (last_fragment piece.shape) (filter_map (came_of piece.number piece.shape) (sent_by (origin_of one.act) all))))
+  put_alike one piece = grind (arith, nat_tests)
 
   -- the two tests of an act with a piece
   tests_alike : (one : PieceAct) (piece : Piece) → IsFragmentAct one piece → (number : SampleNumber)
@@ -114,8 +106,4 @@ module _ (all : List PieceAct) (sall : List SentValue) (same : Overhears all sal
 
 -- one act more
 pub left-more : (all sents : List SentValue) (sent : SentValue) → left_among all (sents ++ sent ∷ []) ≡ left_among all sents + one_of (not (has_whole all (key_number sent.key)))
-left-more all sents sent =
-    let f : SentValue → ℕ = λ s. one_of (not (has_whole all (key_number s.key))) in
-    let both = sum_by-append f sents (sent ∷ []) in
-    let one = sum_by-cons f sent [] in
-    omega arith
+left-more all sents sent = grind (arith, nat_tests, common_steps)

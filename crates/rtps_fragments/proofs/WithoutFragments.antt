@@ -1,19 +1,17 @@
 -- Recordings in which no submessage belongs to fragments.
-use Rattle.std.proofs.Common.{◌≡◌, ℕ, ◌+◌, ◌<◌, ◌≤◌, Bool, true, false, cond, List, [], ◌∷◌, ◌++◌, drop, filter, length, map, take, get_or, Bor, Option, Some, None, refl, sym, ◌∙◌, ap, ap₂, subst, arith, inl, inr}
+use Rattle.std.proofs.lemmas.Grind.{common_steps}
+use Rattle.std.proofs.Common.{◌≡◌, ℕ, ◌+◌, ◌<◌, ◌≤◌, Bool, true, false, cond, List, [], ◌∷◌, ◌++◌, filter, length, map, take, get_or, Bor, Option, None, refl, sym, ◌∙◌, ap, ap₂, subst, arith, inl, inr}
 use Rattle.std.specs.Prelude.{Contains}
-use Rattle.std.proofs.lemmas.Bool.Decides.{Decides-eqb}
+use Rattle.std.proofs.lemmas.Bool.Decides.{nat_tests}
 use Rattle.std.proofs.lemmas.List.{length-map, length-take-le, map-append, take_more}
 use Rattle.std.proofs.lemmas.List.Elements.{All-contains, All-push}
 use Rattle.std.proofs.lemmas.List.Sums.{length-filter}
-use Rattle.rtps_wire.specs.DataFrag.{data_frag_at}
-use Rattle.rtps_wire.specs.NackFrag.{nack_frag_at}
 use Rattle.rtps_wire.specs.Reading.{reading_of}
 use Rattle.rtps_wire.specs.Tally.{is_fragment, tally_of}
-use Rattle.rtps_wire.specs.Values.{BodyValue, ItemValue}
-use Rattle.rtps_wire.specs.Values.BodyValue.{Data, Heartbeat, AckNack, Gap, InfoTs, InfoDst, InfoSrc, Skipped}
+use Rattle.rtps_wire.specs.Values.{ItemValue}
 use Rattle.rtps_wire.specs.declared.counts.Tally.{Tally}
 use Rattle.rtps_wire.specs.declared.header.Header.{Header}
-use Rattle.rtps_receiver.specs.Acts.{act_body, acts_behind, acts_in, acts_of, acts_of_item, acts_with, gathered, state_at_start, state_behind}
+use Rattle.rtps_receiver.specs.Acts.{act_body, acts_behind, acts_in, acts_of, acts_of_item, acts_with, gathered, state_behind}
 use Rattle.rtps_receiver.specs.Values.{ActBodyValue, ActValue}
 use Rattle.rtps_receiver.specs.declared.state.State.{State}
 use Rattle.rtps_audit.specs.Intake.{Intake, intake_of}
@@ -23,8 +21,7 @@ use Rattle.rtps_fragments.specs.Announcing.{announcing_with}
 use Rattle.rtps_fragments.specs.Laws.{ActsStayWithoutFragments, HasNoPieces, IntakeStaysWithoutFragments}
 use Rattle.rtps_fragments.specs.RecordedSamples.{IsWithoutFragments, fragments_left, tally_with}
 use Rattle.rtps_fragments.specs.SampleActs.{PieceAct, acts_with_samples, piece_acts_in}
-use Rattle.rtps_wire.specs.FragmentItem.{asks_at, is_skipped_nack_frag}
-use Rattle.rtps_fragments.specs.Sending.{all_acts_in, piece_acts_of, piece_acts_of_item, piece_acts_with, sending_of, skipped_acts}
+use Rattle.rtps_fragments.specs.FragmentWalk.{all_acts_in, piece_acts_of, piece_acts_of_item, piece_acts_with, sending_of}
 use Rattle.rtps_fragments.specs.Whole.{tally_with_fragments}
 use Rattle.rtps_fragments.proofs.ActsTell.{acts_stay_without_pieces}
 use Rattle.rtps_fragments.proofs.NoteLemmas.{announcing_stays}
@@ -48,25 +45,8 @@ none_counted test (y ∷ ys) e x among = by (test y) refl e (λ none there. none
       | inr there ↦ behind e there
     ]
 
-asks_is_fragment : (body : BodyValue) → is_fragment body ≡ false → is_skipped_nack_frag body ≡ false
-asks_is_fragment (Skipped id) e = by (is_skipped_nack_frag (Skipped id)) refl
-  where
-    by : (b : Bool) → is_skipped_nack_frag (Skipped id) ≡ b → is_skipped_nack_frag (Skipped id) ≡ false
-    by false is = is
-    by true is = absurd (let clash : true ≡ false = subst (λ n. is_fragment (Skipped n) ≡ false) ((Decides-eqb id 0x12).0 is) e in cc)
-asks_is_fragment (Data value) e = refl
-asks_is_fragment (Heartbeat value) e = refl
-asks_is_fragment (AckNack value) e = refl
-asks_is_fragment (Gap value) e = refl
-asks_is_fragment (InfoTs time) e = refl
-asks_is_fragment (InfoDst prefix) e = refl
-asks_is_fragment (InfoSrc version vendor prefix) e = refl
-
 item_plain : (octets : List ℕ) (state : State) (item : ItemValue) (body : Option ActBodyValue) → is_fragment item.body ≡ false → piece_acts_of_item octets state item body ≡ map plain (acts_of_item state item body)
-item_plain octets state item (Some body) none = refl
-item_plain octets state item None none =
-    ap (λ b. skipped_acts state item (cond b (data_frag_at (drop item.at octets)) None) (asks_at octets item)) none
-    ∙ ap (λ b. skipped_acts state item None (cond b (nack_frag_at (drop item.at octets)) None)) (asks_is_fragment item.body none)
+item_plain octets state item body h = grind (arith, nat_tests)
 
 gathered_plain : (octets : List ℕ) (start : State) (before items : List ItemValue) → ((item : ItemValue) → Contains items item → is_fragment item.body ≡ false)
     → gathered (λ s i. piece_acts_of_item octets s i (act_body i.body)) start before items ≡ map plain (acts_behind start before items)
@@ -79,8 +59,7 @@ gathered_plain octets start before (item ∷ items) none =
 
 with_plain : (octets : List ℕ) (header : Option Header) (items : List ItemValue) → ((item : ItemValue) → Contains items item → is_fragment item.body ≡ false)
     → piece_acts_with octets header items ≡ map plain (acts_with header items)
-with_plain octets None items none = refl
-with_plain octets (Some header) items none = gathered_plain octets (state_at_start header) [] items none
+with_plain octets header items h = grind (arith, nat_tests, common_steps, gathered_plain)
 
 pub datagram_plain : (octets : List ℕ) → (tally_of (reading_of octets)).fragments ≡ 0 → piece_acts_of octets ≡ map plain (acts_of (reading_of octets))
 unfolding piece_acts_of acts_of

@@ -23,11 +23,11 @@ use Rattle.rtps_audit.specs.declared.verdict.Verdict.{Verdict}
 use Rattle.rtps_fragments.specs.Announcing.{announcing_with, is_built_in}
 use Rattle.rtps_fragments.specs.FragmentDelivery.{Fragment, FragmentSpeech, GivesFragment, IsPutTogether, Piece, Shape, last_fragment, said_in}
 use Rattle.rtps_fragments.specs.FragmentVerdict.{IsPayloadBefore, IsWordBefore, IsFragmentVerdictFrom}
-use Rattle.rtps_fragments.specs.Listeners.{Hearing, Offer, hears, is_had, tells}
+use Rattle.rtps_fragments.specs.Listeners.{AudienceNews, Offer, hears, is_had, tells}
 use Rattle.rtps_fragments.specs.RecordedSamples.{IsWithoutFragments, fragments_left, intake_with}
 use Rattle.rtps_fragments.specs.Samples.{payloads_of, told_in}
 use Rattle.rtps_wire.specs.FragmentItem.{is_skipped_data_frag}
-use Rattle.rtps_fragments.specs.Sending.{all_acts_in, sending_of, unusable_in}
+use Rattle.rtps_fragments.specs.FragmentWalk.{all_acts_in, sending_of, unusable_in}
 use Rattle.rtps_fragments.specs.SampleActs.{PieceAct, acts_with_samples, fragment_speech_of, piece_acts_in, acts_of_sample, samples_told}
 use Rattle.rtps_fragments.specs.SamplesSent.{acts_to_note, is_left, noted_act, pieces_left, samples_sent, sent_by}
 
@@ -180,7 +180,7 @@ SamplesStandAlone =
 -- what fragments tell an audience, no wider one can put together
 abbrev pub NoneIsToldAgain : Type 0
 NoneIsToldAgain =
-    (last : ℕ) (hearing : Hearing) (offer : Offer) (audience : Audience) (octets : List ℕ) → Contains (tells last hearing offer) (audience, octets) → is_had last (hears hearing offer) audience octets ≡ false
+    (last : ℕ) (hearing : AudienceNews) (offer : Offer) (audience : Audience) (octets : List ℕ) → Contains (tells last hearing offer) (audience, octets) → is_had last (hears hearing offer) audience octets ≡ false
 
 -- of any writer and reader of a recording, the verdict by runs that take fragments one by one is that of the acts with the samples among
 -- them

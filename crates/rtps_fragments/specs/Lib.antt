@@ -7,9 +7,9 @@ pub mod SamplesSent
 pub mod Announcing
 pub mod Laws
 pub mod Heard
-pub mod Telling
+pub mod ToldSamples
 pub mod Merging
-pub mod Sending
+pub mod FragmentWalk
 pub mod RecordedSamples
 pub mod Listeners
 pub mod Whole

@@ -59,24 +59,24 @@ pub record Offer : Type 0 where
   pub came : List (ℕ × List ℕ)
 
 -- the audiences of a sample, and the fragments that were news
-pub record Hearing : Type 0 where
+pub record AudienceNews : Type 0 where
   pub audiences : List Audience
   pub news : List Offer
 
 -- nothing was sent
-abbrev pub silence : Hearing
+abbrev pub silence : AudienceNews
 silence = record { audiences = everyone ∷ []; news = [] }
 
 -- each news was for one of the audiences
-abbrev pub AreNamed : Hearing → Type 0
+abbrev pub AreNamed : AudienceNews → Type 0
 AreNamed hearing = (offer : Offer) → Contains hearing.news offer → Contains hearing.audiences offer.audience
 
 -- with the audiences that have this name
-abbrev pub begins : Hearing → Name → Hearing
+abbrev pub begins : AudienceNews → Name → AudienceNews
 begins hearing name = record { audiences = with_name hearing.audiences name; news = hearing.news }
 
 -- with news
-abbrev pub with_news : Hearing → Offer → Hearing
+abbrev pub with_news : AudienceNews → Offer → AudienceNews
 with_news hearing offer = record { audiences = hearing.audiences; news = hearing.news ++ offer ∷ [] }
 
 -- the fragments that come to all of an audience
@@ -93,46 +93,46 @@ abbrev pub came_first : List (ℕ × List ℕ) → ℕ × List ℕ → Bool
 came_first came one = is_octets (first_of came one.0) one.1
 
 -- all to whom these are sent have each of them: an audience as wide or wider heard it with these octets first
-abbrev pub is_known : Hearing → Offer → Bool
+abbrev pub is_known : AudienceNews → Offer → Bool
 is_known hearing offer =
     list_any (λ audience. is_for_audience audience offer.audience && list_all (came_first (came_to audience hearing.news)) offer.came) hearing.audiences
 
 -- These are sent. What is known is no news. Each destination and each reader that was named, together, is an audience, since a reader
 -- hears what is for its participant and what is for itself.
-abbrev pub hears : Hearing → Offer → Hearing
+abbrev pub hears : AudienceNews → Offer → AudienceNews
 hears hearing offer = if is_known hearing offer then hearing else with_news (begins (begins hearing (Dest offer.audience.dest)) (Reader offer.audience.reader)) offer
 
 -- these are, one after another
-abbrev pub hears_all : Hearing → List Offer → Hearing
+abbrev pub hears_all : AudienceNews → List Offer → AudienceNews
 hears_all hearing [] = hearing
 hears_all hearing (offer ∷ offers) = hears_all (hears hearing offer) offers
 
 -- after all of these
-abbrev pub hearing_of : List Offer → Hearing
+abbrev pub hearing_of : List Offer → AudienceNews
 hearing_of offers = hears_all silence offers
 
 -- ---- what they are told
 
 -- the samples of so many fragments that an audience can put together
-abbrev pub samples_for : ℕ → Hearing → Audience → List (List ℕ)
+abbrev pub samples_for : ℕ → AudienceNews → Audience → List (List ℕ)
 samples_for last hearing audience = samples_of last (came_to audience hearing.news)
 
 -- a wider audience has the sample
-abbrev pub is_had : ℕ → Hearing → Audience → List ℕ → Bool
+abbrev pub is_had : ℕ → AudienceNews → Audience → List ℕ → Bool
 is_had last hearing audience octets = list_any (λ other. is_wider other audience && list_any (bytes_eq octets) (samples_for last hearing other)) hearing.audiences
 
 -- the samples that an audience is told: it could not put them together before, and no wider one has them
-abbrev pub told_to : ℕ → Hearing → Hearing → Audience → List (List ℕ)
+abbrev pub told_to : ℕ → AudienceNews → AudienceNews → Audience → List (List ℕ)
 told_to last before now audience = filter (λ octets. not (is_had last now audience octets)) (drop (length (samples_for last before audience)) (samples_for last now audience))
 
 -- the same, each with the audience
-abbrev pub told_by_audience : ℕ → Hearing → Hearing → Audience → List (Audience × List ℕ)
+abbrev pub told_by_audience : ℕ → AudienceNews → AudienceNews → Audience → List (Audience × List ℕ)
 told_by_audience last before now audience = map (λ octets. (audience, octets)) (told_to last before now audience)
 
 -- the samples that all audiences are told
-abbrev pub told_between : ℕ → Hearing → Hearing → List (Audience × List ℕ)
+abbrev pub told_between : ℕ → AudienceNews → AudienceNews → List (Audience × List ℕ)
 told_between last before now = flat_map (told_by_audience last before now) now.audiences
 
 -- what fragments tell, behind what was heard
-abbrev pub tells : ℕ → Hearing → Offer → List (Audience × List ℕ)
+abbrev pub tells : ℕ → AudienceNews → Offer → List (Audience × List ℕ)
 tells last hearing offer = told_between last hearing (hears hearing offer)

@@ -7,9 +7,9 @@ use Rattle.std.specs.List.{flat_map}
 use Rattle.rtps_fragments.specs.Announcing.{is_built_in}
 use Rattle.rtps_fragments.specs.Heard.{IsHeard}
 use Rattle.rtps_fragments.specs.FragmentDelivery.{last_fragment}
-use Rattle.rtps_fragments.specs.Listeners.{Hearing, Offer, came_to, everyone, hearing_of}
+use Rattle.rtps_fragments.specs.Listeners.{AudienceNews, Offer, came_to, everyone, hearing_of}
 use Rattle.rtps_fragments.specs.Samples.{samples_of}
-use Rattle.rtps_fragments.specs.Telling.{SentValue, ToldValue, offers, sample_cmp, shape_of, told_value}
+use Rattle.rtps_fragments.specs.ToldSamples.{SentValue, ToldValue, offers, sample_cmp, shape_of, told_value}
 use Rattle.rtps_fragments.specs.Whole.{has_whole, number_cmp}
 use Rattle.rtps_fragments.specs.declared.heard.Heard.{Heard}
 use Rattle.rtps_fragments.specs.declared.listeners.Listener.{Listener}
@@ -25,12 +25,12 @@ pub record IsListener (last : ℕ) (before now : List (ℕ × List ℕ)) (listen
   pub told : listener.told ≡ length (samples_of last before)
 
 -- These are the listeners of a sample now, of which the samples before were gone through.
-pub record AreListeners (last : ℕ) (before now : Hearing) (listeners : List Listener) : Type 0 where
+pub record AreListeners (last : ℕ) (before now : AudienceNews) (listeners : List Listener) : Type 0 where
   pub audiences : map (λ listener. listener.audience) listeners ≡ now.audiences
   pub each : All (λ listener. IsListener last (came_to listener.audience before.news) (came_to listener.audience now.news) listener) listeners
 
 -- The first so many of them have changed so, and the others have not yet.
-pub record AreSoFar (last : ℕ) (before now next_before next : Hearing) (count : ℕ) (listeners : List Listener) : Type 0 where
+pub record AreSoFar (last : ℕ) (before now next_before next : AudienceNews) (count : ℕ) (listeners : List Listener) : Type 0 where
   pub audiences : map (λ listener. listener.audience) listeners ≡ now.audiences
   pub done : (i : ℕ) (listener : Listener) → i < count → slice_get listeners i ≡ Some listener
       → IsListener last (came_to listener.audience next_before.news) (came_to listener.audience next.news) listener

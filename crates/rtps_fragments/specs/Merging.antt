@@ -9,7 +9,7 @@ use Rattle.rtps_fragments.specs.Heard.{came_from}
 use Rattle.rtps_fragments.specs.FragmentDelivery.{Piece}
 use Rattle.rtps_fragments.specs.SampleActs.{PieceAct, sample_act, sent_to_whom}
 use Rattle.rtps_fragments.specs.SamplesSent.{noted_act}
-use Rattle.rtps_fragments.specs.Telling.{SentValue, ToldValue}
+use Rattle.rtps_fragments.specs.ToldSamples.{SentValue, ToldValue}
 use Rattle.rtps_fragments.specs.declared.merging.SampleForm.{SampleForm}
 use Rattle.rtps_fragments.specs.declared.merging.SampleForm.TheVariants.{ForAudience, ForEveryone}
 use Rattle.rtps_fragments.specs.declared.piece.SampleKey.{SampleKey}

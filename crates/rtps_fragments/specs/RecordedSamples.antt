@@ -10,8 +10,8 @@ use Rattle.rtps_fragments.specs.Announcing.{announcing_with}
 use Rattle.rtps_fragments.specs.Merging.{sents_from}
 use Rattle.rtps_fragments.specs.SampleActs.{PieceAct, acts_with_samples, piece_acts_in}
 use Rattle.rtps_fragments.specs.SamplesSent.{pieces_left}
-use Rattle.rtps_fragments.specs.Sending.{piece_acts_of, sending_of, unusable_in}
-use Rattle.rtps_fragments.specs.Telling.{SentValue, ToldValue, in_turn, overheard_behind, told_behind, told_value}
+use Rattle.rtps_fragments.specs.FragmentWalk.{piece_acts_of, sending_of, unusable_in}
+use Rattle.rtps_fragments.specs.ToldSamples.{SentValue, ToldValue, in_turn, overheard_behind, told_behind, told_value}
 use Rattle.rtps_fragments.specs.Whole.{AreWholeOf, tally_with_fragments}
 use Rattle.rtps_fragments.specs.declared.fragments.Fragments.{Fragments}
 use Rattle.rtps_fragments.specs.declared.fragments.Fragments.TheVariants as fragments

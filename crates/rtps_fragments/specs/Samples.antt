@@ -80,7 +80,7 @@ told_by before piece = drop (length (payloads_of piece.number piece.shape before
 
 -- the payload as the word of one number, and of no other
 abbrev pub tell : ℕ → PayloadValue → ℕ → Option Word
-tell number payload n = if n == number then Some (Told payload) else None
+tell number payload n = if number == n then Some (Told payload) else None
 
 -- what each of these pieces tells
 abbrev pub acts_told : List Fragment → List Piece → List (ℕ → Option Word)

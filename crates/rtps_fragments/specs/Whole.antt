@@ -12,8 +12,8 @@ use Rattle.rtps_discovery.specs.GuidOrder.{guid_cmp}
 use Rattle.rtps_fragments.specs.FragmentDelivery.{last_fragment}
 use Rattle.rtps_fragments.specs.Merging.{sents_from, sents_in}
 use Rattle.rtps_fragments.specs.Samples.{has_sample}
-use Rattle.rtps_fragments.specs.Sending.{piece_acts_of, sending_of, unusable_in}
-use Rattle.rtps_fragments.specs.Telling.{SentValue, overheard, shape_of}
+use Rattle.rtps_fragments.specs.FragmentWalk.{piece_acts_of, sending_of, unusable_in}
+use Rattle.rtps_fragments.specs.ToldSamples.{SentValue, overheard, shape_of}
 use Rattle.rtps_fragments.specs.declared.piece.SampleKey.{SampleKey}
 use Rattle.rtps_fragments.specs.declared.whole.SampleNumber.{SampleNumber}
 use Rattle.rtps_fragments.specs.declared.whole.WholeNumbers.{WholeNumbers}

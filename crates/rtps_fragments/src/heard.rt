@@ -6,7 +6,7 @@ ghost use Rattle.rtps_fragments.specs.FragmentDelivery.{last_fragment};
 ghost use Rattle.rtps_fragments.specs.Listeners.{came_first, is_octets};
 ghost use Rattle.rtps_wire.specs.DataFrag.{parts_in};
 ghost use Rattle.rtps_fragments.specs.Samples.{firsts_of, has_sample, samples_of};
-ghost use Rattle.rtps_fragments.specs.Telling.{IsSent, sent_value, shape_of, told_by_sent, told_value};
+ghost use Rattle.rtps_fragments.specs.ToldSamples.{IsSent, sent_value, shape_of, told_by_sent, told_value};
 
 use crate::piece::{FragmentRun, SentFragments};
 use crate::told_sample::ToldSample;

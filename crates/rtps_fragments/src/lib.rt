@@ -2,6 +2,7 @@
 #![tactic(auto)]
 
 mod announcements;
+mod fragment_walk;
 mod fragments;
 mod heard;
 pub mod laws;
@@ -11,12 +12,11 @@ mod merging;
 mod piece;
 mod sample_index;
 mod samples;
-mod sending;
 mod told_sample;
 mod whole;
 
 pub use announcements::Indexed;
+pub use fragment_walk::FragmentWalk;
 pub use fragments::Fragments;
 pub use sample_index::{index_as, judge_with_samples};
 pub use samples::Samples;
-pub use sending::Sending;

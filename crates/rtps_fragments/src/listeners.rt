@@ -2,9 +2,9 @@ ghost use Rattle.std.specs.Prelude.{ℕ, ◌≡◌, ◌<◌, ◌++◌, [], true,
 ghost use Rattle.std.specs.List.{list_any};
 ghost use Rattle.rtps_receiver.specs.declared.speech.Audience.{Audience as AudienceValue};
 ghost use Rattle.rtps_fragments.specs.FragmentDelivery.{last_fragment};
-ghost use Rattle.rtps_fragments.specs.Listeners.{AreNamed, Hearing, begins, has_name as has_name_lem, has_no_name as has_no_name_lem, hears, is_for_audience as is_for_audience_lem, is_had as is_had_lem, is_known as is_known_lem, is_same_dest as is_same_dest_lem, is_wider as is_wider_lem, named_so as named_so_lem, silence, tells, told_between, told_by_audience, with_news};
+ghost use Rattle.rtps_fragments.specs.Listeners.{AreNamed, AudienceNews, begins, has_name as has_name_lem, has_no_name as has_no_name_lem, hears, is_for_audience as is_for_audience_lem, is_had as is_had_lem, is_known as is_known_lem, is_same_dest as is_same_dest_lem, is_wider as is_wider_lem, named_so as named_so_lem, silence, tells, told_between, told_by_audience, with_news};
 ghost use Rattle.rtps_fragments.specs.Making.{AreListeners, IsListener};
-ghost use Rattle.rtps_fragments.specs.Telling.{IsSent, offer_of, sent_value, shape_of, told_each, told_value};
+ghost use Rattle.rtps_fragments.specs.ToldSamples.{IsSent, offer_of, sent_value, shape_of, told_each, told_value};
 
 use crate::heard::Heard;
 use crate::piece::SentFragments;
@@ -152,7 +152,7 @@ impl<'a> Listeners<'a> {
     /// Whether all to whom fragments are sent have them already.
     fn know(&self, sent: &SentFragments<'_>) -> bool
         requires { IsSent sent.now }
-        ensures { (last : ℕ) (hearing : Hearing) → AreListeners last hearing hearing self.now.each.items → result ≡ is_known_lem hearing (offer_of (sent_value sent.now)) }
+        ensures { (last : ℕ) (hearing : AudienceNews) → AreListeners last hearing hearing self.now.each.items → result ≡ is_known_lem hearing (offer_of (sent_value sent.now)) }
     {
         for listener in self.each.iter() {
             if is_for_audience(&listener.audience, &sent.audience)
@@ -193,7 +193,7 @@ impl<'a> Listeners<'a> {
 
     /// Begins the audiences with a name, if it is new: each as a copy of what a wider one heard. After `Memory` it is of no use.
     fn begin(&mut self, name: Name) -> Result<(), Memory>
-        ensures { OnOk result ((last : ℕ) (hearing : Hearing) → AreNamed hearing → AreListeners last hearing hearing self.old.each.items
+        ensures { OnOk result ((last : ℕ) (hearing : AudienceNews) → AreNamed hearing → AreListeners last hearing hearing self.old.each.items
             → AreListeners last (begins hearing name) (begins hearing name) self.new.each.items) }
     {
         if self.has_name(name) {
@@ -207,7 +207,7 @@ impl<'a> Listeners<'a> {
     /// Each hears fragments that are sent. After `Memory` it is of no use.
     fn take(&mut self, sent: &SentFragments<'a>) -> Result<(), Memory>
         requires { IsSent sent.now }
-        ensures { OnOk result ((hearing : Hearing) → AreListeners (last_fragment (shape_of sent.now.key)) hearing hearing self.old.each.items
+        ensures { OnOk result ((hearing : AudienceNews) → AreListeners (last_fragment (shape_of sent.now.key)) hearing hearing self.old.each.items
             → AreListeners (last_fragment (shape_of sent.now.key)) hearing (with_news hearing (offer_of (sent_value sent.now))) self.new.each.items) }
     {
         for place in 0..self.each.len() {
@@ -220,7 +220,7 @@ impl<'a> Listeners<'a> {
     fn have(&self, audience: &Audience, shape: Shape, octets: &[u8]) -> Result<bool, Memory>
         requires size { 0 < shape.fragment }
         requires some { 0 < last_fragment shape }
-        ensures { IfOk result (λ have. (before now : Hearing) → AreListeners (last_fragment shape) before now self.now.each.items
+        ensures { IfOk result (λ have. (before now : AudienceNews) → AreListeners (last_fragment shape) before now self.now.each.items
             → have ≡ is_had_lem (last_fragment shape) now audience.now octets.now) }
     {
         for listener in self.each.iter() {
@@ -241,7 +241,7 @@ impl<'a> Listeners<'a> {
     ) -> Result<(), Memory>
         requires sent { IsSent sent.now }
         requires within { place < length self.now.each.items }
-        ensures { OnOk result ((before now : Hearing) (audience : AudienceValue) → AreListeners (last_fragment (shape_of sent.now.key)) before now self.now.each.items
+        ensures { OnOk result ((before now : AudienceNews) (audience : AudienceValue) → AreListeners (last_fragment (shape_of sent.now.key)) before now self.now.each.items
             → slice_get now.audiences place ≡ Some audience
             → map told_value told.new.items ≡ map told_value told.old.items
             ++ told_each sent.now.act (shape_of sent.now.key) (told_by_audience (last_fragment (shape_of sent.now.key)) before now audience)) }
@@ -265,7 +265,7 @@ impl<'a> Listeners<'a> {
     /// Appends the samples that fragments tell, each to an audience.
     fn tell(&self, sent: &SentFragments<'_>, told: &mut Vec<ToldSample>) -> Result<(), Memory>
         requires { IsSent sent.now }
-        ensures { OnOk result ((before now : Hearing) → AreListeners (last_fragment (shape_of sent.now.key)) before now self.now.each.items
+        ensures { OnOk result ((before now : AudienceNews) → AreListeners (last_fragment (shape_of sent.now.key)) before now self.now.each.items
             → map told_value told.new.items ≡ map told_value told.old.items
             ++ told_each sent.now.act (shape_of sent.now.key) (told_between (last_fragment (shape_of sent.now.key)) before now)) }
     {
@@ -278,7 +278,7 @@ impl<'a> Listeners<'a> {
     /// The samples that each can put together now were gone through.
     fn settle(&mut self, last: u64)
         requires { 0 < last }
-        ensures { (before now : Hearing) → AreListeners last before now self.old.each.items → AreListeners last now now self.new.each.items }
+        ensures { (before now : AudienceNews) → AreListeners last before now self.old.each.items → AreListeners last now now self.new.each.items }
     {
         for place in 0..self.each.len() {
             let told = self.each[place].heard.count(last);
@@ -293,7 +293,7 @@ impl<'a> Listeners<'a> {
         told: &mut Vec<ToldSample>,
     ) -> Result<(), Memory>
         requires { IsSent sent.now }
-        ensures { OnOk result ((hearing : Hearing) → AreNamed hearing → AreListeners (last_fragment (shape_of sent.now.key)) hearing hearing self.old.each.items
+        ensures { OnOk result ((hearing : AudienceNews) → AreNamed hearing → AreListeners (last_fragment (shape_of sent.now.key)) hearing hearing self.old.each.items
             → AreListeners (last_fragment (shape_of sent.now.key)) (hears hearing (offer_of (sent_value sent.now))) (hears hearing (offer_of (sent_value sent.now))) self.new.each.items
             × (map told_value told.new.items ≡ map told_value told.old.items
             ++ told_each sent.now.act (shape_of sent.now.key) (tells (last_fragment (shape_of sent.now.key)) hearing (offer_of (sent_value sent.now))))) }

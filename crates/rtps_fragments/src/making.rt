@@ -5,7 +5,7 @@ ghost use Rattle.rtps_fragments.specs.FragmentDelivery.{last_fragment};
 ghost use Rattle.rtps_fragments.specs.Listeners.{Offer, everyone};
 ghost use Rattle.rtps_fragments.specs.Making.{AddsTold, AreMakings, HasMaking, IsMaking, all_came};
 ghost use Rattle.rtps_fragments.specs.Samples.{has_sample};
-ghost use Rattle.rtps_fragments.specs.Telling.{IsSent, SentValue, offer_of, overheard_behind, overheard_by_offers, overheard_in_turn, sample_cmp, sent_value, shape_of, told_behind, told_by_offers, told_in_turn, told_value};
+ghost use Rattle.rtps_fragments.specs.ToldSamples.{IsSent, SentValue, offer_of, overheard_behind, overheard_by_offers, overheard_in_turn, sample_cmp, sent_value, shape_of, told_behind, told_by_offers, told_in_turn, told_value};
 ghost use Rattle.rtps_fragments.specs.declared.piece.SampleKey.{SampleKey as SampleKeyValue};
 
 use crate::announcements::is_built_in;

@@ -2,7 +2,7 @@ ghost use Rattle.std.specs.Prelude.{◌≡◌, ◌≤◌, ◌++◌, drop, length
 ghost use Rattle.rtps_receiver.specs.Values.{spoken_value};
 ghost use Rattle.rtps_wire.specs.Values.{payload_value};
 ghost use Rattle.rtps_fragments.specs.Merging.{act_as as act_as_lem, acts_told, merged_from, run_of, run_past};
-ghost use Rattle.rtps_fragments.specs.Telling.{told_value};
+ghost use Rattle.rtps_fragments.specs.ToldSamples.{told_value};
 
 use crate::told_sample::ToldSample;
 use rtps_ids::{Memory, SeqNum};

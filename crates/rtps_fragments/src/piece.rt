@@ -1,5 +1,5 @@
 ghost use Rattle.std.specs.Prelude.{◌≡◌};
-ghost use Rattle.rtps_fragments.specs.Telling.{shape_of};
+ghost use Rattle.rtps_fragments.specs.ToldSamples.{shape_of};
 
 use rtps_ids::{Guid, SeqNum};
 use rtps_receiver::Audience;

@@ -6,25 +6,24 @@ ghost use Rattle.rtps_fragments.specs.Merging.{merged_from};
 ghost use Rattle.rtps_fragments.specs.RecordedSamples.{AreSamplesOf, IsPlainStart, intake_as, intake_with};
 ghost use Rattle.rtps_fragments.specs.FragmentVerdict.{IsFragmentVerdictFrom};
 ghost use Rattle.rtps_fragments.specs.SampleActs.{fragment_speech_of};
-ghost use Rattle.rtps_fragments.specs.Sending.{piece_acts_of, sending_of};
-ghost use Rattle.rtps_fragments.specs.Telling.{SentValue, told_value};
+ghost use Rattle.rtps_fragments.specs.FragmentWalk.{piece_acts_of, sending_of};
+ghost use Rattle.rtps_fragments.specs.ToldSamples.{SentValue, told_value};
 ghost use Rattle.rtps_fragments.specs.Whole.{AreWholeIn, tally_left};
 ghost use Rattle.rtps_fragments.specs.declared.fragments.Fragments.TheVariants.{Read};
 ghost use Rattle.rtps_fragments.specs.declared.merging.SampleForm.TheVariants.{ForAudience, ForEveryone};
 
 use crate::announcements::{DatagramActs, Indexed};
+use crate::fragment_walk::FragmentWalk;
 use crate::fragments::Fragments;
 use crate::laws::recorded_verdict_is_of_runs;
 use crate::merging::{SampleForm, merge};
 use crate::samples::Samples;
-use crate::sending::Sending;
 use crate::told_sample::ToldSample;
 use crate::whole::WholeNumbers;
 use rtps_audit::{Index, Verdict};
 use rtps_discovery::Pair;
 use rtps_ids::{Memory, SeqNum};
 use rtps_receiver::{Spoken, Walk};
-use rtps_wire::tally;
 use std::alloc::Global;
 
 /// The samples that the acts of one datagram tell.
@@ -43,7 +42,7 @@ struct DatagramSamples<'s> {
 /// What a datagram is read into, one after another.
 #[derive(Drop)]
 struct Reading<'s> {
-    sending: Sending<'s>,
+    walk: FragmentWalk<'s>,
     /// Its acts, and behind each the samples that it tells.
     acts: Vec<Spoken<'s>>,
     /// Its acts, and behind each the samples that it tells a reader which hears everything.
@@ -63,8 +62,8 @@ fn note_datagram<'s>(
         → IsIndexedBy (intake_more intake (tally_left all octets.now) (merged_from ForAudience 0 (map (λ one. one.act) (piece_acts_of octets.now)) (map told_value samples.now.told.now))
         (merged_from ForEveryone 0 (map (λ one. one.act) (piece_acts_of octets.now)) (map told_value samples.now.overheard.now))) indexed.new) }
 {
-    reading.sending.read(octets)?;
-    let own = &reading.sending.acts;
+    reading.walk.read(octets)?;
+    let own = &reading.walk.acts;
     merge(
         &mut reading.acts,
         SampleForm::ForAudience,
@@ -77,7 +76,7 @@ fn note_datagram<'s>(
         own,
         samples.overheard,
     )?;
-    let tally = samples.whole.tally(tally(octets), &reading.sending);
+    let tally = samples.whole.tally(&reading.walk);
     let noted = DatagramActs {
         datagram: samples.datagram,
         acts: &reading.acts,
@@ -143,7 +142,7 @@ fn index_behind<'s>(
         datagrams,
     } = start;
     let mut reading = Reading {
-        sending: Sending::new(alloc),
+        walk: FragmentWalk::new(alloc),
         acts: Vec::new(alloc),
         announcing: Vec::new(alloc),
     };
@@ -161,8 +160,8 @@ fn index_behind<'s>(
 
 /// The index of a recording, with its samples where fragments are read, and its announcements. The samples are put where the index may
 /// borrow them. The octets of each datagram are read once up to the first one with a submessage of fragments, where these are read.
-/// Those behind it are read three times, and that one four times: for the samples, the acts and the counts. `Memory` is answered where
-/// there is none for it, and then `samples` is of no use.
+/// Those behind it are read twice, for the samples and for the index, and that one three times. `Memory` is answered where there is
+/// none for it, and then `samples` is of no use.
 pub fn index_as<'s>(
     alloc: Global,
     recording: &[&'s [u8]],

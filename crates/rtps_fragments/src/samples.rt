@@ -1,9 +1,9 @@
 ghost use Rattle.std.specs.Prelude.{◌≡◌, ◌++◌, ◌∷◌, [], map, IfOk, OnOk};
 ghost use Rattle.rtps_fragments.specs.RecordedSamples.{AreSamplesOf};
-ghost use Rattle.rtps_fragments.specs.Telling.{told_value};
+ghost use Rattle.rtps_fragments.specs.ToldSamples.{told_value};
 
+use crate::fragment_walk::FragmentWalk;
 use crate::making::{Makings, Told};
-use crate::sending::Sending;
 use crate::told_sample::ToldSample;
 use crate::whole::WholeNumbers;
 use rtps_ids::Memory;
@@ -51,10 +51,10 @@ impl Samples {
     {
         let mut samples = Samples::none(alloc);
         let mut makings = Makings::new(alloc);
-        let mut sending = Sending::new(alloc);
+        let mut walk = FragmentWalk::new(alloc);
         for datagram in recording {
-            sending.read(datagram)?;
-            samples.add(makings.take_all(&sending.sents)?)?;
+            walk.read(datagram)?;
+            samples.add(makings.take_all(&walk.sents)?)?;
         }
         samples.whole = makings.take_whole();
         Ok(samples)

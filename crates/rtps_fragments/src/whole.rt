@@ -1,9 +1,9 @@
 ghost use Rattle.std.specs.Prelude.{◌≡◌, ◌≤◌, ◌<◌, ◌+◌, ◌^◌, [], length, List, map};
-ghost use Rattle.rtps_fragments.specs.Telling.{SentValue, sent_value};
+ghost use Rattle.rtps_fragments.specs.ToldSamples.{SentValue, sent_value};
 ghost use Rattle.rtps_fragments.specs.Whole.{AreWholeIn, AreWholeOf, key_number as key_number_lem, left_among as left_among_lem, tally_with_fragments};
 
+use crate::fragment_walk::FragmentWalk;
 use crate::piece::{SampleKey, SentFragments};
-use crate::sending::Sending;
 use rtps_ids::{Guid, SeqNum};
 use rtps_wire::Tally;
 use std::alloc::Global;
@@ -42,16 +42,16 @@ impl WholeNumbers {
         }
     }
 
-    /// The tally of a datagram with this plain one, which sends this. Its fragments are the DATA_FRAG of no sample.
-    pub(crate) fn tally(&self, plain: Tally, sending: &Sending<'_>) -> Tally
-        requires { sending.now.unusable + length sending.now.sents.items < 2 ^ 64 }
+    /// The tally of a datagram that sends this. Its fragments are the DATA_FRAG of no sample.
+    pub(crate) fn tally(&self, walk: &FragmentWalk<'_>) -> Tally
+        requires { walk.now.unusable + length walk.now.sents.items < 2 ^ 64 }
         ensures { (all : List SentValue) → AreWholeIn all self.now
-            → result ≡ tally_with_fragments plain (sending.now.unusable + left_among_lem all (map sent_value sending.now.sents.items)) }
+            → result ≡ tally_with_fragments walk.now.plain (walk.now.unusable + left_among_lem all (map sent_value walk.now.sents.items)) }
     {
         Tally {
-            refused: plain.refused,
-            skipped: plain.skipped,
-            fragments: sending.unusable + self.left_among(&sending.sents),
+            refused: walk.plain.refused,
+            skipped: walk.plain.skipped,
+            fragments: walk.unusable + self.left_among(&walk.sents),
         }
     }
 

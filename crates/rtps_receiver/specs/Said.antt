@@ -51,6 +51,11 @@ said (NackFrag value) = record nothing { lacked = λ n. value.number == n }
 abbrev pub told_of : SaidValue → Option ℕ
 told_of value = if is_some value.payload then value.brought else None
 
+-- the number is there, and is n
+abbrev pub is_at : ℕ → Option ℕ → Bool
+is_at n None = false
+is_at n (Some number) = number == n
+
 -- a list that is there has the number
 abbrev pub is_listed : Option NumberSetValue → ℕ → Bool
 is_listed None n = false

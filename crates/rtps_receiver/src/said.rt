@@ -142,7 +142,7 @@ impl<'x, 'a> SaidNumbers<'x, 'a> {
         SaidNumbers::of_numbers(Numbers::none(), Numbers::none(), 0)
     }
 
-    /// The one are gone, the reader lacks the others, and that number is announced, unless it is 0.
+    /// These are gone, the reader lacks those, and this number is announced; 0 announces none.
     fn of_numbers(gone: Numbers<'x>, lacked: Numbers<'x>, announced: u64) -> SaidNumbers<'x, 'a>
         requires { announced < 2 ^ 63 }
         ensures { Says (record nothing { gone = numbers_have gone.entry; lacked = numbers_have lacked.entry; announced = Some announced }) result }

@@ -14,7 +14,7 @@ pub struct FragmentBody<'a> {
     pub told: Option<Payload<'a>>,
 }
 
-/// What a walk hands on: what an act says, or what a submessage of fragments says.
+/// What an act, a DATA_FRAG or a NACK_FRAG says.
 #[derive(Clone, Copy, PartialEq, Eq, Debug)]
 pub enum SpokenBody<'a> {
     Act(ActBody<'a>),

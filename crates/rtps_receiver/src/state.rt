@@ -56,7 +56,7 @@ impl State {
         })
     }
 
-    /// The same as what a walk hands on.
+    /// The act that this item is in this state, as what a walk hands on, or None if it is no act.
     #[inline(always)]
     pub fn spoken<'a>(&self, item: &Item<'a>) -> Option<Spoken<'a>>
         ensures { MatchOption result (act_body (item_value item.now).body ≡ None) (λ act. IsActIn self.now (item_value item.now) (spoken_value act)) }

@@ -15,8 +15,7 @@ use Rattle.rtps_discovery.proofs.Offered.{from_map, into_map}
 use Rattle.rtps_audit.specs.Intake.{Intake}
 use Rattle.rtps_audit.specs.Placed.{placed_in}
 use Rattle.rtps_audit.specs.Said.{datagrams_until}
-use Rattle.rtps_evidence.specs.Amount.{count_in}
-use Rattle.rtps_evidence.specs.OtherSide.{OtherRecording, is_held, is_there}
+use Rattle.rtps_evidence.specs.OtherSide.{OtherRecording, is_there}
 use Rattle.rtps_evidence.specs.Recorded.{AreRecordedIn, IsArrivedAmong, IsArrivedBy, IsRecordedBy, greatest_sent}
 use Rattle.rtps_evidence.specs.declared.first_numbers.FirstNumbers.{FirstNumbers}
 use Rattle.rtps_evidence.specs.declared.recorded.ArrivedNumbers.{ArrivedNumbers}

@@ -3,7 +3,7 @@ use Rattle.std.specs.Prelude.{ℕ, List, map}
 use Rattle.rtps_wire.specs.Reading.{reading_of}
 use Rattle.rtps_receiver.specs.Acts.{acts_of}
 use Rattle.rtps_receiver.specs.Values.{ActValue, spoken_value}
-use Rattle.rtps_fragments.specs.Sending.{piece_acts_of}
+use Rattle.rtps_fragments.specs.FragmentWalk.{piece_acts_of}
 use Rattle.rtps_fragments.specs.declared.fragments.Fragments.{Fragments}
 use Rattle.rtps_fragments.specs.declared.fragments.Fragments.TheVariants.{Skipped, Read}
 use Rattle.rtps_report.specs.declared.act_walk.ActWalk.{ActWalk}
@@ -23,11 +23,11 @@ datagrams_read fragments recording = map (acts_read_in fragments) recording
 -- it reads these
 abbrev pub IsWalkFor : Fragments → ActWalk → Type 0
 IsWalkFor Skipped (Messages walk) = Unit {0}
-IsWalkFor Skipped (All sending) = ⊥
+IsWalkFor Skipped (All walk) = ⊥
 IsWalkFor Read (Messages walk) = ⊥
-IsWalkFor Read (All sending) = Unit {0}
+IsWalkFor Read (All walk) = Unit {0}
 
 -- the acts of the datagram that was read last
 abbrev pub walked : ActWalk → List ActValue
 walked (Messages walk) = walk
-walked (All sending) = map spoken_value sending.acts.items
+walked (All walk) = map spoken_value walk.acts.items

@@ -1,7 +1,7 @@
 -- What to do for a pair that is not clean. own: it is chosen by what the recording shows of the
 -- pair, by what was not read of it, and by the first number asked for, so that one case has one advice. The guide prints the cases and their sentences.
 use Rattle.std.specs.Prelude.{ℕ, ℤ, ◌==◌, ◌&&◌, ◌||◌, not, nat_lt, int_lt, Bool, true, false, if◌then◌else◌, List, codes, length, Option, Some, None, is_none, is_some, unwrap_or}
-use Rattle.rtps_audit.specs.Speech.{natural}
+use Rattle.rtps_receiver.specs.Said.{natural}
 use Rattle.rtps_report.specs.Vocabulary.{Absent, Announcement, Claim, CompleteGrounds, ConflictGrounds, EvidenceValue, FirstMissed, GroundsValue, Key, OpenGrounds, PayloadValue, Scope, SentValue, Teller, UnfoundedGrounds, Whole}
 use Rattle.rtps_report.specs.Reported.{number_of}
 use Rattle.rtps_report.specs.RowFacts.{is_held_in, is_joined_in, is_tail, left_in, outcomes_of, row_from}

@@ -12,7 +12,7 @@ use Rattle.rtps_fragments.specs.FragmentVerdict.{IsFragmentVerdictFrom}
 use Rattle.rtps_fragments.specs.Laws.{first_acts_with_samples}
 use Rattle.rtps_fragments.specs.RecordedSamples.{IsWithoutFragments}
 use Rattle.rtps_fragments.specs.SampleActs.{fragment_speech_of}
-use Rattle.rtps_fragments.specs.Sending.{sending_of}
+use Rattle.rtps_fragments.specs.FragmentWalk.{sending_of}
 use Rattle.rtps_fragments.specs.declared.fragments.Fragments.TheVariants as fragments
 use Rattle.rtps_report.specs.FullReport.{AskedValue, IsExplainedAs, IsFullReport, IsPartedAs, RecordingValue, ReportValue, rows_of}
 use Rattle.rtps_report.specs.Reported.{IsReportAs}

@@ -5,7 +5,7 @@ use Rattle.rtps_report.specs.Vocabulary.{ActValue, Complete, Conflict, Counts, D
 use Rattle.rtps_audit.specs.Delivery.{last_announced_from}
 use Rattle.rtps_audit.specs.Placed.{placed_in}
 use Rattle.rtps_audit.specs.Speech.{speech_by}
-use Rattle.rtps_evidence.specs.Amount.{count_in}
+use Rattle.rtps_coverage.specs.Counts.{count_in}
 use Rattle.rtps_evidence.specs.Missed.{is_missed, place_announced}
 use Rattle.rtps_evidence.specs.Spans.{is_joined_here}
 use Rattle.rtps_report.specs.Asked.{AskedValue}

@@ -2,7 +2,7 @@
 -- own: what is not asked for is not told: of a row that is in no span, what is received and what is missed, and no more.
 use Rattle.std.specs.Prelude.{ℕ, ◌+◌, ◌-◌, Bool, false, ◌&&◌, ◌==◌, is_none, is_some, nat_le, nat_lt, not, Option, None, Some}
 use Rattle.rtps_evidence.specs.Clean.{is_clean as is_clean_in, is_tail as is_tail_in}
-use Rattle.rtps_audit.specs.Speech.{natural}
+use Rattle.rtps_receiver.specs.Said.{natural}
 use Rattle.rtps_report.specs.Reported.{is_complete}
 use Rattle.rtps_report.specs.Silences.{are_heard}
 use Rattle.rtps_report.specs.Vocabulary.{Announcement, EvidenceValue, InSpan, Outcomes, Verdict}

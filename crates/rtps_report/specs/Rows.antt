@@ -4,7 +4,7 @@ use Rattle.std.specs.Prelude.{ℕ, ◌≡◌, Bool, false, true, ◌==◌, ◌&&
 use Rattle.std.specs.Borrow.{Bor}
 use Rattle.std.specs.List.{list_any}
 use Rattle.std.specs.String.{string_bytes}
-use Rattle.rtps_fragments.specs.Sending.{all_acts_in}
+use Rattle.rtps_fragments.specs.FragmentWalk.{all_acts_in}
 use Rattle.rtps_report.specs.Vocabulary.{ActValue, Fragments, Pair, Read, Skipped, acts_in}
 use Rattle.rtps_parts.specs.RosNames.{ros_topic}
 use Rattle.rtps_policies.specs.Namings.{named_by, names}

@@ -3,7 +3,7 @@ ghost use Rattle.rtps_fragments.specs.declared.fragments.Fragments.{Fragments as
 ghost use Rattle.rtps_receiver.specs.Values.{spoken_value};
 ghost use Rattle.rtps_report.specs.ActsRead.{IsWalkFor, acts_read_in, walked};
 
-use rtps_fragments::{Fragments, Sending};
+use rtps_fragments::{FragmentWalk, Fragments};
 use rtps_ids::Memory;
 use rtps_receiver::{Spoken, Walk};
 use std::alloc::Global;
@@ -12,7 +12,7 @@ use std::alloc::Global;
 #[derive(Drop)]
 pub(crate) enum ActWalk<'a> {
     Messages(Walk<'a>),
-    All(Sending<'a>),
+    All(FragmentWalk<'a>),
 }
 
 impl<'a> ActWalk<'a> {
@@ -22,7 +22,7 @@ impl<'a> ActWalk<'a> {
     {
         match fragments {
             Fragments::Skipped => ActWalk::Messages(Walk::new(alloc)),
-            Fragments::Read => ActWalk::All(Sending::new(alloc)),
+            Fragments::Read => ActWalk::All(FragmentWalk::new(alloc)),
         }
     }
 
@@ -36,7 +36,7 @@ impl<'a> ActWalk<'a> {
                 let _ = walk.read(datagram)?;
                 Ok(())
             }
-            ActWalk::All(sending) => sending.read(datagram),
+            ActWalk::All(walk) => walk.read(datagram),
         }
     }
 
@@ -46,7 +46,7 @@ impl<'a> ActWalk<'a> {
     {
         match self {
             ActWalk::Messages(walk) => walk.acts(),
-            ActWalk::All(sending) => sending.acts(),
+            ActWalk::All(walk) => walk.acts(),
         }
     }
 }

@@ -1,6 +1,6 @@
 ghost use Rattle.std.specs.Prelude.{◌≡◌, ◌<◌, ◌^◌, map};
 ghost use Rattle.std.specs.List.{list_all};
-ghost use Rattle.rtps_audit.specs.Speech.{natural as natural_lem};
+ghost use Rattle.rtps_receiver.specs.Said.{natural as natural_lem};
 ghost use Rattle.rtps_evidence.specs.Explanation.{evidence_value, explanation_value};
 ghost use Rattle.rtps_report.specs.Asked.{asked_value};
 ghost use Rattle.rtps_report.specs.FullReport.{facts_with, is_met as is_met_lem, missed_in};

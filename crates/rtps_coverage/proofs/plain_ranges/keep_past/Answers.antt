@@ -3,4 +3,4 @@ use Rattle.std.proofs.lemmas.Fn.{filter_same}
 use Rattle.rtps_coverage.proofs.plain_ranges.keep_past.Goals as goal
 
 pub returns : goal.returns
-returns c = filter_same _ (λ span. nat_lt c.args.front span.lo) _ (λ x b f' k. search rules) _ _ c.retain.ensures.filtered
+returns c = filter_same _ (λ stretch. nat_lt c.args.front stretch.lo) _ (λ x b f' k. search rules) _ _ c.retain.ensures.filtered

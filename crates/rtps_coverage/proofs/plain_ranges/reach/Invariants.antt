@@ -1,15 +1,15 @@
 use Rattle.std.proofs.Common.{ℕ, ◌≡◌, ◌≤◌, ◌<◌, ◌^◌, ◌-◌, true}
 use Rattle.std.specs.List.{list_any}
-use Rattle.rtps_coverage.specs.Spans.{has_number}
+use Rattle.rtps_coverage.specs.Stretches.{stretch_has}
 use Rattle.rtps_coverage.proofs.plain_ranges.reach.Given as goal
 
 -- each number that was passed lies in some range
-abbrev pub invariant-loop-span : goal.invariant-loop-span
-invariant-loop-span l = record {
+abbrev pub invariant-loop-stretch : goal.invariant-loop-stretch
+invariant-loop-stretch l = record {
   onward : l.front ≤ l.reached;
   in_range : l.reached < 2 ^ 63;
-  between : (n : ℕ) → l.front ≤ n → n < l.reached → list_any (has_number n) l.spans ≡ true;
+  between : (n : ℕ) → l.front ≤ n → n < l.reached → list_any (stretch_has n) l.stretches ≡ true;
 }
 
-abbrev pub decreases-loop-span : goal.decreases-loop-span
-decreases-loop-span l = 2 ^ 63 - l.reached
+abbrev pub decreases-loop-stretch : goal.decreases-loop-stretch
+decreases-loop-stretch l = 2 ^ 63 - l.reached

@@ -1,7 +1,7 @@
 use Rattle.std.proofs.Common.{ℕ, ◌≡◌, ◌≤◌, ◌||◌, nat_le, nat_lt, ◌&&◌}
 use Rattle.std.specs.BTreeMap.{btree_map_len}
 use Rattle.rtps_coverage.specs.RangeMap.{IsApart, HasRange, BeginsPast, kept_has}
-use Rattle.rtps_coverage.specs.declared.coverage.Span.{Span}
+use Rattle.rtps_coverage.specs.declared.stretch.Stretch.{Stretch}
 use Rattle.rtps_coverage.proofs.range_map.absorb.Given as goal
 
 -- what the contract says, of the ranges that were removed so far: none of them ends past hi
@@ -10,8 +10,8 @@ invariant-loop-next l = record {
   apart : IsApart l.kept;
   past : BeginsPast l.kept l.key l.lo;
   len : btree_map_len l.kept ≤ btree_map_len l.fn.kept;
-  same : (other : ℕ) (span : Span) → other ≤ l.key → HasRange l.fn.kept other span → HasRange l.kept other span;
-  within : (other : ℕ) (span : Span) → HasRange l.kept other span → HasRange l.fn.kept other span;
+  same : (other : ℕ) (stretch : Stretch) → other ≤ l.key → HasRange l.fn.kept other stretch → HasRange l.kept other stretch;
+  within : (other : ℕ) (stretch : Stretch) → HasRange l.kept other stretch → HasRange l.fn.kept other stretch;
   has : (n : ℕ) → (kept_has l.kept n || (nat_le l.lo n && nat_lt n l.hi)) ≡ (kept_has l.fn.kept n || (nat_le l.lo n && nat_lt n l.hi));
 }
 

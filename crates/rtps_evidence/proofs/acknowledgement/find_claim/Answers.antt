@@ -1,7 +1,7 @@
 use Rattle.std.proofs.Common.{List, ◌∙◌, ◌==◌, ◌&&◌, nat_lt, ap, map}
 use Rattle.std.specs.List.{find}
 use Rattle.rtps_audit.specs.Placed.{placed_in}
-use Rattle.rtps_audit.specs.Speech.{natural}
+use Rattle.rtps_receiver.specs.Said.{natural}
 use Rattle.rtps_audit.specs.declared.answer.Answer.{Answer}
 use Rattle.rtps_evidence.specs.Locations.{claim_in}
 use Rattle.rtps_evidence.specs.declared.acknowledgement.Claim.{Claim}

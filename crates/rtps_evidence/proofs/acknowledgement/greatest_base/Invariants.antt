@@ -1,6 +1,6 @@
 use Rattle.std.proofs.Common.{◌≡◌, ◌<◌, ◌^◌, map, take}
 use Rattle.rtps_audit.specs.Delivery.{greatest}
-use Rattle.rtps_audit.specs.Speech.{natural}
+use Rattle.rtps_receiver.specs.Said.{natural}
 use Rattle.rtps_evidence.proofs.acknowledgement.greatest_base.Given as goal
 
 -- the greatest so far

@@ -1,7 +1,7 @@
 use Rattle.std.proofs.Common.{◌≡◌, ◌||◌, ◌-◌, ◌^◌, ℕ}
 use Rattle.rtps_receiver.specs.Said.{numbers_have}
 use Rattle.rtps_receiver.proofs.Offered.{below}
-use Rattle.rtps_evidence.specs.Amount.{stretches_have}
+use Rattle.rtps_coverage.specs.Stretches.{stretches_have}
 use Rattle.rtps_evidence.proofs.amount.push_numbers.Given as goal
 
 -- the numbers below that place are there

@@ -1,7 +1,7 @@
 use Rattle.std.proofs.Common.{◌≡◌, ℕ, take}
 use Rattle.std.specs.List.{list_any}
 use Rattle.rtps_evidence.specs.Claimed.{claims_up_to}
-use Rattle.rtps_evidence.specs.Rising.{some_reaches}
+use Rattle.rtps_coverage.specs.Rising.{some_reaches}
 use Rattle.rtps_evidence.proofs.claimed.claims_of.Given as goal
 
 -- the answers so far claim as far

@@ -1,14 +1,9 @@
 use Rattle.std.proofs.Common.{◌≡◌, ◌∙◌, List, arith, ap, sym}
 use Rattle.std.proofs.lemmas.Int.{ints}
-use Rattle.rtps_evidence.specs.Amount.{stretches_have}
-use Rattle.rtps_evidence.specs.declared.amount.Stretch.{Stretch}
-use Rattle.rtps_evidence.proofs.ClaimedLemmas.{none_past, past_same}
+use Rattle.rtps_coverage.specs.Stretches.{stretches_have}
+use Rattle.rtps_coverage.specs.declared.stretch.Stretch.{Stretch}
+use Rattle.rtps_evidence.proofs.ClaimedLemmas.{none_past}
 use Rattle.rtps_evidence.proofs.claimed.gone_among.Goals as goal
-
-pub returns : goal.returns
-returns c = λ n low.
-    c.in_ok-gone.ensures n
-    ∙ past_same c.in_ok-claims.claims.items c.deref.result.now c.args.answers.now c.args.withdrawals.now n c.deref.ensures.value (λ datagram m. c.in_ok-claims.ensures.same datagram m ∙ c.in_ok-stretches.ensures datagram m)
 
 pub returns-then-not-go_past : goal.returns-then-not-go_past
 returns-then-not-go_past c = λ n low.

@@ -1,9 +1,10 @@
-use Rattle.std.proofs.Common.{◌≡◌, ◌∙◌, ap, arith, not, rules, subst, sym}
+use Rattle.std.proofs.lemmas.Grind.{common_steps}
+use Rattle.std.proofs.lemmas.Bool.Decides.{nat_tests}
+use Rattle.std.proofs.Common.{arith, rules, subst, sym}
 use Rattle.std.specs.List.Sorted.{IsNonDecreasingBy}
 use Rattle.std.proofs.lemmas.Int.{ints}
 use Rattle.std.proofs.lemmas.List.Sorted.{IsNonDecreasingBy-from_sort_by_key, list_any-IsPermutation}
-use Rattle.rtps_evidence.specs.Amount.{stretch_has, stretches_have}
-use Rattle.rtps_evidence.specs.declared.amount.Stretch.{Stretch}
+use Rattle.rtps_coverage.specs.declared.stretch.Stretch.{Stretch}
 use Rattle.rtps_evidence.proofs.lacking.others_of.Goals as goal
 
 pub outside-requires : goal.outside-requires
@@ -12,7 +13,4 @@ outside-requires c =
     subst (IsNonDecreasingBy (λ (s : Stretch). s.lo)) (sym c.deref.ensures.value) sorted
 
 pub returns : goal.returns
-returns c = λ n low high.
-    let from : c.cast_unsigned-from.result ≡ c.args.asked.now.from = omega (arith, ints) in
-    c.in_ok-rest.ensures n (omega arith) (omega arith)
-    ∙ ap not (ap (λ l. stretches_have l n) c.deref.ensures.value ∙ sym (list_any-IsPermutation (stretch_has n) c.args.stretches.now.items c.sort_by_key.new.self.items c.in_ok-sort_by_key.ensures.permutation))
+returns c = grind (arith, nat_tests, common_steps, ints, list_any-IsPermutation)

@@ -1,26 +1,18 @@
-use Rattle.std.proofs.Common.{◌≡◌, ◌∙◌, List, [], None, ap, arith, filter, map, refl, sym}
+use Rattle.std.proofs.Common.{◌≡◌, ◌∙◌, List, [], None, ap, filter, map, refl, sym}
 use Rattle.std.specs.BTreeMap.{get, is_at}
 use Rattle.std.specs.Map.{lookup}
 use Rattle.std.specs.Option.{option_map}
 use Rattle.std.specs.Ordering.{nat_cmp}
-use Rattle.std.proofs.lemmas.Bool.Decides.{nat_tests}
 use Rattle.std.proofs.lemmas.List.{nil_from_length}
 use Rattle.rtps_audit.specs.Placed.{is_from, placed_in, placed_value}
 use Rattle.rtps_discovery.specs.declared.matching.Pair.{Pair}
-use Rattle.rtps_evidence.specs.Amount.{stretches_have}
+use Rattle.rtps_coverage.specs.Stretches.{stretches_have}
 use Rattle.rtps_evidence.specs.Requests.{is_in_vain, met_among, requested}
 use Rattle.rtps_evidence.specs.Spans.{since_of}
 use Rattle.rtps_evidence.specs.WriterSummary.{option_any}
-use Rattle.rtps_evidence.specs.declared.amount.Stretch.{Stretch}
-use Rattle.rtps_evidence.proofs.MissedLemmas.{missed_by_request, received_not_missed}
+use Rattle.rtps_coverage.specs.declared.stretch.Stretch.{Stretch}
+use Rattle.rtps_evidence.proofs.MissedLemmas.{missed_by_request}
 use Rattle.rtps_evidence.proofs.missed_numbers.find_missed.Goals as goal
-
-pub returns-then-is_empty : goal.returns-then-is_empty
-returns-then-is_empty c = λ recording is n small known.
-    let pair = c.args.exchange.now.pair in
-    let none : c.args.lacking.now ≡ [] = nil_from_length c.args.lacking.now (let zero = c.if-is_empty.ensures in grind (arith, nat_tests, zero)) in
-    ap (λ (l : List Stretch). stretches_have l n) c.new.ensures.items
-    ∙ received_not_missed (since_of c.args.exchange.now.span) pair.writer pair.reader (placed_in recording) n (sym known ∙ ap (λ (l : List Stretch). stretches_have l n) none)
 
 pub returns-then-is_empty-2 : goal.returns-then-is_empty-2
 returns-then-is_empty-2 c = λ recording is n small known.

@@ -1,5 +1,5 @@
 use Rattle.std.proofs.Common.{◌≡◌, ◌<◌, ◌^◌, ◌||◌, ℕ}
-use Rattle.rtps_evidence.specs.Amount.{stretches_have}
+use Rattle.rtps_coverage.specs.Stretches.{stretches_have}
 use Rattle.rtps_evidence.proofs.RequestLemmas.{some_in_vain}
 use Rattle.rtps_evidence.proofs.missed_numbers.in_vain.Given as goal
 

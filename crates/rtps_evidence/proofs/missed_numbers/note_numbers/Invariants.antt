@@ -4,7 +4,7 @@ use Rattle.std.specs.Ordering.{nat_cmp}
 use Rattle.std.specs.Prelude.{if◌then◌else◌}
 use Rattle.rtps_receiver.specs.Said.{numbers_have}
 use Rattle.rtps_receiver.proofs.Offered.{below}
-use Rattle.rtps_evidence.specs.Amount.{stretches_have}
+use Rattle.rtps_coverage.specs.Stretches.{stretches_have}
 use Rattle.rtps_evidence.specs.Requests.{new_request}
 use Rattle.rtps_evidence.proofs.missed_numbers.note_numbers.Given as goal
 

@@ -1,17 +1,11 @@
 use Rattle.std.proofs.Common.{◌∙◌, ◌&&◌, Some, ap, cond, map, sym, take}
-use Rattle.std.specs.BTreeMap.{is_at}
-use Rattle.std.specs.Map.{lookup}
-use Rattle.std.specs.Ordering.{nat_cmp}
 use Rattle.rtps_audit.specs.Placed.{placed_value}
-use Rattle.rtps_evidence.specs.Amount.{stretches_have}
+use Rattle.rtps_coverage.specs.Stretches.{stretches_have}
 use Rattle.rtps_evidence.specs.Locations.{location_of}
 use Rattle.rtps_evidence.specs.Missed.{asks_for}
 use Rattle.rtps_evidence.specs.Requests.{new_request, requested}
-use Rattle.rtps_evidence.proofs.RequestLemmas.{none_requested, requested_more, taken_more}
+use Rattle.rtps_evidence.proofs.RequestLemmas.{requested_more, taken_more}
 use Rattle.rtps_evidence.proofs.missed_numbers.requests_of.Goals as goal
-
-pub loop-placed-init : goal.loop-placed-init
-loop-placed-init c = λ n. ap (lookup (is_at (nat_cmp n))) c.new-requests.ensures.empty ∙ none_requested c.args.exchange.now.pair (stretches_have c.args.lacking.now) n
 
 pub loop-placed-preserved : goal.loop-placed-preserved
 loop-placed-preserved c = λ n.

@@ -1,7 +1,7 @@
 use Rattle.std.proofs.Common.{◌≡◌, ℕ, true, map, take}
 use Rattle.std.specs.List.{list_any}
 use Rattle.rtps_audit.specs.Placed.{placed_value}
-use Rattle.rtps_evidence.specs.Amount.{stretches_have}
+use Rattle.rtps_coverage.specs.Stretches.{stretches_have}
 use Rattle.rtps_evidence.specs.Missed.{brings_behind}
 use Rattle.rtps_evidence.proofs.outcome.brought_among.Given as goal
 

@@ -1,21 +1,16 @@
-use Rattle.std.proofs.Common.{◌≡◌, ◌∙◌, ◌==◌, ◌||◌, ℕ, Bool, ap, arith, false, nat_lt, refl, sym, true}
+use Rattle.std.proofs.Common.{◌≡◌, ◌∙◌, ◌==◌, ◌||◌, ℕ, Bool, arith, false, nat_lt, sym, true}
 use Rattle.std.proofs.lemmas.Bool.Decides.{nat_tests}
 use Rattle.rtps_audit.specs.Placed.{placed_value}
-use Rattle.rtps_evidence.specs.Amount.{stretches_have}
+use Rattle.rtps_coverage.specs.Stretches.{stretches_have}
 use Rattle.rtps_evidence.specs.Missed.{brings_behind}
 use Rattle.rtps_evidence.proofs.outcome.push_brought.Goals as goal
 
 or_no : (b : Bool) → (b || false) ≡ b
-or_no true = refl
-or_no false = refl
+or_no b = grind (arith, nat_tests)
 
 -- a number that is not lacking is not the one at hand, where that is
 other : (lacks : ℕ → Bool) (number n : ℕ) (old brings : Bool) → lacks number ≡ false → lacks n ≡ true → brings ≡ (number == n) → old ≡ (old || brings)
-other lacks number n old brings out there is = by (number == n) refl
-  where
-    by : (b : Bool) → (number == n) ≡ b → old ≡ (old || brings)
-    by true at = let same : number ≡ n = grind (arith, nat_tests, at) in absurd (let no : false ≡ true = sym out ∙ ap lacks same ∙ there in cc)
-    by false at = sym (ap (λ b. old || b) (is ∙ at) ∙ or_no old)
+other lacks number n old brings out there is = grind (arith, nat_tests)
 
 pub returns-else-number-end_at : goal.returns-else-number-end_at
 returns-else-number-end_at c = λ n lacks.

@@ -1,18 +1,16 @@
+use Rattle.std.proofs.lemmas.Grind.{common_steps}
+use Rattle.std.proofs.lemmas.Bool.Decides.{nat_tests}
 use Rattle.std.proofs.Common.{◌≡◌, ◌+◌, ◌-◌, ◌<◌, ◌≤◌, arith, refl, subst, Some, None}
 use Rattle.std.proofs.lemmas.Int.{ints}
 use Rattle.rtps_audit.specs.Placed.{placed_in}
-use Rattle.rtps_evidence.specs.Amount.{stretches_have}
 use Rattle.rtps_evidence.specs.Received.{AreReceived}
 use Rattle.rtps_evidence.specs.declared.received.Received.{Received}
-use Rattle.rtps_evidence.proofs.CountLemmas.{count_others}
+use Rattle.rtps_coverage.proofs.Offered.{count_others}
 use Rattle.rtps_evidence.proofs.NotReceivedLemmas.{all_received, some_not_received}
 use Rattle.rtps_evidence.proofs.received.count_received.Goals as goal
 
 pub overflow_sub-count-2 : goal.overflow_sub-count-2
-overflow_sub-count-2 c =
-    let all = count_others (stretches_have c.args.lacking.now.items) c.cast_unsigned-from.result (c.args.asked.now.last + 1) in
-    let others = c.in_ok-others.ensures.count in
-    omega arith
+overflow_sub-count-2 c = grind (arith, nat_tests, common_steps, count_others)
 
 pub returns-then-least-end : goal.returns-then-least-end
 returns-then-least-end c = λ recording is are.

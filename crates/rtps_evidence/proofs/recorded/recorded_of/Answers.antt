@@ -2,7 +2,8 @@ use Rattle.std.proofs.Common.{◌≡◌, ◌+◌, ◌-◌, ◌∙◌, ap, arith,
 use Rattle.std.proofs.lemmas.Int.{ints}
 use Rattle.rtps_audit.specs.Placed.{placed_in, placed_value}
 use Rattle.rtps_audit.specs.Said.{datagrams_until}
-use Rattle.rtps_evidence.specs.Amount.{count_in, stretches_have}
+use Rattle.rtps_coverage.specs.Counts.{count_in}
+use Rattle.rtps_coverage.specs.Stretches.{stretches_have}
 use Rattle.rtps_evidence.specs.Recorded.{greatest_sent}
 use Rattle.rtps_evidence.proofs.RecordedLemmas.{recorded_in}
 use Rattle.rtps_evidence.proofs.recorded.recorded_of.Goals as goal

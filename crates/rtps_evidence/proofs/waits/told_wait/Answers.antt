@@ -1,21 +1,18 @@
-use Rattle.std.proofs.Common.{◌≡◌, ◌∙◌, List, ap, false, map, sym}
+use Rattle.std.proofs.lemmas.Grind.{common_steps}
+use Rattle.std.proofs.lemmas.Bool.Decides.{nat_tests}
+use Rattle.std.proofs.Common.{◌≡◌, ◌∙◌, List, ap, map, arith}
 use Rattle.rtps_discovery.specs.declared.matching.Pair.{Pair}
-use Rattle.rtps_audit.specs.Placed.{PlacedValue, answers_among, placed_in, placed_value}
+use Rattle.rtps_audit.specs.Placed.{PlacedValue, placed_in, placed_value}
 use Rattle.rtps_audit.specs.Said.{datagrams_until}
 use Rattle.rtps_audit.specs.declared.answer.Answer.{Answer}
 use Rattle.rtps_evidence.specs.Spans.{since_of}
-use Rattle.rtps_evidence.specs.Times.{are_there, end_of}
+use Rattle.rtps_evidence.specs.Times.{end_of}
 use Rattle.rtps_evidence.specs.Waits.{longest, questions_of, told_of, waits_of}
 use Rattle.rtps_evidence.proofs.WaitLemmas.{none_told, questions_same}
 use Rattle.rtps_evidence.proofs.waits.told_wait.Goals as goal
 
 pub returns-then-not-are_there : goal.returns-then-not-are_there
-returns-then-not-are_there c = λ recording is.
-    let exchange = c.args.exchange.now in
-    let times = exchange.times.now.of_datagrams in
-    let none : are_there times ≡ false = sym c.are_there.ensures ∙ c.if-not-are_there.true in
-    sym (none_told times (end_of (datagrams_until exchange.span.until times)) (answers_among exchange.pair (placed_in recording))
-    (questions_of (since_of exchange.span) exchange.pair (placed_in recording)) none)
+returns-then-not-are_there c = grind (arith, nat_tests, common_steps, none_told)
 
 pub returns : goal.returns
 returns c = λ recording is.

@@ -4,7 +4,7 @@ use Rattle.rtps_audit.specs.Said.{datagrams_until}
 use Rattle.rtps_audit.specs.Speech.{speech_by}
 use Rattle.rtps_fragments.specs.FragmentVerdict.{IsFragmentVerdictFrom}
 use Rattle.rtps_fragments.specs.SampleActs.{PieceAct, acts_with_samples, fragment_speech_of}
-use Rattle.rtps_fragments.specs.Sending.{sending_of}
+use Rattle.rtps_fragments.specs.FragmentWalk.{sending_of}
 use Rattle.rtps_fragments.proofs.ActsTell.{sent_until}
 use Rattle.rtps_fragments.proofs.IndexSteps.{pieces_of_recording}
 use Rattle.rtps_fragments.proofs.laws.first_datagrams_decide.Goals as goal

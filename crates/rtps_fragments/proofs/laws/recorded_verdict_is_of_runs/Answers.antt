@@ -1,4 +1,4 @@
-use Rattle.rtps_fragments.specs.Sending.{sending_of}
+use Rattle.rtps_fragments.specs.FragmentWalk.{sending_of}
 use Rattle.rtps_fragments.proofs.IndexSteps.{pieces_of_recording}
 use Rattle.rtps_fragments.proofs.laws.recorded_verdict_is_of_runs.Goals as goal
 

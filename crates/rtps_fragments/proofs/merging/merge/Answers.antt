@@ -5,7 +5,7 @@ use Rattle.std.proofs.lemmas.Option.{slice_get-get_or}
 use Rattle.rtps_receiver.specs.Values.{spoken_value}
 use Rattle.rtps_audit.proofs.Offered.{get_mapped}
 use Rattle.rtps_fragments.specs.Merging.{acts_told, merged_from}
-use Rattle.rtps_fragments.specs.Telling.{told_value}
+use Rattle.rtps_fragments.specs.ToldSamples.{told_value}
 use Rattle.rtps_fragments.proofs.MergedSteps.{merge_step}
 use Rattle.rtps_fragments.proofs.merging.merge.Goals as goal
 

@@ -1,7 +1,7 @@
 use Rattle.std.proofs.Common.{◌≡◌, ◌++◌, drop, map}
 use Rattle.rtps_receiver.specs.Values.{spoken_value}
 use Rattle.rtps_fragments.specs.Merging.{merged_from}
-use Rattle.rtps_fragments.specs.Telling.{told_value}
+use Rattle.rtps_fragments.specs.ToldSamples.{told_value}
 use Rattle.rtps_fragments.proofs.merging.merge.Given as goal
 
 -- what is merged so far and what is left are all

@@ -1,7 +1,7 @@
 use Rattle.std.proofs.Common.{◌≡◌, ◌++◌, map, take}
 use Rattle.rtps_receiver.specs.Values.{spoken_value}
 use Rattle.rtps_fragments.specs.Merging.{acts_told}
-use Rattle.rtps_fragments.specs.Telling.{told_value}
+use Rattle.rtps_fragments.specs.ToldSamples.{told_value}
 use Rattle.rtps_fragments.proofs.merging.push_told.Given as goal
 
 -- the samples so far

@@ -1,6 +1,6 @@
 use Rattle.std.proofs.Common.{◌≡◌, ◌++◌, drop, map, take}
 use Rattle.rtps_fragments.specs.Merging.{run_of, run_past}
-use Rattle.rtps_fragments.specs.Telling.{told_value}
+use Rattle.rtps_fragments.specs.ToldSamples.{told_value}
 use Rattle.rtps_fragments.proofs.merging.run_length.Given as goal
 
 -- the act tells those so far

@@ -1,13 +1,11 @@
-use Rattle.std.proofs.Common.{◌+◌, ◌-◌, ◌∙◌, [], ap, arith, map, refl, subst, sym, take}
+use Rattle.std.proofs.Common.{◌+◌, ◌-◌, ◌∙◌, [], ap, arith, map, refl, subst, sym, take, rules}
 use Rattle.std.proofs.lemmas.List.{length-drop, length-map, length-take-le, take-map}
-use Rattle.rtps_audit.specs.Intake.{Intake, intake_of}
 use Rattle.rtps_audit.specs.declared.report.Counts.{Counts}
 use Rattle.rtps_fragments.specs.Announcements.{IsIndexedBy}
 use Rattle.rtps_fragments.specs.Merging.{sents_in}
-use Rattle.rtps_fragments.specs.RecordedSamples.{IsWithoutFragments}
-use Rattle.rtps_fragments.specs.SampleActs.{piece_acts_in, samples_told}
-use Rattle.rtps_fragments.specs.Sending.{piece_acts_of, sending_of}
-use Rattle.rtps_fragments.specs.Telling.{overheard_behind, told_behind, told_value}
+use Rattle.rtps_fragments.specs.SampleActs.{samples_told}
+use Rattle.rtps_fragments.specs.FragmentWalk.{piece_acts_of, sending_of}
+use Rattle.rtps_fragments.specs.ToldSamples.{overheard_behind, told_behind, told_value}
 use Rattle.rtps_fragments.proofs.ActsAnd.{length-acts}
 use Rattle.rtps_fragments.proofs.IndexSteps.{announced_count, kept_at, taken, taken_more}
 use Rattle.rtps_fragments.proofs.PlainStarts.{each_of, overheard_count, past, told_count, whole_behind}
@@ -16,13 +14,7 @@ use Rattle.rtps_fragments.proofs.WithoutFragments.{taken_plain}
 use Rattle.rtps_fragments.proofs.sample_index.index_behind.Goals as goal
 
 pub loop-place-init : goal.loop-place-init
-loop-place-init c =
-    let recording = c.args.recording.now in
-    let n = c.args.start.datagrams in
-    let same = take-map (λ datagram. datagram.now) n recording in
-    subst (λ (intake : Intake). IsIndexedBy intake c.args.start.indexed)
-    (sym (taken_plain (piece_acts_in (sending_of (octets_of recording))) (octets_of (take n recording)) (each_of (octets_of (take n recording)) (subst IsWithoutFragments same (c.requires.start.without refl))) ∙ ap intake_of (sym same)))
-    c.requires.start.indexed
+loop-place-init c = search (rules, take-map, taken_plain, octets_of, each_of)
 
 pub index-requires : goal.index-requires
 index-requires c =

@@ -1,12 +1,13 @@
-use Rattle.std.specs.Prelude.{Err, IfOk, Ok, Result}
+use Rattle.std.proofs.lemmas.Bool.Decides.{nat_tests}
+use Rattle.std.proofs.Common.{arith}
+use Rattle.std.specs.Prelude.{IfOk, Result}
 use Rattle.rtps_audit.specs.declared.verdict.Verdict.{Verdict}
 use Rattle.rtps_ids.specs.declared.memory.Memory.{Memory}
 use Rattle.rtps_fragments.specs.RecordedSamples.{intake_with}
 use Rattle.rtps_fragments.proofs.sample_index.judge_with_samples.Goals as goal
 
 weaker : (result : Result Verdict Memory) (P Q : Verdict → Type 0) → ((verdict : Verdict) → P verdict → Q verdict) → IfOk result P → IfOk result Q
-weaker (Ok verdict) P Q says is = says verdict is
-weaker (Err memory) P Q says is = tt
+weaker result P Q h h2 = grind (arith, nat_tests)
 
 pub returns : goal.returns
 returns c = λ recording is.

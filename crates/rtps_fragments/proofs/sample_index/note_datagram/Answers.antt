@@ -7,8 +7,8 @@ use Rattle.rtps_audit.specs.Intake.{intake_more}
 use Rattle.rtps_fragments.specs.Announcements.{IsIndexedBy}
 use Rattle.rtps_fragments.specs.Merging.{merged_from}
 use Rattle.rtps_fragments.specs.SampleActs.{PieceAct}
-use Rattle.rtps_fragments.specs.Sending.{piece_acts_of, unusable_in}
-use Rattle.rtps_fragments.specs.Telling.{SentValue, sent_value, told_value}
+use Rattle.rtps_fragments.specs.FragmentWalk.{piece_acts_of, unusable_in}
+use Rattle.rtps_fragments.specs.ToldSamples.{SentValue, sent_value, told_value}
 use Rattle.rtps_fragments.specs.Whole.{left_among, tally_left, tally_with_fragments}
 use Rattle.rtps_fragments.specs.declared.merging.SampleForm.TheVariants.{ForAudience, ForEveryone}
 use Rattle.rtps_fragments.proofs.sample_index.note_datagram.Goals as goal
@@ -17,10 +17,10 @@ pub returns : goal.returns
 returns c = λ intake all whole number is.
     let octets = c.args.octets.now in
     let sending = c.read.new.self in
-    let sent = c.in_ok-read.ensures in
+    let sent = c.in_ok-read.ensures.acts in
     let plain = tally_of (reading_of octets) in
     let tally : c.tally-tally.result ≡ tally_left all octets =
-    c.tally-tally.ensures all whole ∙ ap (λ (t : Tally). tally_with_fragments t (sending.unusable + left_among all (map sent_value sending.sents.items))) c.tally.ensures
+    c.tally-tally.ensures all whole ∙ ap (λ (t : Tally). tally_with_fragments t (sending.unusable + left_among all (map sent_value sending.sents.items))) c.in_ok-read.ensures.plain
     ∙ ap (λ n. tally_with_fragments plain (n + left_among all (map sent_value sending.sents.items))) sent.unusable ∙ ap (λ (ss : List SentValue). tally_with_fragments plain (unusable_in octets + left_among all ss)) sent.sents in
     let told = map told_value c.args.samples.now.told.now in
     let noted = map told_value c.args.samples.now.overheard.now in

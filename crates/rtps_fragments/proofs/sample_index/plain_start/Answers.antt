@@ -1,17 +1,15 @@
-use Rattle.std.proofs.Common.{◌≡◌, true, false, ◌+◌, ◌∙◌, ap, arith, length, subst, sym, take}
+use Rattle.std.proofs.lemmas.Grind.{common_steps}
+use Rattle.std.proofs.lemmas.Bool.Decides.{nat_tests}
+use Rattle.std.proofs.Common.{◌≡◌, true, false, ◌+◌, ◌∙◌, ap, arith, length, subst, sym, take, rules}
 use Rattle.std.proofs.Math.Seq.{take-length}
 use Rattle.std.proofs.lemmas.List.{length-map, take-map}
 use Rattle.std.proofs.lemmas.Option.{slice_get-get_or, slice_get_within}
 use Rattle.rtps_audit.proofs.Offered.{get_mapped}
-use Rattle.std.proofs.Common.{◌<◌, Some}
-use Rattle.rtps_wire.specs.Reading.{reading_of}
-use Rattle.rtps_wire.specs.Tally.{tally_of}
+use Rattle.std.proofs.Common.{Some}
 use Rattle.rtps_audit.specs.Intake.{intake_of}
 use Rattle.rtps_audit.specs.declared.report.Counts.{Counts}
 use Rattle.rtps_audit.proofs.Offered.{intake_on}
 use Rattle.rtps_fragments.specs.Announcements.{IsIndexedBy}
-use Rattle.rtps_fragments.specs.RecordedSamples.{IsWithoutFragments}
-use Rattle.rtps_fragments.specs.declared.fragments.Fragments.TheVariants.{Read, Skipped}
 use Rattle.rtps_fragments.proofs.SampleSteps.{octets_of}
 use Rattle.rtps_fragments.proofs.WithoutFragments.{plain_count, without_more}
 use Rattle.rtps_fragments.proofs.sample_index.plain_start.Goals as goal
@@ -43,33 +41,7 @@ loop-place-preserved c =
     }
 
 pub returns-then-tally-gt0 : goal.returns-then-tally-gt0
-returns-then-tally-gt0 c =
-    let recording = c.args.recording.now in
-    let i = c.loop-place.place in
-    let same = take-map (λ datagram. datagram.now) i recording in
-    record {
-      count = omega (arith, c.loop-place-test.true, length-map recording (λ datagram. datagram.now));
-      all = λ skipped. absurd (let clash : Read ≡ Skipped = sym (c.are_read.ensures.0 c.if-are_read.true) ∙ skipped in cc);
-      without = λ read. subst IsWithoutFragments (sym same) (c.loop-place.invariant.without read);
-      ends = λ read octets at.
-          let here = get_mapped (λ datagram. datagram.now) recording i _ (slice_get-get_or recording i _ c.loop-place-test.true) in
-          let tally = c.in_ok-tally.ensures.tally ∙ ap (λ read. tally_of (reading_of read)) (some_is _ octets (sym here ∙ at)) in
-          subst (λ found. 0 < found.fragments) tally c.if-tally-gt0.true;
-      indexed = subst (λ datagrams. IsIndexedBy (intake_of datagrams) c.loop-place.indexed) (sym same) c.loop-place.invariant.indexed;
-    }
+returns-then-tally-gt0 c = search (rules, take-map, length-map, get_mapped, slice_get-get_or, some_is)
 
 pub returns : goal.returns
-returns c =
-    let recording = c.args.recording.now in
-    let octets = octets_of recording in
-    let count = length-map recording (λ datagram. datagram.now) in
-    let all : c.loop-place.place ≡ length recording = omega (arith, c.loop-place-test.false, c.loop-place.auto.place-end) in
-    let whole : octets_of (take c.loop-place.place recording) ≡ octets = ap (λ n. octets_of (take n recording)) all ∙ ap octets_of (take-length recording) in
-    let same : take (length recording) octets ≡ octets = ap (λ n. take n octets) (sym count) ∙ take-length octets in
-    record {
-      count = omega (arith, count);
-      all = λ skipped. sym count;
-      without = λ read. subst IsWithoutFragments (whole ∙ sym same) (c.loop-place.invariant.without read);
-      ends = λ read datagram at. absurd (let inside = slice_get_within octets (length recording) datagram at in omega (arith, count));
-      indexed = subst (λ datagrams. IsIndexedBy (intake_of datagrams) c.loop-place.indexed) (whole ∙ sym same) c.loop-place.invariant.indexed;
-    }
+returns c = grind (arith, nat_tests, common_steps, octets_of, length-map, take-length, slice_get_within)

@@ -3,10 +3,10 @@ use Rattle.std.specs.Prelude.{is_some}
 use Rattle.std.specs.List.{find}
 use Rattle.std.proofs.lemmas.Int.{ints}
 use Rattle.std.proofs.lemmas.Bool.Decides.{nat_tests}
-use Rattle.rtps_coverage.specs.Spans.{has_number}
+use Rattle.rtps_coverage.specs.Stretches.{stretch_has}
 use Rattle.rtps_coverage.specs.PlainRanges.{covered_of, covered_in_range}
 use Rattle.rtps_coverage.proofs.CoverageLemmas.{has-below_one, has-pos}
-use Rattle.rtps_coverage.proofs.SpanLemmas.{list_any-find}
+use Rattle.rtps_coverage.proofs.StretchLemmas.{list_any-find}
 use Rattle.rtps_coverage.proofs.plain_ranges.PlainRangesCoverage.covers.Goals as goal
 
 pub returns-then-n-lt1 : goal.returns-then-n-lt1
@@ -23,7 +23,7 @@ returns-else-n-self c =
     let set = c.args.self.now in
     let k = c.cast_unsigned-n.result in
     let same : pos k ≡ c.args.n = omega (arith, ints) in
-    let found = list_any-find (has_number k) set.beyond.items in
-    let past = past_front set.front k (is_some (find (has_number k) set.beyond.items)) c.if-n-self.false in
-    c.is_some.ensures ∙ ap is_some (c.span_of.ensures ∙ ap (find (has_number k)) c.deref.ensures.value)
+    let found = list_any-find (stretch_has k) set.beyond.items in
+    let past = past_front set.front k (is_some (find (stretch_has k) set.beyond.items)) c.if-n-self.false in
+    c.is_some.ensures ∙ ap is_some (c.stretch_of.ensures ∙ ap (find (stretch_has k)) c.deref.ensures.value)
     ∙ sym (has-pos (covered_of set) c.args.n k same ∙ ap (λ b. (nat_le 1 k && nat_lt k set.front) || b) found ∙ past)

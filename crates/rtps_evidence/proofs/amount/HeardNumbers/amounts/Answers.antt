@@ -1,14 +1,15 @@
+use Rattle.std.proofs.lemmas.Grind.{common_steps}
+use Rattle.std.proofs.lemmas.Bool.Decides.{nat_tests}
 use Rattle.std.proofs.Common.{◌≡◌, ◌+◌, arith, subst}
 use Rattle.std.proofs.lemmas.Int.{ints}
-use Rattle.rtps_evidence.specs.Amount.{count_in, stretches_have}
-use Rattle.rtps_evidence.proofs.CountLemmas.{amounts_counted, count_others}
+use Rattle.rtps_coverage.specs.Counts.{count_in}
+use Rattle.rtps_coverage.specs.Stretches.{stretches_have}
+use Rattle.rtps_coverage.proofs.Offered.{count_others}
+use Rattle.rtps_evidence.proofs.AmountLemmas.{amounts_counted}
 use Rattle.rtps_evidence.proofs.amount.HeardNumbers.amounts.Goals as goal
 
 pub overflow_sub-result-2 : goal.overflow_sub-result-2
-overflow_sub-result-2 c =
-    let all = count_others (stretches_have c.args.self.now.told.items) c.cast_unsigned-first.result (c.args.asked.now.last + 1) in
-    let told = c.in_ok-told.ensures.count in
-    omega arith
+overflow_sub-result-2 c = grind (arith, nat_tests, common_steps, count_others)
 
 pub returns : goal.returns
 returns c = λ writer reader acts is_gone heard.

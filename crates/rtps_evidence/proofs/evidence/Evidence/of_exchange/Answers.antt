@@ -6,7 +6,8 @@ use Rattle.rtps_audit.specs.Placed.{is_from, placed_in, placed_value}
 use Rattle.rtps_audit.specs.RunVerdict.{IsVerdictFrom}
 use Rattle.rtps_audit.specs.Said.{IsSaid}
 use Rattle.rtps_audit.specs.Speech.{speech_by}
-use Rattle.rtps_evidence.specs.Amount.{AreAmounts, stretches_have}
+use Rattle.rtps_coverage.specs.Stretches.{stretches_have}
+use Rattle.rtps_evidence.specs.Amount.{AreAmounts}
 use Rattle.rtps_evidence.specs.Claimed.{AreLacking}
 use Rattle.rtps_evidence.specs.Evidence.{IsShown}
 use Rattle.rtps_evidence.specs.Locations.{announcement_of}

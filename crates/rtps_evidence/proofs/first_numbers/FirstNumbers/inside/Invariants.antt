@@ -1,5 +1,5 @@
 use Rattle.std.proofs.Common.{◌-◌}
-use Rattle.rtps_evidence.specs.Amount.{stretches_have}
+use Rattle.rtps_coverage.specs.Stretches.{stretches_have}
 use Rattle.rtps_evidence.proofs.FirstNumbersLemmas.{AreKept}
 use Rattle.rtps_evidence.proofs.first_numbers.FirstNumbers.inside.Given as goal
 

@@ -2,7 +2,8 @@ use Rattle.std.proofs.Common.{◌≡◌, ◌∙◌, List, Some, ap, arith, map, 
 use Rattle.std.proofs.lemmas.Int.{ints}
 use Rattle.rtps_audit.specs.Delivery.{greatest, last_announced_from}
 use Rattle.rtps_audit.specs.Placed.{placed_in}
-use Rattle.rtps_audit.specs.Speech.{natural, speech_by}
+use Rattle.rtps_receiver.specs.Said.{natural}
+use Rattle.rtps_audit.specs.Speech.{speech_by}
 use Rattle.rtps_audit.specs.declared.answer.Answer.{Answer}
 use Rattle.rtps_evidence.specs.Evidence.{IsBeside}
 use Rattle.rtps_evidence.specs.FirstNumbers.{kept}

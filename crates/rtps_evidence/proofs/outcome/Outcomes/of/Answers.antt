@@ -5,31 +5,27 @@ use Rattle.std.proofs.lemmas.Bool.Decides.{nat_tests}
 use Rattle.std.proofs.lemmas.Int.{ints}
 use Rattle.rtps_audit.specs.Delivery.{greatest}
 use Rattle.rtps_audit.specs.Placed.{placed_in, placed_value}
-use Rattle.rtps_audit.specs.Speech.{natural}
+use Rattle.rtps_receiver.specs.Said.{natural}
 use Rattle.rtps_audit.specs.declared.answer.Answer.{Answer}
 use Rattle.rtps_discovery.specs.declared.matching.Pair.{Pair}
-use Rattle.rtps_evidence.specs.Amount.{count_in, stretches_have}
+use Rattle.rtps_coverage.specs.Counts.{count_in}
+use Rattle.rtps_coverage.specs.Stretches.{stretches_have}
 use Rattle.rtps_evidence.specs.Locations.{greatest_base}
 use Rattle.rtps_evidence.specs.Missed.{brings_behind, is_wanting}
 use Rattle.rtps_evidence.specs.Outcomes.{is_brought, is_unanswered}
 use Rattle.rtps_evidence.specs.Received.{first_claiming, is_received}
 use Rattle.rtps_evidence.specs.Spans.{since_of}
-use Rattle.rtps_evidence.specs.declared.amount.Stretch.{Stretch}
+use Rattle.rtps_coverage.specs.declared.stretch.Stretch.{Stretch}
 use Rattle.rtps_evidence.proofs.AnswerLemmas.{bases_same}
 use Rattle.rtps_evidence.proofs.MissedLemmas.{brought_same}
 use Rattle.rtps_evidence.proofs.OutcomeCounts.{claimed_below, missed_put, outcomes_counted, unanswered_put, unsent_put, with_arrived, with_likely, with_missed, with_unanswered, with_unsent}
 use Rattle.rtps_evidence.proofs.outcome.Outcomes.of.Goals as goal
 
 or_no : (b : Bool) → (b || false) ≡ b
-or_no true = refl
-or_no false = refl
+or_no b = grind (arith, nat_tests)
 
 not_not : (b : Bool) → not (not b) ≡ b
-not_not true = refl
-not_not false = refl
-
-pub outside-requires : goal.outside-requires
-outside-requires c = c.requires.lo
+not_not b = grind (arith, nat_tests)
 
 pub returns : goal.returns
 returns c = λ recording there is at_host are missed.

@@ -1,21 +1,18 @@
-use Rattle.std.proofs.Common.{◌≡◌, ◌∙◌, ◌+◌, ◌<◌, ◌≤◌, ◌||◌, ◌&&◌, ℕ, Bool, List, ap, arith, false, not, refl, sym, true}
+use Rattle.std.proofs.lemmas.Bool.Decides.{nat_tests}
+use Rattle.std.proofs.Common.{◌≡◌, ◌∙◌, ◌+◌, ◌<◌, ◌≤◌, ◌||◌, ◌&&◌, ℕ, Bool, List, ap, arith, false, not, sym, true}
 use Rattle.std.proofs.lemmas.Int.{ints}
 use Rattle.std.proofs.lemmas.List.Folds.{list_any-append}
-use Rattle.rtps_evidence.specs.Amount.{stretch_has, stretches_have}
+use Rattle.rtps_coverage.specs.Stretches.{stretch_has, stretches_have}
 use Rattle.rtps_evidence.specs.FirstNumbers.{kept}
 use Rattle.rtps_evidence.specs.Outcomes.{lacking_of}
 use Rattle.rtps_evidence.specs.Received.{is_received}
-use Rattle.rtps_evidence.specs.declared.amount.Stretch.{Stretch}
+use Rattle.rtps_coverage.specs.declared.stretch.Stretch.{Stretch}
 use Rattle.rtps_evidence.proofs.FirstNumbersLemmas.{first_same}
 use Rattle.rtps_evidence.proofs.outcome.Unreceived.lacking.Goals as goal
 
 -- a number is neither among those that do not lack, nor among those that are there
 neither : (lacks received there : Bool) → lacks ≡ not received → not (not lacks || there) ≡ (not received && not there)
-neither true true there is = let bad = is in cc
-neither true false true is = refl
-neither true false false is = refl
-neither false true there is = refl
-neither false false there is = let bad = is in cc
+neither lacks received there h = grind (arith, nat_tests)
 
 pub returns : goal.returns
 returns c = λ acts there at_host are.

@@ -3,7 +3,7 @@ use Rattle.rtps_audit.specs.Placed.{placed_value}
 use Rattle.rtps_evidence.specs.Outcomes.{told_gone}
 use Rattle.rtps_evidence.specs.Received.{withdraws}
 use Rattle.rtps_evidence.specs.Silences.{IsAt}
-use Rattle.rtps_evidence.proofs.SilenceLemmas.{heard_otherwise, heard_question}
+use Rattle.rtps_evidence.proofs.SilenceLemmas.{heard_question}
 use Rattle.rtps_evidence.proofs.silence.Walk.hear.Goals as goal
 
 pub returns-then-asks_behind : goal.returns-then-asks_behind
@@ -11,13 +11,6 @@ returns-then-asks_behind c = λ n silence at.
     let listener = c.args.listener.now in
     let pair = listener.pair in
     let x = placed_value c.args.placed.now in
-    let told = subst (λ b. IsAt n (cond b (told_gone silence) silence) c.withdraw_all.new.self) (c.heard-said.ensures.gone n) (c.in_ok-withdraw_all.ensures n silence at) in
-    subst (λ s. IsAt n s c.ask.new.self) (heard_question listener.since pair n x silence (c.heard-said.result.announced + 1) (sym c.asks_behind.ensures ∙ c.if-asks_behind.true) (ap (λ m. m + 1) c.heard-said.ensures.said.announced))
+    let told = subst (λ b. IsAt n (cond b (told_gone silence) silence) c.withdraw_all.new.self) (c.said_to-said.ensures.gone n) (c.in_ok-withdraw_all.ensures n silence at) in
+    subst (λ s. IsAt n s c.ask.new.self) (heard_question listener.since pair n x silence (c.said_to-said.result.announced + 1) (sym c.asks_behind.ensures ∙ c.if-asks_behind.true) (ap (λ m. m + 1) c.said_to-said.ensures.said.announced))
     (c.ask.ensures n (cond (withdraws pair.writer pair.reader n x) (told_gone silence) silence) told)
-
-pub returns-else-asks_behind : goal.returns-else-asks_behind
-returns-else-asks_behind c = λ n silence at.
-    let listener = c.args.listener.now in
-    let x = placed_value c.args.placed.now in
-    subst (λ s. IsAt n s c.withdraw_all.new.self) (heard_otherwise listener.since listener.pair n x silence (sym c.asks_behind.ensures ∙ c.if-asks_behind.false))
-    (subst (λ b. IsAt n (cond b (told_gone silence) silence) c.withdraw_all.new.self) (c.heard-said.ensures.gone n) (c.in_ok-withdraw_all.ensures n silence at))

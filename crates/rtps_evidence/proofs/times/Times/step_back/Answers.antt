@@ -1,9 +1,8 @@
+use Rattle.std.proofs.lemmas.Grind.{common_steps}
+use Rattle.std.proofs.lemmas.Bool.Decides.{nat_tests}
+use Rattle.std.proofs.Common.{arith}
 use Rattle.rtps_evidence.proofs.TimeLemmas.{end_more, step_more}
 use Rattle.rtps_evidence.proofs.times.Times.step_back.Goals as goal
 
 pub loop-time-preserved : goal.loop-time-preserved
-loop-time-preserved c =
-    let times = c.deref-time-items.result.now in
-    let end = end_more times c.loop-time.time-index c.loop-time-test.true in
-    let step = step_more times c.loop-time.time-index c.loop-time-test.true in
-    record { latest = cc; step = cc }
+loop-time-preserved c = grind (arith, nat_tests, common_steps, end_more, step_more)

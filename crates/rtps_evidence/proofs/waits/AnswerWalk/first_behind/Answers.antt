@@ -1,3 +1,5 @@
+use Rattle.std.proofs.lemmas.Grind.{common_steps}
+use Rattle.std.proofs.lemmas.Bool.Decides.{nat_tests}
 use Rattle.std.proofs.Common.{◌∙◌, ◌<◌, List, Some, ap, arith, length, pos, sym}
 use Rattle.std.specs.Option.{option_map}
 use Rattle.std.proofs.lemmas.Option.{slice_get-get_or}
@@ -9,12 +11,7 @@ use Rattle.rtps_evidence.proofs.waits.AnswerWalk.first_behind.Goals as goal
 use Rattle.rtps_evidence.proofs.waits.AnswerWalk.first_behind.Goals.{then-precedes, else-precedes}
 
 pub pass_answers-self-inside-requires : goal.pass_answers-self-inside-requires
-pass_answers-self-inside-requires c =
-    let walk = c.self.inside in
-    elim c.if-precedes.branch [
-      | then-precedes w ↦ rw w.passed-is (passed_none walk.answers.now c.args.place)
-      | else-precedes w ↦ rw w.passed-is (passed_on walk.answers.now walk.passed walk.place c.args.place (sym c.precedes.ensures ∙ w.if-precedes.false) c.self.invariant)
-    ]
+pass_answers-self-inside-requires c = grind (arith, nat_tests, common_steps, then-precedes, passed_none, else-precedes, passed_on)
 
 pub returns-clause-place : goal.returns-clause-place
 returns-clause-place c =

@@ -1,5 +1,6 @@
+use Rattle.std.proofs.lemmas.Bool.Decides.{nat_tests}
 use Rattle.std.proofs.Common.{ℕ, ◌∙◌, ap, arith, sym}
-use Rattle.std.specs.Prelude.{Err, IfOk, Ok, Some, Result, slice_get}
+use Rattle.std.specs.Prelude.{IfOk, Some, Result, slice_get}
 use Rattle.std.specs.Global.{Vec}
 use Rattle.rtps_ids.specs.declared.memory.Memory.{Memory}
 use Rattle.rtps_fragments.specs.FragmentDelivery.{last_fragment}
@@ -8,8 +9,7 @@ use Rattle.rtps_fragments.proofs.KeptLemmas.{parts_there, sample_at_first, sampl
 use Rattle.rtps_fragments.proofs.heard.Heard.sample.Goals as goal
 
 weaker : (result : Result (Vec ℕ) Memory) (P Q : Vec ℕ → Type 0) → ((v : Vec ℕ) → P v → Q v) → IfOk result P → IfOk result Q
-weaker (Ok v) P Q says is = says v is
-weaker (Err memory) P Q says is = tt
+weaker result P Q h h2 = grind (arith, nat_tests)
 
 pub returns-then-place-eq0 : goal.returns-then-place-eq0
 returns-then-place-eq0 c = weaker c.joined.result _ _ (λ v made came is within.

@@ -1,6 +1,8 @@
-use Rattle.std.proofs.Common.{◌≡◌, ◌++◌, ◌∙◌, ◌+◌, ◌-◌, ap, arith, drop, length, min, subst, sym, suc, take}
+use Rattle.std.proofs.lemmas.Grind.{common_steps}
+use Rattle.std.proofs.lemmas.Bool.Decides.{nat_tests}
+use Rattle.std.proofs.Common.{◌≡◌, ◌++◌, ◌∙◌, ◌+◌, ◌-◌, ap, arith, drop, length, min, sym, suc, take}
 use Rattle.std.proofs.lemmas.List.{drop_min, take_min, take_all}
-use Rattle.rtps_fragments.specs.Heard.{IsHeard, came_from}
+use Rattle.rtps_fragments.specs.Heard.{came_from}
 use Rattle.rtps_wire.specs.DataFrag.{parts_in}
 use Rattle.rtps_fragments.proofs.KeptLemmas.{length-parts_in, parts_behind, piece_step}
 use Rattle.rtps_fragments.proofs.heard.Heard.take_all.Goals as goal
@@ -24,10 +26,4 @@ loop-place-preserved c =
     )
 
 pub returns : goal.returns
-returns c = λ came is.
-    let parts = parts_in c.args.shape.fragment c.args.fragments.now.count c.args.fragments.now.octets.now in
-    let last = c.last_fragment-last.ensures in
-    let whole = length-parts_in c.args.shape.fragment c.args.fragments.now.count c.args.fragments.now.octets.now in
-    let all : take c.loop-place.place parts ≡ parts = take_all c.loop-place.place parts (omega (arith, whole, c.loop-place-test.false)) in
-    subst (λ n. IsHeard n (came ++ came_from c.args.fragments.now.first parts) c.loop-place.self) last
-    (subst (λ ps. IsHeard c.last_fragment-last.result (came ++ came_from c.args.fragments.now.first ps) c.loop-place.self) all (c.loop-place.invariant.0 came (subst (λ n. IsHeard n came c.args.self.now) (sym last) is)))
+returns c = grind (arith, nat_tests, common_steps, length-parts_in, take_all)

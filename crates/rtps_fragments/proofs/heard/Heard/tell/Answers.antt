@@ -5,7 +5,7 @@ use Rattle.rtps_fragments.specs.Heard.{IsHeard, came_from}
 use Rattle.rtps_fragments.specs.FragmentDelivery.{Shape, last_fragment}
 use Rattle.rtps_wire.specs.DataFrag.{parts_in}
 use Rattle.rtps_fragments.specs.Samples.{samples_of}
-use Rattle.rtps_fragments.specs.Telling.{sent_value, shape_of, told_value}
+use Rattle.rtps_fragments.specs.ToldSamples.{sent_value, shape_of, told_value}
 use Rattle.rtps_fragments.specs.declared.told_sample.ToldSample.{ToldSample}
 use Rattle.rtps_fragments.proofs.ToldSoFar.{told_step}
 use Rattle.rtps_fragments.proofs.heard.Heard.tell.Goals as goal

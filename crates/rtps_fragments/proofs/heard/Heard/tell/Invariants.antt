@@ -1,7 +1,7 @@
 use Rattle.std.proofs.Common.{◌≡◌, ℕ, ◌++◌, List, drop, map}
 use Rattle.rtps_fragments.specs.Heard.{IsHeard}
 use Rattle.rtps_fragments.specs.Samples.{samples_of}
-use Rattle.rtps_fragments.specs.Telling.{sent_value, shape_of, told_as, told_by_sent, told_value}
+use Rattle.rtps_fragments.specs.ToldSamples.{sent_value, shape_of, told_as, told_by_sent, told_value}
 use Rattle.rtps_fragments.proofs.heard.Heard.tell.Given as goal
 
 -- what is told, with what is left to tell, is all that is told

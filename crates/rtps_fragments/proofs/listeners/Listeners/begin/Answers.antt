@@ -1,12 +1,13 @@
-use Rattle.std.proofs.Common.{◌∙◌, sym}
+use Rattle.std.proofs.lemmas.Grind.{common_steps}
+use Rattle.std.proofs.lemmas.Bool.Decides.{nat_tests}
+use Rattle.std.proofs.Common.{◌∙◌, sym, arith}
 use Rattle.rtps_fragments.specs.Listeners.{came_to, has_name}
 use Rattle.rtps_fragments.specs.declared.listeners.Listener.{Listener}
 use Rattle.rtps_fragments.proofs.ListenerLemmas.{any_mapped, are_as_before, are_begun}
 use Rattle.rtps_fragments.proofs.listeners.Listeners.begin.Goals as goal
 
 pub returns-then-has_name : goal.returns-then-has_name
-returns-then-has_name c = λ last hearing named are.
-    are_as_before last hearing c.args.name c.args.self.now.each.items named are (any_mapped (has_name c.args.name) (λ (l : Listener). l.audience) c.args.self.now.each.items ∙ sym c.has_name.ensures ∙ c.if-has_name.true)
+returns-then-has_name c = grind (arith, nat_tests, common_steps, are_as_before, any_mapped)
 
 pub returns : goal.returns
 returns c = λ last hearing named are.

@@ -1,3 +1,5 @@
+use Rattle.std.proofs.lemmas.Grind.{common_steps}
+use Rattle.std.proofs.lemmas.Bool.Decides.{nat_tests}
 use Rattle.std.proofs.Common.{◌≡◌, ◌∙◌, ◌&&◌, Bool, ap, arith, false, get_or, subst, sym, length, take, ◌+◌, ◌<◌, ◌≤◌}
 use Rattle.std.specs.List.{list_any}
 use Rattle.std.specs.Str.{bytes_eq}
@@ -12,17 +14,7 @@ use Rattle.rtps_fragments.proofs.listeners.Listeners.have.Goals as goal
 use Rattle.rtps_fragments.proofs.listeners.Listeners.have.Goals.{else-is_wider-via-then-is_wider+in_ok-has+else-branch, else-is_wider-via-else-is_wider}
 
 pub returns-then-branch : goal.returns-then-branch
-returns-then-branch c = λ before now are.
-    let items = c.deref-listener-items.ensures.value in
-    let last = last_fragment c.args.shape in
-    let i = c.loop-listener.listener-index in
-    let x = c.listener-item.result in
-    let test : Audience → Bool = λ other. is_wider other c.args.audience.now && list_any (bytes_eq c.args.octets.now) (samples_for last now other) in
-    let lt : i < length c.args.self.now.each.items = subst (λ xs. i < length xs) items c.loop-listener-test.true in
-    let is : x ≡ get_or c.args.self.now.each.items i x = c.listener-item.is ∙ ap (λ xs. get_or xs i x) items in
-    let came = (own last before now c.args.self.now.each.items are i x lt is).came in
-    let has = sym (c.in_ok-has.ensures (came_to x.audience now.news) came) ∙ c.if-branch.true in
-    sym (ap (list_any test) (sym are.audiences) ∙ any_here test (λ (l : Listener). l.audience) c.args.self.now.each.items i x lt is (and_from _ _ (sym c.is_wider.ensures ∙ c.if-is_wider.true) has))
+returns-then-branch c = grind (arith, nat_tests, common_steps, own, any_here, and_from)
 
 pub loop-listener-preserved : goal.loop-listener-preserved
 loop-listener-preserved c = λ before now are.

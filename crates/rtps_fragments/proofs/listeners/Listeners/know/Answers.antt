@@ -7,7 +7,7 @@ use Rattle.rtps_fragments.specs.Heard.{came_from}
 use Rattle.rtps_wire.specs.DataFrag.{parts_in}
 use Rattle.rtps_fragments.specs.FragmentDelivery.{Shape}
 use Rattle.rtps_fragments.specs.Listeners.{came_first, came_to, is_for_audience}
-use Rattle.rtps_fragments.specs.Telling.{sent_value}
+use Rattle.rtps_fragments.specs.ToldSamples.{sent_value}
 use Rattle.rtps_fragments.specs.declared.listeners.Listener.{Listener}
 use Rattle.rtps_fragments.proofs.ListenerLemmas.{any_here, none_at_all, none_more, own}
 use Rattle.rtps_fragments.proofs.listeners.Listeners.know.Goals as goal

@@ -1,3 +1,5 @@
+use Rattle.std.proofs.lemmas.Grind.{common_steps}
+use Rattle.std.proofs.lemmas.Bool.Decides.{nat_tests}
 use Rattle.std.proofs.Common.{◌≡◌, ◌∙◌, ◌<◌, ◌++◌, ◌∷◌, [], Some, ap, append-nil, arith, length, map, slice_get, subst, sym}
 use Rattle.std.proofs.lemmas.List.{map-append}
 use Rattle.std.specs.Global.{Vec}
@@ -7,19 +9,14 @@ use Rattle.rtps_fragments.specs.FragmentDelivery.{last_fragment}
 use Rattle.rtps_fragments.specs.Listeners.{came_to, is_had, samples_for, told_by_audience}
 use Rattle.rtps_fragments.specs.Making.{AreListeners}
 use Rattle.rtps_fragments.specs.Samples.{samples_of}
-use Rattle.rtps_fragments.specs.Telling.{shape_of, told_each, told_value}
+use Rattle.rtps_fragments.specs.ToldSamples.{shape_of, told_each, told_value}
 use Rattle.rtps_fragments.specs.declared.told_sample.ToldSample.{ToldSample}
 use Rattle.rtps_fragments.proofs.ListenerLemmas.{audience_at, left_over, own, told_left, told_none, told_one}
 use Rattle.rtps_fragments.proofs.listeners.Listeners.push_told.Goals as goal
 use Rattle.rtps_fragments.proofs.listeners.Listeners.push_told.Goals.{then-not-branch+in_ok-push, else-not-branch}
 
 pub loop-number-init : goal.loop-number-init
-loop-number-init c = λ before now are.
-    let sent = c.args.sent.now in
-    let last = last_fragment (shape_of sent.key) in
-    let x = c.index-listener.result.now in
-    let is = own last before now c.args.self.now.each.items are c.args.place x c.requires.within c.index-listener.ensures in
-    ap (λ n. map told_value c.args.told.now.items ++ told_each sent.act (shape_of sent.key) (told_left last now x.audience n)) is.told
+loop-number-init c = grind (arith, nat_tests, common_steps, own, told_left)
 
 pub loop-number-preserved : goal.loop-number-preserved
 loop-number-preserved c = λ before now are.

@@ -1,5 +1,5 @@
 use Rattle.std.proofs.Common.{◌≡◌, length}
-use Rattle.rtps_fragments.specs.Listeners.{Hearing}
+use Rattle.rtps_fragments.specs.Listeners.{AudienceNews}
 use Rattle.rtps_fragments.specs.Making.{AreListeners, AreSoFar}
 use Rattle.rtps_fragments.proofs.listeners.Listeners.settle.Given as goal
 
@@ -7,4 +7,4 @@ use Rattle.rtps_fragments.proofs.listeners.Listeners.settle.Given as goal
 abbrev pub invariant-loop-place : goal.invariant-loop-place
 invariant-loop-place l =
     (length l.self.each.items ≡ l.place-end)
-    × ((before now : Hearing) → AreListeners l.last before now l.fn.self.each.items → AreSoFar l.last before now now now l.place l.self.each.items)
+    × ((before now : AudienceNews) → AreListeners l.last before now l.fn.self.each.items → AreSoFar l.last before now now now l.place l.self.each.items)

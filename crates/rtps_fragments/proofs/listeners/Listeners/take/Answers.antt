@@ -3,7 +3,7 @@ use Rattle.std.proofs.lemmas.List.{length-set}
 use Rattle.rtps_fragments.specs.FragmentDelivery.{last_fragment}
 use Rattle.rtps_fragments.specs.Listeners.{came_to, with_news}
 use Rattle.rtps_fragments.specs.Making.{IsListener}
-use Rattle.rtps_fragments.specs.Telling.{offer_of, sent_value, shape_of}
+use Rattle.rtps_fragments.specs.ToldSamples.{offer_of, sent_value, shape_of}
 use Rattle.rtps_fragments.proofs.Audiences.{came_to-more}
 use Rattle.rtps_fragments.proofs.ListenerLemmas.{all_so_far, none_so_far, one_so_far}
 use Rattle.rtps_fragments.proofs.listeners.Listeners.take.Goals as goal

@@ -4,7 +4,7 @@ use Rattle.std.proofs.lemmas.List.{take_all}
 use Rattle.std.proofs.lemmas.Option.{slice_get-get_or}
 use Rattle.rtps_fragments.specs.FragmentDelivery.{last_fragment}
 use Rattle.rtps_fragments.specs.Listeners.{everyone, told_by_audience}
-use Rattle.rtps_fragments.specs.Telling.{shape_of, told_each, told_value}
+use Rattle.rtps_fragments.specs.ToldSamples.{shape_of, told_each, told_value}
 use Rattle.rtps_fragments.proofs.ListenerLemmas.{count_is, told_on}
 use Rattle.rtps_fragments.proofs.listeners.Listeners.tell.Goals as goal
 

@@ -3,9 +3,9 @@ use Rattle.std.proofs.lemmas.List.Elements.{Contains-append_cases}
 use Rattle.rtps_audit.proofs.Offered.{contains_cases, contains_none}
 use Rattle.rtps_fragments.specs.FragmentDelivery.{last_fragment}
 use Rattle.rtps_fragments.specs.Heard.{IsHeard}
-use Rattle.rtps_fragments.specs.Listeners.{Hearing, Offer, everyone, hearing_of, silence}
+use Rattle.rtps_fragments.specs.Listeners.{AudienceNews, Offer, everyone, hearing_of, silence}
 use Rattle.rtps_fragments.specs.Making.{AreListeners, IsEverything, all_came}
-use Rattle.rtps_fragments.specs.Telling.{offer_of, sent_value, shape_of, told_value}
+use Rattle.rtps_fragments.specs.ToldSamples.{offer_of, sent_value, shape_of, told_value}
 use Rattle.rtps_fragments.proofs.Audiences.{hears-more, sound_of}
 use Rattle.rtps_fragments.proofs.MakingLemmas.{AreForAll, all_overheard, came-more}
 use Rattle.rtps_fragments.proofs.OkLemmas.{both_ok, on_ok}
@@ -22,7 +22,7 @@ returns-in-Some c =
     let old : IsHeard last (all_came offers) c.in-Some.everything = subst (IsEverything sent.key offers) c.in-Some.is parted.everything in (
       record {
         everything = subst (λ cs. IsHeard last cs c.tell.new.self) (sym (came-more offers offer)) (came (all_came offers) old);
-        listeners = subst (λ (h : Hearing). AreListeners last h h c.hear.new.self.each.items) (sym (hears-more silence offers offer)) listeners;
+        listeners = subst (λ (h : AudienceNews). AreListeners last h h c.hear.new.self.each.items) (sym (hears-more silence offers offer)) listeners;
       },
       record { heard = heard; overheard = all_overheard offers sent true (map told_value c.args.told.now.overheard.items) (map told_value c.tell.new.told.items) (sym c.is_built_in.ensures ∙ c.if-is_built_in.true) (told (all_came offers) old) },
     ))
@@ -38,7 +38,7 @@ returns-in-Some-2 c =
     let old : IsHeard last (all_came offers) c.in-Some.everything = subst (IsEverything sent.key offers) c.in-Some.is parted.everything in (
       record {
         everything = subst (λ cs. IsHeard last cs c.take_sent.new.self) (sym (came-more offers offer)) (came (all_came offers) old);
-        listeners = subst (λ (h : Hearing). AreListeners last h h c.hear.new.self.each.items) (sym (hears-more silence offers offer)) listeners;
+        listeners = subst (λ (h : AudienceNews). AreListeners last h h c.hear.new.self.each.items) (sym (hears-more silence offers offer)) listeners;
       },
       record { heard = heard; overheard = all_overheard offers sent false (map told_value c.args.told.now.overheard.items) (map told_value c.args.told.now.overheard.items) (sym c.is_built_in.ensures ∙ c.if-is_built_in.false) (sym (append-nil _)) },
     ))
@@ -60,7 +60,7 @@ returns-in-None c = λ offers is.
     ] in (
       record {
         everything = subst (IsEverything sent.key (offers ++ offer ∷ [])) (sym c.in-None.is) (other, all);
-        listeners = subst (λ (h : Hearing). AreListeners last h h c.hear.new.self.each.items) (sym (hears-more silence offers offer)) listeners;
+        listeners = subst (λ (h : AudienceNews). AreListeners last h h c.hear.new.self.each.items) (sym (hears-more silence offers offer)) listeners;
       },
       record { heard = heard; overheard = all_overheard offers sent false (map told_value c.args.told.now.overheard.items) (map told_value c.args.told.now.overheard.items) other (sym (append-nil _)) },
     )

@@ -1,7 +1,7 @@
 use Rattle.std.proofs.Common.{◌∙◌, [], sym, subst}
 use Rattle.rtps_fragments.specs.FragmentDelivery.{last_fragment}
 use Rattle.rtps_fragments.specs.Making.{IsEverything}
-use Rattle.rtps_fragments.specs.Telling.{shape_of}
+use Rattle.rtps_fragments.specs.ToldSamples.{shape_of}
 use Rattle.rtps_audit.proofs.Offered.{contains_none}
 use Rattle.rtps_fragments.proofs.making.Making.new.Goals as goal
 use Rattle.rtps_fragments.proofs.making.Making.new.Goals.{then-is_built_in, else-is_built_in}

@@ -1,14 +1,14 @@
-use Rattle.std.proofs.Common.{◌≡◌, ◌∙◌, None, Option, Some, ap, refl, slice_get, sym}
+use Rattle.std.proofs.lemmas.Bool.Decides.{nat_tests}
+use Rattle.std.proofs.Common.{◌≡◌, ◌∙◌, None, Option, Some, ap, slice_get, sym, arith}
 use Rattle.std.specs.Prelude.{false, is_some}
 use Rattle.rtps_fragments.specs.FragmentDelivery.{last_fragment}
 use Rattle.rtps_fragments.specs.Making.{all_came}
-use Rattle.rtps_fragments.specs.Telling.{shape_of}
+use Rattle.rtps_fragments.specs.ToldSamples.{shape_of}
 use Rattle.rtps_fragments.proofs.MakingLemmas.{first_heard, first_there}
 use Rattle.rtps_fragments.proofs.making.Making.part.Goals as goal
 
 none_is : {X : Type 0} (o : Option X) → is_some o ≡ false → o ≡ None
-none_is None e = refl
-none_is (Some x) e = cc
+none_is o h = grind (arith, nat_tests)
 
 not_none : {X : Type 0} {Q : Type 0} (x : X) → Some x ≡ None → Q
 not_none x e = cc

@@ -1,7 +1,7 @@
 use Rattle.std.proofs.Common.{◌≡◌, ◌∙◌, true, cond, ap, refl, subst, sym}
 use Rattle.std.specs.BTreeSet.{contains}
 use Rattle.rtps_fragments.specs.Making.{AddsTold}
-use Rattle.rtps_fragments.specs.Telling.{offers, sent_value, told_by_offers}
+use Rattle.rtps_fragments.specs.ToldSamples.{offers, sent_value, told_by_offers}
 use Rattle.rtps_fragments.specs.Whole.{is_number, key_number, number_cmp}
 use Rattle.rtps_fragments.specs.declared.making.Makings.{Makings}
 use Rattle.rtps_fragments.specs.declared.whole.SampleNumber.{SampleNumber}

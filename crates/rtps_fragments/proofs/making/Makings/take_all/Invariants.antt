@@ -1,6 +1,6 @@
 use Rattle.std.proofs.Common.{◌≡◌, ◌++◌, List, map, take}
 use Rattle.rtps_fragments.specs.Making.{AreMakings}
-use Rattle.rtps_fragments.specs.Telling.{SentValue, overheard_in_turn, sent_value, told_in_turn, told_value}
+use Rattle.rtps_fragments.specs.ToldSamples.{SentValue, overheard_in_turn, sent_value, told_in_turn, told_value}
 use Rattle.rtps_fragments.proofs.making.Makings.take_all.Given as goal
 
 -- what the acts so far tell

@@ -2,8 +2,8 @@ use Rattle.std.proofs.Common.{◌≡◌, [], map, take}
 use Rattle.rtps_fragments.specs.Making.{AreMakings}
 use Rattle.rtps_fragments.specs.Merging.{sents_in}
 use Rattle.rtps_fragments.specs.RecordedSamples.{by_datagram}
-use Rattle.rtps_fragments.specs.Sending.{sending_of}
-use Rattle.rtps_fragments.specs.Telling.{overheard_behind, told_behind, told_value}
+use Rattle.rtps_fragments.specs.FragmentWalk.{sending_of}
+use Rattle.rtps_fragments.specs.ToldSamples.{overheard_behind, told_behind, told_value}
 use Rattle.rtps_fragments.proofs.samples.Samples.of.Given as goal
 
 -- what the datagrams so far send is kept, and what they tell

@@ -1,8 +1,8 @@
 use Rattle.std.proofs.Common.{◌≡◌, ◌+◌, Bool, not, [], ◌∷◌, ◌++◌, ◌∙◌, ap, arith, map, sym, take}
-use Rattle.rtps_fragments.specs.Telling.{sent_value}
+use Rattle.rtps_fragments.specs.ToldSamples.{sent_value}
 use Rattle.rtps_fragments.specs.Whole.{has_whole, left_among, key_number}
 use Rattle.rtps_fragments.specs.declared.piece.SentFragments.{SentFragments}
-use Rattle.rtps_fragments.proofs.SendingLemmas.{at_most_one, one_of}
+use Rattle.rtps_fragments.proofs.FragmentWalkLemmas.{at_most_one, one_of}
 use Rattle.rtps_fragments.proofs.ToldSoFar.{sents-more}
 use Rattle.rtps_fragments.proofs.WholeLemmas.{left-more}
 use Rattle.rtps_fragments.proofs.whole.WholeNumbers.left_among.Goals as goal

@@ -1,5 +1,5 @@
 use Rattle.std.proofs.Common.{◌≡◌, ◌≤◌, List, map, take}
-use Rattle.rtps_fragments.specs.Telling.{SentValue, sent_value}
+use Rattle.rtps_fragments.specs.ToldSamples.{SentValue, sent_value}
 use Rattle.rtps_fragments.specs.Whole.{AreWholeIn, left_among}
 use Rattle.rtps_fragments.proofs.whole.WholeNumbers.left_among.Given as goal
 

@@ -1,7 +1,0 @@
-use Rattle.std.proofs.Common.{◌≡◌, ℕ, take}
-use Rattle.rtps_evidence.specs.Amount.{stretches_have}
-use Rattle.rtps_evidence.proofs.amount.push_all.Given as goal
-
--- the numbers of the stretches so far
-abbrev pub invariant-loop-stretch : goal.invariant-loop-stretch
-invariant-loop-stretch l = (n : ℕ) → stretches_have l.few.items n ≡ stretches_have (take l.stretch-index l.stretches) n

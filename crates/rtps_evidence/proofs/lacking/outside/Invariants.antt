@@ -1,6 +1,0 @@
-use Rattle.rtps_evidence.proofs.LackingLemmas.{IsRest}
-use Rattle.rtps_evidence.proofs.lacking.outside.Given as goal
-
--- what the stretches so far leave
-abbrev pub invariant-loop-stretch : goal.invariant-loop-stretch
-invariant-loop-stretch l = IsRest l.stretches l.fn.from l.stretch-index l.at l.rest.items

@@ -1,6 +1,0 @@
-use Rattle.rtps_evidence.proofs.RisingLemmas.{IsRisen}
-use Rattle.rtps_evidence.proofs.rising.rise.Given as goal
-
--- the stretches so far are made
-abbrev pub invariant-loop-stretch : goal.invariant-loop-stretch
-invariant-loop-stretch l = IsRisen l.stretches l.stretch-index l.hi l.rising.items
