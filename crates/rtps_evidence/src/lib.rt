@@ -4,6 +4,7 @@
 
 mod acknowledgement;
 mod amount;
+mod book;
 mod claimed;
 mod evidence;
 mod exchange;
@@ -28,12 +29,16 @@ mod questions;
 mod received;
 mod recorded;
 mod said_to;
+mod same_act;
 mod sent_payload;
 mod silence;
 mod span;
 mod teller;
 mod times;
 mod waits;
+mod way;
+mod way_round;
+mod window;
 mod withdrawal;
 mod writer_summary;
 
@@ -56,3 +61,4 @@ pub use span::{Span, left_in};
 pub use teller::Teller;
 pub use times::{Seconds, Times};
 pub use waits::Wait;
+pub use way::Way;

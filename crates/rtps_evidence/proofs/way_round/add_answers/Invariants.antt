@@ -1,0 +1,10 @@
+use Rattle.std.proofs.Common.{◌≡◌, ◌++◌, filter, map, take}
+use Rattle.std.specs.Borrow.{Bor}
+use Rattle.rtps_receiver.specs.Speech.{is_answer}
+use Rattle.rtps_audit.specs.Placed.{placed_value}
+use Rattle.rtps_audit.specs.declared.placed.Placed.{Placed}
+use Rattle.rtps_evidence.proofs.way_round.add_answers.Given as goal
+
+abbrev pub invariant-loop-placed : goal.invariant-loop-placed
+invariant-loop-placed l = map (λ (one : Bor Placed). placed_value one.now) l.words.items
+    ≡ map (λ (one : Bor Placed). placed_value one.now) l.initial.words.items ++ filter (λ at. is_answer at.act l.pair.reader l.pair.writer) (map placed_value (take l.placed-index l.acts))
