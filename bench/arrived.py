@@ -34,9 +34,10 @@ What the terms mean
 - A row that is held is clean where it is complete or open and no number lacks, or where only a tail does, and either the reader left
   or no more numbers lack than --tail allows. A conflict or an unfounded answer is in FILE, and stays.
 - All other rows are as without OTHER. A note says how many pairs are so.
+- The numbers that are missed of a row that is held, the first of them, and the advice are those that did not arrive.
 
 What is proved, and what is counted
-- Verdicts, received numbers and all evidence are those of FILE, as without OTHER, and so is what `--certain` asks for.
+- Verdicts, received numbers and all evidence but for missed numbers are those of FILE, as without OTHER, and so is what `--certain` asks for.
 - What arrived is what stands in OTHER. It is no premise of a verdict, and no consequence of one. A note says how many numbers are
   received for certain and not in OTHER: then OTHER lacks something, and others that lack may have arrived.
 
@@ -61,9 +62,9 @@ from importlib import import_module
 from itertools import islice
 
 import reference
-from asked import PLAIN
-from random_recordings import some_checked, some_life, text_of_datagrams
-from random_systems import some_other, some_system
+from asked import Asked
+from random_recordings import some_asked, text_of_datagrams
+from random_systems import some_both, some_other
 from reference import acts_of, guid_text, name_text, told_to
 from talk import named_by
 from wording import amount, grouped, in_pairs, of
@@ -94,28 +95,27 @@ UNREAD = [
 class Other:
     """a recording that was made at the host of readers"""
 
-    def __init__(self, recording, ignored=None):
-        """`recording` has the acts of each datagram"""
-        self.recording, self.namings = recording, named_by(recording)
-        self.ignored = ignored if isinstance(ignored, dict) else {}
+    def __init__(self, datagrams, ignored=None):
+        self.datagrams, self.ignored = datagrams, ignored or {}
+        self.recording = [acts_of(d, True) for d in datagrams]
+        self.namings = named_by(self.recording)
 
     def holds(self, w, r):
         """whether it has an act of the reader's participant that names the writer's"""
         return (r[:12], w[:12]) in self.namings
 
     def told(self, w, r):
-        """the numbers of which the reader is told a payload; None of a pair that is not held"""
-        return {act['number'] for _, act, words in told_to(self.recording, w, r) if words.payload is not None} if self.holds(w, r) else None
+        """the numbers of which the reader is told a payload"""
+        return {act['number'] for _, act, words in told_to(self.recording, w, r) if words.payload is not None}
 
 
-def other_of(octets, name, limits=reference.USUAL, view='check', any_form=True, fragments=True):
+def other_of(octets, name, limits=reference.USUAL, view='check'):
     """the other recording, which is read as the one that is judged, or the lines of standard error, each with its name"""
-    read = reference.input_of(octets, limits, any_form)
+    read = reference.input_of(octets, limits, True)
     if not isinstance(read, str):
-        datagrams, ignored = read
-        return Other([acts_of(d, fragments) for d in datagrams], ignored)
-    *reasons, _ = reference.told_of(name, octets, limits, any_form, f'{view} --arrived - FILE')
-    return [*reasons, f'rtps-audit: {name}: {read}']
+        return Other(*read)
+    *reasons, _ = reference.told_of(name, octets, limits, True, f'{view} --arrived - FILE')
+    return [*reasons, f'rtps-audit: {name_text(name.encode())}: {read}']
 
 
 # ---- numbers that did not arrive
@@ -241,29 +241,21 @@ def guid_of(text):
     return bytes.fromhex(text.replace('.', ''))
 
 
-def sides_of(octets, other, asked):
-    """the rows, and what the other recording shows beside them"""
-    datagrams, _ = reference.input_of(octets, any_form=True)
-    rows, talk, _ = spans().rows_of(datagrams, asked.checked(), True, other=other)
-    return rows, BothSides(rows, talk, other)
-
-
-def not_arrived(rows, sides):
+def not_arrived(report):
     """of each pair that is held its writer, its reader, its first number, and all numbers that did not arrive"""
-    for row in rows:
+    for row in report.rows:
         if row.held:
             yield row.w, row.r, row.first, set(row.lacking())
-    for pair in sides.best_effort:
+    for pair in report.sides.best_effort:
         yield pair.w[0], pair.r[0], pair.first, pair.all_lacking()
 
 
 def truth(path, other_path, truth_path):
     """whether the numbers that did not arrive are those that the application did not take"""
-    with open(path, 'rb') as f, open(other_path, 'rb') as g, open(truth_path) as h:
-        octets, other, ends = f.read(), other_of(g.read(), other_path), json.load(h)['eps']
-    rows, sides = sides_of(octets, other, PLAIN)
+    with open(path, 'rb') as f, open(truth_path) as h:
+        octets, ends = f.read(), json.load(h)['eps']
     named, differing, pairs = {guid_of(end['guid']): (name, end) for name, end in ends.items()}, 0, 0
-    for w, r, first, lacking in not_arrived(rows, sides):
+    for w, r, first, lacking in not_arrived(report_module().report_of(octets, Asked(arrived=other_path))):
         (name, writer), (_, reader) = named[w], named[r]
         untaken = set(range(first, writer['wrote'] + 1)) - set(reader['took'].get(name, []))
         pairs += 1
@@ -281,7 +273,8 @@ def truth(path, other_path, truth_path):
 
 def without_other(row, plain):
     """where a row that is held is not what the same row without the other recording says of it"""
-    if (row.verdict, row.lines, row.first, row.until) != (plain.verdict, plain.lines, plain.first, plain.until):
+    ours, theirs = ([line for line in one.lines if 'missed' not in line and not line.startswith('  ')] for one in (row, plain))
+    if (row.verdict, ours, row.first, row.until) != (plain.verdict, theirs, plain.first, plain.until):
         yield 'evidence'
     for n in range(row.first, min(row.last, 11) + 1):
         kind, other_kind = row.delivery.kind(n), plain.delivery.kind(n)
@@ -289,14 +282,15 @@ def without_other(row, plain):
             yield f'kind of number {n}'
 
 
-def failing(rows, plain_rows, other, tail):
+def failing(report, plain_rows):
     """the laws that rows by another recording do not keep"""
-    backwards = Other(other.recording[::-1])
-    for row, plain in zip(rows, plain_rows):
+    other, tail = report.sides.other, report.asked.tail
+    backwards = Other(other.datagrams[::-1])
+    for row, plain in zip(report.rows, plain_rows):
         yield from without_other(row, plain) if row.held else []
         if sum(row.counts.values()) != row.asked_about():
             yield 'sum of the kinds'
-        if not row.held and (row.counts, row.is_clean(tail)) != (plain.counts, plain.is_clean(tail)):
+        if not row.held and (row.counts, row.is_clean()) != (plain.counts, plain.is_clean()):
             yield 'row that is not held'
         if row.held != any(act['source'] == row.r[:12] and act['dest'] == row.w[:12] for acts in other.recording for act in acts):
             yield 'row that is held'
@@ -304,9 +298,9 @@ def failing(rows, plain_rows, other, tail):
             yield 'order of the other recording'
         if row.held and other.told(row.w, row.r) != in_whole(other.recording, row.w, row.r):
             yield 'numbers that are told'
-        if row.held and row.is_clean(tail) and row.lacking_count() > max(tail, 0 if row.until is None else row.lacking_count()):
+        if row.held and row.is_clean() and row.lacking_count() > max(tail, 0 if row.until is None else row.lacking_count()):
             yield 'clean row that lacks numbers'
-        if row.held and row.kind in ('complete', 'open') and not row.lacking_count() and not row.is_clean(tail):
+        if row.held and row.kind in ('complete', 'open') and not row.lacking_count() and not row.is_clean():
             yield 'row that lacks nothing'
 
 
@@ -335,56 +329,60 @@ def laws(count, seed):
     names = 'rows', 'held', 'clean', 'clean by it', 'unclean by it', 'arrived', 'lacking', 'best effort'
     rng, failed, tried = random.Random(seed), 0, dict.fromkeys(names, 0)
     for k in range(count):
-        datagrams = some_system(rng) if rng.random() < 0.4 else some_life(rng)
-        asked, other = some_checked(rng).checked(), Other([acts_of(d, True) for d in some_other(rng, datagrams)])
-        (rows, talk, _), (plain, _, _) = (spans().rows_of(datagrams, asked, True, other=one) for one in (other, None))
-        sides = BothSides(rows, talk, other)
-        found = [*failing(rows, plain, other, asked.tail), *failing_best_effort(sides)]
-        tried['best effort'] += len(sides.best_effort)
-        if bool(check_reasons(rows, asked.tail)) != any(not row.is_clean(asked.tail) for row in rows):
+        asked, (datagrams, there) = some_asked(rng), some_other(rng, some_both(rng))
+        report, plain = (report_module().Report(datagrams, asked, other=one) for one in (Other(there), None))
+        found = [*failing(report, plain.rows), *failing_best_effort(report.sides)]
+        if bool(check_reasons(report.rows)) != any(not row.is_clean() for row in report.rows):
             found.append('reasons')
         for what in found:
             failed += 1
             print(f'the law on {what} fails on recording {k}, kept in {reference.kept(text_of_datagrams(datagrams))}')
-        for row, old in zip(rows, plain):
-            clean = row.is_clean(asked.tail), old.is_clean(asked.tail)
-            for name, more in (('rows', 1), ('held', row.held), ('clean', clean[0]), ('clean by it', clean == (True, False)),
-                               ('unclean by it', clean == (False, True)), ('arrived', row.counts['arrived'])):
-                tried[name] += more
-            tried['lacking'] += row.lacking_count() if row.held else 0
+        count_laws(tried, report, plain)
     print(f'{count} recordings, {failed} failures; {tried}')
     return int(failed > 0)
 
 
-def check_reasons(rows, tail):
-    return import_module('check').row_reasons(rows, tail)
+def count_laws(tried, report, plain):
+    """adds what was tried"""
+    tried['best effort'] += len(report.sides.best_effort)
+    for row, old in zip(report.rows, plain.rows):
+        clean = row.is_clean(), old.is_clean()
+        more = {'rows': 1, 'held': row.held, 'clean': clean[0], 'clean by it': clean == (True, False), 'unclean by it': clean == (False, True),
+                'arrived': row.counts['arrived'], 'lacking': row.lacking_count() if row.held else 0}
+        for name, count in more.items():
+            tried[name] += count
+
+
+def check_reasons(rows):
+    return import_module('check').row_reasons(rows)
 
 
 def compare(program, count, seed):
     rng, differing = random.Random(seed), 0
     for k in range(count):
-        datagrams = some_system(rng) if rng.random() < 0.5 else some_life(rng)
+        datagrams, there = some_other(rng, some_both(rng))
         octets = text_of_datagrams(datagrams)
-        name = reference.kept(text_of_datagrams(some_other(rng, datagrams)) + (b'0\n' if rng.random() < 0.03 else b''))
+        name = reference.kept(text_of_datagrams(there) + (b'0\n' if rng.random() < 0.03 else b''))
         differs = False
-        for flag in [], ['--json']:
-            asked = some_checked(rng)
+        for form in report_module().FORMS:
+            asked = some_asked(rng)
             asked.arrived = name
-            want = spans().checked_with(octets, asked, bool(flag), '-')
-            got = subprocess.run(program.split() + ['check', *flag, *asked.words(), '-'], input=octets, capture_output=True)
+            want = report_module().answer(form, octets, asked)
+            words = report_module().words_of(form) + asked.words()
+            got = subprocess.run(program.split() + words + ['-'], input=octets, capture_output=True)
             if (got.stdout.decode(), got.stderr.decode().splitlines(), got.returncode) != want:
                 differs = True
                 differing += 1
-                print(f"check {' '.join([*flag, *asked.words()])} differs on recording {k}, kept in {reference.kept(octets)}")
+                print(f"{' '.join(words)} differs on recording {k}, kept in {reference.kept(octets)}")
         if not differs:
             os.unlink(name)
     print(f'{count} recordings, {differing} differences')
     return int(differing > 0)
 
 
-def spans():
-    """the rows, which need this file"""
-    return import_module('spans')
+def report_module():
+    """the report, which needs this file"""
+    return import_module('report')
 
 
 def main():

@@ -379,11 +379,12 @@ def packets_of(arrivals):
 # ---- a capture
 
 class Reading:
-    """The datagrams of a capture and their times, in nanoseconds since 1970 or None, and the time of the first frame that has one; and of
-    the frames that gave no datagram how many there are for each reason, and the link type of the first one of a link that is not read."""
+    """The datagrams of a capture and their times, in nanoseconds since 1970 or None, the time of the first frame that has one, and the
+    greatest time of a frame; and of the frames that gave no datagram how many there are for each reason, and the link type of the first
+    one of a link that is not read."""
 
     def __init__(self, mode):
-        self.mode, self.datagrams, self.times, self.start = mode, [], [], None
+        self.mode, self.datagrams, self.times, self.start, self.end = mode, [], [], None, None
         self.pieces = self.cut = self.other = self.links = 0
         self.link = None
 
@@ -411,7 +412,8 @@ def frames_of(file, mode):
 
 def read_frames(frames, mode):
     reading, given, pieces = Reading(mode), {}, {}
-    reading.start = next((frame.time for frame in frames if isinstance(frame, Frame) and frame.time is not None), None)
+    times = [frame.time for frame in frames if isinstance(frame, Frame) and frame.time is not None]
+    reading.start, reading.end = next(iter(times), None), max(times, default=None)
     for number, frame in enumerate(frames):
         if isinstance(frame, Rest):
             reading.cut += 1

@@ -1,12 +1,13 @@
-"""The text of `rtps-audit check`, from rows of a report: what a person and a test job ask of a recording.
+"""The text of `rtps-audit check`, from a report: what a person and a test job ask of a recording.
 
-`check_lines` gives the lines, `because` the reasons for which the recording is not clean. Both are written from what is
-meant, and not from the program. The guide prints the table ADVICE. A row is that of `spans.Row`, and `talk` that of `talk.Talk`;
-`sides` is what another recording shows, an `arrived.BothSides`, where there is one.
+`check_lines` gives the lines, `because` the reasons for which the recording is not clean, and `ending` the last line. They are written from
+what is meant, and not from the program. The guide prints the table ADVICE. A report is that of `report.Report`: it has rows (`spans.Row`),
+who talks (`talk.Talk`), counts, what another recording shows (`arrived.BothSides`), where there is one, and what is asked.
 """
 import arrived
 from times import behind, order_notes, timed_line, wait_line
-from told import hosted, one_way_lines, talk_notes, topic_text, type_text, unmatched_amount, unmatched_lines
+from told import (best_effort_shares, best_effort_totals, hosted, one_way_lines, talk_notes, topic_text, type_text, unmatched_amount,
+                  unmatched_lines)
 from wording import amount, grouped, in_pairs, of
 
 KINDS = 'received', 'arrived', 'missed', 'unsent', 'unanswered', 'likely', 'unconfirmed'
@@ -15,6 +16,8 @@ KINDS = 'received', 'arrived', 'missed', 'unsent', 'unanswered', 'likely', 'unco
 
 # name, verdict, what fits, what to do
 ADVICE = [
+    ('silent_reader', 'any', "the reader's participant is silent", "the reader's process ended without leaving, or was cut off: see what it did"),
+    ('silent_writer', 'any', "the writer's participant is silent", "the writer's process ended without leaving, or was cut off: see what it did"),
     ('lost', 'complete, open', 'with `--arrived`: numbers that were sent are `not arrived`, and not only a tail',
      "it was sent and did not reach the reader's host: look at the network; raise the history depth, so that the writer still has what is "
      'asked for again'),
@@ -30,16 +33,17 @@ ADVICE = [
     ('unanswered', 'complete', '`unanswered` above 0',
      'it was asked about and gave no answer until the writer had dropped them: an outage of the network or of the reader; raise the '
      'history depth if these must not be lost'),
-    ('tail', 'open', 'only a tail, of a reader that is not silent',
+    ('tail', 'open', 'only a tail',
      'stop publishing some seconds before the recording ends, or allow a tail (--tail)'),
-    ('left', 'open', '`acknowledged nothing`, and the reader left',
-     'it was never asked, or its answers are not in the recording: see that it took anything'),
     ('open_in_fragments', 'open', '`told nowhere`, and `fragments`, `pieces` or `cut` above 0',
      'it may be in a fragment or frame that was not read: see below what to do for these'),
     ('open_untold', 'open', '`told nowhere`',
      "the recording does not have it: record at the writer's side, on the interface that it uses"),
+    ('left', 'open', '`acknowledged nothing`, `not asked since its last answer`, and the reader left',
+     'it was never asked, or its answers are not in the recording: see that it took anything'),
     ('not_asked', 'open', '`not asked since its last answer`',
      'the reader may have all: stop publishing, wait some seconds, and only then end the recording'),
+    ('just_asked', 'open', '`asked .. since its last answer`, first in the last second of the recording', 'record longer'),
     ('never_answered', 'open', '`acknowledged nothing`',
      'the reader was asked and acknowledged nothing: see that it runs, and record both directions'),
     ('silent', 'open', '`asked N times since its last answer`',
@@ -77,14 +81,15 @@ def missed_advice(row):
 
 
 def open_advice(row, values, counts):
-    if row.is_tail() and row.until is None and not row.reader_is_silent():
+    if row.is_tail() and row.until is None:
         return 'tail'
-    if values['acknowledged'] is None and row.until is not None:
-        return 'left'
     if values['told'] is None:
         return 'open_in_fragments' if is_unread(counts) else 'open_untold'
-    if not values['asked_since']:
-        return 'not_asked'
+    asked = row.asked_since()
+    if not asked:
+        return 'left' if values['acknowledged'] is None and row.until is not None else 'not_asked'
+    if row.times.is_last(asked[0][0]):
+        return 'just_asked'
     return 'silent' if values['acknowledged'] else 'never_answered'
 
 
@@ -106,9 +111,9 @@ def is_lost(row):
     return was_sent or row.counts['missed'] > 0 and row.delivery.missed[0] in row.delivery.brought
 
 
-def advice_of(row, counts):
-    """the case of a row that is not clean"""
-    values = row.values()
+def case_of(row, counts):
+    """the case of a row that is not clean, of which nobody is silent"""
+    values = row.evidence()
     if row.kind == 'conflict':
         one, other = values['sent']
         return 'alike' if all(one[part] == other[part] for part in ('payload', 'octets')) else 'unlike'
@@ -123,14 +128,23 @@ def advice_of(row, counts):
     return 'unsent' if row.counts['unsent'] else 'unanswered'
 
 
+def advice_of(row, counts):
+    """what to do for a row that is not clean. A reader that is silent is told first, then a writer, and then nothing else"""
+    silent = dict(row.silences)
+    for side in ('reader', 'writer'):
+        if side in silent:
+            return f"{SENTENCES[f'silent_{side}']} at {row.times.second(silent[side])} s"
+    return SENTENCES[case_of(row, counts)]
+
+
 # ---- parts of lines
 
 def total(rows, kind):
     return sum(row.counts[kind] for row in rows)
 
 
-def cleans(rows, tail):
-    return sum(row.is_clean(tail) for row in rows)
+def cleans(rows):
+    return sum(row.is_clean() for row in rows)
 
 
 def topics_of(rows):
@@ -152,13 +166,14 @@ def no_pair_advice(talk):
     return next((advice for found, advice in cases if found), NO_PAIR)
 
 
-def first_lines(rows, talk, tail, sides):
+def first_lines(report):
+    rows = report.rows
     if not rows:
-        return ['there is no pair to judge', '  -> ' + no_pair_advice(talk)]
+        return ['there is no pair to judge', '  -> ' + no_pair_advice(report.talk)]
     numbers = sum(row.asked_about() for row in rows)
     pairs, what = ('pair is' if len(rows) == 1 else 'pairs are'), ('number' if numbers == 1 else 'numbers')
     received = f"{of(total(rows, 'received'), numbers)} {what} received"
-    return [f"{of(cleans(rows, tail), len(rows))} {pairs} clean, {received}{arrived.more_arrived(rows) if sides else ''}"]
+    return [f"{of(cleans(rows), len(rows))} {pairs} clean, {received}{arrived.more_arrived(rows) if report.sides else ''}"]
 
 
 # ---- the table by topic
@@ -172,11 +187,11 @@ def by_topic(rows):
     return [[row for row in rows if row.key == key] for key in keys]
 
 
-def table(rows, tail):
+def table(rows):
     """the lines of the table. A column of zeros alone is left out, but for the first four"""
     lines = [['topic', 'pairs', 'clean', 'before', *COLUMNS]]
     for some in by_topic(rows):
-        counts = [len(some), cleans(some, tail), sum(row.before for row in some), *(total(some, kind) for kind in COLUMNS)]
+        counts = [len(some), cleans(some), sum(row.before for row in some), *(total(some, kind) for kind in COLUMNS)]
         lines.append([topic_text(some[0].key[0]), *map(grouped, counts)])
     columns = [column for i, column in enumerate(zip(*lines)) if i < 4 or any(cell != '0' for cell in column[1:])]
     padded = [[cell.rjust(max(map(len, column))) if i else cell.ljust(max(map(len, column))) for cell in column] for i, column in enumerate(columns)]
@@ -204,37 +219,37 @@ def beginning(line):
 
 def shown(row):
     """the lines that explain a row, of which the one on missed numbers is the first"""
-    lines = [line for line in row.lines if beginning(line) in SHOWN[row.kind] and not is_of_arrived(row, line)]
+    lines = [line for line in row.lines if beginning(line) in SHOWN[row.kind]]
     return arrived.lacking_lines(row) + [line.strip() for line in sorted(lines, key=lambda line: not line.startswith('  '))]
 
 
-def is_of_arrived(row, line):
-    """whether a line is the one on the first missed number of a row that is held, and the number is none of the first that lack"""
-    return row.held and beginning(line) == '  number' and row.delivery.missed[0] not in arrived.first_named(row.lacking())
+def said_lines(row):
+    """how long the reader let the writer wait, and who is silent"""
+    return ([wait_line(row.times, row.wait)] if row.wait else []) + row.silence_lines()
 
 
-def timed_lines(row):
-    """the lines that explain a row, each place with its second; how long the reader let the writer wait; and who is silent"""
-    waited = [wait_line(row.times, row.wait)] if row.wait else []
-    return [*(timed_line(row.times, line) for line in shown(row)), *waited, *row.silence_lines()]
-
-
-def row_lines(row, talk, counts):
+def row_lines(row, report):
     left = f', left in datagram {row.until[0]}{behind(row.times, row.until[0])}' if row.until else ''
     kinds = [f'{kind} {row.counts[kind]}' for kind in COLUMNS if kind == 'received' or row.counts[kind]]
-    return [f'  writer {hosted(talk.announced, row.w)}', f'  reader {hosted(talk.announced, row.r)}, from {row.first}{left}',
-            f"  {', '.join([row.verdict, *kinds])}", *('    ' + line for line in timed_lines(row)), '    -> ' + SENTENCES[advice_of(row, counts)]]
+    announced, explained = report.talk.announced, [*(timed_line(row.times, line) for line in shown(row)), *said_lines(row)]
+    return [f'  writer {hosted(announced, row.w)}', f'  reader {hosted(announced, row.r)}, from {row.first}{left}',
+            f"  {', '.join([row.verdict, *kinds])}", *('    ' + line for line in explained), '    -> ' + row.advice(report.counts)]
 
 
-def section(rows, talk, counts, tail):
-    told = [row for row in rows if not row.is_clean(tail) and not row.is_tail_alone(tail)]
+def is_told_by_its_tail(row, report):
+    """it is not clean for its tail alone, and nothing else is to be done"""
+    return row.advice(report.counts) == SENTENCES['tail']
+
+
+def section(rows, report):
+    told = [row for row in rows if not row.is_clean() and not is_told_by_its_tail(row, report)]
     head = ['', ' '.join((topic_text(rows[0].key[0]), type_text(rows[0].key[1])))] if told else []
-    return head + [line for row in told for line in row_lines(row, talk, counts)]
+    return head + [line for row in told for line in row_lines(row, report)]
 
 
-def tail_lines(rows, tail):
+def tail_lines(report):
     """the rows that are not clean for their tail alone share a line"""
-    alone = [row for row in rows if row.is_tail_alone(tail)]
+    alone = [row for row in report.rows if is_told_by_its_tail(row, report)]
     if not alone:
         return []
     longest = max(row.tail() for row in alone)
@@ -281,31 +296,41 @@ def late_note(rows):
     return f"the writer wrote nothing since the reader joined: {amount(len(rows), 'pair', 'pairs')}"
 
 
-def tail_note(rows):
-    longest = max(row.tail() for row in rows)
-    return f"{amount(len(rows), 'pair is', 'pairs are')} clean with a tail, of at most {amount(longest, 'number', 'numbers')}"
+NAMED = 10      # so many topics with a tail are named
 
 
-def notes(rows, talk, counts, tail, sides):
+def tail_notes(rows):
+    """the rows that are clean with a tail, and by topic the longest of them, the longest topic first"""
+    if not rows:
+        return []
+    longest = {some[0].key: max(row.tail() for row in some) for some in by_topic(rows)}
+    topics = sorted(longest, key=lambda key: -longest[key])
+    named = ', '.join(f'{topic_text(topic)} {grouped(longest[topic, kind])}' for topic, kind in topics[:NAMED])
+    more = f', and {grouped(len(topics) - NAMED)} more' if len(topics) > NAMED else ''
+    most = amount(longest[topics[0]], 'number', 'numbers')
+    return [(f"{amount(len(rows), 'pair is', 'pairs are')} clean with a tail, of at most {most}", named + more, None)]
+
+
+def notes(report):
     """what weakens the report: each with the topics that it is about, or None, and what to do, or None"""
-    late = [row for row in rows if row.wrote_before_alone]
-    tails = [row for row in rows if row.is_clean(tail) and row.kind == 'open' and row.tail()]
+    rows, talk, sides = report.rows, report.talk, report.sides
+    late = [row for row in rows if row.wrote_before_alone()]
     found = order_notes(talk.times) + talk_notes(talk) + (list(sides.notes(topic_text)) if sides else [])
     found += [(late_note(late), topics_of(late), LATE)] if late else []
-    found += [(tail_note(tails), None, None)] if tails else []
-    counts = counts | {'likely': total([row for row in rows if not row.held], 'likely')}
+    found += tail_notes([row for row in rows if row.is_clean_with_a_tail()])
+    counts = report.counts | {'likely': total([row for row in rows if not row.held], 'likely')}
     return found + [(noted(counts, name, one, many), None, advice) for name, one, many, advice in NOTES if counts.get(name, 0)]
 
 
-def note_lines(rows, talk, counts, tail, sides):
+def note_lines(report):
     lines = []
-    for told, topics, advice in notes(rows, talk, counts, tail, sides):
+    for told, topics, advice in notes(report):
         lines += [told if topics is None else f'{told}: {topics}'] + (['  -> ' + advice] if advice else [])
     return lines
 
 
-def note_sentences(rows, talk, counts, tail, sides=None):
-    return [f'{told} -> {advice}' if advice else told for told, _, advice in notes(rows, talk, counts, tail, sides)]
+def note_sentences(report):
+    return [f'{told} -> {advice}' if advice else told for told, _, advice in notes(report)]
 
 
 # ---- why the recording is not clean
@@ -325,39 +350,68 @@ def uncertain(rows):
     return [in_pairs(numbers, 'number is not received for certain', 'numbers are not received for certain', len(some))] if some else []
 
 
-def row_reasons(rows, tail):
+def row_reasons(rows):
     """why rows that have to be clean are not"""
-    unclean = [row for row in rows if row.kind != 'complete' and not row.is_clean(tail)]
+    unclean = [row for row in rows if row.kind != 'complete' and not row.is_clean()]
     reasons = [amount(len(unclean), 'pair is not complete', 'pairs are not complete')] if unclean else []
     reasons += lost(rows, 'missed', 'number was missed', 'numbers were missed')
     reasons += lost(rows, 'unsent', 'number was unsent', 'numbers were unsent')
     return reasons + lost(rows, 'unanswered', 'number was unanswered', 'numbers were unanswered') + arrived.lost_reasons(rows)
 
 
-def match_reasons(talk):
-    return [unmatched_amount(talk)] if talk.unmatched else []
+def best_effort_alone(report):
+    """how many numbers of best-effort pairs the recording has, where no pair is judged and they have numbers; else None"""
+    _, numbers, _ = best_effort_totals(report.talk)
+    return f'no reliable pair; {best_effort_shares(report.talk)}' if not report.rows and numbers else None
 
 
-def because(rows, talk, counts, asked):
+def pair_reasons(report):
+    """why there is nothing to judge"""
+    return [] if report.rows or best_effort_alone(report) else ['there is no pair']
+
+
+def best_effort_reasons(report):
+    """of best-effort pairs, which stand alone, the recording lacks numbers"""
+    _, numbers, recorded = best_effort_totals(report.talk)
+    return [best_effort_alone(report)] if best_effort_alone(report) and recorded < numbers else []
+
+
+def because(report):
     """why the recording is not clean"""
-    reasons = [] if rows else ['there is no pair']
-    reasons += row_reasons(rows, asked.tail) + (uncertain(rows) if asked.certain else []) + match_reasons(talk) + few(rows, asked.expect or 0)
-    return reasons + unread(counts, 'unsettled', 'pieces', 'cut', 'links')
+    rows, talk = report.rows, report.talk
+    reasons = pair_reasons(report) + row_reasons(rows) + (uncertain(rows) if report.asked.certain else [])
+    reasons += [unmatched_amount(talk)] if talk.unmatched else []
+    return reasons + best_effort_reasons(report) + few(rows, report.asked.expect or 0) + unread(report.counts, 'unsettled', 'pieces', 'cut', 'links')
 
 
 def few(rows, expected):
     return [f"{amount(len(rows), 'pair', 'pairs')} of {grouped(expected)} expected"] if len(rows) < expected else []
 
 
+def ending(report):
+    """the last line: why the recording is not clean, or what is known of one that is"""
+    if report.because:
+        return f"not clean: {'; '.join(report.because)}"
+    numbers = sum(row.asked_about() for row in report.rows)
+    received = total(report.rows, 'received')
+    if best_effort_alone(report):
+        return f'clean: {best_effort_alone(report)}'
+    if received + total(report.rows, 'arrived') == numbers:
+        return 'clean'
+    what = 'number is' if numbers == 1 else 'numbers are'
+    return f'clean: {of(received, numbers)} {what} received for certain, none is known to be lost'
+
+
+# ---- the text
+
 def block(lines):
     return [''] + lines if lines else []
 
 
-def check_lines(rows, talk, counts, tail, reasons, sides=None):
-    """the lines of these rows, of who does not talk, of these counts, of which `refused` are longer than an octet, and of why it is not
-    clean"""
+def check_lines(report):
+    talk, sides = report.talk, report.sides
     lost_here = sides.lines(lambda guid: hosted(talk.announced, guid), topic_text) if sides else []
-    return [*first_lines(rows, talk, tail, sides), *block(table(rows, tail) if rows else []),
-            *(line for some in by_topic(rows) for line in section(some, talk, counts, tail)), *tail_lines(rows, tail),
-            *block(unmatched_lines(talk)), *block(one_way_lines(talk)), *block(lost_here), *block(note_lines(rows, talk, counts, tail, sides)),
-            *block([f"not clean: {'; '.join(reasons)}" if reasons else 'clean'])]
+    return [*first_lines(report), *block(table(report.rows) if report.rows else []),
+            *(line for some in by_topic(report.rows) for line in section(some, report)), *tail_lines(report),
+            *block(unmatched_lines(talk)), *block(one_way_lines(talk)), *block(lost_here), *block(note_lines(report)),
+            *block([ending(report)])]

@@ -5,9 +5,9 @@ A recording is a list of datagrams, each a list of acts, as `reference.acts_of` 
 of a submessage in it. A reader joins where it is announced first.
 """
 import reference
-from asked import GREATEST
 from fragments import placed_samples
-from reference import BUILTIN, START_OF_ALL, announcement, asks, brings, joined_here, last_number, read_list, spoken
+from reference import (BUILTIN, START_OF_ALL, announcement, asks, brings, heard, joined_here, last_number, members, read_list,
+                       spoken)
 
 # ---- who joins, and who leaves
 
@@ -75,25 +75,42 @@ class Life:
 
 # ---- the part of a recording that a pair is judged by
 
+def told_gone(act):
+    """the numbers that a GAP tells gone, as the greatest one; 0 where there is none"""
+    base, count, bits, _ = act['set']
+    return max([base - 1 if act['start'] < base else 0, *members(base, count, bits)])
+
+
 class Span:
-    """of a pair: where the reader joins, from which number on and up to which datagram the pair is judged, where spans are asked
-    for; else by all"""
-    def __init__(self, recording, life, w, r, asked):
-        placed = [((i, act['at']), act) for i, acts in enumerate(recording, 1) for act in acts]
-        answers = [(place, act['set']) for place, act in placed if reference.answered(act, w, r)]
+    """of a pair: where the reader joins, from which number on and up to which datagram the pair is judged. `first` is the number from which
+    on numbers are asked for"""
+    def __init__(self, recording, life, w, r, first):
+        self.w, self.r = w, r
+        self.placed = [((i, act['at']), act) for i, acts in enumerate(recording, 1) for act in acts]
+        answers = [(place, act['set']) for place, act in self.placed if reference.answered(act, w, r)]
         joined, said = life.joins(r)
-        is_here = joined_here(joined, answers)
+        self.joined_here = joined_here(joined, answers)
         # what is behind this place is since the reader joined
-        self.since = joined if is_here else START_OF_ALL
-        self.joined_here = asked.spans and is_here
-        self.until = life.leaves(r, joined) if asked.spans else None
-        self.first = asked.first
-        if self.joined_here:
-            before = [last_number(act) for place, act in placed if spoken(act, w) and place < joined]
-            least = max(asked.first, min(max([0] + before) + 1, GREATEST)) if said[5] == 0 else asked.first
-            wanted = {act['number'] for place, act in placed if brings(act, w, r) and place > joined}
-            wanted |= {n for _, act in placed for n in asks(act, w, r)}
-            self.first = min((n for n in wanted if n >= least), default=least)
+        self.since = joined if self.joined_here else START_OF_ALL
+        self.until = life.leaves(r, joined)
+        self.first = self.first_for(first, is_volatile=said[5] == 0) if self.joined_here else first
+
+    def first_for(self, first, is_volatile):
+        """the first number that is for the reader, of those from `first` on"""
+        least = max(first, self.announced_before() + 1, self.irrelevant() + 1) if is_volatile else first
+        wanted = {act['number'] for place, act in self.placed if place > self.since and brings(act, self.w, self.r)}
+        wanted |= {n for _, act in self.placed for n in asks(act, self.w, self.r)}
+        return min((n for n in wanted if n >= least), default=least)
+
+    def announced_before(self):
+        """the greatest number that the writer announced before the reader joined"""
+        return max((last_number(act) for place, act in self.placed if place < self.since and spoken(act, self.w)), default=0)
+
+    def irrelevant(self):
+        """the greatest number that is told gone by a GAP which the reader hears since it joined, before it is sent anything"""
+        heard_since = [(place, act) for place, act in self.placed if place > self.since and spoken(act, self.w) and heard(act, self.r)]
+        sent = min((place for place, act in heard_since if brings(act, self.w, self.r)), default=None)
+        return max((told_gone(act) for place, act in heard_since if act['kind'] == 'gap' and (sent is None or place < sent)), default=0)
 
     def datagrams(self, recording):
         """those that the pair is judged by"""

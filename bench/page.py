@@ -7,29 +7,26 @@
     page.py compare PROGRAM [COUNT [SEED]]
                                          runs PROGRAM on COUNT random recordings, and says where its page differs
 
-An OPTION is one of `audit`, but for limits and --json; or --arrived OTHER, by which rows in spans are held against OTHER, a recording
-that is read as FILE is. It sets --spans.
+An OPTION is one of `check`, but for limits and --json. The page is a form of the report of report.py: its text is that of `check`, and its data
+has the members of `check --json`.
 """
 import os
 import random
 import subprocess
 import sys
-from copy import copy
 from importlib import import_module
 
 sys.dont_write_bytecode = True
 ROOT = os.path.dirname(os.path.dirname(os.path.abspath(__file__)))
 sys.path[:0] = [os.path.join(ROOT, 'bench'), os.path.join(ROOT, 'crates', 'rtps_page', 'page')]
-import arrived
-import check
 import parts
 import reference
-import spans
-import told
+import report as reports
 from asked import PLAIN, asked_by
 from random_recordings import some_asked, text_of_datagrams
-from random_systems import some_other, some_recorded
-from times import NO_TIMES, json_text
+from random_systems import some_both, some_other, some_recorded
+from report import Report
+from times import json_text
 
 # So many entries of acts and answers a page has room for.
 ENTRIES = 200000
@@ -101,51 +98,8 @@ def endpoint_values(endpoint):
             'reliability': reference.RELIABILITY_WORDS[reliability], 'durability': reference.DURABILITY_WORDS[durability]}
 
 
-def option_values(asked, any_capture):
-    return {'from': asked.first, 'any': any_capture, 'fragments': asked.fragments, 'observed': asked.observed, 'strict': asked.strict, 'spans': asked.spans,
-            'topics': asked.topics, 'expect': asked.expect}
-
-
-# ---- what `check` says of these rows
-
-class Checked:
-    """the rows that are asked for, those that the recording cannot speak of, the counts, and why the run does not end clean"""
-    def __init__(self, octets, asked, datagrams, ignored, times=NO_TIMES, other=None):
-        self.rows, self.talk, counted = spans.rows_of(datagrams, asked, asked.spans, times, other)
-        self.sides = arrived.BothSides(self.rows, self.talk, other) if other else None
-        self.report = counted | (ignored if isinstance(ignored, dict) else {} if ignored is None else {'ignored': ignored})
-        self.counts = spans.counts_of(octets, datagrams, self.report, ignored)
-        self.because = self.reasons(asked)
-
-    def reasons(self, asked):
-        """why the run does not end clean. Rows in spans have to be clean, and all endpoints have to match; other rows have to be complete.
-        The rest is asked by --strict, but for how many rows there are"""
-        strict = asked.strict
-        reasons = ['there is no pair'] if strict and not self.rows else []
-        reasons += check.row_reasons(self.rows, 0) + check.match_reasons(self.talk) if asked.spans else self.incomplete(strict)
-        reasons += check.few(self.rows, asked.expect or 0) + (check.unread(self.counts, 'unsettled', 'pieces', 'cut', 'links') if strict else [])
-        return reasons + (check.unread(self.counts, 'fragments') if strict and not asked.spans else [])
-
-    def incomplete(self, strict):
-        rows = [row for row in self.rows if row.kind != 'complete']
-        reasons = [check.amount(len(rows), 'pair is not complete', 'pairs are not complete')] if rows else []
-        return reasons + (check.lost(self.rows, 'missed', 'number was missed', 'numbers were missed') if strict else [])
-
-    def findings(self, asked):
-        """the lines of standard error"""
-        missed = 0 if asked.spans else sum(row.counts['missed'] > 0 for row in self.rows)
-        counts = self.counts | ({'fragments': 0, 'unmatched': len(self.talk.unmatched)} if asked.spans else {})
-        return [f'rtps-audit: not clean: {line}' for line in asked.findings(len(self.rows), missed, counts, self.counts)]
-
-    def text(self):
-        return ''.join(line + '\n' for line in check.check_lines(self.rows, self.talk, self.counts, 0, self.because, self.sides))
-
-    def members(self):
-        """the members of `check --json`"""
-        head = {'status': 'unclean' if self.because else 'clean', 'because': self.because}
-        pairs = [row.values() | row.span_values() | {'advice': row.advice(self.counts)} for row in self.rows]
-        notes = {'notes': check.note_sentences(self.rows, self.talk, self.counts, 0, self.sides)}
-        return head | {'pairs': pairs} | self.report | told.talk_members(self.talk, self.sides) | notes
+def option_values(asked):
+    return {'from': asked.first, 'topics': asked.topics, 'expect': asked.expect, 'tail': asked.tail, 'certain': asked.certain}
 
 
 # ---- the page
@@ -156,22 +110,27 @@ def times_in(times, writers, answers):
     return [[datagram, times.second(datagram)] for datagram in sorted(named) if times.second(datagram)]
 
 
-def page_of(datagrams, asked=PLAIN, ignored=None, octets=b'', times=NO_TIMES, other=None):
-    """the text and the data of a page, as Python has it; where any capture was read, the ignored frames are told by their reasons"""
-    checked = Checked(octets, asked, datagrams, ignored, times, other)
-    _, endpoints, _, _, _ = reference.discovery(datagrams, asked.fragments)
-    rows = [row.names() | {'verdict': row.kind} for row in checked.rows]
-    traffic = Traffic([reference.acts_of(d, asked.fragments) for d in datagrams], rows)
+def parts_of(report):
+    """the text and the data of the page of a report, as Python has it"""
+    _, endpoints, _, _, _ = reference.discovery(report.datagrams, True)
+    rows = [row.names() | {'verdict': row.kind} for row in report.rows]
+    traffic = Traffic(report.talk.recording, rows)
     pairs = {(row['writer'], row['reader']) for row in traffic.charted(rows)}
     shown = [row for row in rows if (row['writer'], row['reader']) in pairs]
     writers = [{'guid': guid, 'acts': traffic.acts[octets_of(guid)]} for guid in dict.fromkeys(row['writer'] for row in shown)]
     answers = [{'writer': row['writer'], 'reader': row['reader'], 'bases': traffic.bases_of(row)} for row in shown]
-    return checked.text(), checked.members() | {
-        'options': option_values(asked, isinstance(ignored, dict)),
+    times = report.talk.times
+    return report.text(), report.members() | {
+        'options': option_values(report.asked),
         'endpoints': [endpoint_values(endpoint) for endpoint in endpoints],
         'writers': writers,
         'answers': answers,
     } | ({'times': times_in(times, writers, answers)} if times.are_there() else {})
+
+
+def page_of(datagrams, asked=PLAIN):
+    """the text and the data of the page of a text of these datagrams"""
+    return parts_of(Report(datagrams, asked))
 
 
 def data_text(values):
@@ -190,71 +149,46 @@ def page_text(text, values):
     return head + escaped(text) + middle + data_text(values) + tail
 
 
-def times_of(octets, any_form):
-    return reference.times_of(octets, any_form=any_form)
+def read_page(octets, asked=PLAIN, name='-'):
+    """the text and the data of the page of an input of this name"""
+    return parts_of(reports.report_of(octets, asked, name, view='page'))
 
 
-def other_of(asked, any_form):
-    """the other recording that is asked for, or None; and the lines of standard error where it is refused"""
-    if asked.arrived is None:
-        return None, []
-    with open(asked.arrived, 'rb') as f:
-        found = arrived.other_of(f.read(), asked.arrived, view='page', any_form=any_form, fragments=asked.fragments)
-    return (None, found) if isinstance(found, list) else (found, [])
-
-
-def widened(asked):
-    """the same, in spans where another recording is asked for"""
-    asked = copy(asked)
-    asked.spans = asked.spans or asked.arrived is not None
-    return asked
-
-
-def parts_of(octets, asked=PLAIN, any_form=False):
-    """the text and the data of the page of an input, or the last line of standard error"""
-    asked, any_form = widened(asked), any_form or asked.strict
-    found, (other, refused) = reference.input_of(octets, any_form=any_form), other_of(asked, any_form)
-    if isinstance(found, str) or refused:
-        return found if isinstance(found, str) else refused[-1]
-    return page_of(found[0], asked, found[1], octets, times_of(octets, any_form), other)
-
-
-def answer_as(octets, asked, any_form=False):
+def answer(octets, asked=PLAIN, name='-'):
     """text, lines on standard error and status of `page`"""
-    asked, any_form = widened(asked), any_form or asked.strict
-    read, (other, refused) = reference.input_of(octets, any_form=any_form), other_of(asked, any_form)
-    if isinstance(read, str) or refused:
-        return '', reference.told_of('-', octets, any_form=any_form) if isinstance(read, str) else refused, 2
-    times = times_of(octets, any_form)
-    checked = Checked(octets, asked, *read, times, other)
-    return page_text(*page_of(read[0], asked, read[1], octets, times, other)), checked.findings(asked), int(bool(checked.because))
+    try:
+        text, values = read_page(octets, asked, name)
+    except reports.Refused as refused:
+        return '', refused.lines, refused.status
+    return page_text(text, values), [], int(values['status'] != 'clean')
 
 
 # ---- random recordings
 
 
 def some_run(rng):
-    """the octets of a recording, of which some have times; what is asked of it; and words for it. Of some another recording is kept in a file"""
+    """the octets of a recording, of which some have times, and what is asked of it. Of some another recording is kept in a file"""
+    chance = rng.random()
+    if chance < 0.4:
+        return import_module('random_times').some_asked_of(rng)
+    if chance < 0.7:
+        return some_recorded(rng), some_asked(rng)
+    datagrams, there = some_other(rng, some_both(rng))
     asked = some_asked(rng)
-    asked.spans = rng.random() < 0.5
-    is_capture = rng.random() < 0.4
-    octets = import_module('random_times').some_timed(rng) if is_capture else some_recorded(rng)
-    read = reference.input_of(octets, any_form=True)
-    if rng.random() < 0.5 and not isinstance(read, str):
-        asked.arrived = reference.kept(text_of_datagrams(some_other(rng, read[0])) + (b'0\n' if rng.random() < 0.03 else b''))
-    return octets, asked, asked.words() + (['--any'] if is_capture and not asked.strict else [])
+    asked.arrived = reference.kept(text_of_datagrams(there) + (b'0\n' if rng.random() < 0.03 else b''))
+    return text_of_datagrams(datagrams), asked
 
 
 def compare(program, count, seed):
     rng, differing = random.Random(seed), 0
     seen = dict.fromkeys(('"times":[[', '"wait":{', '"silence":["', '"arrived":', '"not_arrived":[', '"arrived":[{'), 0)
     for k in range(count):
-        octets, asked, words = some_run(rng)
-        want, told, status = answer_as(octets, asked, '--any' in words)
-        got = subprocess.run(program.split() + ['page', *words, '-'], input=octets, capture_output=True)
-        if got.stdout.decode() != want or got.returncode != status or status < 2 and got.stderr.decode().splitlines() != told:
+        octets, asked = some_run(rng)
+        want, told, status = answer(octets, asked)
+        got = subprocess.run(program.split() + ['page', *asked.words(), '-'], input=octets, capture_output=True)
+        if (got.stdout.decode(), got.stderr.decode().splitlines(), got.returncode) != (want, told, status):
             differing += 1
-            print(f'page {" ".join(words)} differs on recording {k}, kept in {reference.kept(octets)}')
+            print(f'page {" ".join(asked.words())} differs on recording {k}, kept in {reference.kept(octets)}')
         elif asked.arrived is not None:
             os.unlink(asked.arrived)
         for what in seen:
@@ -270,11 +204,12 @@ def main():
         return compare(words[1], count, seed)
     view = words.pop(0) if words[0] in ('data', 'stored', 'page') else 'page'
     with open(words[-1], 'rb') as f:
-        found = parts_of(f.read(), asked_by(words[:-1]), '--any' in words)
-    if isinstance(found, str):
-        print(f'page.py: {found}', file=sys.stderr)
-        return 2
-    text, values = found
+        octets = f.read()
+    try:
+        text, values = read_page(octets, asked_by(words[:-1]), words[-1])
+    except reports.Refused as refused:
+        sys.stderr.write(reports.lines_text(refused.lines))
+        return refused.status
     if view == 'stored':
         sys.stdout.write(parts.stored(escaped(text), data_text(values)))
     else:

@@ -116,6 +116,14 @@ def domain_in(payload):
     return number(values[0][:4], order) if values and len(values[0]) >= 4 else None
 
 
+def lease_in(payload):
+    """the lease in nanoseconds; None where it is not announced, or is below 0"""
+    order, pairs = fields_of(payload)
+    values = [value for pid, value in pairs if pid == 0x0002]
+    lease = duration_of(values[0], order) if values else None
+    return None if lease is None or lease[0] < 0 else lease[0] * 10 ** 9 + (lease[1] * 10 ** 9 >> 32)
+
+
 # ---- what fits
 
 # A set: a mark where one stands there, then its members, of which the first may be a closing bracket.

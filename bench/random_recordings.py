@@ -154,10 +154,15 @@ def some_recording(rng):
 class Told:
     """a writer and a reader that speak of few numbers, as a random recording has it. What the reader answers is mostly true,
     and what is lost on the way is as if it never came"""
-    def __init__(self, rng, writer=b'\0\0\1\3', reader=b'\0\0\1\4', in_fragments=False):
-        self.rng, self.first, self.last, self.held = rng, 1, 0, set()
+    def __init__(self, rng, writer=b'\0\0\1\3', reader=b'\0\0\1\4', in_fragments=False, most=4):
+        self.rng, self.first, self.last, self.held, self.most = rng, 1, 0, set(), most
         self.writer, self.reader = writer, reader
-        self.in_fragments, self.sent = in_fragments, {}
+        self.in_fragments, self.sent, self.asked = in_fragments, {}, 0
+
+    def counted(self):
+        """the next count of a HEARTBEAT or an ACKNACK"""
+        self.asked += 1
+        return u('be', 4, self.asked)
 
     def submessage(self, sid, flags, *parts):
         reader = self.rng.choice([bytes(4), bytes(4), self.reader] if sid != 0x06 else [self.reader])
@@ -197,8 +202,8 @@ class Told:
         return self.submessage(0x16, 0, sn('be', n), u('be', 4, i), u('be', 2, 1), u('be', 2, size), u('be', 4, len(sample)), octets)
 
     def heartbeat(self):
-        self.take(range(1, self.first))
-        return self.submessage(0x07, self.rng.choice([0, 0, 0, 2]), sn('be', self.first), sn('be', max(self.last, self.first - 1)), bytes(4))
+        self.take(range(1, min(self.first, 20)))
+        return self.submessage(0x07, self.rng.choice([0, 0, 0, 2]), sn('be', self.first), sn('be', max(self.last, self.first - 1)), self.counted())
 
     def gap(self):
         start, base = sorted(self.rng.randrange(1, 5) for _ in range(2))
@@ -220,12 +225,12 @@ class Told:
         lacked = {n for n in range(base, max(self.last + 1, base)) if n not in self.held and self.rng.random() < 0.8}
         if self.rng.random() < 0.05:
             lacked = {n for n in range(base, base + 3) if self.rng.random() < 0.5}
-        return self.submessage(0x06, self.rng.choice([0, 2]), self.set_of(base, lacked), bytes(4))
+        return self.submessage(0x06, self.rng.choice([0, 2]), self.set_of(base, lacked), self.counted())
 
     def next(self):
         """the next submessage, and whether the writer says it"""
         kind = self.rng.random()
-        if kind < 0.3 and self.last < 4:
+        if kind < 0.3 and self.last < self.most:
             self.last += 1
             if self.rng.random() < 0.1:
                 return self.heartbeat(), True
@@ -239,11 +244,11 @@ class Told:
         return (self.gap(), True) if kind < 0.67 else (self.answer(), False)
 
 
-def some_delivery(rng, in_fragments=False):
-    """what a writer and a reader say of the numbers 1 to 4, with resends, first numbers that move on, GAPs and what is asked
-    for"""
-    told, datagrams = Told(rng, in_fragments=in_fragments), []
-    for _ in range(rng.randrange(3, 18)):
+def some_delivery(rng, in_fragments=False, most=18):
+    """what a writer and a reader say of the numbers 1 to 4, or to more in a long one, with resends, first numbers that move on, GAPs and
+    what is asked for"""
+    told, datagrams = Told(rng, in_fragments=in_fragments, most=max(4, most // 5)), []
+    for _ in range(rng.randrange(most // 6, most)):
         octets, by_writer = told.next()
         prefix, dest = (A, rng.choice([b'', b'', b'\x0e\0\0\x0c' + B])) if by_writer else (B, b'\x0e\0\0\x0c' + A)
         if datagrams and rng.random() < 0.25 and datagrams[-1][8:20] == prefix:
@@ -499,47 +504,112 @@ def nack_frag(rng, n):
     return put(order, 0x12, 0, body[:rng.choice([len(body)] * 15 + [len(body) - 1, 10])])
 
 
-def some_life(rng):
+def by_writer(octets, dest=b''):
+    return b'RTPS\2\5\0\0' + A + (b'\x0e\0\0\x0c' + dest if dest else b'') + octets
+
+
+def irrelevant(rng):
+    """what a writer tells a reader that has just joined: a GAP or two, and sometimes up to the greatest number"""
+    told, datagrams = Told(rng), []
+    for _ in range(rng.choice([1, 1, 2])):
+        base = rng.choice([2, 3, 3, 4, 5]) if rng.random() < 0.97 else GREATEST
+        gap = told.submessage(0x08, 0, sn('be', rng.choice([1, 1, 1, base])), told.set_of(base, {base} if rng.random() < 0.3 else set()))
+        datagrams.append(by_writer(gap, rng.choice([B, B, B, C])))
+    return datagrams
+
+
+def greatest_of_all(rng):
+    """a writer announces the greatest number"""
+    told = Told(rng)
+    told.first, told.last = rng.choice([1, GREATEST]), GREATEST
+    return by_writer(told.heartbeat() if rng.random() < 0.8 else told.data(GREATEST))
+
+
+def outage(rng):
+    """for a while no answer comes, and the writer asks again, until it has dropped what it asked about"""
+    told = Told(rng)
+    told.last = rng.randrange(1, 5)
+    asked = [by_writer(told.heartbeat()) for _ in range(rng.randrange(1, 4))]
+    told.first = rng.randrange(1, 6)
+    return asked + [by_writer(told.heartbeat())]
+
+
+def tail(rng):
+    """what a writer sends, and nobody acknowledges"""
+    told = Told(rng)
+    told.last = rng.randrange(4, 8)
+    return [by_writer(told.data(n)) for n in range(4, told.last + 1)] + ([by_writer(told.heartbeat())] if rng.random() < 0.3 else [])
+
+
+def some_life(rng, most=18):
     """a delivery to a reader that joins late, mostly, and leaves, mostly, and that asks for fragments"""
-    datagrams = [d for d in some_delivery(rng, rng.random() < 0.5) if d != START[1]]
-    guid, more = B + b'\0\0\1\4', RELIABLE + rng.choice([b'', DURABLE])
+    datagrams = [d for d in some_delivery(rng, rng.random() < 0.5, most) if d != START[1]]
+    guid, more = B + b'\0\0\1\4', RELIABLE + rng.choice([b'', b'', DURABLE])
     writer = announced(b'\0\0\3\xc2', A, b'\0\0\1\3', DURABLE)
     datagrams = [writer if d == START[0] else d for d in datagrams]
-    if rng.random() < 0.4:  # for a while no answer comes, and the writer asks again
+    if rng.random() < 0.4:
         lo = rng.randrange(len(datagrams))
-        away = [d for d in datagrams[lo:lo + 9] if d[8:20] != B]
-        told = Told(rng)
-        told.last = rng.randrange(1, 5)
-        asked = [b'RTPS\2\5\0\0' + A + told.heartbeat() for _ in range(rng.randrange(1, 4))]
-        told.first = rng.randrange(1, 6)
-        datagrams[lo:lo + 9] = away + asked + [b'RTPS\2\5\0\0' + A + told.heartbeat()]
+        datagrams[lo:lo + 9] = [d for d in datagrams[lo:lo + 9] if d[8:20] != B] + outage(rng)
     for _ in range(rng.choice([0, 0, 1, 2])):
         d = b'RTPS\2\5\0\0' + B + b'\x0e\0\0\x0c' + rng.choice([A] * 9 + [C]) + nack_frag(rng, rng.randrange(1, 5))
         datagrams.insert(rng.randrange(len(datagrams) + 1), d)
     at = rng.randrange(len(datagrams) // 2 + 1)
-    datagrams[at:at] = some_announced(rng, announced(b'\0\0\4\xc2', B, b'\0\0\1\4', more), 0.1)
-    for _ in range(rng.choice([0, 1, 1, 1, 2])):
+    joins = some_announced(rng, announced(b'\0\0\4\xc2', B, b'\0\0\1\4', more), 0.1)
+    joins = ([greatest_of_all(rng)] if rng.random() < 0.1 else []) + joins + (irrelevant(rng) if rng.random() < 0.3 else [])
+    datagrams[at:at] = joins
+    for _ in range(rng.choice([0, 0, 0, 1, 1, 1, 2])):
         at = rng.randrange(len(datagrams) // 2, len(datagrams) + 1) if rng.random() < 0.9 else rng.randrange(len(datagrams) + 1)
         datagrams.insert(at, leaving(rng, guid, rng.choice(['be', 'le'])))
     if rng.random() < 0.1:
         datagrams.append(announced(b'\0\0\4\xc2', B, b'\0\0\1\4', more))
+    datagrams += tail(rng) if rng.random() < 0.2 else []
     for at in range(len(datagrams) - 1, 0, -1):
         if rng.random() < 0.1 and datagrams[at][8:20] == datagrams[at - 1][8:20]:
             datagrams[at - 1] += datagrams.pop(at)[20:]
     return datagrams
 
 
+def answered(octets):
+    return b'RTPS\2\5\0\0' + B + b'\x0e\0\0\x0c' + A + octets
+
+
+def some_outage(rng):
+    """a writer that asks about some numbers and mostly gets no answer, until it drops them, or until the end"""
+    told, more = Told(rng), RELIABLE + rng.choice([b'', DURABLE])
+    datagrams = [START[0], announced(b'\0\0\4\xc2', B, b'\0\0\1\4', more)]
+    for n in range(1, rng.randrange(2, 6)):
+        told.last = n
+        datagrams.append(by_writer(told.data(n)))
+        datagrams += [by_writer(told.heartbeat()) for _ in range(rng.choice([1, 1, 2]))]
+        datagrams += [answered(told.answer())] if rng.random() < 0.08 else []
+    if rng.random() < 0.8:
+        told.first = rng.randrange(2, told.last + 2)
+        datagrams.append(by_writer(told.heartbeat()))
+    datagrams += [answered(told.answer())] if rng.random() < 0.8 else []
+    return datagrams + [by_writer(told.heartbeat()) for _ in range(rng.choice([0, 0, 1, 2]))]
+
+
+def some_two_ways(rng):
+    """two participants with a writer and a reader each, which say what they have to say at one time"""
+    ends = [(A, B, b'\0\0\1\3', b'\0\0\1\4'), (B, A, b'\0\0\2\3', b'\0\0\2\4')]
+    datagrams = [announced(b'\0\0\3\xc2', w, writer, b'') for w, _, writer, _ in ends]
+    datagrams += [announced(b'\0\0\4\xc2', r, reader, RELIABLE) for _, r, _, reader in ends]
+    told = [Told(rng, writer, reader, most=12) for _, _, writer, reader in ends]
+    for _ in range(rng.randrange(40, 90)):
+        k = rng.randrange(2)
+        octets, by_the_writer = told[k].next()
+        source, dest = ends[k][:2] if by_the_writer else ends[k][1::-1]
+        datagrams.append(b'RTPS\2\5\0\0' + source + (b'\x0e\0\0\x0c' + dest if not by_the_writer or rng.random() < 0.5 else b'') + octets)
+    return datagrams
+
+
 # ---- what is asked
 
 def some_asked(rng):
-    topics = [rng.choice(PATTERNS) for _ in range(rng.choice([0, 0, 1, 1, 2, 3]))]
-    return Asked(rng.choice([1, 1, 2, 3, 5]), topics, rng.random() < 0.4, rng.choice([None, None, 0, 1, 2, 3, GREATEST]), rng.random() < 0.4, rng.random() < 0.4)
-
-
-def some_checked(rng):
-    """what may be asked of `check`"""
-    asked = some_asked(rng)
-    return Asked(asked.first, asked.topics, expect=asked.expect, tail=rng.choice([0, 0, 1, 2, 5]), certain=rng.random() < 0.2)
+    """what may be asked of a report"""
+    topics = [rng.choice(PATTERNS) for _ in range(rng.choice([0] * 6 + [1, 1, 2, 3]))]
+    return Asked(rng.choice([1, 1, 1, 2, 3, 5]), topics, rng.choice([None, None, None, 0, 1, 2, 3, GREATEST]), tail=rng.choice([0, 0, 1, 2, 5]),
+                 certain=rng.random() < 0.2)
 
 
 def some_input(rng):

@@ -1,7 +1,8 @@
 """Random recordings of several participants, for comparisons with the second implementation: what they announce of their hosts and of
 their endpoints, whom they name, and what they say of few numbers, reliably and by best effort.
 """
-from random_recordings import A, B, C, TOPICS, Told, leaving, parameter, put, sn, some_announced, some_input, some_life, text_of_datagrams, u
+from random_recordings import (A, B, C, TOPICS, Told, leaving, parameter, put, sn, some_announced, some_input, some_life, some_outage,
+                               some_two_ways, text_of_datagrams, u)
 
 PREFIXES = A, B, C, b'\xdd' * 12
 KINDS = b'Pose', b'Pose', b'Pose', b'nav_msgs::msg::dds_::Odometry_', b'a::dds_::b', b'\xff::dds_::_'
@@ -64,9 +65,19 @@ def some_locator(rng, order):
     return parameter(order, rng.choice([0x31] * 9 + [0x32]), value if rng.random() < 0.97 else value[:-1])
 
 
+LEASES = (0, 0), (0, 1 << 31), (3, 0), (3, 0), (9, 1), (9, 2 ** 32 - 1), (10, 0), (10, 1), (20, 0), (-1, 5), (0x7fffffff, 0xffffffff)
+
+
+def some_lease(rng, order):
+    """how long a participant may say nothing, which sometimes cannot be read"""
+    seconds, fraction = rng.choice(LEASES)
+    return parameter(order, 2, (u(order, 4, seconds) + u(order, 4, fraction))[:rng.choice([8] * 12 + [7])])
+
+
 def some_host(rng, order):
-    """parameters of a participant: a domain and addresses"""
+    """parameters of a participant: a domain, a lease and addresses"""
     found = [parameter(order, 0x0f, u(order, 4, rng.choice([0, 0, 0, 1])))] if rng.random() < 0.7 else []
+    found += [some_lease(rng, order) for _ in range(rng.choice([0, 1, 1, 2]))]
     return found + [some_locator(rng, order) for _ in range(rng.choice([0, 1, 1, 1, 2]))]
 
 
@@ -89,13 +100,13 @@ def some_participant(rng, prefix):
 class End:
     """a writer or a reader, as it announces itself"""
 
-    def __init__(self, rng, k, topics):
+    def __init__(self, rng, k, topics, best_effort=False):
         self.rng, self.prefix, self.reads = rng, rng.choice(PREFIXES[:3]), rng.random() < 0.5
         self.entity, (self.topic, self.kind) = bytes([0, 0, k, 4 if self.reads else 3]), rng.choice(topics)
         self.kind = self.kind if rng.random() < 0.95 else rng.choice(KINDS)
-        self.reliable = rng.random() < (0.6 if self.reads else 0.85)
+        self.reliable = not best_effort and rng.random() < (0.6 if self.reads else 0.85)
         self.durability = rng.choice([None] * 3 + [0, 0, 0, 1] if self.reads else [None, 0, 1, 1, 2, 3])
-        self.often = rng.choice([0, 0, 0, 0.06, 0.06, 0.4])
+        self.often = rng.choice([0, 0, 0, 0.06, 0.06, 0.4]) if not best_effort else rng.choice([0, 0, 0, 0.06])
 
     def announced(self):
         """with policies that may be others each time"""
@@ -120,11 +131,12 @@ def named(rng, source, dest):
 
 
 def some_talk(rng, w, r):
-    """what a writer and a reader of one topic say; of best effort the writer alone, of which some is not here"""
-    told, is_named, is_reliable = Told(rng, w.entity, r.entity, rng.random() < 0.3), rng.random() < 0.7, w.reliable and r.reliable
+    """what a writer and a reader of one topic say; of best effort mostly the writer alone, of which mostly some is not here"""
+    told, is_named = Told(rng, w.entity, r.entity, rng.random() < 0.3), rng.random() < 0.7
+    answers, part = w.reliable and r.reliable or rng.random() < 0.2, 1 if w.reliable and r.reliable else rng.choice([0.8, 1])
     for _ in range(rng.randrange(14)):
         octets, by_writer = told.next()
-        if not is_reliable and (not by_writer or rng.random() < 0.2):
+        if not answers and not by_writer or rng.random() >= part:
             continue
         source, dest = (w.prefix, r.prefix) if by_writer else (r.prefix, w.prefix)
         names = b'\x0e\0\0\x0c' + dest if is_named and (not by_writer or rng.random() < 0.5) else b''
@@ -134,14 +146,17 @@ def some_talk(rng, w, r):
 def some_system(rng):
     """up to four participants with endpoints of up to three topics"""
     topics = [(rng.choice(TOPICS), rng.choice(KINDS)) for _ in range(rng.randrange(1, 4))]
-    ends = [End(rng, k, topics) for k in range(1, rng.randrange(3, 9))]
+    best_effort = rng.random() < 0.25
+    ends = [End(rng, k, topics, best_effort) for k in range(1, rng.randrange(3, 9))]
     start = [d for prefix in PREFIXES if rng.random() < 0.7 for d in [some_participant(rng, prefix)] * rng.choice([1, 1, 1, 2])]
     start += [some_participant(rng, rng.choice(PREFIXES)) for _ in range(rng.choice([0, 0, 1]))]
     start += [d for end in ends for _ in range(rng.choice([1, 1, 1, 2])) for d in some_announced(rng, end.announced())]
     rng.shuffle(start)
     said = [d for w in ends for r in ends if not w.reads and r.reads and w.topic == r.topic and rng.random() < 0.8 for d in some_talk(rng, w, r)]
-    for _ in range(rng.randrange(9)):
-        said.insert(rng.randrange(len(said) + 1), named(rng, rng.choice(PREFIXES), rng.choice(PREFIXES)))
+    contacts = [(rng.choice(PREFIXES), rng.choice(PREFIXES)) for _ in range(rng.randrange(9))]
+    contacts += [(r.prefix, w.prefix) for w in ends for r in ends if best_effort and r.reads and not w.reads]
+    for source, dest in contacts:
+        said.insert(rng.randrange(len(said) + 1), named(rng, source, dest))
     for end in ends:
         if rng.random() < 0.1:
             said.insert(rng.randrange(len(said) + 1), leaving(rng, end.prefix + end.entity, rng.choice(['be', 'le'])))
@@ -155,14 +170,40 @@ def some_system(rng):
 def some_recorded(rng):
     """a recording text of one of several kinds"""
     kind = rng.random()
-    return text_of_datagrams(some_system(rng) if kind < 0.4 else some_life(rng)) if kind < 0.8 else some_input(rng)
+    if kind < 0.8:
+        return text_of_datagrams(some_system(rng) if kind < 0.4 else some_outage(rng) if kind < 0.5 else some_life(rng))
+    return some_input(rng)
 
 
-# ---- another recording of the same, at a reader's host
+# ---- two recordings of the same, at a writer's host and at a reader's
+
+
+def some_both(rng):
+    """what two participants say for a while"""
+    kind = rng.random()
+    return some_life(rng, 60) if kind < 0.5 else some_two_ways(rng) if kind < 0.7 else some_system(rng) if kind < 0.9 else some_life(rng)
 
 
 def some_other(rng, datagrams):
-    """what another host may have of these datagrams: most of them, in an order of its own, some twice, and some that are in no other"""
+    """two recordings of what was said, one of which is judged by the other: mostly made at two hosts, with loss on the way, in either order;
+    sometimes the same one twice, or two of which one has by chance what the other has"""
+    kind = rng.random()
+    if kind < 0.1:
+        return datagrams, list(datagrams)
+    return some_hosts(rng, datagrams) if kind < 0.75 else (datagrams, by_chance(rng, datagrams))
+
+
+def some_hosts(rng, datagrams):
+    """what is sent at a host is there, and mostly at the other one; sometimes both begin or end at times of their own"""
+    away, loss = rng.choice([B, B, B, A]), rng.choice([0, 0.1, 0.2, 0.3])
+    here, there = ([d for d in datagrams if (d[8:20] == away) == is_there or rng.random() >= loss] for is_there in (False, True))
+    if rng.random() < 0.3:
+        here, there = (found[rng.randrange(3):len(found) - rng.randrange(3)] for found in (here, there))
+    return (here, there) if rng.random() < 0.5 else (there, here)
+
+
+def by_chance(rng, datagrams):
+    """most of these datagrams, in an order of their own, some twice, and some that are in no other"""
     part = rng.choice([0.4, 0.8, 0.95, 1])
     found = [d for d in datagrams if rng.random() < part]
     if rng.random() < 0.2:

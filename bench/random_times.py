@@ -12,18 +12,22 @@ import sys
 
 import page
 import reference
-import spans
+import report as reports
+from asked import Asked
 from capture_writer import MICROSECONDS, NANOSECONDS, enhanced, interface, old, option, packet, record, section, simple, start
-from random_recordings import A, B, some_asked, some_checked
-from random_systems import some_participant, some_recorded
+from random_recordings import A, B, some_asked, some_outage, text_of_datagrams
+from random_systems import some_both, some_other, some_participant, some_recorded
 
 SECOND, MILLISECOND = 10 ** 9, 10 ** 6
-BOUNDS = MILLISECOND, SECOND, 10 * SECOND
+BOUNDS = MILLISECOND, SECOND, 3 * SECOND, 10 * SECOND
+SHORT = 5, 10, 20, 30, 50, 100
 
 
-def some_step(rng):
+def some_step(rng, is_fast):
     """from one datagram to the next, in nanoseconds"""
     chance = rng.random()
+    if is_fast and chance < 0.9:
+        return rng.choice(SHORT) * MILLISECOND + rng.choice([-1, 0, 0, 0, 1])
     if chance < 0.3:
         return rng.randrange(300 * MILLISECOND)
     if chance < 0.5:
@@ -34,9 +38,10 @@ def some_step(rng):
 
 def some_times(rng, count):
     """so many, none of which is before 1970; before one of the last of them nothing is heard for about ten seconds"""
-    time, times, quiet = rng.choice([0, 5 * SECOND, 1700000000 * SECOND]), [], count - rng.randrange(1, 4)
+    time, times, is_fast = rng.choice([0, 5 * SECOND, 1700000000 * SECOND]), [], rng.random() < 0.5
+    quiet, pause = count - rng.randrange(1, 4), rng.choice([1, 3, 10, 10]) * SECOND
     for k in range(count):
-        step = 10 * SECOND + rng.choice([-1, 0, 1, 1, 1000]) if k == quiet else some_step(rng)
+        step = pause + rng.choice([-1, 0, 1, 1, 1000]) if k == quiet and not is_fast else some_step(rng, is_fast)
         time = max(0, time + step)
         times.append(time)
     return times
@@ -67,47 +72,68 @@ def blocks(rng, frames, times):
     return octets
 
 
-def some_timed(rng):
-    """the octets of a capture"""
-    found = reference.recording_of(some_recorded(rng))
-    datagrams = [] if isinstance(found, str) else found
-    # Two are announced; and often one of them says something when the others are silent.
-    datagrams[:0] = [some_participant(rng, prefix) for prefix in (A, B) if rng.random() < 0.6]
-    datagrams += [some_participant(rng, rng.choice([A, B])) for _ in range(rng.choice([0, 0, 1, 2]))]
+def some_capture(rng, datagrams):
+    """the octets of a capture of these, with frames that give nothing, sometimes behind all others"""
     frames = [packet(d) for d in datagrams]
     for _ in range(rng.choice([0, 0, 1, 2])):
         frames.insert(rng.randrange(len(frames) + 1), packet(b'', protocol=6))
+    frames += [packet(b'', protocol=6)] if rng.random() < 0.4 else []
     return rng.choice([classic, blocks, blocks])(rng, frames, some_times(rng, len(frames)))
 
 
-def answers(rng, octets):
-    """command lines without their FILE, each with what the program should print, and its status"""
-    for flag in [], ['--json']:
-        asked = some_checked(rng)
-        yield ['check', *flag, *asked.words()], *spans.check(octets, asked, bool(flag))
-    for view, in_spans in ('json', True), ('why', True):
-        asked = some_asked(rng)
-        asked.spans = in_spans
-        printed, _, status = spans.report(view, octets, asked, True)
-        yield reference.words_of(view) + asked.words() + ([] if asked.strict else ['--any']), printed, status
-    for view in 'json', 'audit', 'why':
-        asked = some_asked(rng)
-        printed, _, status = reference.answer_as(view, octets, asked, any_form=True)
-        yield reference.words_of(view) + asked.words() + ([] if asked.strict else ['--any']), printed, status
+def hosts(rng):
+    """what two participants announce themselves by, mostly"""
+    return [some_participant(rng, prefix) for prefix in (A, B) if rng.random() < 0.6]
+
+
+def some_timed(rng):
+    """the octets of a capture. Often one of two participants says something when the others are silent"""
+    found = reference.recording_of(some_recorded(rng) if rng.random() < 0.5 else text_of_datagrams(some_outage(rng)))
+    datagrams = [] if isinstance(found, str) else found
+    return some_capture(rng, hosts(rng) + datagrams + [some_participant(rng, rng.choice([A, B])) for _ in range(rng.choice([0, 0, 1, 2]))])
+
+
+def some_two(rng):
+    """the octets of a capture, and of mostly another one of what was said at the same time"""
+    datagrams, there = some_other(rng, hosts(rng) + some_both(rng))
+    octets = some_capture(rng, datagrams)
+    return octets, octets if datagrams == there and rng.random() < 0.7 else some_capture(rng, there)
+
+
+def some_asked_of(rng):
+    """a capture, and what is asked of it"""
     asked = some_asked(rng)
-    asked.spans = rng.random() < 0.7
-    printed, _, status = page.answer_as(octets, asked, True)
-    yield ['page', *asked.words()] + ([] if asked.strict else ['--any']), printed, status
+    if rng.random() < 0.75:
+        return some_timed(rng), asked
+    octets, there = some_two(rng)
+    asked.arrived = reference.kept(there, '.pcap')
+    return octets, asked
+
+
+def answers(rng):
+    """a capture, and command lines without their FILE, each with what the program should print of it, and its status"""
+    octets, asked = some_asked_of(rng)
+    found = []
+    for form in reports.FORMS:
+        printed, _, status = reports.answer(form, octets, asked)
+        found.append((reports.words_of(form) + asked.words(), printed, status))
+    printed, _, status = page.answer(octets, asked)
+    found.append((['page', *asked.words()], printed, status))
+    for view in 'json', 'audit':
+        of_audit = Asked(rng.choice([1, 1, 2, 3]), fragments=rng.random() < 0.5)
+        printed, _, status = reference.answer_as(view, octets, of_audit, any_form=True)
+        found.append((reference.words_of(view) + of_audit.words() + ['--any'], printed, status))
+    return octets, found
 
 
 def main():
     program, *rest = sys.argv[1:]
     count, seed = (int(word) for word in rest + ['1000', '1'][len(rest):])
     rng, differing = random.Random(seed), 0
-    seen = dict.fromkeys(['times go back', 'let the writer wait', 'is silent since', 'lacks only a tail'], 0)
+    seen = dict.fromkeys(['times go back', 'let the writer wait', 'is silent since', 'lacks only a tail', 'record longer', 'ended without leaving'], 0)
     for k in range(count):
-        octets = some_timed(rng)
-        for answer in answers(rng, octets):
+        octets, found = answers(rng)
+        for answer in found:
             differing += reference.differs(program, octets, answer, (f'capture {k}', '.pcap'))
             for what in seen if answer[0][0] == 'check' else ():
                 seen[what] += what in answer[1]

@@ -1,19 +1,15 @@
 #!/usr/bin/env python3
 """A second reading of recordings, apart from the proved program, to compare it with.
 
-    reference.py show|list|audit|why FILE  prints what `rtps-audit` should print
+    reference.py show|list|audit FILE      prints what `rtps-audit` should print
     reference.py json FILE                 prints what `rtps-audit audit --json` should print
-    reference.py audit|why|json --from N FILE
-                                           the same, of the numbers from N on
-    reference.py audit|why|json [--topic PATTERN].. [--observed] [--expect N] [--strict] FILE
-                                           the same, of the rows that are asked for; standard error and the status say what
-                                           else is not so
-    reference.py show|list|audit|why|json --any FILE
+    reference.py audit|json --from N FILE  the same, of the numbers from N on
+    reference.py show|list|audit|json --any FILE
                                            the same, of a capture of either form, with fragments of IP put together
-    reference.py show|audit|why|json --fragments FILE
+    reference.py show|list|audit|json --fragments FILE
                                            the same, where samples that came in DATA_FRAG submessages count
-    reference.py check|page [OPTION ..] FILE
-                                           prints what `rtps-audit` should print, by spans.py and page.py
+    reference.py check|why|page [OPTION ..] FILE
+                                           prints what `rtps-audit` should print, by report.py and page.py
     reference.py compare PROGRAM [COUNT [SEED]]
                                            runs PROGRAM on COUNT random recordings, and says where it differs
     reference.py runs [COUNT [SEED]]       compares verdicts and received numbers with those of all runs, on COUNT random
@@ -38,7 +34,7 @@ import capture_reader
 from asked import GREATEST, PLAIN, Asked, asked_by
 from fragments import by_writer, payloads_told, placed_samples, without_sample
 from random_captures import some_capture
-from random_recordings import A, B, START, some_asked, some_delivery, some_input, text_of_datagrams
+from random_recordings import A, B, START, some_delivery, some_input, text_of_datagrams
 from times import NO_TIMES, Times, json_text, timed_values
 
 READ = {0x06, 0x07, 0x08, 0x09, 0x0c, 0x0e, 0x15}
@@ -314,7 +310,7 @@ def input_of(octets, limits=USUAL, any_form=False):
 def times_of(octets, limits=USUAL, any_form=False):
     """the times of the datagrams of an input; there are none where it is no capture, or is refused"""
     reading = capture_of(octets, limits, any_form)
-    return Times(reading.start, reading.times) if isinstance(reading, capture_reader.Reading) else NO_TIMES
+    return Times(reading.start, reading.times, reading.end) if isinstance(reading, capture_reader.Reading) else NO_TIMES
 
 
 def first_link(octets, limits=USUAL):
@@ -328,10 +324,22 @@ def first_link(octets, limits=USUAL):
 TSHARK = "tshark -r IN -Y 'udp && !icmp' -T fields -e udp.payload >OUT makes a recording of it"
 
 
+# How files begin that are packed, or texts that are not read: what they are, what makes of them what is read, and how it is said that it is.
+FORMS = [
+    (b'\x1f\x8b', 'a gzip file', 'gunzip -c {}', 'reads what it holds'),
+    (b'\xfd7zXZ\0', 'an xz file', 'xz -dc {}', 'reads what it holds'),
+    (b'\x28\xb5\x2f\xfd', 'a zstd file', 'zstd -dc {}', 'reads what it holds'),
+    (b'\xff\xfe', 'a text in UTF-16', 'iconv -f UTF-16 -t ASCII {}', 'reads it'),
+    (b'\xfe\xff', 'a text in UTF-16', 'iconv -f UTF-16 -t ASCII {}', 'reads it'),
+    (b'\xef\xbb\xbf', 'a text that begins with a byte order mark', "sed '1s/^\\xef\\xbb\\xbf//' {}", 'reads it'),
+]
+
+
 def of_form(name, octets, any_form, words):
     """what an input is, where it is not read, and what reads it; `words` are those of a command that reads standard input"""
-    if octets[:2] == b'\x1f\x8b':
-        yield f'a gzip file; gunzip -c {name} | rtps-audit {words} reads what it holds'
+    for begins, what, command, reads in FORMS:
+        if octets.startswith(begins):
+            yield f'{what}; {command.format(name)} | rtps-audit {words} {reads}'
     if not any_form and octets[:4] == capture_reader.SECTION:
         yield 'a pcapng file; --any reads it'
 
@@ -364,6 +372,7 @@ def told_of(name, octets, limits=USUAL, any_form=False, words='audit -'):
     line = input_of(octets, limits, any_form)
     if not isinstance(line, str):
         return []
+    name = name_text(name.encode())
     told = [*of_form(name, octets, any_form, words), *of_fault(octets, limits, any_form), *of_link(octets, any_form)]
     told += [of_limit(octets, limits)] if line == capture_reader.TOO_MANY else []
     return [f'rtps-audit: {name}: {reason}' for reason in told] + [f'rtps-audit: {line}']
@@ -523,8 +532,8 @@ def name_text(name):
     return ''.join(chr(c) if 0x20 <= c <= 0x7e and c not in b'"\\' else f'\\x{c:02x}' for c in name)
 
 
-def list_text(datagrams):
-    participants, settled, matched, unsettled, faults = discovery(datagrams)
+def list_text(datagrams, fragments=False):
+    participants, settled, matched, unsettled, faults = discovery(datagrams, fragments)
     out = [f'participant {guid_text(p)}' for p in participants]
     for guid, side, topic, kind, reliability, durability in settled:
         out.append(f'{side} {guid_text(guid)} topic "{name_text(topic)}" type "{name_text(kind)}" '
@@ -674,20 +683,20 @@ def received_by_runs(recording, w, r, bound, first=1):
 def audit(datagrams, asked=PLAIN):
     _, _, matched, unsettled, _ = discovery(datagrams, asked.fragments)
     recording = [acts_of(d, asked.fragments) for d in datagrams]
-    pairs = [(w[0], r[0]) for w, r in matched if w[4] == 1 and r[4] == 1 and asked.keeps(w[2], w[0], r[0], recording)]
+    pairs = [(w[0], r[0]) for w, r in matched if w[4] == 1 and r[4] == 1]
     out = [f'pairs {len(pairs)}']
     for w, r in pairs:
         out.append(f'{guid_text(w)} {guid_text(r)} {judge(recording, w, r, asked.first)}')
-    return out + [counts_line(datagrams, recording, unsettled, asked)]
+    return out + [counts_line(datagrams, recording, unsettled, asked.fragments)]
 
 
-def counts_line(datagrams, recording, unsettled, asked):
+def counts_line(datagrams, recording, unsettled, in_fragments):
     """what a report says of the whole recording"""
     refused = skipped = undirected = 0
-    unread = {0x16} if asked.fragments else FRAGMENTS
+    unread = {0x16} if in_fragments else FRAGMENTS
     fragments = without_sample(recording)
     for d, acts in zip(datagrams, recording):
-        _, items, refusal = read(d, asked.fragments)
+        _, items, refusal = read(d, in_fragments)
         refused += refusal is not None
         skipped += sum(i['kind'] == 'skipped' and i['id'] not in FRAGMENTS for i in items)
         fragments += sum(i['kind'] == 'skipped' and i['id'] in unread for i in items)
@@ -842,11 +851,17 @@ def kept_line(delivery):
     return f'{head} told gone by {gone[0]} {standing(gone[1])}, acknowledged {standing(claim)}'
 
 
+def asked_since(delivery):
+    """the places where the writer asks for an answer behind the last one"""
+    answered_at = max((place for place, _ in delivery.answers), default=START_OF_ALL)
+    return [place for place, act, _ in delivery.told if act['kind'] == 'heartbeat' and not act['final'] and place > answered_at]
+
+
 def asked_line(delivery):
-    """whether the writer asked for an answer since the last one"""
-    answered_at = max((place for place, _ in delivery.answers), default=(0, 0))
-    asks = [place for place, act, _ in delivery.told if act['kind'] == 'heartbeat' and not act['final'] and place > answered_at]
-    return f'asked {len(asks)} times since its last answer, last {standing(asks[-1])}' if asks else 'not asked since its last answer'
+    asks = asked_since(delivery)
+    if not asks:
+        return 'not asked since its last answer'
+    return f"asked {len(asks)} {'time' if len(asks) == 1 else 'times'} since its last answer, last {standing(asks[-1])}"
 
 
 def delivery_lines(delivery):
@@ -904,20 +919,6 @@ def evidence_lines(delivery, verdict):
     payloads = covered([span for words in told if words.payload is not None for span in words.spans], first, last + 1)
     lines.append(f'payloads {payloads} gone {all_told - payloads} untold {last + 1 - first - all_told}')
     return lines + delivery_lines(delivery) + verdict_lines(delivery, verdict)
-
-
-def why(datagrams, asked=PLAIN):
-    """the report, with what each row rests on"""
-    report = audit(datagrams, asked)
-    named = {guid: (topic, kind) for guid, _, topic, kind, _, _ in discovery(datagrams, asked.fragments)[1]}
-    recording = [acts_of(d, asked.fragments) for d in datagrams]
-    out = report[:1]
-    for row in report[1:-1]:
-        w, r = (bytes.fromhex(guid.replace('.', '')) for guid in row.split()[:2])
-        topic, kind = named[w]
-        out += [f'pair {row}', f'  topic "{name_text(topic)}" type "{name_text(kind)}"']
-        out += ['  ' + line for line in evidence(recording, w, r, asked.first)]
-    return out + report[-1:]
 
 
 # ---- JSON: Python's writer on the values of the lines of `why`
@@ -1022,11 +1023,9 @@ def json_lines(datagrams, asked=PLAIN, ignored=None, times=NO_TIMES):
     return [json_text(report_values(datagrams, asked, times) | counted)]
 
 
-VIEWS = {'show': show, 'list': list_text, 'audit': audit, 'why': why, 'json': json_lines}
+VIEWS = 'show', 'list', 'audit', 'json'
 # those that take the number from which on numbers are asked for
-REPORTS = 'audit', 'why', 'json'
-# those in which samples in DATA_FRAG can count
-WITH_FRAGMENTS = 'show', *REPORTS
+AUDITS = 'audit', 'json'
 
 
 def words_of(view):
@@ -1034,47 +1033,38 @@ def words_of(view):
     return ['audit', '--json'] if view == 'json' else [view]
 
 
-def findings(datagrams, asked, reasons):
-    """what a report has or lacks against what is asked, beside complete rows, a line for each"""
-    rows = audit(datagrams, asked)
-    recording = [acts_of(d, asked.fragments) for d in datagrams]
-    missed = 0
-    for row in rows[1:-1] if asked.strict else []:
-        w, r = (bytes.fromhex(guid.replace('.', '')) for guid in row.split()[:2])
-        missed += bool(Delivery(recording, w, r, asked.first).missed)
-    counts = rows[-1].split()
-    return asked.findings(len(rows) - 2, missed, dict(zip(counts[::2], map(int, counts[1::2]))), reasons)
+def lines_of(view, datagrams, asked, ignored, times):
+    if view == 'json':
+        return json_lines(datagrams, asked, ignored, times)
+    if view != 'audit':
+        return {'show': show, 'list': list_text}[view](datagrams, asked.fragments)
+    *rows, counts = audit(datagrams, asked)
+    if ignored is None:
+        return [*rows, counts]
+    return [*rows, f"{counts} ignored {ignored['ignored'] if isinstance(ignored, dict) else ignored}"]
 
 
 def answer_as(view, text, asked, limits=USUAL, any_form=False, name='-'):
-    """text, lines on standard error and status of the program for the input of this name; what is asked is for reports alone,
-    but for fragments, which `show` has too"""
-    any_form = any_form or asked.strict
+    """text, lines on standard error and status of the program for the input of this name; from which number on is asked for audits
+    alone"""
     read = input_of(text, limits, any_form)
     if isinstance(read, str):
-        return '', told_of(name, text, limits, any_form), 2
+        return '', told_of(name, text, limits, any_form, f'{words_of(view)[0]} -'), 2
     datagrams, ignored = read
-    if view not in REPORTS:
-        lines = show(datagrams, asked.fragments) if view == 'show' else list_text(datagrams)
-        return ''.join(line + '\n' for line in lines), [], 0
-    lines = json_lines(datagrams, asked, ignored, times_of(text, limits, any_form)) if view == 'json' else VIEWS[view](datagrams, asked)
-    if view != 'json' and ignored is not None:
-        lines[-1] += f" ignored {ignored['ignored'] if any_form else ignored}"
-    found = findings(datagrams, asked, reasons_of(text, ignored, limits))
-    unclean = any(' complete ' not in line for line in audit(datagrams, asked)[1:-1])
-    return ''.join(line + '\n' for line in lines), [f'rtps-audit: not clean: {line}' for line in found], int(unclean or bool(found))
+    lines = lines_of(view, datagrams, asked, ignored, times_of(text, limits, any_form))
+    unclean = view in AUDITS and any(' complete ' not in line for line in audit(datagrams, asked)[1:-1])
+    return ''.join(line + '\n' for line in lines), [], int(unclean)
 
 
-def reasons_of(octets, ignored, limits=USUAL):
-    """the frames that were ignored by their reasons, where these are told, and the link type of the first one of a link that is not
-    read"""
-    if not isinstance(ignored, dict):
-        return {}
-    return ignored | {'link': first_link(octets, limits) if ignored['links'] else None}
+def any_answer(view, octets, asked, limits=USUAL, any_form=False):
+    """the same, also of a form of the report that `check` gives"""
+    if view in ('check', 'why'):
+        return import_module('report').answer(view, octets, asked, limits=limits)
+    return answer_as(view, octets, asked, limits, any_form)
 
 
 def answer(view, text, first=1, limits=USUAL, any_form=False):
-    """text and status of the program without fragments; `first` is for reports alone"""
+    """text and status of the program without fragments; `first` is for audits alone"""
     text, _, status = answer_as(view, text, Asked(first), limits, any_form)
     return text, status
 
@@ -1129,9 +1119,8 @@ def differs(program, octets, answer, where):
 def questions(rng):
     """views of a recording, each with what is asked"""
     firsts = [rng.choice([1, 2, 3, 4, 5, 6, GREATEST]) for _ in range(2)]
-    of_all = [(view, PLAIN) for view in VIEWS] + [('show', Asked(fragments=True))]
-    of_reports = [lambda: Asked(firsts[0]), lambda: Asked(firsts[1], fragments=True), lambda: some_asked(rng)]
-    return of_all + [(view, asked()) for asked in of_reports for view in REPORTS]
+    of_all = [(view, Asked(fragments=fragments)) for view in VIEWS for fragments in (False, True)]
+    return of_all + [(view, Asked(first, fragments=fragments)) for first, fragments in zip(firsts, (False, True)) for view in AUDITS]
 
 
 def answers(rng, text):
@@ -1234,10 +1223,9 @@ def texts(program, count, seed):
         words = ['--max-datagrams', str(limits[0]), '--max-octets', str(limits[1])] if limits != USUAL else []
         found = recording_of(text, limits)
         faulty += isinstance(found, str)
-        told = ''.join(line + '\n' for line in told_of('-', text, limits))
-        for view in ('show', 'why', 'json'):
-            want, status = answer(view, text, limits=limits)
-            if in_pieces(rng, program, [*words_of(view), *words, '-'], text) != (want, told, status):
+        for view in ('show', 'audit', 'json', 'why', 'check'):
+            want, told, status = any_answer(view, text, PLAIN, limits)
+            if in_pieces(rng, program, [*words_of(view), *words, '-'], text) != (want, ''.join(line + '\n' for line in told), status):
                 differing += 1
                 print(f'{view} of text {k} differs within {limits}, kept in {kept(text)}')
     print(f'{count} texts, {faulty} of them no recordings, {differing} differences')
@@ -1250,16 +1238,16 @@ def asked_of_capture(rng, octets):
     """command lines without their FILE, each with its view, what is asked, the limits, and whether any capture is read"""
     limits = USUAL if rng.random() < 0.9 else (rng.choice([1, 2, 3, 5]), rng.choice([USUAL[1], max(1, len(octets) + rng.randrange(-2, 3))]))
     words = ['--max-datagrams', str(limits[0]), '--max-octets', str(limits[1])] if limits != USUAL else []
-    other = rng.choice(['audit', 'why', 'list', 'json'])
-    for view, any_form in (('show', False), ('json', False), ('show', True), ('json', True), (other, True)):
-        strict = view in REPORTS and any_form and rng.random() < 0.3
-        yield words_of(view) + words + (['--strict'] if strict else ['--any'] if any_form else []), view, Asked(strict=strict), limits, any_form
+    for view, any_form in (('show', False), ('json', False), ('show', True), ('json', True), (rng.choice(['audit', 'list']), True)):
+        yield words_of(view) + words + (['--any'] if any_form else []), view, PLAIN, limits, any_form
+    for view in ('check', 'why'):
+        yield [view, *words], view, PLAIN, limits, True
 
 
 def answers_of_capture(rng, octets):
     """command lines without their FILE, each with what the program should print, and its status"""
     for words, view, asked, limits, any_form in asked_of_capture(rng, octets):
-        yield words, answer_as(view, octets, asked, limits, any_form)
+        yield words, any_answer(view, octets, asked, limits, any_form)
 
 
 def captures(program, count, seed):
@@ -1281,8 +1269,8 @@ def captures(program, count, seed):
 
 
 def main():
-    if sys.argv[1] in ('check', 'page'):
-        return import_module({'check': 'spans', 'page': 'page'}[sys.argv[1]]).main()
+    if sys.argv[1] in ('check', 'why', 'page'):
+        return import_module('page' if sys.argv[1] == 'page' else 'report').main()
     if sys.argv[1] == 'runs':
         count, seed = (int(word) for word in sys.argv[2:4] + ['1000', '1'][len(sys.argv[2:4]):])
         return runs(count, seed)

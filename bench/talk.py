@@ -1,13 +1,15 @@
-"""Who talks in a recording and who does not, for the second implementation: endpoints that do not match, participants that talk one
-way, pairs that the recording cannot speak of, and pairs of best effort.
+"""Who talks in a recording and who does not, for the second implementation: endpoints that do not match, pairs that talk though they do
+not, participants that talk one way, pairs that the recording cannot speak of, and pairs of best effort.
 
-A pair is a writer and a reader of one topic that match. The order of all lists is that of `list`. What is not announced does not
-differ from anything.
+A pair is a writer and a reader of one topic. It talks where the reader answers the writer and acknowledges something: then the two matched,
+whatever their policies say, but not of two domains. The order of all lists is that of `list`. What is not announced does not differ from anything.
 """
+from functools import cached_property
+
 from life import Span
-from policies import address_in, domain_in, policies_in, reasons, values_of
+from policies import address_in, domain_in, lease_in, policies_in, reasons, values_of
 from reference import told_to
-from times import NO_TIMES, is_silent
+from times import LEASE, NO_TIMES, is_silent
 
 # The entity id of a participant.
 PARTICIPANT = b'\x00\x00\x01\xc1'
@@ -16,23 +18,31 @@ PARTICIPANT = b'\x00\x00\x01\xc1'
 
 
 class Announced:
-    """by GUID the policies of endpoints, and of participants the place, the domain and the address. The first announcement without
-    a fault counts"""
+    """by GUID the policies of endpoints, and of participants the place, the domain, the address and the lease. The first announcement
+    without a fault counts"""
 
     def __init__(self, announcements):
         self.policies, self.participants = {}, {}
         for place, side, said, payload in announcements:
             if side == 'participant':
-                self.participants.setdefault(said[0], (place, domain_in(payload), address_in(payload)))
+                self.participants.setdefault(said[0], (place, domain_in(payload), address_in(payload), lease_in(payload)))
             else:
                 self.policies.setdefault(said[0], policies_in(payload))
 
+    def of_participant(self, guid):
+        return self.participants.get(guid[:12] + PARTICIPANT, (None, None, None, None))
+
     def domain(self, guid):
         """that of the participant of a GUID"""
-        return self.participants.get(guid[:12] + PARTICIPANT, (None, None, None))[1]
+        return self.of_participant(guid)[1]
 
     def address(self, guid):
-        return self.participants.get(guid[:12] + PARTICIPANT, (None, None, None))[2]
+        return self.of_participant(guid)[2]
+
+    def lease(self, participant):
+        """in nanoseconds"""
+        lease = self.participants[participant][3]
+        return LEASE if lease is None else lease
 
     def two_domains(self, one, other):
         return differ(self.domain(one), self.domain(other))
@@ -42,7 +52,7 @@ class Announced:
 
     def one_address(self):
         """whether participants are announced, all with one address"""
-        addresses = {address for _, _, address in self.participants.values()}
+        addresses = {address for _, _, address, _ in self.participants.values()}
         return len(addresses) == 1 and None not in addresses
 
     def values(self, endpoint):
@@ -54,8 +64,8 @@ def differ(one, other):
     return one is not None and other is not None and one != other
 
 
-class Unmatched:
-    """a writer and a reader of one topic that do not match, and the policies for which they do not"""
+class Unfit:
+    """a writer and a reader of one topic whose policies do not fit, and these policies"""
 
     def __init__(self, w, r, because, offered, requested):
         self.w, self.r, self.because = w, r, because
@@ -73,28 +83,44 @@ def named_by(recording):
     return dict(sorted(counts.items()))
 
 
+def answering(recording):
+    """of which writers and readers the reader acknowledges something to the writer"""
+    return {(act['dest'] + act['writer'], act['source'] + act['reader']) for acts in recording for act in acts
+            if act['kind'] == 'acknack' and act['dest'] is not None and act['set'][0] > 1}
+
+
+def datagrams_by(prefixes):
+    """by the prefix in the header the datagrams that have it"""
+    found = {}
+    for datagram, prefix in enumerate(prefixes, 1):
+        if prefix is not None:
+            found.setdefault(prefix, []).append(datagram)
+    return found
+
+
 # ---- who talks
 
 
 class Talk:
-    """what a recording says of who talks, of the topics that are asked for. Where `fitting` says so, endpoints for which any policy
-    does not fit are not judged"""
+    """what a recording says of who talks, of the topics that are asked for. `prefixes` has the one in the header of each datagram, or None"""
 
-    def __init__(self, recording, settled, matched, life, asked, fitting, times=NO_TIMES):
+    def __init__(self, recording, prefixes, settled, matched, life, asked, times=NO_TIMES):
         self.recording, self.life, self.asked, self.times = recording, life, asked, times
-        self.announced, self.namings = Announced(life.announced), named_by(recording)
-        self.unmatched = list(self.find_unmatched(settled))
-        unfit = {(one.w, one.r) for one in self.unmatched}
-        pairs = [pair for pair in matched if asked.chooses(pair[0][2])]
-        reliable = [pair for pair in pairs if is_reliable(*pair) and not (fitting and pair in unfit)]
-        self.judged = [pair for pair in reliable if not asked.observed or self.is_observed(*pair)]
-        self.unobserved = [pair for pair in reliable if asked.observed and not self.is_observed(*pair)]
-        self.best_effort = [pair for pair in pairs if not is_reliable(*pair) and pair not in unfit and self.is_observed(*pair)]
+        self.announced, self.namings, self.answers = Announced(life.announced), named_by(recording), answering(recording)
+        self.datagrams_by = datagrams_by(prefixes)
+        unfit = list(self.find_unfit(settled))
+        self.talking = [one for one in unfit if self.talks(one.w, one.r)]
+        self.unmatched = [one for one in unfit if not self.talks(one.w, one.r)]
+        apart = {(one.w, one.r) for one in unfit}
+        fitting = [pair for pair in matched if asked.chooses(pair[0][2]) and pair not in apart]
+        self.judged = sorted([pair for pair in fitting if is_reliable(*pair) and self.is_observed(*pair)] + [(one.w, one.r) for one in self.talking])
+        self.unobserved = [pair for pair in fitting if not self.is_observed(*pair)]
+        self.best_effort = [pair for pair in fitting if not is_reliable(*pair) and self.is_observed(*pair)]
         self.one_way = [(source, dest, count) for (source, dest), count in self.namings.items() if self.is_one_way(source, dest)]
         self.silent = self.find_silent() if times.are_there() else {}
 
-    def find_unmatched(self, settled):
-        """the writers and readers of one topic that do not fit, though they may meet"""
+    def find_unfit(self, settled):
+        """the writers and readers of one topic that may meet, and of which some policy does not fit"""
         readers = [end for end in settled if end[1] == 'reader' and self.asked.chooses(end[2])]
         for w in settled:
             for r in readers:
@@ -103,7 +129,11 @@ class Talk:
                 offered, requested = self.announced.values(w), self.announced.values(r)
                 because = reasons(offered, requested)
                 if because:
-                    yield Unmatched(w, r, because, offered, requested)
+                    yield Unfit(w, r, because, offered, requested)
+
+    def talks(self, w, r):
+        """the reader acknowledges something to the writer"""
+        return (w[0], r[0]) in self.answers
 
     def is_observed(self, w, r):
         """the reader's participant names the writer's"""
@@ -127,17 +157,18 @@ class Talk:
 
     def numbers(self, w, r):
         """the numbers that the writer sent since the reader's first"""
-        span = Span(self.recording, self.life, w[0], r[0], self.asked)
+        span = Span(self.recording, self.life, w[0], r[0], self.asked.first)
         greatest = max((act['number'] for acts in span.datagrams(self.recording) for act in acts if act['kind'] in ('data', 'data_frag')
                         and act['source'] + act['writer'] == w[0]), default=0)
         return range(span.first, greatest + 1)
 
     def counted(self, w, r):
         """how many numbers the writer sent since the reader's first, and how many of these the recording has for it"""
-        datagrams, numbers = Span(self.recording, self.life, w[0], r[0], self.asked).datagrams(self.recording), self.numbers(w, r)
+        datagrams, numbers = Span(self.recording, self.life, w[0], r[0], self.asked.first).datagrams(self.recording), self.numbers(w, r)
         told = {act['number'] for _, act, words in told_to(datagrams, w[0], r[0]) if words.payload is not None}
         return max(0, numbers.stop - numbers.start), sum(n in numbers for n in told)
 
+    @cached_property
     def best_effort_counts(self):
         """by topic: how many pairs, numbers, and numbers that the recording has"""
         topics = {}
@@ -150,20 +181,20 @@ class Talk:
     # ---- participants
 
     def lifetimes(self):
-        """of each participant the first and the last datagram that has something of it, and the one in which it leaves; None where there
-        is none"""
-        for guid, (joined, _, _) in sorted(self.announced.participants.items()):
+        """of each participant its first and its last datagram, and the one in which it leaves; None where there is none"""
+        for guid, (joined, *_) in sorted(self.announced.participants.items()):
             own = self.datagrams_of(guid)
             left = self.life.leaves(guid, joined)
             yield guid, min(own, default=None), max(own, default=None), left and left[0]
 
     def datagrams_of(self, guid):
-        """those that have an act of a participant"""
-        return [i for i, acts in enumerate(self.recording, 1) if any(act['source'] == guid[:12] for act in acts)]
+        """those whose header names a participant"""
+        return self.datagrams_by.get(guid[:12], [])
 
     def find_silent(self):
         """the participants that are silent, with their last datagrams"""
-        return {guid: last for guid, _, last, left in self.lifetimes() if is_silent(self.times, self.datagrams_of(guid), left)}
+        return {guid: last for guid, _, last, left in self.lifetimes()
+                if is_silent(self.times, self.datagrams_of(guid), left, self.announced.lease(guid))}
 
     def silences(self, w, r):
         """of a pair the sides whose participants are silent, with their last datagrams"""

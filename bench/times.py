@@ -14,32 +14,41 @@ in a Simple Packet Block, where its time is before 1970, and where it needs more
 **The second** of a datagram that has a time is the time from the start to it in milliseconds, cut off towards zero, said with three places:
 `12.345`. Where it is before the start a `-` stands in front, but not in front of 0.000. Another time that is said is cut off so, too.
 
-**Where seconds stand.** In the text of `check`, and so of `page`, a place of a datagram that has a time is followed by a comma and the second:
+**Where seconds stand.** In the text of `check`, and so of `page`, and in that of `why`, a place of a datagram that has a time is followed by a comma and the second:
 `in datagram 412 at 36, 12.345 s`, and so is the datagram in which a reader left. In JSON, and so in the data of `page`, each place has
 behind `at` a member `time`: the second as a number with three places, or null. A datagram that stands alone (`until` of a row, `first`, `last`
 and `left` of a participant) has a member of its own: `until_time`, `first_time`, `last_time`, `left_time`, null where the datagram is null or
-has no time. `show`, `list`, `audit` and `why` say no second in their texts.
+has no time. `show`, `list` and `audit` say no second in their texts.
 
 **Times go back** by the greatest step of a recording: how much the time of a datagram is before that of an earlier one, the greatest of
 all pairs that have times. Where it is more than a millisecond there is a note.
 
-**The end** of a list of datagrams is the greatest of their times.
+**The end** of a list of datagrams is the greatest of their times. The end of the recording is the greatest time of any frame, whether it gave a
+datagram or not.
 
-**A participant is silent** where it is announced, does not leave, some datagram has an act of it, and each datagram that has one has a time
-that is more than ten seconds before the end of the recording. It is so since the last of these datagrams. (A datagram that is ten seconds before
-the end is among the last ten seconds.)
+**The datagrams of a participant** are those with a header that can be read and has its prefix, whatever stands in them.
 
-**A wait** of a row in a span is that of a HEARTBEAT without the final flag that the reader hears since it joined: to the first answer of the
+**A participant is silent** where it is announced, does not leave, has a datagram, and each of its datagrams has a time that is more than ten
+seconds before the end of the recording, or more than its lease, where that is shorter. It is so since the last of these datagrams. (A datagram
+that is ten seconds before the end is among the last ten seconds.) Its lease is the parameter 0x0002 of its first announcement: seconds (a signed
+number) and a fraction, in nanoseconds that are cut off; 100 seconds where it is absent, cannot be read, or is below 0.
+
+**A wait** of a row is that of a HEARTBEAT without the final flag that the reader hears since it joined: to the first answer of the
 reader to the writer behind it, or, where there is none, to the end of the row's datagrams. Which is behind which is told by places. It is the time
 between the two, and 0 where this is below 0. A HEARTBEAT without a time is no wait, nor is one whose answer has none. **The longest wait** is
 the greatest, of equal ones the first. It is told where it is more than a second.
 
 **What is told of a row.** In `check` the block of a row has, behind the lines of evidence and before what to do, the line of its longest wait,
-and then that the writer's participant is silent, and the reader's. A row that is not clean for its tail alone has a block of its own where one
-of the two is silent, and shares no line. Of a reader whose participant is silent the advice is not that of a tail, but the next case that fits.
-What is clean, and why a run is not, do not change. In JSON a row in a span has behind `clean` the member `wait`: null, or an object of `seconds`,
-`asked` (a place) and `answered` (a place or null). That of `check` and `page` has behind it `silence`: the sentences that it has. `audit` says
-nothing of participants, and its advice does not know who is silent. Each participant has behind its times `silent`: true or false.
+and then that the writer's participant is silent, and the reader's. A row that is not clean is told to look at the process that is silent, the
+reader's before the writer's, and nothing else. What is clean, and why a run is not, do not change. In JSON a row of `check` and `page` has behind
+`clean` the member `wait`: null, or an object of `seconds`, `asked` (a place) and `answered` (a place or null); and behind it `silence`: the
+sentences that it has. `audit` says nothing of waits and of participants. Each participant has behind its times `silent`: true or false.
+
+**Asked only in the last second** is a reader, where the first HEARTBEAT without the final flag that it hears behind its last answer to the
+writer has a time, and that is at most a second before the end of the recording.
+
+**A number is unanswered** by time where the first HEARTBEAT that asked about it came 100 milliseconds or more before the act that told it gone,
+or one of the two has no time.
 
 **What is told of the recording.** The note on times that go back is the first of all notes. It is no reason for a run not to be clean.
 
@@ -55,7 +64,10 @@ from typing import NamedTuple, Optional
 MILLISECOND, SECOND = 10 ** 6, 10 ** 9
 MOST_BACK = MILLISECOND        # times may go back by so much, and nothing is said
 SILENCE = 10 * SECOND          # who says nothing at the end for longer is silent
+LEASE = 100 * SECOND           # of a participant that announces none
 MOST_WAIT = SECOND             # a wait that is not longer is not told
+LAST = SECOND                  # who is asked only then needs a longer recording
+SHORT = 100 * MILLISECOND      # what is told gone sooner was not an outage
 
 
 class Seconds:
@@ -70,10 +82,10 @@ class Seconds:
 
 
 class Times:
-    """of a recording: the time of each of its datagrams, and the start, each None where there is none"""
+    """of a recording: the time of each of its datagrams, the start, and the greatest time of any frame, each None where there is none"""
 
-    def __init__(self, start=None, of_datagrams=()):
-        self.start, self.of_datagrams = start, list(of_datagrams)
+    def __init__(self, start=None, of_datagrams=(), last=None):
+        self.start, self.of_datagrams, self.last = start, list(of_datagrams), last
 
     def are_there(self):
         return any(time is not None for time in self.of_datagrams)
@@ -90,6 +102,16 @@ class Times:
     def end(self, count):
         """the end of the first `count` datagrams"""
         return max((time for time in self.of_datagrams[:count] if time is not None), default=None)
+
+    def between(self, one, other):
+        """from one datagram to another, in nanoseconds; None where one has no time"""
+        since, until = self.of(one), self.of(other)
+        return None if since is None or until is None else until - since
+
+    def is_last(self, datagram):
+        """whether a datagram came in the last second"""
+        time = self.of(datagram)
+        return time is not None and self.last - time <= LAST
 
     def step_back(self):
         """by how much times go back, in nanoseconds"""
@@ -115,7 +137,7 @@ def behind(times, datagram):
 
 def timed_line(times, line):
     """a line with the second behind each place"""
-    return re.sub(r'in datagram (\d+) at \d+', lambda found: found[0] + behind(times, int(found[1])), line)
+    return re.sub(r'(?:in|before) datagram (\d+) at \d+', lambda found: found[0] + behind(times, int(found[1])), line)
 
 
 def timed_values(times, value):
@@ -157,10 +179,10 @@ def order_notes(times):
 # ---- participants that are silent
 
 
-def is_silent(times, datagrams, left):
-    """of a participant: the datagrams that have an act of it, and the one in which it leaves"""
+def is_silent(times, datagrams, left, lease):
+    """of a participant: its datagrams, the one in which it leaves, and how long its lease is"""
     own = [times.of(datagram) for datagram in datagrams]
-    return left is None and bool(own) and None not in own and max(own) < times.end(len(times.of_datagrams)) - SILENCE
+    return left is None and bool(own) and None not in own and times.last - max(own) > min(SILENCE, lease)
 
 
 def silence_line(times, side, last):

@@ -32,8 +32,8 @@ def type_text(kind):
 
 
 def topics_text(pairs):
-    """the topics of pairs, each once for each of its types"""
-    return ', '.join(topic_text(topic) for topic, _ in sorted({w[2:4] for w, _ in pairs}))
+    """the topics of pairs, each once"""
+    return ', '.join(map(topic_text, sorted({w[2] for w, _ in pairs})))
 
 
 def hosted(announced, guid):
@@ -49,6 +49,10 @@ def unmatched_amount(talk):
     return amount(len(talk.unmatched), 'pair does not match', 'pairs do not match')
 
 
+def words(policy):
+    return policy.replace('_', ' ')
+
+
 def values_text(one):
     """of each policy for which a writer and a reader do not match its name, what is offered, and what is requested"""
     return [(name, value_text(name, one.offered[name]), value_text(name, one.requested[name])) for name in one.because]
@@ -60,7 +64,7 @@ def unmatched_block(announced, one):
     for name, offered, requested in values_text(one):
         if name == 'type':
             offered, requested = type_text(one.w[3]), type_text(one.r[3])
-        lines.append(f"    {name.replace('_', ' ')}: offers {offered}; asks for {requested}")
+        lines.append(f"    {words(name)}: offers {offered}; asks for {requested}")
     return lines
 
 
@@ -103,19 +107,38 @@ def unobserved_notes(talk):
             yield f"{amount(len(pairs), 'pair is', 'pairs are')} left out, {words}", topics_text(pairs), None
 
 
+def best_effort_totals(talk):
+    """how many pairs of best effort, numbers of them, and numbers that the recording has"""
+    return tuple(sum(counts[i] for _, counts in talk.best_effort_counts) for i in range(3))
+
+
+def best_effort_shares(talk):
+    """how many of their numbers the recording has"""
+    pairs, numbers, recorded = best_effort_totals(talk)
+    shares = f"{of(recorded, numbers)} {'number' if numbers == 1 else 'numbers'}"
+    return f"{amount(pairs, 'best-effort pair has', 'best-effort pairs have')} {shares} in this recording"
+
+
 def best_effort_notes(talk):
-    topics = talk.best_effort_counts()
+    topics = talk.best_effort_counts
     if not topics:
         return []
-    pairs, numbers, recorded = (sum(counts[i] for _, counts in topics) for i in range(3))
-    shares = f"{of(recorded, numbers)} {'number' if numbers == 1 else 'numbers'}"
-    told = f"{amount(pairs, 'best-effort pair has', 'best-effort pairs have')} {shares} in this recording"
+    _, numbers, recorded = best_effort_totals(talk)
     by_topic = ', '.join(f'{topic_text(topic)} {of(recorded, numbers)}' for topic, (_, numbers, recorded) in topics)
-    return [(told, by_topic, BEST_EFFORT if recorded < numbers else None)]
+    return [(best_effort_shares(talk), by_topic, BEST_EFFORT if recorded < numbers else None)]
+
+
+def talking_notes(talk):
+    """the pairs that talk though they do not match, each with the policies for which they do not"""
+    if not talk.talking:
+        return []
+    told = amount(len(talk.talking), 'pair talks though it does not match', 'pairs talk though they do not match')
+    pairs = [f"{topic_text(one.w[2])} ({', '.join(words(name) for name in one.because)})" for one in sorted(talk.talking, key=lambda one: one.w[2])]
+    return [(f'{told} by the standard', ', '.join(pairs), None)]
 
 
 def talk_notes(talk):
-    return [*host_notes(talk), *unobserved_notes(talk), *best_effort_notes(talk)]
+    return [*host_notes(talk), *talking_notes(talk), *unobserved_notes(talk), *best_effort_notes(talk)]
 
 
 # ---- members of the object, with the names of DDS
@@ -132,7 +155,7 @@ def unmatched_members(one):
 
 def participant_members(talk):
     for guid, first, last, left in talk.lifetimes():
-        _, domain, address = talk.announced.participants[guid]
+        _, domain, address, _ = talk.announced.participants[guid]
         members = {'guid': guid_text(guid), 'address': address and address_text(address), 'domain': domain, 'first': first, 'last': last, 'left': left}
         silent = {'silent': guid in talk.silent} if talk.times.are_there() else {}
         yield members | alone(talk.times, first=first, last=last, left=left) | silent
@@ -142,9 +165,10 @@ def talk_members(talk, sides=None):
     """`sides` is what another recording shows, where there is one"""
     return {
         'unmatched': [unmatched_members(one) for one in talk.unmatched],
+        'talking': [named(one.w, one.r) | {'because': one.because} for one in talk.talking],
         'unobserved': [named(w, r) | {'because': talk.silence(w, r)} for w, r in talk.unobserved],
         'one_way': [{'from': guid_text(one + PARTICIPANT), 'to': guid_text(other + PARTICIPANT), 'named': count} for one, other, count in talk.one_way],
-        'best_effort': [dict(zip(('topic', 'pairs', 'numbers', 'recorded'), (name_text(topic), *counts))) for topic, counts in talk.best_effort_counts()],
+        'best_effort': [dict(zip(('topic', 'pairs', 'numbers', 'recorded'), (name_text(topic), *counts))) for topic, counts in talk.best_effort_counts],
         **(sides.members() if sides else {}),
         'participants': list(participant_members(talk)),
     }

@@ -19,7 +19,6 @@ sys.dont_write_bytecode = True
 import program
 import capture_reader
 import reference
-import spans
 from capture_writer import (ETHERNET, HOST, block, capture, cooked_1, cooked_2, enhanced, ethernet, extension, fragment, fragment_6,
                             interface, old, packet, packet_6, pcapng, record, section, simple, start, summed, tagged, udp, udp_4, udp_6)
 from captures import BASE, DATAGRAM, FRAMED, HEADER, SHOWN, audited, with_octets
@@ -180,19 +179,16 @@ def links(tests):
                                                    ('interfaces of a section before', forgotten, 1, 2, None)):
         agreed(tests, name, octets, (datagrams, 0, count))
         tests.holds(name, {'ignored': count, 'pieces': 0, 'cut': 0, 'other': 0, 'links': count}, counts_of(tests, octets))
-        told = f'links {count}' + (f', the first of type {number}' if number else '')
-        tests.holds(f'--strict: {name}', (audited(datagrams, 0, count), f'rtps-audit: not clean: pairs 0\nrtps-audit: not clean: {told}\n', 1),
-                    tests.run('audit', octets, ('--strict',)))
+        told = ('1 frame is of a link that is not read, of type {}' if count == 1 else '{} frames are of links that are not read').format(number or count)
+        tests.holds(f'check: {name}', f'not clean: there is no pair; {told}', tests.run('check', octets)[0].splitlines()[-1])
         checks(tests, name, octets)
     print('links: 3')
 
 
 def checks(tests, name, octets):
-    """`check` and `check --json` are what the second implementation says"""
-    for flags in (), ('--json',):
-        printed, status = spans.check(octets, reference.Asked(), bool(flags))
-        error = ''.join(line + '\n' for line in reference.told_of(tests.file.name, octets, any_form=True))
-        tests.holds(f'check {flags}: {name}', (printed, error, status), tests.run('check', octets, flags))
+    """`check`, `check --json` and `why` are what the second implementation says"""
+    tests.agrees(name, octets, ('check', 'why'))
+    tests.agrees(f'JSON of {name}', octets, ('check',), ('--json',))
 
 
 # ---- damage: a captured length that no recorder writes
@@ -286,22 +282,16 @@ def orders(tests):
     print(f'orders: {len(wanted)}')
 
 
-def asks_strictly(tests, name, octets):
-    """with `--strict`, each view of a report and the lines on standard error are what the second implementation says"""
-    for view in reference.REPORTS:
-        wanted, told, status = reference.answer_as(view, octets, reference.Asked(strict=True))
-        tests.holds(f'{view} --strict: {name}', (wanted, ''.join(line + '\n' for line in told), status), tests.run(view, octets, ('--strict',)))
-
-
-def strictly(tests):
+def unread(tests):
+    """what was not read is a reason for `check`"""
     pieces, cut = capture([halves(SUMMED)[0], halves(SUMMED, 2)[1]]), capture(halves(SUMMED))
-    told = 'rtps-audit: not clean: pairs 0\nrtps-audit: not clean: '
-    tests.holds('--strict of pieces', (audited(0, 0, 2), f'{told}pieces 2\n', 1), tests.run('audit', pieces, ('--strict',)))
-    tests.holds('--strict of a cut file', (audited(0, 0, 2), f'{told}pieces 1\nrtps-audit: not clean: cut 1\n', 1), tests.run('audit', cut[:-1], ('--strict',)))
-    tests.holds('--expect of a cut file', (audited(0, 0, 2), 'rtps-audit: not clean: pairs 0, expected 1\n', 1), tests.run('audit', cut[:-1], ANY + ('--expect', '1')))
+    part = '1 frame is a fragment of a packet that is not whole'
+    for name, octets, words, wanted in (('pieces', pieces, (), '2 frames are fragments of packets that are not whole'), ('a cut file', cut[:-1], (), f'{part}; 1 frame is cut'),
+                                        ('a pair of a cut file', cut[:-1], ('--expect', '1'), f'0 pairs of 1 expected; {part}; 1 frame is cut')):
+        tests.holds(name, f'not clean: there is no pair; {wanted}', tests.run('check', octets, words)[0].splitlines()[-1])
     for name, octets in (('pieces', pieces), ('whole packets', cut), ('a cut file', cut[:-1])):
-        asks_strictly(tests, name, octets)
-    print('strict: 12')
+        checks(tests, name, octets)
+    print('what is not read: 12')
 
 
 def counted(tests, octets):
@@ -349,7 +339,6 @@ def random_captures(tests):
         octets = some_capture(rng)
         tests.agrees(f'random capture {i}', octets, ('show', 'json'), ANY)
         if i < 100 and not isinstance(reference.input_of(octets, any_form=True), str):
-            asks_strictly(tests, f'random capture {i}', octets)
             checks(tests, f'random capture {i}', octets)
     print('random captures: 300')
 
@@ -373,7 +362,18 @@ def limits(tests):
     print('limits: 7')
 
 
-# ---- what is told of a capture that is refused
+# ---- what is told of a file that is refused
+
+# What a file is that has a recording in a form that is not read, the octets that it begins with, and the command that makes a recording of it.
+PACKED = (
+    ('a gzip file', b'\x1f\x8b\x08\0', 'gunzip -c'),
+    ('an xz file', b'\xfd7zXZ\0\0', 'xz -dc'),
+    ('a zstd file', b'\x28\xb5\x2f\xfd', 'zstd -dc'),
+    ('a text in UTF-16', b'\xff\xfe5\x002\x00', 'iconv -f UTF-16 -t ASCII'),
+    ('a text in UTF-16', b'\xfe\xff\x005\x002', 'iconv -f UTF-16 -t ASCII'),
+    ('a text that begins with a byte order mark', b'\xef\xbb\xbf5254', "sed '1s/^\\xef\\xbb\\xbf//'"),
+)
+
 
 def hints(tests):
     good = packet(DATAGRAM)
@@ -383,10 +383,13 @@ def hints(tests):
     tshark = "tshark -r IN -Y 'udp && !icmp' -T fields -e udp.payload >OUT makes a recording of it"
     for words in ((), ANY):
         tests.refuses('USB', capture([], 189), 'bad capture', f'rtps-audit: FILE: frames of link type 189; {tshark}\n', words)
-        tests.refuses('gzip', b'\x1f\x8b\x08\0\n', 'line 1: bad hex', 'rtps-audit: FILE: a gzip file; gunzip -c FILE | rtps-audit audit - reads what it holds\n', words)
+    for what, start, command in PACKED:
+        for view in ('show', 'list', 'audit', 'why', 'check'):
+            told = f'rtps-audit: FILE: {what}; {command} FILE | rtps-audit {view} - reads {"it" if "text" in what else "what it holds"}\n'
+            tests.refuses(what, start + b'\n', 'line 1: bad hex', told, views=(view,))
     tests.refuses('a cut capture', BASE[:-1], 'frame 1: cut', 'rtps-audit: FILE: the capture ends within a frame; --any reads what is whole\n')
     tests.refuses('a frame that passes its block', section() + interface() + enhanced(good, size=200), 'frame 1: cut', words=ANY)
-    print('hints: 8')
+    print('hints: 37')
 
 
 # ---- captures that tools made
@@ -417,5 +420,5 @@ def compare_datagrams(tests, name):
 
 
 if __name__ == '__main__':
-    sys.exit(program.main(__doc__, (rows, pieces, pieces_of_other_sizes, recorded_twice, links, damage, cut_and_changed, orders, strictly,
+    sys.exit(program.main(__doc__, (rows, pieces, pieces_of_other_sizes, recorded_twice, links, damage, cut_and_changed, orders, unread,
                                      random_fragments, random_captures, limits, hints, stored)))

@@ -91,7 +91,7 @@ def rows(tests):
     for view in VIEWS:
         wanted = file_of('tests', 'examples', f'pose.{view}').decode()
         packets = capture([packet(d) for d in pose])
-        if view in ('audit', 'why'):
+        if view == 'audit':
             wanted = wanted[:-1] + ' ignored 0\n'
         if view == 'json':
             # All frames come at the same time, the first of the capture.
@@ -160,7 +160,7 @@ def kinds(tests):
         count += 1
     for snap in (0, 14, 28, 34, 42, 60, 93):
         whole = ethernet(good)
-        tests.agrees(f'a snap length of {snap}', start(ETHERNET) + record(whole[:snap], original=len(whole)), ('show', 'audit', 'why'))
+        tests.agrees(f'a snap length of {snap}', start(ETHERNET) + record(whole[:snap], original=len(whole)), ('show', 'audit'))
         count += 1
     print(f'kinds of frames: {count}')
 

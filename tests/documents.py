@@ -4,8 +4,8 @@
     tests/documents.py PROGRAM
 
 The commands of a page that name a recording of examples/ are run, in the order of the page. So are `audit`, `why` and
-`audit --json` of each recording of examples/. If a block of a page shows output, one of these has to have printed it; JSON
-may be broken into lines. If the writer of a block is in no recording of examples/, the block is about another recording, and
+`audit --json` of each recording of examples/. If a block of a page shows output, one of these has to have printed it, unless a
+line of it is `..`, which is for lines that are left out; JSON may be broken into lines. If the writer of a block is in no recording of examples/, the block is about another recording, and
 is only counted. The lines of code of a page have to be in the program of crates/rtps_example, in this order; `..` is for
 lines that are left out. The files and folders that a page links to or names have to exist. The pages of PAGES have a limit
 of lines. The last line is 'N passed, M failed'.
@@ -24,7 +24,7 @@ PAGES = {'README.md': 130, 'CONTRIBUTING.md': 120, 'CHANGELOG.md': None, 'docs/G
          'docs/JSON.md': None, 'docs/BOTH_SIDES.md': None, 'docs/PROOFS.md': None, 'docs/PERFORMANCE.md': None, 'docs/DECISIONS.md': 120}
 EXAMPLES = sorted(name for name in os.listdir(os.path.join(ROOT, 'examples')) if name.endswith(('.rec', '.pcap')))
 COMMANDS = 'bin/rtps-audit ', 'grep '
-ANSWERS = re.compile(r'(pairs?|announced|acknowledged|payloads|received|missed|number|claimed|datagrams) ["0-9a-z]|\{"pairs"|[0-9a-f]{24}\.[0-9a-f]{8} ')
+ANSWERS = re.compile(r'(pairs?|announced|acknowledged|payloads|received|missed|number|claimed|datagrams) ["0-9a-z]|[0-9,]+ of [0-9,]+ pairs? |topic +pairs|(not )?clean(:|$)|\{"pairs"|[0-9a-f]{24}\.[0-9a-f]{8} ')
 LINKS = re.compile(r'\]\(([^)#]+)\)')
 NAMED = re.compile(r'`((?:bin|bench|tests|docs|examples|crates|package|release)/[a-zA-Z0-9_./-]+)`')
 
@@ -52,7 +52,7 @@ def prose_of(page):
 
 
 def is_answer(block):
-    return bool(ANSWERS.match(block[0]))
+    return bool(ANSWERS.match(block[0])) and '..' not in block
 
 
 def is_command(line):
@@ -107,7 +107,7 @@ def advice(tests):
     guide, definition = (file_of(*path).decode() for path in (('docs', 'GUIDE.md'), ('crates', 'rtps_report', 'specs', 'Advice.antt')))
     rows = ''.join(f'| `{verdict}` | {fits} | {sentence} |\n' for _, verdict, fits, sentence in ADVICE)
     tests.holds('the guide has the table of what to do', True, rows in guide)
-    sentences = re.findall(r'^sentence_of \w+ = codes "(.*)"$', definition, re.MULTILINE)
+    sentences = re.findall(r'^sentence_of .* = codes "(.*)"$', definition, re.MULTILINE)
     tests.holds('the sentences are those of the definition', [sentence for *_, sentence in ADVICE], sentences)
 
 

@@ -82,8 +82,7 @@ def audits_of_changed(tests):
             text = text_of(recording[:place] + [one] + recording[place + 1:])
             name = f'datagram {place + 1} is {one.hex()}'
             wanted = reference.answer('audit', text)
-            tests.answers(name, 'audit', text, *wanted)
-            tests.answers(name, 'why', text, *reference.answer('why', text))
+            tests.agrees(name, text, ('audit', 'why'))
             row = wanted[0].split('\n')[1].split(' ')
             found = row[2] if len(row) < 12 else 'no pair'
             verdicts[found] = verdicts.get(found, 0) + 1
@@ -99,7 +98,7 @@ def announced_late(tests):
             continue
         for order in (recording[2:] + recording[:2], recording[1:] + recording[:1], recording[::-1]):
             text = text_of(order)
-            tests.answers(f'{name} in another order', 'why', text, *reference.answer('why', text))
+            tests.agrees(f'{name} in another order', text, ('why',))
             count += 1
     entities = [((0x103 + 256 * i).to_bytes(4, 'big'), (0x104 + 256 * i).to_bytes(4, 'big')) for i in range(60)]
     said = [datagram for writer, reader in entities for datagram in make.samples(range(1, 4), 3, writer, reader)]
@@ -289,8 +288,7 @@ def great_numbers(tests):
         sent += [answer_of(reader, rng.choice(EDGES)) for reader in NAMED]
         text, first = text_of(known + sent), rng.choice(EDGES)
         tests.agrees('great numbers', text, ('audit', 'why'))
-        for view in ('audit', 'why', 'json'):
-            tests.answers(f'great numbers, from {first} on', view, text, *reference.answer(view, text, first), ('--from', str(first)))
+        tests.agrees(f'great numbers, from {first} on', text, ('audit', 'why', 'json'), ('--from', str(first)))
     print(f'ranges and lists up to 2^63 - 1: {count} recordings of {len(NAMED)} readers')
 
 
@@ -374,7 +372,7 @@ def many_datagrams(tests):
     text = (make.header(A).hex().encode() + b'\n') * count
     wanted = f'pairs 0\ndatagrams {count} refused 0 skipped 0 fragments 0 undirected 0 unsettled 0\n'
     tests.answers('datagrams with nothing in them', 'audit', text, wanted)
-    tests.answers('datagrams with nothing in them', 'why', text, wanted)
+    tests.answers('datagrams with nothing in them', 'why', text, f'{wanted}not clean: there is no pair\n', 1)
     tests.answers('datagrams with nothing in them', 'list', text, 'participants 0 endpoints 0 unsettled 0 faults 0\n')
     print(f'datagrams with nothing in them: {count}')
 

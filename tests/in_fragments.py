@@ -17,16 +17,13 @@ import program
 import fragment_runs
 import make
 import reference
-import spans
-from asked import Asked
 from fragment_runs import PIECES, PIECE_ROWS, ROWS, row_datagrams
 from make import ack_nack, data_frag, data_frags, header, to
-from program import file_of, text_of
+from program import VIEWS, file_of, text_of
 from random_recordings import START, some_pieces
 
 A, B, WRITER, READER = make.A, make.B, make.WRITER, make.READER
 FRAGMENTS = ('--fragments',)
-WITH = reference.WITH_FRAGMENTS
 GUIDS = f'{A.hex()}.{WRITER.hex()} {B.hex()}.{READER.hex()}'
 NAME = bytes.fromhex(PIECES['HA'])
 
@@ -44,7 +41,8 @@ def pieces_by_table(tests):
 def rows_in_each_view(tests):
     """the worked rows, whose audits are stored in tests/rows"""
     for row, _, _ in ROWS:
-        tests.agrees(row, text_of(row_datagrams(row)), WITH, FRAGMENTS)
+        tests.agrees(row, text_of(row_datagrams(row)), words=FRAGMENTS)
+        tests.agrees(row, text_of(row_datagrams(row)), ('why',))
     print(f'worked rows, in each view: {len(ROWS)}')
 
 
@@ -79,8 +77,8 @@ def random_recordings(tests):
     rng, count = random.Random(2), 150
     for place in range(count):
         text = text_of(some_pieces(rng))
-        tests.agrees(f'random recording {place}', text, WITH, FRAGMENTS)
-        tests.holds(f'check: random recording {place}', spans.check(text, Asked()), tests.run('check', text)[::2])
+        tests.agrees(f'random recording {place}', text, words=FRAGMENTS)
+        tests.agrees(f'random recording {place}', text, ('check', 'why'))
     print(f'random recordings in each view, and check: {count}')
 
 
@@ -103,7 +101,7 @@ def audits_of_changed(tests):
             for value in {0, 0xff, octet ^ 1} - {octet}:
                 changed = datagram[:at] + bytes([value]) + datagram[at + 1:]
                 text = text_of(recording[:place] + [changed] + recording[place + 1:])
-                tests.agrees(f'octet {at} of datagram {place + 1} is {value}', text, ('why',), FRAGMENTS)
+                tests.agrees(f'octet {at} of datagram {place + 1} is {value}', text, ('why',))
                 count += 1
     print(f'why of changed octets: {count}')
 
@@ -172,7 +170,7 @@ def without_fragments(tests):
     count = 0
     for name in ('pose', 'open', 'missed', 'gone', 'conflict', 'unfounded', 'cyclone_reliable'):
         octets = file_of('examples', f'{name}.rec')
-        for view in WITH:
+        for view in VIEWS:
             tests.holds(f'{view} of {name}.rec', tests.run(view, octets), tests.run(view, octets, FRAGMENTS))
             count += 1
     print(f'answers without DATA_FRAG: {count}')

@@ -1,5 +1,5 @@
 #!/usr/bin/env python3
-"""Tests that the libraries agree on recordings: each is judged in every way that they have.
+"""Tests that the libraries agree on recordings: each is judged by the audit, by the judges with each kind of set, and by the index.
 
     tests/judged.py TRIALS RECORDING..     TRIALS is the built program of crates/rtps_trials
 
@@ -41,7 +41,7 @@ def main():
     for path in sys.argv[2:]:
         with open(path, 'rb') as f:
             rows += judged(tests, trials, os.path.basename(path), [text_of(recording_of(f.read()))])
-    print(f'judged in every way: {len(sys.argv) - 2} recordings, with {rows} rows')
+    print(f'judged by the audit, the judges and the index: {len(sys.argv) - 2} recordings, with {rows} rows')
     for name in CHANGED:
         texts = [*changes(recording_of(file_of('tests', 'rows', f'{name}.rec')))]
         rows = judged(tests, trials, f'{name} with a changed octet', texts)

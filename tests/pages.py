@@ -5,7 +5,7 @@
 
 Pages are made by bench/page.py, the second implementation, of recordings of examples/, of tests/recorded.py, of captures with times, of
 those of tests/rows/ beside which another one lies that was made at the host of readers, and of 90,000 rows;
-with --recordings of each recording of a folder, too, read as `check` reads it. A PROGRAM has to write the same pages, octet for
+with --recordings of each recording of a folder, too. A PROGRAM has to write the same pages, octet for
 octet. Where no Chromium is installed, that is said, and only what needs none is tried. A NAME is a word of the name of a test below.
 With --pictures the pages are kept as pictures of 1280 and 390 pixels, light and dark. The last line is 'N passed, M failed'.
 """
@@ -25,7 +25,7 @@ import page
 import parts
 import recorded
 import reference
-import spans
+import report as reports
 import timed
 from arrived import listed
 from asked import asked_by
@@ -38,16 +38,14 @@ from wording import grouped as counted
 RECORDINGS = '.rec', '.pcap', '.pcapng'
 EXAMPLES = sorted(name for name in os.listdir(os.path.join(ROOT, 'examples')) if name.endswith(RECORDINGS))
 MADE = 'robot', 'hostile', 'greatest', 'chatty', 'unmatched', 'none'
-# Rows of the tests that have something to tell of who does not talk, read as `check` reads them.
+# Rows of the tests that have something to tell of who does not talk.
 TALKING = 'each_reason_of_silence.rec', 'best_effort_pairs_by_topic.rec', 'reasons_in_order_and_topics_in_order.rec'
-# Rows of the tests that are held against another recording, which stands beside them, read as `check` reads them.
+# Rows of the tests that are held against another recording, which stands beside them.
 HELD = sorted(name.removesuffix('.arrived.rec') for name in os.listdir(os.path.join(ROOT, 'tests', 'rows')) if name.endswith('.arrived.rec'))
 MADE_HELD = 'lost_on_the_way', 'lost_of_many'
 BOTH_SIDES = *HELD, *MADE_HELD
 # The most octets of a page of an example and of one of 90,000 pairs.
-EXAMPLE_SIZE, MANY_SIZE = 100_000, 85_000_000
-# What `check` asks by itself.
-AS_CHECK = ['--any', '--fragments', '--observed', '--strict', '--spans']
+EXAMPLE_SIZE, MANY_SIZE = 100_000, 95_000_000
 PROBE = file_of('tests', 'page_probe.js').decode()
 # So many pairs of a page are chosen one after another.
 MOST_CHOSEN = 30
@@ -64,19 +62,11 @@ def lost_outcomes(row):
 
 def row_wanted(at, row):
     """what the page shows of a row"""
-    badges = [row['verdict']]
-    if 'outcomes' in row:
-        badges += [f'{kind} {counted(row["outcomes"][kind])}' for kind in lost_outcomes(row) if row['outcomes'][kind]]
-        badges += ['clean'] if row['clean'] else []
-    elif row['verdict'] == 'complete' and row['missed']:
-        badges.append(f"missed {counted(row['missed'])}")
-    elif row['verdict'] == 'complete' and row['gone']:
-        badges.append(f"gone {counted(row['gone'])}")
+    badges = [row['verdict']] + [f'{kind} {counted(row["outcomes"][kind])}' for kind in lost_outcomes(row) if row['outcomes'][kind]]
+    badges += ['clean'] if row['clean'] else []
     announced, below = row['announced'], row['acknowledged']
     counts = [str(announced['number']) if announced else '–', str(below['below']) if below else '–']
-    amounts = [row[name] for name in ('payloads', 'gone', 'untold', 'received', 'missed')]
-    if 'outcomes' in row:
-        amounts = [row['outcomes'][kind] for kind in OUTCOMES if kind in row['outcomes']]
+    amounts = [row['outcomes'][kind] for kind in OUTCOMES if kind in row['outcomes']]
     return {
         'id': f'pair-{at + 1}', 'topic': row['topic'], 'type': row['type'], 'badges': badges, 'number': str(row['number']),
         'datagram': [f"in datagram {row['datagram']}"] if 'datagram' in row else [], 'guids': [row['writer'], row['reader']],
@@ -110,16 +100,12 @@ def in_order(rows):
 
 
 def kind_of(row):
-    if row.get('clean'):
+    if row['clean']:
         return 'clean'
-    if row['verdict'] != 'complete':
-        return row['verdict']
-    if 'clean' in row:
-        return 'lost'
-    return 'missed' if row['missed'] else 'gone' if row['gone'] else 'complete'
+    return 'lost' if row['verdict'] == 'complete' else row['verdict']
 
 
-KINDS = ['unfounded', 'conflict', 'open', 'lost', 'missed', 'gone', 'complete', 'clean']
+KINDS = ['unfounded', 'conflict', 'open', 'lost', 'clean']
 
 
 def grouped(rows):
@@ -211,13 +197,9 @@ def octets_of(path):
         return f.read()
 
 
-def headline(values):
-    """the outcome at the top of a page"""
-    if values['because']:
-        return f"Not clean: {'; '.join(values['because'])}"
-    if not values['pairs']:
-        return 'No pair was audited'
-    return 'Clean' if values['options']['strict'] or values['options']['spans'] else 'All pairs are complete'
+def headline(text):
+    """the outcome at the top of a page: the last line of its text"""
+    return text.splitlines()[-1]
 
 
 class PageTests(Counts):
@@ -236,22 +218,22 @@ class PageTests(Counts):
         if name not in self.made:
             if name == 'many':
                 values = recorded.many(300, [('rt/camera/points', 'sensor_msgs::msg::dds_::PointCloud2_')], recorded.some_verdict)
-                self.made[name] = ''.join(map(recorded.text_of, values['pairs'])), values
+                self.made[name] = many_text(values), values
             elif name == 'none':
                 self.made[name] = page.page_of([])
             elif name in MADE:
                 self.made[name] = page.page_of(getattr(recorded, name)())
             elif name in IN_TIME:
-                self.made[name] = page.parts_of(IN_TIME[name](), asked_by(AS_CHECK), True)
+                self.made[name] = page.read_page(IN_TIME[name]())
             elif name in BOTH_SIDES:
                 path, other = self.both_sides(name)
-                self.made[name] = page.parts_of(octets_of(path), asked_by([*AS_CHECK, '--arrived', other]), True)
+                self.made[name] = page.read_page(octets_of(path), asked_by(['--arrived', other]))
             elif name in TALKING:
-                self.made[name] = page.parts_of(file_of('tests', 'rows', name), asked_by(AS_CHECK), True)
+                self.made[name] = page.read_page(file_of('tests', 'rows', name))
             elif name in self.recordings:
-                self.made[name] = page.parts_of(octets_of(self.recordings[name]), asked_by(AS_CHECK), True)
+                self.made[name] = page.read_page(octets_of(self.recordings[name]))
             else:
-                self.made[name] = page.parts_of(file_of('examples', name), any_form=name.endswith('.pcapng'))
+                self.made[name] = page.read_page(file_of('examples', name))
         return self.made[name]
 
     def values(self, name):
@@ -335,13 +317,9 @@ class PageTests(Counts):
             for name in sorted(os.listdir(folder)):
                 if name.endswith(RECORDINGS):
                     self.same_page(name, os.path.join(folder, name))
-                    self.same_page(name, os.path.join(folder, name), AS_CHECK)
-        for words in (['--from', '2'], ['--strict'], ['--observed'], ['--expect', '2'], ['--topic', 'p*', '--topic', '<&>"\\\t\u00e9']):
+        for words in (['--from', '2'], ['--tail', '3', '--certain'], ['--expect', '2'], ['--topic', 'p*', '--topic', '<&>"\\\t\u00e9']):
             self.same_page('pose.rec', os.path.join(ROOT, 'examples', 'pose.rec'), words)
-        for name in sorted(os.listdir(rows)):
-            if name.endswith('.audit_asked_with_fragments'):
-                self.same_page(name, os.path.join(rows, name.split('.')[0] + '.rec'), ['--fragments'])
-        self.same_page('fragments.rec', os.path.join(ROOT, 'examples', 'fragments.rec'), ['--fragments', '--strict', '--from', '2'])
+        self.same_page('fragments.rec', os.path.join(ROOT, 'examples', 'fragments.rec'), ['--from', '2'])
         for name in MADE:
             path = os.path.join(self.room, f'{name}.rec')
             with open(path, 'wb') as f:
@@ -351,26 +329,23 @@ class PageTests(Counts):
             path = os.path.join(self.room, f'{name}.pcap')
             with open(path, 'wb') as f:
                 f.write(made())
-            self.same_page(name, path, AS_CHECK)
-            self.same_page(name, path, ['--any'])
+            self.same_page(name, path)
         for name in BOTH_SIDES:
             path, other = self.both_sides(name)
-            self.same_page(name, path, [*AS_CHECK, '--arrived', other])
+            self.same_page(name, path, ['--arrived', other])
         for name, packed in self.recordings.items():
             path = os.path.join(self.room, name.removesuffix('.gz'))
             with open(path, 'wb') as f:
                 f.write(octets_of(packed))
-            self.same_page(name, path, AS_CHECK)
+            self.same_page(name, path)
 
     def same_page(self, name, path, words=()):
-        """the program writes the page of the second implementation, and ends as it does; without spans as its audit, too"""
-        words = [*words, *(['--any'] if path.endswith('.pcapng') and '--any' not in words else [])]
-        wanted = page.answer_as(octets_of(path), asked_by(words), '--any' in words)
+        """the program writes the page of the second implementation, and ends as it does, and as `check` does"""
+        wanted = page.answer(octets_of(path), asked_by(list(words)), path)
         got = subprocess.run([self.program, 'page', *words, path], capture_output=True)
         self.holds(f'{name}: the page with {words}', wanted, (got.stdout.decode(), got.stderr.decode().splitlines(), got.returncode))
-        if '--spans' not in words:
-            audit = subprocess.run([self.program, 'audit', *words, path], capture_output=True)
-            self.holds(f'{name}: how the page with {words} ends', (audit.stderr, audit.returncode), (got.stderr, got.returncode))
+        checked = subprocess.run([self.program, 'check', *words, path], capture_output=True)
+        self.holds(f'{name}: how the page with {words} ends', (checked.stderr, checked.returncode), (got.stderr, got.returncode))
 
     def text_of_a_page(self):
         head, middle, tail = parts.parts()
@@ -389,17 +364,11 @@ class PageTests(Counts):
         self.holds('90,000 pairs: their size', True, os.path.getsize(self.path('many')) <= MANY_SIZE)
 
     def data_of_check(self):
-        """of what `check` asks, the page has the object and the text of `check`"""
-        for name in EXAMPLES:
-            octets = file_of('examples', name)
-            text, values = page.parts_of(octets, asked_by(AS_CHECK), True)
-            checked = json.loads(spans.check(octets, asked_by([]), True)[0])
-            own = {member: json.loads(json_text(values[member])) for member in checked}
-            self.holds(f'{name}: the object of check', checked, own)
-            self.holds(f'{name}: the text of check', spans.check(octets, asked_by([]))[0], text)
-        for name in BOTH_SIDES:
-            path, other = self.both_sides(name)
-            text, checked = (spans.checked_with(octets_of(path), asked_by(['--arrived', other]), is_json, path)[0] for is_json in (False, True))
+        """the page has the object and the text of `check`"""
+        for name in (*EXAMPLES, *BOTH_SIDES):
+            path, other = self.both_sides(name) if name in BOTH_SIDES else (os.path.join(ROOT, 'examples', name), None)
+            asked = asked_by(['--arrived', other] if other else [])
+            text, checked = (reports.answer(form, octets_of(path), asked, path)[0] for form in ('check', 'json'))
             own = {member: self.values(name)[member] for member in json.loads(checked)}
             self.holds(f'{name}: the object of check', json.loads(checked), own)
             self.holds(f'{name}: the text of check', text, self.parts(name)[0])
@@ -420,7 +389,7 @@ class PageTests(Counts):
             self.holds(f'{name}: worst first', [f'pair-{at + 1}' for at, _ in order], self.ids(tab))
             counts = {key: counted(n) for key, n in values.items() if isinstance(n, int)}
             self.holds(f'{name}: each count is that of the report', counts, tab.evaluate('countsShown()'))
-            self.holds(f'{name}: the outcome', [headline(values)] * 2, [self.text(tab, '#outcome'), tab.evaluate('document.title').removesuffix(': rtps-audit')])
+            self.holds(f'{name}: the outcome', [headline(self.parts(name)[0])] * 2, [self.text(tab, '#outcome'), tab.evaluate('document.title').removesuffix(': rtps-audit')])
             self.holds(f'{name}: what weakens the report', values['notes'], tab.evaluate("textsOf(document, '#notes li')"))
             self.leave(name, tab)
 
@@ -436,10 +405,11 @@ class PageTests(Counts):
     def outcome(self):
         """in words that are written out here"""
         wanted = {
-            'robot': ('Not clean: 2 pairs are not complete', '2 of 4 pairs are complete. The recording proves 130 of 150 numbers received.'),
-            'none': ('No pair was audited', ''),
-            'open.rec': ('Not clean: 1 pair is not complete', '0 of 1 pair is complete. The recording proves 2 of 3 numbers received.'),
-            'gone.rec': ('All pairs are complete', '1 of 1 pair is complete. The recording proves 0 of 3 numbers received.'),
+            'robot': ('not clean: 2 pairs are not complete; 1 number was missed in 1 pair; 1 number was unsent in 1 pair; 1 pair does not match',
+                      '1 of 4 pairs are clean. The recording proves 130 of 150 numbers received.'),
+            'none': ('not clean: there is no pair', ''),
+            'open.rec': ('not clean: 1 pair is not complete; 1 number was missed in 1 pair', '0 of 1 pair is clean. The recording proves 2 of 3 numbers received.'),
+            'gone.rec': ('not clean: 3 numbers were unsent in 1 pair', '0 of 1 pair is clean. The recording proves 0 of 3 numbers received.'),
         }
         for name, (sentence, received) in wanted.items():
             tab = self.open(name)
@@ -452,10 +422,10 @@ class PageTests(Counts):
 
     def asked(self):
         """the options that were given"""
-        given = {'from': 7, 'any': True, 'fragments': True, 'observed': True, 'strict': True, 'spans': False, 'topics': ["rt/*", "<&'"], 'expect': 9}
+        given = {'from': 7, 'topics': ["rt/*", "<&'"], 'expect': 9, 'tail': 5, 'certain': True}
         self.made['asked'] = self.parts('robot')[0], self.values('robot') | {'options': given}
         tab = self.open('asked')
-        words = "--from 7 --any --fragments --observed --strict --topic 'rt/*' --topic '<&'' --expect 9"
+        words = "--from 7 --topic 'rt/*' --topic '<&'' --expect 9 --tail 5 --certain"
         self.holds('the options are told', f'rtps-audit, a report of the numbers from 7 on, with {words}', self.text(tab, '#asked'))
         self.leave('asked', tab)
 
@@ -465,7 +435,7 @@ class PageTests(Counts):
         lines = tab.evaluate('''[...document.querySelectorAll('table.topics tbody tr')].map((row) => ({
             isInSight: row.getBoundingClientRect().bottom <= innerHeight, cells: [...row.cells].map((cell) => cell.innerText) }))''')
         self.holds('robot: each topic is in sight', [True] * 3, [line['isInSight'] for line in lines])
-        wanted = (('/tf', 'acknowledged sample 12'), ('/scan', 'samples 24 to 40'), ('/odom', 'missed sample 19'))
+        wanted = (('/tf', 'acknowledged sample 12'), ('/scan', 'samples 24 to 40'), ('/odom', 'acknowledged each sample from 1 to 60'))
         for line, words in zip(lines, wanted):
             self.holds(f'robot: the line of {words[0]}', [], [word for word, cell in zip(words, line['cells']) if word not in cell])
         self.leave('robot', tab)
@@ -570,7 +540,7 @@ class PageTests(Counts):
             self.holds(f'{name}: how many more arrived', more, re.findall(r', [\d,]+ more arrived(?=\.$)', self.text(tab, '#received')))
             self.holds(f'{name}: each row is that of the report', self.wanted(name), in_order(self.shown(tab)))
             self.holds(f'{name}: it is told what arrived means', [], tab.evaluate("hidden('#arrived')"))
-            self.holds(f'{name}: the option is told', True, self.text(tab, '#asked').endswith('--spans --arrived OTHER'))
+            self.holds(f'{name}: the option is told', True, self.text(tab, '#asked').endswith(' with --arrived OTHER'))
             pairs = [line.strip() for line in lines if line.startswith('    arrived ')]
             self.holds(f'{name}: pairs of best effort', pairs, tab.evaluate("talkShown('not-arrived')"))
             heads = [line for line in lines if re.match(r'[\d,]+ numbers? of .* did not arrive$', line)]
@@ -649,7 +619,7 @@ class PageTests(Counts):
         tab = self.open('robot')
         rows = self.rows('robot')
         wanted = {
-            'scan': ['rt/scan'], '/amcl': ['rt/tf', 'rt/scan', 'rt/odom'], 'open': ['rt/scan'], 'missed': ['rt/odom'], 'P3 teleop tf': ['rt/tf'],
+            'scan': ['rt/scan'], '/amcl': ['rt/tf', 'rt/scan', 'rt/odom'], 'open': ['rt/scan'], 'lost': ['rt/odom'], 'P3 teleop tf': ['rt/tf'],
             rows[0]['writer']: ['rt/odom'], 'nothing of this': [], 'nav_msgs/msg/odometry': ['rt/odom'],
             '': ['rt/tf', 'rt/scan', 'rt/odom', 'rt/cmd_vel'],
         }
@@ -665,10 +635,10 @@ class PageTests(Counts):
     def orders(self):
         tab = self.open('robot')
         within = {'announced': 'number', 'acknowledged': 'below'}
-        for name in ('announced', 'acknowledged', 'payloads', 'untold', 'received', 'missed'):
+        for name in ('announced', 'acknowledged', 'received', 'likely', 'missed', 'unconfirmed'):
             for order, sign in (('descending', -1), ('ascending', 1)):
                 tab.click(f'.pairs thead th.{name} button')
-                key = lambda one: sign * (one[1][name][within[name]] if name in within else one[1][name])
+                key = lambda one: sign * (one[1][name][within[name]] if name in within else one[1]['outcomes'][name])
                 rows = grouped(sorted(enumerate(self.rows('robot')), key=key))
                 self.holds(f'robot: by {name}, {order}', [f'pair-{at + 1}' for at, _ in rows], self.ids(tab))
                 self.holds(f'robot: the head of {name}', order, tab.evaluate(f"document.querySelector('.pairs thead th.{name}').ariaSort"))
@@ -676,7 +646,7 @@ class PageTests(Counts):
 
     def clicks(self):
         tab = self.open('robot')
-        tab.click('#pair-2 td.payloads')
+        tab.click('#pair-2 td.received')
         self.holds('a click chooses', '#pair-2', tab.evaluate('location.hash'))
         self.holds('the row says that it is open', 'true', tab.evaluate("document.querySelector('#pair-2 a').ariaExpanded"))
         tab.click('#pair-2 a')
@@ -820,7 +790,7 @@ class PageTests(Counts):
     def more_rows(self):
         """where the last ones are shown, the focus goes to the first of them"""
         values = recorded.many(21, [('rt/some', 'Some')], recorded.some_verdict)
-        self.made['some'] = ''.join(map(recorded.text_of, values['pairs'])), values
+        self.made['some'] = many_text(values), values
         tab = self.open('some')
         focused = lambda element: tab.evaluate(f"document.activeElement === {element}")
         self.holds('441 pairs: the first ones', '441 pairs; the first 100 are shown.', self.text(tab, '#shown'))
@@ -881,6 +851,11 @@ class PageTests(Counts):
                         self.choose(tab, 0)
                         self.picture(tab, f'{look}_pair', True)
                     tab.close()
+
+
+def many_text(values):
+    """a text as long as that of `check` on many rows"""
+    return f"{''.join(map(recorded.text_of, values['pairs']))}\nnot clean: {'; '.join(values['because'])}\n"
 
 
 def more_of(text):

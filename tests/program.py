@@ -7,10 +7,13 @@ import tempfile
 ROOT = os.path.dirname(os.path.dirname(os.path.realpath(__file__)))
 sys.dont_write_bytecode = True
 sys.path.insert(0, os.path.join(ROOT, 'bench'))
+import page
 import reference
+import report
 from asked import asked_by
 
-VIEWS = tuple(reference.VIEWS)
+# those that are no forms of the report that `check` gives
+VIEWS = reference.VIEWS
 
 
 def file_of(*names):
@@ -30,6 +33,16 @@ def first_difference(wanted, got):
         if one != other:
             return f'-- wanted {one[:400]}\n-- got    {other[:400]}'
     return f'-- wanted {len(f"{wanted}")} characters, got {len(f"{got}")}'
+
+
+def answer_of(view, octets, words=(), name='-'):
+    """text, lines on standard error and status by the second implementation; `check`, `why` and `page` are forms of one report"""
+    asked = asked_by(list(words))
+    if view in ('check', 'why'):
+        return report.answer('json' if '--json' in words else view, octets, asked, name)
+    if view == 'page':
+        return page.answer(octets, asked, name)
+    return reference.answer_as(view, octets, asked, any_form='--any' in words, name=name)
 
 
 class Counts:
@@ -87,7 +100,7 @@ class Tests(Counts):
     def agrees(self, name, octets, views=VIEWS, words=()):
         """each view is what the second implementation says, with standard error and the status"""
         for view in views:
-            wanted, told, ended = reference.answer_as(view, octets, asked_by(words), any_form='--any' in words, name=self.file.name)
+            wanted, told, ended = answer_of(view, octets, words, self.file.name)
             self.holds(f'{view}: {name}', (wanted, ''.join(line + '\n' for line in told), ended), self.run(view, octets, words))
 
 

@@ -35,8 +35,8 @@ class Participant:
     def __init__(self, octet):
         self.prefix, self.count = bytes([1, 0x0f, octet]) + bytes([octet]) * 9, 0
 
-    def announced(self):
-        return announced(b'\0\1\0\xc2', self.prefix, parameter(0x50, self.prefix + b'\0\0\1\xc1'))
+    def announced(self, *parameters):
+        return announced(b'\0\1\0\xc2', self.prefix, parameter(0x50, self.prefix + b'\0\0\1\xc1'), *parameters)
 
     def endpoint(self, built_in, topic, kind, reliability=RELIABLE, durability=VOLATILE):
         """its announcement, and its entity id"""
@@ -233,8 +233,8 @@ def many(side, names, verdict_of):
     return {
         'status': 'unclean', 'because': [f'{incomplete:,} pairs are not complete'], 'pairs': pairs,
         'datagrams': 20, 'refused': 0, 'skipped': 0, 'fragments': 0, 'undirected': 0, 'unsettled': 0,
-        'unmatched': [], 'unobserved': [], 'one_way': [], 'best_effort': [], 'participants': [], 'notes': [],
-        'options': {'from': 1, 'any': False, 'fragments': False, 'observed': False, 'strict': False, 'spans': False, 'topics': [], 'expect': None},
+        'unmatched': [], 'talking': [], 'unobserved': [], 'one_way': [], 'best_effort': [], 'participants': [], 'notes': [],
+        'options': {'from': 1, 'topics': [], 'expect': None, 'tail': 0, 'certain': False},
         'endpoints': endpoints, 'writers': writers, 'answers': answers,
     }
 
@@ -255,13 +255,19 @@ def some_verdict(at):
     }
     if at % 3 == 2:
         claim = {'below': 19, 'datagram': 20, 'at': 36}
-        return {'verdict': 'complete', 'number': 18} | common | {'acknowledged': claim, 'received': 18, 'not_received': None, 'advice': None}
+        return {'verdict': 'complete', 'number': 18} | common | {'acknowledged': claim, 'received': 18, 'not_received': None} | spanned(18, True, None)
     told = {'by': 'data', 'datagram': 12, 'at': 20}
     if at % 1000 == 1:
         claim = {'below': 13, 'datagram': 11, 'at': 36}
-        late = {'claimed': claim, 'told': told, 'advice': SENTENCES['late']}
+        late = {'claimed': claim, 'told': told} | spanned(11, False, SENTENCES['late'])
         return {'verdict': 'unfounded', 'number': 12, 'datagram': 11} | common | late
-    return {'verdict': 'open', 'number': 12} | common | {'told': told, 'asked_since': 0, 'last_asked': None, 'advice': SENTENCES['not_asked']}
+    return {'verdict': 'open', 'number': 12} | common | {'told': told, 'asked_since': 0, 'last_asked': None} | spanned(11, False, SENTENCES['not_asked'])
+
+
+def spanned(received, is_clean, advice):
+    """the members of a row of 18 numbers that tell its span, what became of them, and what to do"""
+    outcomes = {'received': received, 'missed': 0, 'unsent': 0, 'unanswered': 0, 'likely': 0, 'unconfirmed': 18 - received}
+    return {'from': 1, 'until': None, 'outcomes': outcomes, 'clean': is_clean, 'advice': advice}
 
 
 RECORDINGS = {'robot': robot, 'hostile': hostile, 'greatest': greatest, 'chatty': chatty, 'unmatched': unmatched}

@@ -173,15 +173,14 @@ def of_program(library, program, recording):
         runs.append((' of 24 endpoints', words, many_endpoints()))
     for words in ['audit', '--json', '-'], ['why', '-']:
         runs.append((' of readers that are named', words, named_readers()))
-    runs.append((' with missed numbers', ['why', '--strict', '-'], file_of('examples', 'missed.rec')))
+    runs.append((' with missed numbers', ['why', '-'], file_of('examples', 'missed.rec')))
     for words in ['page'], ['check'], ['check', '--json']:
         runs.append(('', [*words, '-'], recording))
-    runs.append((' of readers that are named', ['page', '--observed', '-'], named_readers()))
+    runs.append((' of readers that are named', ['page', '-'], named_readers()))
     for words in ['check'], ['check', '--json']:
         runs.append((' of readers that are named', [*words, '--topic', 'p*', '--expect', '5', '-'], named_readers()))
-    for words in ['show'], ['audit'], ['why'], ['audit', '--json'], ['page']:
-        runs.append((' of samples in fragments', [*words, '--fragments', '-'], in_fragments()))
-    runs.append((' of samples in fragments', ['check', '-'], in_fragments()))
+    for words in ['show', '--fragments'], ['list', '--fragments'], ['audit', '--fragments'], ['audit', '--json', '--fragments'], ['why'], ['page'], ['check']:
+        runs.append((' of samples in fragments', [*words, '-'], in_fragments()))
     runs.append((' of a capture', ['audit', '--max-datagrams', '6', '--max-octets', '100000', '-'], loopback))
     runs.append((' of a capture', ['show', '-'], loopback))
     runs.append((' of any capture', ['audit', '--any', '-'], file_of('examples', 'ipv6.pcapng')))

@@ -16,7 +16,7 @@ import xml.etree.ElementTree
 sys.dont_write_bytecode = True
 import program
 import reference
-import spans
+import report as reports
 from capture_writer import capture, packet
 from program import ROOT, file_of, text_of
 from random_recordings import A, B, parameter, u
@@ -152,7 +152,7 @@ def of_junit(tests):
         rows = json.loads(output)['pairs']
         failures = sum(row['verdict'] != 'complete' for row in rows)
         tests.holds(f'junit.py of {name}', (len(rows), failures, status), suite_of(output)[0])
-        output, status = spans.check(octets, reference.Asked(), True)
+        output, _, status = reports.answer('json', octets)
         report = json.loads(output)
         failures = sum(not row['clean'] for row in report['pairs'])
         other = any(not any(word in reason for word in ('complete', 'missed', 'unsent', 'unanswered')) for reason in report['because'])
@@ -170,7 +170,7 @@ def of_other_reasons(tests):
             ('no row of three', alone, 3, (1, 1, 1), 'there is no pair; 0 pairs of 3 expected'),
             ('missed', dropped, None, (1, 1, 1), 'complete 2, missed 1'),
             ('missed, and one row of two', dropped, 2, (2, 2, 1), '1 number was missed in 1 pair; 1 pair of 2 expected')):
-        output, _ = spans.check(octets, reference.Asked(expect=expected), True)
+        output, _, _ = reports.answer('json', octets, reference.Asked(expect=expected))
         tests.holds(f'junit.py, {name}', (wanted, told), suite_of(output))
     print('reports: 5 in the form of JUnit with other reasons')
 

@@ -12,14 +12,10 @@ import sys
 
 sys.dont_write_bytecode = True
 import program
-import page
-import reference
-import spans
-from asked import asked_by
 from capture_writer import (NANOSECONDS, enhanced, fragment, interface, old, option, packet, record, section, simple,
                             start, udp_4)
-from program import text_of
-from recorded import Participant, Topic
+from program import answer_of, text_of
+from recorded import Participant, Topic, parameter
 
 SECOND, MILLISECOND = 10 ** 9, 10 ** 6
 TCP = packet(b'', protocol=6)          # a frame that gives no datagram
@@ -29,16 +25,7 @@ class Answers:
     """what is said of an input by the second implementation, as the tests of a program ask it"""
 
     def run(self, view, octets, words=()):
-        asked = asked_by(list(words))
-        if view == 'check':
-            text, status = spans.check(octets, asked, '--json' in words)
-        elif view == 'page':
-            text, _, status = page.answer_as(octets, asked)
-        elif view in ('json', 'why') and asked.spans:
-            text, _, status = spans.report(view, octets, asked)
-        else:
-            text, _, status = reference.answer_as(view, octets, asked)
-        return text, '', status
+        return answer_of(view, octets, words)
 
 
 class Timed(program.Counts):
@@ -186,6 +173,21 @@ topic     pairs  clean  before  received  missed
 
 not clean: 1 number was missed in 1 pair
 '''
+WHY = f'''pairs 1
+pair {WRITER} {READER} complete 2
+  topic "rt/chatter" type "std_msgs::msg::dds_::String_"
+  from 1
+  announced 2 by data in datagram 8 at 20, 0.700 s
+  acknowledged below 3 in datagram 13 at 36, 1.200 s
+  payloads 2 gone 0 untold 0
+  received 1 of 2
+  missed 1
+    number 2 asked for in datagram 10 at 36, 0.899 s, sent again in datagram 11 at 36, 1.000 s, told gone by heartbeat in datagram 12 at 20, 1.100 s
+  number 2 may not be received: told gone by heartbeat in datagram 12 at 20, 1.100 s, acknowledged in datagram 13 at 36, 1.200 s
+  -> it was sent again, and nothing shows that it arrived: look at the network; a recording at the reader's side tells
+datagrams 13 refused 0 skipped 0 fragments 0 undirected 0 unsettled 0 ignored 0
+not clean: 1 number was missed in 1 pair
+'''
 PLACES = (
     '"announced":{"number":2,"by":"data","datagram":8,"at":20,"time":0.700}',
     '"acknowledged":{"below":3,"datagram":13,"at":36,"time":1.200}',
@@ -200,16 +202,18 @@ PLACES = (
 def places(tests):
     octets = timed(lost(), STEADY)
     tests.says('each place', 'check', octets, SAID)
-    for name, view, words in (('each place', 'json', ()), ('with spans', 'json', ('--spans',)), ('of check', 'check', ('--json',))):
+    for name, view, words in (('each place', 'json', ()), ('of check', 'check', ('--json',))):
         tests.says(name, view, octets, list(PLACES), lambda text: re.findall(r'"\w+":{[^{}]*"at"[^{}]*}', text), words)
     tests.tells('the row', octets, r'"from":1,.*?"outcomes"|"clean":false,.*"advice":', '"from":1,"until":null,"until_time":null,"outcomes"',
                 '"clean":false,"wait":null,"silence":[],"advice":')
     tests.says('places with no time', 'check', text_of(lost()), re.sub(r', \d\.\d{3} s', '', SAID))
-    for view in ('show', 'list', 'audit', 'why'):
+    for view in ('show', 'list', 'audit'):
         tests.says('no seconds', view, octets, [], of_times)
+    tests.says('each place', 'why', octets, WHY)
+    tests.says('places with no time', 'why', text_of(lost()), re.sub(r', \d\.\d{3} s| ignored 0', '', WHY))
     for name, (datagrams, *lines) in verdicts().items():
         tests.checks(name, timed(datagrams, STEADY[:9][:len(datagrams)]), *lines)
-    print(f'places: {len(verdicts()) + 9}')
+    print(f'places: {len(verdicts()) + 10}')
 
 
 def verdicts():
@@ -232,8 +236,8 @@ def page_data(tests):
     topic = pair()
     octets = timed(lost()[:-1] + [topic.answers(3) + topic.answers(3)[20:]], STEADY)
     wanted = ['"times":[[5,0.400],[6,0.500],[7,0.600],[8,0.700],[9,0.800],[10,0.899],[11,1.000],[12,1.100],[13,1.200]]']
-    tests.says('the chart', 'page', octets, wanted, lambda text: re.findall(r'"times":\[\[.*?\]\]', text), ('--spans',))
-    tests.says('a text', 'page', text_of(lost()), [], lambda text: re.findall(r'"times":\[[\[\]]', text), ('--spans',))
+    tests.says('the chart', 'page', octets, wanted, lambda text: re.findall(r'"times":\[\[.*?\]\]', text))
+    tests.says('a text', 'page', text_of(lost()), [], lambda text: re.findall(r'"times":\[[\[\]]', text))
     print('data of the page: 2')
 
 
@@ -307,8 +311,7 @@ def waiting(tests):
     clean = after(*rows['a clean row'][0])
     wanted = '"wait":{"seconds":2.000,"asked":{"datagram":6,"at":20,"time":0.000},"answered":{"datagram":7,"at":36,"time":2.000}}'
     tests.tells('a clean row', clean, r'"wait":.*?}}', wanted)
-    tests.says('a clean row of a report in spans', 'json', clean, [wanted], lambda text: re.findall(r'"wait":.*?}}', text), ('--spans',))
-    tests.says('a report without spans', 'json', clean, [], lambda text: re.findall('"wait"|"silence"|_time', text))
+    tests.says('an audit', 'json', clean, [], lambda text: re.findall('"wait"|"silence"|_time', text))
     tests.tells('to the end', after(*rows['to the end'][0]), r'"wait":.*?"answered":null}',
                 '"wait":{"seconds":4.000,"asked":{"datagram":7,"at":20,"time":0.000},"answered":null}')
     tests.tells('a second', after(*rows['a second'][0]), r'"wait":[^,]*', '"wait":null')
@@ -316,7 +319,7 @@ def waiting(tests):
     frames = [*map(packet, begun), packet(ask), packet(lacks), packet(ask), packet(lacks)]
     without = section() + interface() + b''.join(simple(frame) if k == 6 else enhanced(frame, time=2000000 * k) for k, frame in enumerate(frames))
     tests.says('an answer without a time', 'check', without, [WAIT.format('2.000', 8, '14.000', 'answered in datagram 9 at 36, 16.000 s')], of_waits)
-    print(f'waits: {len(rows) + 7}')
+    print(f'waits: {len(rows) + 6}')
 
 
 # ---- who is silent
@@ -342,7 +345,7 @@ def silence(tests):
 
     acknowledged, number = 'acknowledged below 2 in datagram 7 at 36, 2.000 s', 'number 2 told by data in datagram 8 at 20, {} s'
     tests.checks('ten seconds', ending(at(12)))
-    tests.checks('a nanosecond more', ending(at(12, 1)), acknowledged, number.format('12.000'), SILENT.format('reader', 7, '2.000'))
+    tests.checks('a nanosecond more', ending(at(12, 1)), acknowledged, number.format('12.000'), SILENT.format('reader', 7, '2.000'), SEE.format('reader', '2.000'))
     tests.tells('ten seconds', ending(at(12)), r'"(?:first|last|left)_time":[^,]*,?|"silent":\w+|"silence":\[.*?\]', '"silence":[]',
                 '"first_time":0.000,', '"last_time":12.000,', '"left_time":null,', '"silent":false',
                 '"first_time":0.000,', '"last_time":2.000,', '"left_time":null,', '"silent":false')
@@ -352,9 +355,8 @@ def silence(tests):
     shared = lambda text: re.findall('1 pair lacks only a tail|-> .*', text)
     tests.says('a tail', 'check', ending(at(12)), ['1 pair lacks only a tail', '-> stop publishing some seconds before the recording ends, or allow a tail '
                                                    '(--tail)'], shared)
-    tests.says('a tail of a silent reader', 'check', ending(at(12, 1)), ['-> the reader may have all: stop publishing, wait some seconds, and only then '
-                                                                         'end the recording'], shared)
-    tests.says('a tail that may be', 'check', ending(at(12, 1)), ['clean'], lambda text: text.splitlines()[-1:], ('--tail', '1'))
+    tests.says('a tail of a silent reader', 'check', ending(at(12, 1)), [SEE.format('reader', '2.000')], shared)
+    tests.says('a tail that may be', 'check', ending(at(12, 1)), [f'clean: 1 of 2 numbers are {CERTAIN}'], lambda text: text.splitlines()[-1:], ('--tail', '1'))
     left = ending(at(30), leaving(topic))
     tests.checks('the reader left', left)
     tests.tells('the reader left', left, r'"until":8,"until_time":[^,]*|"left":8.*', '"until":8,"until_time":2.000',
@@ -363,18 +365,167 @@ def silence(tests):
     tests.says('the reader left behind a miss', 'check', timed(lacking, [at(90)] * 10 + [at(140)]), [f'reader {READER}, from 1, left in datagram 10, 0.000 s'],
                lambda text: [line for line in of_times(text) if 'left' in line])
     writer = timed(begun + [topic.sent(2), topic.answers(2)], [at(90)] * 7 + [at(91), at(101, 1)])
-    tests.checks('the writer', writer, acknowledged.replace('2.000', '0.000'), number.format('1.000'), SILENT.format('writer', 8, '1.000'))
+    tests.checks('the writer', writer, acknowledged.replace('2.000', '0.000'), number.format('1.000'), SILENT.format('writer', 8, '1.000'),
+                 SEE.format('writer', '1.000'))
+    both = timed(begun + [topic.sent(2), TWO[0][:8] + b'\3' * 12], [at(90)] * 6 + [at(91), at(92), at(103, 1)])
+    tests.says('both', 'check', both, [SEE.format('reader', '1.000')], shared)
     # Nobody is announced as a participant.
     octets = timed(begun[2:] + [topic.sent(2)], [at(90)] * 5 + [at(140)])
     tests.checks('participants that are not announced', octets)
-    print('silence: 14')
+    print('silence: 15')
+
+
+SEE = "-> the {}'s process ended without leaving, or was cut off: see what it did at {} s"
+CERTAIN = 'received for certain, none is known to be lost'
+
+
+def told_silent(text):
+    """whose participants are silent, and since when"""
+    return re.findall(r"the (\w+)'s participant is silent since datagram (\d+, [0-9.]+) s", text)
+
+
+def silence_by_headers(tests):
+    """the reader's participant is last heard by an answer, at 2 s; number 2 is sent at 15 s"""
+    topic = pair()
+    begun = [*TWO, *topic.announced, topic.sent(1), topic.asks(1, 1), topic.answers(2)]
+
+    def heard(*more):
+        """more datagrams, at 3 s"""
+        return timed([*begun, *more, topic.sent(2)], [at(90)] * 6 + [at(92)] + [at(93)] * len(more) + [at(105)])
+
+    header = topic.answers(2)[:20]
+    rows = {
+        'nothing more': ((), [('reader', '7, 2.000')]),
+        'a header alone': ((header,), [('reader', '8, 3.000')]),
+        'a header and what is not read': ((header + b'\x80\0\0\4aaaa',), [('reader', '8, 3.000')]),
+        'a header in front of a fault': ((header + b'\6\0\0\4aaaa',), [('reader', '8, 3.000')]),
+        'a header that is cut': ((header[:19],), [('reader', '7, 2.000')]),
+        'a header of version 1': ((header[:4] + b'\1' + header[5:],), [('reader', '7, 2.000')]),
+        'its words in a datagram of the writer': ((topic.sent(1)[:20] + b'\x0c\0\0\x14' + bytes(4) + b'\2\5\0\0' + topic.reader + topic.answers(2)[20:],),
+                                                  [('reader', '7, 2.000')]),
+    }
+    for name, (more, wanted) in rows.items():
+        tests.says(name, 'check', heard(*more), wanted, told_silent)
+    words = rows['its words in a datagram of the writer'][0]
+    tests.tells('its words in a datagram of the writer', heard(*words), r'"last":(\d+)', '9', '7')
+    print(f'silence by headers: {len(rows) + 1}')
+
+
+def lease(seconds, fraction):
+    return parameter(2, seconds.to_bytes(4, 'big', signed=True) + fraction.to_bytes(4, 'big'))
+
+
+def silence_by_leases(tests):
+    """the reader's participant has a lease, and is last heard at 2 s; the end of the recording comes later by so many nanoseconds"""
+    rows = {
+        'three seconds': ([lease(3, 0)], at(3), at(3, 1)), 'half a second more': ([lease(3, 1 << 31)], at(3, 500000000), at(3, 500000001)),
+        'a fraction of less than a nanosecond': ([lease(3, 4)], at(3), at(3, 1)), 'a fraction of a nanosecond': ([lease(3, 5)], at(3, 1), at(3, 2)),
+        'nothing': ([lease(0, 0)], 0, 1), 'ten seconds': ([lease(10, 0)], at(10), at(10, 1)), 'longer': ([lease(11, 0)], at(10), at(10, 1)),
+        'without an end': ([lease(0x7fffffff, 0xffffffff)], at(10), at(10, 1)), 'below 0': ([lease(-1, 0)], at(10), at(10, 1)),
+        'cut': ([parameter(2, b'\0\0\0\3')], at(10), at(10, 1)), 'two': ([lease(4, 0), lease(3, 0)], at(4), at(4, 1)),
+    }
+    for name, (parameters, most, more) in rows.items():
+        for since, wanted in ((most, []), (more, [('reader', '7, 2.000')])):
+            topic = pair()
+            begun = [TWO[0], OTHER.announced(*parameters), *topic.announced, topic.sent(1), topic.asks(1, 1), topic.answers(2), topic.sent(2)]
+            tests.says(f'a lease of {name}, {since}', 'check', timed(begun, [at(90)] * 6 + [at(92), at(92) + since]), wanted, told_silent)
+    print(f'silence by leases: {2 * len(rows)}')
+
+
+def silence_to_the_last_frame(tests):
+    """the end is the greatest time of any frame: one that gives no datagram, or of an interface whose link is not read"""
+    topic = pair()
+    begun = [*TWO, *topic.announced, topic.sent(1), topic.asks(1, 1), topic.answers(2), topic.sent(2)]
+    frames = [*zip([at(90)] * 6 + [at(92), at(93)], map(packet, begun))]
+    silent = [('reader', '7, 2.000'), ('writer', '8, 3.000')]
+    for name, octets, wanted in (
+            ('a frame behind all', nanoseconds([*frames, (at(103, 1), TCP)]), silent[::-1]),
+            ('a frame ten seconds behind the reader', nanoseconds([*frames, (at(102), TCP)]), []),
+            ('a frame before all', nanoseconds([(at(103, 1), TCP), *frames]), [('writer', '8, -10.000'), ('reader', '7, -11.000')]),
+            ('a link that is not read', section() + interface(options=told(9, 9)) + interface(189, options=told(9, 9)) +
+             b''.join(enhanced(frame, time=time) for time, frame in frames) + enhanced(b'usb', 1, time=at(103, 1)), silent[::-1])):
+        tests.says(name, 'check', octets, wanted, lambda text: re.findall(
+            r"the (\w+)'s participant is silent since datagram (\d+, -?[0-9.]+) s", text))
+    print('silence to the last frame: 4')
+
+
+# ---- outages: what is told gone soon was none
+
+def outages(tests):
+    """number 1 is asked about twice, and told gone so many nanoseconds behind the first question; then number 2 is acknowledged"""
+    topic = pair()
+
+    def dropped(*times):
+        datagrams = [*TWO, *topic.announced, topic.sent(1), topic.asks(1, 1), topic.asks(1, 1), topic.sent(2), topic.asks(2, 2), topic.answers(3)]
+        return timed(datagrams, [at(50)] * 5 + [at(50) + time for time in times])
+
+    def counted(text):
+        return re.findall(r'"unanswered":(\d),"likely":(\d)', text)
+
+    soon, late = [('0', '1')], [('1', '0')]
+    rows = {
+        'a nanosecond less': ((0, 0, 0, 99999999, at(1)), soon), '100 ms': ((0, 0, 0, 100000000, at(1)), late),
+        'counted from the first question': ((0, 90000000, 95000000, 100000000, at(1)), late),
+        'of the second question alone': ((5000000, 5000000, 5000000, 100000000, at(1)), soon),
+        'by times that go back': ((at(2), at(2), at(2), at(1), at(3)), soon), 'at one time': ((0, 0, 0, 0, at(1)), soon),
+    }
+    for name, (times, wanted) in rows.items():
+        tests.says(name, 'check', dropped(*times), wanted, counted, ('--json',))
+    ends = {'a nanosecond less': ['clean: 1 of 2 numbers are ' + CERTAIN], '100 ms': ['not clean: 1 number was unanswered in 1 pair']}
+    for name, wanted in ends.items():
+        for view, words in (('check', ()), ('why', ())):
+            tests.says(name, view, dropped(*rows[name][0]), wanted, lambda text: text.splitlines()[-1:], words)
+    # A datagram without a time is no reason to say that it was soon.
+    datagrams = [*TWO, *topic.announced, topic.sent(1), topic.asks(1, 1), topic.asks(1, 1), topic.sent(2), topic.asks(2, 2), topic.answers(3)]
+    for name, place in (('the first question without a time', 5), ('what tells it gone without a time', 8)):
+        octets = section() + interface() + b''.join(simple(packet(d)) if k == place else enhanced(packet(d), time=k) for k, d in enumerate(datagrams))
+        tests.says(name, 'check', octets, late, counted, ('--json',))
+    tests.says('a text', 'check', text_of(datagrams), late, counted, ('--json',))
+    print(f'outages: {len(rows) + 7}')
+
+
+# ---- who is asked only at the end
+
+def asked_at_the_end(tests):
+    """the reader lacks number 1, or acknowledged nothing, and the writer asks again: so many nanoseconds before the end"""
+    topic = pair()
+    begun = [*TWO, *topic.announced, topic.sent(1)]
+    ask, final = topic.asks(1, 1), topic.asks(1, 1)[:21] + b'\2' + topic.asks(1, 1)[22:]
+    longer, asked = ['-> record longer'], ['-> the reader was asked and acknowledged nothing: see that it runs, and record both directions']
+    not_asked = ['-> the reader may have all: stop publishing, wait some seconds, and only then end the recording']
+
+    def ending(*more):
+        return nanoseconds([(at(50), packet(d)) for d in begun] + [(at(50) + time, packet(d) if d else TCP) for time, d in more])
+
+    nothing = topic.answers(1)
+    rows = {
+        'a second': ([(0, nothing), (at(1), ask), (at(2), topic.sent(2))], longer),
+        'a nanosecond more': ([(0, nothing), (at(1), ask), (at(2, 1), topic.sent(2))], asked),
+        'the last datagram': ([(0, nothing), (at(9), ask)], longer),
+        'a frame behind it': ([(0, nothing), (at(1), ask), (at(2, 1), None)], asked),
+        'asked before, and answered': ([(0, ask), (at(1), nothing), (at(5), ask), (at(6), topic.sent(2))], longer),
+        'asked twice': ([(0, nothing), (at(1), ask), (at(2, 5), ask), (at(3), topic.sent(2))], asked),
+        'asked with the final flag before': ([(0, nothing), (at(1), final), (at(2, 5), ask), (at(3), topic.sent(2))], longer),
+        'not asked': ([(0, nothing), (at(9), topic.sent(2))], not_asked),
+    }
+    for name, (more, wanted) in rows.items():
+        tests.says(name, 'check', ending(*more), wanted, lambda text: re.findall('-> .*', text)[:1])
+    tests.tells('a second', ending(*rows['a second'][0]), r'"advice":"record longer"', '"advice":"record longer"')
+    # Who is silent is told first, and nothing else; and a tail is told as one, also where it is asked about at the end.
+    silent = ending((0, nothing), (at(12), ask), (at(12), topic.sent(2)))
+    tests.says('a silent reader', 'check', silent, [SEE.format('reader', '0.000')], lambda text: re.findall('-> .*', text))
+    tail = ending((0, topic.answers(2)), (at(1), topic.sent(2)), (at(1), topic.asks(1, 2)))
+    tests.says('a tail', 'check', tail, ['-> stop publishing some seconds before the recording ends, or allow a tail (--tail)'],
+               lambda text: re.findall('-> .*', text))
+    print(f'asked at the end: {len(rows) + 3}')
 
 
 def main():
     if len(sys.argv) > 2:
         raise SystemExit(__doc__)
     tests = Timed(sys.argv[1] if len(sys.argv) == 2 else None)
-    for group in (units, places, page_data, going_back, waiting, silence):
+    for group in (units, places, page_data, going_back, waiting, silence, silence_by_headers, silence_by_leases, silence_to_the_last_frame, outages,
+                  asked_at_the_end):
         group(tests)
     return tests.told()
 

@@ -6,15 +6,20 @@ _rtps_audit() {
         mapfile -t COMPREPLY < <(compgen -W 'check show list audit why page sample help -h --help -V --version' -- "$word")
         return
     fi
+    local behind=${COMP_WORDS[COMP_CWORD - 1]}
+    if [ "$behind" = = ]; then behind=${COMP_WORDS[COMP_CWORD - 2]}; fi
+    case $behind in
+    --from | --topic | --expect | --tail | --max-datagrams | --max-octets) return ;;
+    esac
     case $command in
     check | show | list | audit | why | page)
-        local options='--any --max-datagrams --max-octets -h --help'
+        local options='--max-datagrams --max-octets -h --help'
+        local report='--from --topic --expect --tail --certain --arrived'
         case $command in
-        check) options='--from --topic --expect --tail --certain --arrived --json --max-datagrams --max-octets -h --help' ;;
-        show) options="--fragments $options" ;;
-        audit) options="--fragments --from --topic --observed --expect --strict --spans --json $options" ;;
-        why) options="--fragments --from --topic --observed --expect --strict --spans $options" ;;
-        page) options="--fragments --from --topic --observed --expect --strict --spans --arrived $options" ;;
+        check) options="$report --json $options" ;;
+        why | page) options="$report $options" ;;
+        audit) options="--from --json --any --fragments $options" ;;
+        show | list) options="--any --fragments $options" ;;
         esac
         case $word in
         -*) mapfile -t COMPREPLY < <(compgen -W "$options" -- "$word") ;;

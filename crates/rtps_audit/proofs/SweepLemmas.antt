@@ -126,6 +126,18 @@ front_least from set (pos n) positive fits small passed is = (
   },
 )
 
+-- where the numbers that are asked for are past all of a set
+pub front_past : (from : ℕ) (set : ℕ → Bool) (front : ℤ) (writer reader : Guid) (placed : List PlacedValue) (datagram : ℕ) → 2 ^ 63 ≤ from → ((n : ℕ) → 1 ≤ n → n < from → n < 2 ^ 63 - 1 → set n ≡ true) → IsFront set front
+    → IsFrontBy from writer reader placed datagram front
+front_past from set (negsuc n) writer reader placed datagram past passed is = absurd (let low = is.positive in omega (arith, ints))
+front_past from set (pos n) writer reader placed datagram past passed is = record {
+  positive = is.positive;
+  outside = λ m at small.
+      let same : m ≡ n = omega (arith, ints, at) in
+      absurd (let yes = passed n (let low = is.positive in omega (arith, ints)) (omega arith) (omega arith) in let no = is.outside in let clash : true ≡ false = sym yes ∙ no in cc);
+  below = λ m asked small lt. absurd (let on = asked.1 in omega arith);
+}
+
 module _ (acts : List Placed) (place datagram : ℕ) (within : place ≤ length acts) (before : AllWithin (λ (at : Placed). at.datagram < datagram) acts 0 place) (behind : AreBehind acts place datagram) where
   -- an act up to the datagram before this one is among the first
   among_first : (at : PlacedValue) → 1 ≤ datagram → Contains (map placed_value acts) at → at.datagram ≤ datagram - 1 → Contains (map placed_value (take place acts)) at

@@ -11,6 +11,7 @@ ghost use Rattle.rtps_audit.specs.Speech.{speech_by};
 
 use crate::announced_places::{AnnouncedPlace, note_places};
 use crate::answer::{Answer, Answers, note_answers};
+use crate::first_asked::FirstAsked;
 use crate::groups::Groups;
 use crate::placed::{Placed, note_acts};
 use crate::plain_judge::judge_said;
@@ -137,7 +138,7 @@ impl<'a> Index<'a> {
     pub fn judge_until(
         &self,
         pair: Pair,
-        from: SeqNum,
+        from: FirstAsked,
         until: Option<u64>,
     ) -> Result<Verdict, Memory>
         ensures { (intake : Intake) → IsIndexBy intake self.now

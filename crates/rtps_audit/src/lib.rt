@@ -4,6 +4,7 @@
 
 mod announced_places;
 mod answer;
+mod first_asked;
 mod groups;
 mod index;
 pub mod laws;
@@ -20,6 +21,7 @@ mod word;
 
 pub use announced_places::AnnouncedPlace;
 pub use answer::Answer;
+pub use first_asked::FirstAsked;
 pub use index::Index;
 pub use placed::{Placed, place};
 pub use plain_judge::{judge, judge_by, judge_from};

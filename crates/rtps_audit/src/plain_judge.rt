@@ -4,6 +4,7 @@ ghost use Rattle.rtps_audit.specs.Delivered.{IsExactVerdict, IsExactVerdictFrom}
 ghost use Rattle.rtps_audit.specs.Said.{IsSaid};
 ghost use Rattle.rtps_audit.specs.Speech.{speech_by, speech_of};
 
+use crate::first_asked::FirstAsked;
 use crate::index::Index;
 use crate::payload_conflict::PayloadConflicts;
 use crate::placed::Placed;
@@ -38,13 +39,13 @@ impl<C: Coverage> ToldReader<C> {
     ghost use Rattle.rtps_audit.specs.Sweep.{AreBehind, HasHeardOrUnasked, IsToldUpTo};
 
     /// Before all acts. The numbers from `from` on are asked for.
-    fn new(alloc: Global, guid: Guid, from: SeqNum) -> Result<Self, Memory>
+    fn new(alloc: Global, guid: Guid, from: FirstAsked) -> Result<Self, Memory>
         ensures guid { IfOk result (λ reader. reader.guid ≡ guid) }
         ensures told { IfOk result (λ reader. (n : ℕ) → 1 ≤ n → n < 2 ^ 63 - 1 → C.covered reader.told n ≡ nat_lt n from) }
         ensures place { IfOk result (λ reader. reader.place ≡ 0) }
     {
         let mut told = C::empty(alloc);
-        add_range(&mut told, 1, from.get().cast_unsigned())?;
+        add_range(&mut told, 1, from.get())?;
         Ok(ToldReader {
             guid,
             told,
@@ -95,7 +96,8 @@ pub fn judge_from<C: Coverage>(
         (speech_of pair.writer pair.reader (map (λ datagram. datagram.now) recording.now))) }
 {
     let index = Index::build(alloc, recording)?;
-    judge_said::<C>(alloc, &Said::until(&index, pair, None), pair, from)
+    let said = Said::until(&index, pair, None);
+    judge_said::<C>(alloc, &said, pair, FirstAsked::of(from))
 }
 
 /// Judges what a writer and a reader said, as [`judge_from`] does.
@@ -103,7 +105,7 @@ pub(crate) fn judge_said<C: Coverage>(
     alloc: Global,
     said: &Said<'_, '_>,
     pair: Pair,
-    from: SeqNum,
+    from: FirstAsked,
 ) -> Result<Verdict, Memory>
     ensures { (recording : List (List ActValue)) → IsSaid pair recording said.now
         → IfOk result (IsExactVerdictFrom from (speech_by pair.writer pair.reader recording)) }
@@ -117,7 +119,7 @@ pub(crate) fn judge_said<C: Coverage>(
         let front = reader.told.front();
         claims.note_answer(*answer, front);
     }
-    let first = from.get().cast_unsigned();
+    let first = from.get();
     let (conflicts, last) = PayloadConflicts::of(alloc, acts, pair.writer, first)?;
     Ok(claims.verdict_on(pair, &conflicts, last))
 }

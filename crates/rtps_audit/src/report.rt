@@ -50,6 +50,9 @@ pub struct Report {
 pub trait Watch {
     /// So many of all pairs are judged.
     fn judged(&mut self, done: usize, all: usize);
+
+    /// Of so many of all pairs it is known what their verdict rests on.
+    fn explained(&mut self, done: usize, all: usize);
 }
 
 /// Tells nobody.
@@ -58,6 +61,8 @@ pub struct Unwatched;
 
 impl Watch for Unwatched {
     fn judged(&mut self, _done: usize, _all: usize) {}
+
+    fn explained(&mut self, _done: usize, _all: usize) {}
 }
 
 /// The first place from this one on whose pair is of another writer; the end, where none is.

@@ -4,6 +4,7 @@ ghost use Rattle.rtps_audit.specs.Intake.{Intake};
 ghost use Rattle.rtps_audit.specs.Report.{IsJudgedFrom};
 
 use crate::answer::Answer;
+use crate::first_asked::FirstAsked;
 use crate::index::Index;
 use crate::payload_conflict::PayloadConflicts;
 use crate::placed::Placed;
@@ -121,7 +122,7 @@ impl Sweep {
             readers.push(AskedReader {
                 pair: *pair,
                 front: from.get().cast_unsigned(),
-                claims: Claims::new(from),
+                claims: Claims::new(FirstAsked::of(from)),
             })?;
         }
         Ok(Sweep {

@@ -1,9 +1,9 @@
 ghost use Rattle.std.specs.Prelude.{◌≤◌, ◌<◌, ◌^◌};
 
 use crate::answer::Answer;
+use crate::first_asked::FirstAsked;
 use crate::payload_conflict::PayloadConflicts;
 use rtps_discovery::Pair;
-use rtps_ids::SeqNum;
 
 /// What a recording says of one writer and one reader, by all runs of the reader (DDSI-RTPS 2.5, 8.4 "Behavior Module").
 /// Where it says so of the numbers from some number on, `from`, smaller ones are not asked for; else `from` is 1.
@@ -36,7 +36,7 @@ pub(crate) struct Claims {
     pub(crate) untold: Option<Untold>,
     /// The least number that is asked for and that no answer claims.
     pub(crate) base: u64,
-    ghost in_range: { (1 ≤ from) × (from < 2 ^ 63) × (base < 2 ^ 63) },
+    ghost in_range: { (1 ≤ from) × (from ≤ 2 ^ 63) × (base ≤ 2 ^ 63) },
 }
 
 impl Claims {
@@ -51,12 +51,12 @@ impl Claims {
     ghost use Rattle.rtps_audit.specs.declared.answer.Answer.{Answer as AnswerValue};
 
     /// Nothing is claimed. The numbers from `from` on are asked for.
-    pub(crate) fn new(from: SeqNum) -> Self
+    pub(crate) fn new(from: FirstAsked) -> Self
         ensures from { result.from ≡ from }
         ensures untold { result.untold ≡ None }
         ensures base { result.base ≡ from }
     {
-        let from = from.get().cast_unsigned();
+        let from = from.get();
         Claims {
             from,
             untold: None,

@@ -5,7 +5,7 @@ use Rattle.std.specs.Ordering.{is_eq}
 use Rattle.std.proofs.Math.Seq.{drop-append-add}
 use Rattle.std.proofs.lemmas.List.{length-append}
 use Rattle.std.proofs.lemmas.Cmp.{eq_by_cmp_equiv}
-use Rattle.rtps_capture.specs.Capture.{Answer, Collected, all_noted, answer_of, answered, capture_read, collected, contents_in, noted, nothing, opened_read, started, with_contents, with_frame, with_link, with_rest}
+use Rattle.rtps_capture.specs.Capture.{Answer, Collected, all_noted, answer_of, answered, capture_read, collected, contents_in, noted, nothing, opened_read, timed, with_contents, with_frame, with_link, with_rest}
 use Rattle.rtps_capture.specs.Frames.{Unread as UnreadPart, frames_left, opened}
 use Rattle.rtps_capture.specs.Assembly.{Joined, key_cmp, taken_piece}
 use Rattle.rtps_capture.specs.Packets.{moved_range}
@@ -138,7 +138,7 @@ unfolding noted collected
 captured_sound captures file frames most so_far next frame among sound is = by (nat_lt most (length there.datagrams)) is
   where
     before : Collected
-    before = started so_far (Captured frame)
+    before = timed so_far (Captured frame)
 
     there : Collected
     there = collected file frame.time before (contents_in captures file frame)
@@ -161,8 +161,8 @@ rest_sound Any file frames so_far next sound is =
     let same : collected file None so_far contents.Cut ≡ next = cc in subst (Sound file frames) same (record { keys = sound.keys; carried = sound.carried })
 
 -- a time changes nothing of it
-started_sound : (file : List ℕ) (frames : List Contents) (so_far : Collected) (frame : Frame) → Sound file frames so_far → Sound file frames (started so_far frame)
-started_sound file frames so_far frame sound = record { keys = sound.keys; carried = sound.carried }
+timed_sound : (file : List ℕ) (frames : List Contents) (so_far : Collected) (frame : Frame) → Sound file frames so_far → Sound file frames (timed so_far frame)
+timed_sound file frames so_far frame sound = record { keys = sound.keys; carried = sound.carried }
 
 -- all that are still to come keep it sound
 sound_all : (captures : Captures) (file : List ℕ) (frames : List Contents) (most : ℕ) (rest : List Frame) (so_far last : Collected)
@@ -173,14 +173,14 @@ sound_all captures file frames most (Captured frame ∷ rest) so_far last among 
     let first = or_fault_ok (noted captures file most so_far (Captured frame)) (λ one. all_noted captures file most one rest) last is in
     sound_all captures file frames most rest first.0 last among.1 (captured_sound captures file frames most so_far first.0 frame among.0 sound first.1) first.2
 sound_all captures file frames most (Unread link time ∷ rest) so_far last among sound is =
-    let before = started so_far (Unread link time) in
+    let before = timed so_far (Unread link time) in
     sound_all captures file frames most rest (with_link (with_frame before) link) last among (record { keys = sound.keys; carried = sound.carried }) is
 sound_all captures file frames most (NoFrame ∷ rest) so_far last among sound is =
-    sound_all captures file frames most rest (started so_far NoFrame) last among (started_sound file frames so_far NoFrame sound) is
+    sound_all captures file frames most rest (timed so_far NoFrame) last among (timed_sound file frames so_far NoFrame sound) is
 sound_all captures file frames most (Rest ∷ rest) so_far last among sound is =
-    let before = started so_far Rest in
+    let before = timed so_far Rest in
     let first = or_fault_ok (with_rest captures file before) (λ one. all_noted captures file most one rest) last is in
-    sound_all captures file frames most rest first.0 last among (rest_sound captures file frames before first.0 (started_sound file frames so_far Rest sound) first.1) first.2
+    sound_all captures file frames most rest first.0 last among (rest_sound captures file frames before first.0 (timed_sound file frames so_far Rest sound) first.1) first.2
 sound_all captures file frames most (fault ∷ rest) so_far last among sound is = let no = is in cc
 
 -- the contents of frames stand among the contents of all

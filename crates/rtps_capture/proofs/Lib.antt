@@ -11,4 +11,4 @@ pub mod FoundLemmas
 pub mod KeptLemmas
 pub mod SentLemmas
 pub mod GivenLemmas
-pub mod StartLemmas
+pub mod TimeLemmas

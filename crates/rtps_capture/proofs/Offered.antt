@@ -6,7 +6,7 @@ use Rattle.std.proofs.lemmas.Bool.Decides.{nat_tests}
 use Rattle.std.proofs.lemmas.List.{length-append, take-append-le}
 use Rattle.rtps_ids.specs.Octets.{number_of}
 use Rattle.rtps_ids.specs.declared.order.Order.TheVariants.{Big}
-use Rattle.rtps_capture.specs.Capture.{Answer, Collected, all_noted, answered, capture_read, collected, contents_in, limited, noted, nothing, opened_read, or_fault, started}
+use Rattle.rtps_capture.specs.Capture.{Answer, Collected, all_noted, answered, capture_read, collected, contents_in, limited, noted, nothing, opened_read, or_fault, timed}
 use Rattle.rtps_capture.specs.Frames.{Unread as UnreadPart, frames_left, opened}
 use Rattle.rtps_capture.specs.Blocks.{is_pcapng}
 use Rattle.rtps_capture.specs.Opening.{order_of}
@@ -57,7 +57,7 @@ noted_within : (captures : Captures) (file : List ℕ) (most more : ℕ) (before
     → noted captures file most before frame ≡ Ok so_far → noted captures file more before frame ≡ Ok so_far
 unfolding noted
 noted_within captures file most more before so_far (Captured frame) within is =
-    limited_within most more (collected file frame.time (started before (Captured frame)) (contents_in captures file frame)) so_far within is
+    limited_within most more (collected file frame.time (timed before (Captured frame)) (contents_in captures file frame)) so_far within is
 noted_within captures file most more before so_far other within is = is
 
 -- what is behind a result is told only if that is no fault

@@ -1,4 +1,4 @@
--- The datagrams of a capture, with their times, its start, and its ignored frames by the reason.
+-- The datagrams of a capture, with their times, its start and its end, and its ignored frames by the reason.
 -- own: a frame is ignored that gives no datagram, is no fragment of a packet that gives one, and is no repeat. Faults stand at their
 -- places in the file: the first one is told. A file that ends within a record or a block is no fault: a recorder that is stopped
 -- leaves such a file, and what was not recorded cannot be told from what was not sent. Of classic captures alone it is one.
@@ -9,6 +9,7 @@ use Rattle.rtps_capture.specs.Frames.{Unread as UnreadPart, frames_left, opened,
 use Rattle.rtps_capture.specs.Assembly.{Joined, fresh_making, key_cmp, making_of, taken_piece}
 use Rattle.rtps_capture.specs.Packets.{contents_read, moved_contents, moved_range}
 use Rattle.rtps_capture.specs.Pieces.{piece_of}
+use Rattle.rtps_capture.specs.Times.{later_of}
 use Rattle.rtps_capture.specs.declared.capture.CaptureFault.{CaptureFault}
 use Rattle.rtps_capture.specs.declared.capture.CaptureFault.TheVariants as fault
 use Rattle.rtps_capture.specs.declared.capture.CaptureReading.{CaptureReading}
@@ -25,13 +26,14 @@ use Rattle.rtps_capture.specs.declared.packet.Contents.{Contents}
 use Rattle.rtps_capture.specs.declared.packet.Contents.TheVariants as contents
 use Rattle.rtps_capture.specs.declared.fragment.FragmentKey.{FragmentKey}
 
--- what was read so far: the fragments by their keys, the datagrams and their times, the first time of a frame, the octets behind the
--- file, and the numbers of frames
+-- what was read so far: the fragments by their keys, the datagrams and their times, the first and the greatest time of a frame, the
+-- octets behind the file, and the numbers of frames
 pub record Collected : Type 0 where
   pub making : FragmentKey → Making
   pub datagrams : List ByteRange
   pub times : List (Option ℕ)
   pub start : Option ℕ
+  pub end : Option ℕ
   pub behind : List ℕ
   pub counts : Counts
 
@@ -42,6 +44,7 @@ nothing = record {
   datagrams = [];
   times = [];
   start = None;
+  end = None;
   behind = [];
   counts = record { frames = 0; fresh = 0; settled = 0; cut = 0; other = 0; links = 0; first_link = None };
 }
@@ -59,6 +62,7 @@ with_fragment file time so_far key joined = record {
   datagrams = so_far.datagrams ++ option_to_list (option_map (moved_range (length file + length so_far.behind)) joined.taken.datagram);
   times = so_far.times ++ option_to_list (option_map (λ datagram. time) joined.taken.datagram);
   start = so_far.start;
+  end = so_far.end;
   behind = so_far.behind ++ joined.packet;
   counts = record so_far.counts {
     fresh = so_far.counts.fresh + (if joined.taken.fresh then 1 else 0);
@@ -105,9 +109,9 @@ abbrev pub with_rest : Captures → List ℕ → Collected → Result Collected 
 with_rest Classic file so_far = Err (fault.CutCapture (next_number so_far))
 with_rest Any file so_far = Ok (collected file None so_far contents.Cut)
 
--- with the time of a frame: the first one that there is stays
-abbrev pub started : Collected → Frame → Collected
-started so_far frame = record so_far { start = option_or so_far.start (time_of frame) }
+-- with the time of a frame: the first one that there is stays, and so does the greatest one
+abbrev pub timed : Collected → Frame → Collected
+timed so_far frame = record so_far { start = option_or so_far.start (time_of frame); end = later_of so_far.end (time_of frame) }
 
 -- with what a record or block gives, whose time is there
 abbrev pub with_given : Captures → List ℕ → ℕ → Collected → Frame → Result Collected CaptureFault
@@ -121,7 +125,7 @@ with_given captures file most so_far CutFrame = Err (fault.CutCapture (next_numb
 
 -- with what a record or block gives
 unfoldable pub noted : Captures → List ℕ → ℕ → Collected → Frame → Result Collected CaptureFault
-noted captures file most so_far frame = with_given captures file most (started so_far frame) frame
+noted captures file most so_far frame = with_given captures file most (timed so_far frame) frame
 
 -- what is behind a result, if that is no fault
 abbrev pub or_fault : Result Collected CaptureFault → (Collected → Result Collected CaptureFault) → Result Collected CaptureFault
@@ -133,12 +137,13 @@ abbrev pub all_noted : Captures → List ℕ → ℕ → Collected → List Fram
 all_noted captures file most so_far [] = Ok so_far
 all_noted captures file most so_far (frame ∷ frames) = or_fault (noted captures file most so_far frame) (λ more. all_noted captures file most more frames)
 
--- what is told of a capture: the datagrams and their times, the first time of a frame, the octets behind the file, the numbers of
--- ignored frames, and the link type of the first one whose link type is not read
+-- what is told of a capture: the datagrams and their times, the first and the greatest time of a frame, the octets behind the file, the
+-- numbers of ignored frames, and the link type of the first one whose link type is not read
 pub record Answer : Type 0 where
   pub datagrams : List ByteRange
   pub times : List (Option ℕ)
   pub start : Option ℕ
+  pub end : Option ℕ
   pub behind : List ℕ
   pub pieces : ℕ
   pub cut : ℕ
@@ -152,6 +157,7 @@ answer_of so_far = record {
   datagrams = so_far.datagrams;
   times = so_far.times;
   start = so_far.start;
+  end = so_far.end;
   behind = so_far.behind;
   pieces = so_far.counts.fresh - so_far.counts.settled;
   cut = so_far.counts.cut;
@@ -185,12 +191,24 @@ pub record StartIsFirstTime : Type 0 where
   pub first : (captures : Captures) (most : ℕ) (file : List ℕ) (unread : UnreadPart) (answer : Answer) → opened captures file ≡ Some unread
       → capture_read captures most file ≡ Ok answer → answer.start ≡ first_time (frames_left unread)
 
+-- the greatest time among those of these frames
+abbrev pub last_time : List Frame → Option ℕ
+last_time [] = None
+last_time (frame ∷ frames) = later_of (time_of frame) (last_time frames)
+
+-- The end that is told of a capture is the greatest time among those of its frames, which is not always that of the last one.
+-- own: who is there up to the end is told by it.
+pub record EndIsGreatestTime : Type 0 where
+  pub greatest : (captures : Captures) (most : ℕ) (file : List ℕ) (unread : UnreadPart) (answer : Answer) → opened captures file ≡ Some unread
+      → capture_read captures most file ≡ Ok answer → answer.end ≡ last_time (frames_left unread)
+
 -- what a reading tells with these octets behind the file
 abbrev pub reading_value : List ℕ → CaptureReading → Answer
 reading_value behind reading = record {
   datagrams = reading.datagrams.items;
   times = reading.times.items;
   start = reading.start;
+  end = reading.end;
   behind = behind;
   pieces = reading.pieces;
   cut = reading.cut;
@@ -220,6 +238,7 @@ collected_of so_far = record {
   datagrams = so_far.datagrams.items;
   times = so_far.times.items;
   start = so_far.start;
+  end = so_far.end;
   behind = so_far.octets.behind;
   counts = so_far.counts;
 }

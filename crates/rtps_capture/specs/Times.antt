@@ -1,7 +1,7 @@
 -- When a frame was captured, in nanoseconds since 1970 began (UTC). PCAP Capture File Format (IETF draft), 5 "Packet Record"; PCAP
 -- Now Generic Capture File Format (IETF draft), 4.2 "Interface Description Block" and 4.3 "Enhanced Packet Block".
 -- own: what is finer than a nanosecond is left out. A time before 1970, or past what 64 bits count, is none.
-use Rattle.std.specs.Prelude.{ℕ, ◌+◌, ◌-◌, ◌*◌, ◌/◌, ◌^◌, nat_le, nat_lt, Bool, if◌then◌else◌, List, Option, Some, None, option_and_then}
+use Rattle.std.specs.Prelude.{ℕ, ◌+◌, ◌-◌, ◌*◌, ◌/◌, ◌^◌, nat_le, nat_lt, max, Bool, if◌then◌else◌, List, Option, Some, None, option_and_then}
 use Rattle.rtps_ids.specs.declared.order.Order.{Order}
 use Rattle.rtps_capture.specs.OctetNumbers.{four_at}
 use Rattle.rtps_capture.specs.declared.blocks.Interface.{Interface}
@@ -39,3 +39,9 @@ in_64_bits time = if nat_lt time (2 ^ 64) then Some time else None
 -- the time of a frame of this interface, whose block tells it in so many units
 abbrev pub block_time : Interface → ℕ → Option ℕ
 block_time interface ticks = option_and_then in_64_bits (later_by interface.offset (nanoseconds_of interface.resolution ticks))
+
+-- the later of two times, where there are two
+abbrev pub later_of : Option ℕ → Option ℕ → Option ℕ
+later_of None other = other
+later_of (Some one) None = Some one
+later_of (Some one) (Some other) = Some (max one other)

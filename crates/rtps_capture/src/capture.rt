@@ -12,6 +12,7 @@ use crate::captures::Captures;
 use crate::fragment::Fragment;
 use crate::frames::{Frame, Frames};
 use crate::packet::{Contents, contents_read, moved};
+use crate::times::later;
 use rtps_ids::Memory;
 use std::alloc::Global;
 
@@ -29,6 +30,9 @@ pub struct CaptureReading {
     /// When the first frame of the file was captured that has a time, whether it gave a datagram or not: in nanoseconds since
     /// 1970 began (UTC). None where no frame has one.
     pub start: Option<u64>,
+    /// The greatest time of a frame of the file that has one, whether it gave a datagram or not: in nanoseconds since 1970 began
+    /// (UTC). None where no frame has one.
+    pub end: Option<u64>,
     /// Frames with fragments of packets that were never whole.
     pub pieces: u64,
     /// Frames whose captured octets end before their packet does, and the rest of a file that ends within a frame.
@@ -77,6 +81,8 @@ struct Collected {
     times: Vec<Option<u64>>,
     /// The first time of a frame.
     start: Option<u64>,
+    /// The greatest time of a frame.
+    end: Option<u64>,
     counts: Counts,
 }
 
@@ -130,6 +136,7 @@ impl Collected {
             datagrams: Vec::new(alloc),
             times: Vec::new(alloc),
             start: None,
+            end: None,
             counts: Counts::default(),
         }
     }
@@ -147,6 +154,7 @@ impl Collected {
     {
         let number = self.counts.frames + 1;
         self.start = self.start.or(frame.time());
+        self.end = later(self.end, frame.time());
         match frame {
             Frame::Captured(frame) => {
                 let range = frame.range;
@@ -246,6 +254,7 @@ impl Collected {
             datagrams: self.datagrams,
             times: self.times,
             start: self.start,
+            end: self.end,
             pieces: u128::from(self.counts.fresh).saturating_sub(self.counts.settled) as u64,
             cut: self.counts.cut,
             other: self.counts.other,

@@ -1,6 +1,6 @@
 //! Laws of the definitions, as contracts of functions that do nothing.
 
-ghost use Rattle.rtps_capture.specs.Capture.{StartIsFirstTime};
+ghost use Rattle.rtps_capture.specs.Capture.{EndIsGreatestTime, StartIsFirstTime};
 ghost use Rattle.rtps_capture.specs.Frames.{HasOneReading};
 ghost use Rattle.rtps_capture.specs.Layout.{LayoutIsStandard};
 ghost use Rattle.rtps_capture.specs.Sent.{EachPacketIsGiven, EachWasCarried};
@@ -14,6 +14,11 @@ pub fn one_reading()
 /// The start that [`crate::read_capture`] gives is the first time among those of all frames of the file, whatever they carry.
 pub fn start_is_first_time()
     ensures { StartIsFirstTime }
+{}
+
+/// The end that it gives is the greatest time among those of all frames of the file, whatever they carry.
+pub fn end_is_greatest_time()
+    ensures { EndIsGreatestTime }
 {}
 
 /// Each datagram that [`crate::read_capture`] gives was carried by a packet whose octets stand in the capture: whole in one frame, or

@@ -1,5 +1,5 @@
 ghost use Rattle.std.specs.Prelude.{◌≡◌, ◌≤◌, ◌<◌, ◌+◌, ◌*◌, ◌^◌, length};
-ghost use Rattle.rtps_capture.specs.Times.{block_time as block_time_lem, later_by as later_by_lem, nanoseconds_of as nanoseconds_of_lem, pair_at as pair_at_lem, record_time as record_time_lem};
+ghost use Rattle.rtps_capture.specs.Times.{block_time as block_time_lem, later_by as later_by_lem, later_of, nanoseconds_of as nanoseconds_of_lem, pair_at as pair_at_lem, record_time as record_time_lem};
 ghost use Rattle.rtps_capture.specs.declared.layout.time.TheConstants.{SECOND};
 
 use crate::blocks::Interface;
@@ -72,5 +72,17 @@ pub(crate) fn block_time(interface: Interface, ticks: u64) -> Option<u64>
         Some(counted as u64)
     } else {
         None
+    }
+}
+
+/// The later of two times, where there are two.
+#[inline]
+pub(crate) fn later(one: Option<u64>, other: Option<u64>) -> Option<u64>
+    ensures { result ≡ later_of one other }
+{
+    match (one, other) {
+        (Some(one), Some(other)) => Some(one.max(other)),
+        (Some(one), None) => Some(one),
+        (None, other) => other,
     }
 }

@@ -2,5 +2,6 @@ mod AppendLemmas
 mod ArrivedLemmas
 mod HostLemmas
 mod OneWayLemmas
+mod OrderLemmas
 mod SortLemmas
 mod UnmatchedLemmas

@@ -4,46 +4,46 @@
 -- recording is clean, or why not. A pair that is not clean has the lines of `why` that explain it, and in a last
 -- line what to do; those that lack only a tail share a line, since a system that is stopped while it publishes leaves one with each.
 -- Other programs read the outcome and its reasons without taking lines apart.
-use Rattle.std.specs.Prelude.{ℕ, ◌≡◌, ◌++◌, ◌==◌, ◌||◌, not, if◌then◌else◌, nat_lt, List, [], ◌∷◌, Bool, codes, filter, fold, map, max, ℤ, decimal, length, Option, None, Some, flat_map, ◌↔◌, true}
-use Rattle.std.specs.List.{concat, list_any}
-use Rattle.rtps_evidence.specs.FirstNumbers.{numbers_of}
+use Rattle.std.specs.Prelude.{ℕ, ◌≡◌, ◌++◌, ◌==◌, not, if◌then◌else◌, nat_lt, List, [], ◌∷◌, Bool, codes, filter, map, ℤ, decimal, length, Option, None, Some, flat_map, ◌↔◌, true}
+use Rattle.std.specs.List.{concat}
 use Rattle.rtps_evidence.specs.Times.{TimesValue}
 use Rattle.rtps_report.specs.Vocabulary.{CompleteGrounds, ConflictGrounds, Counts, EvidenceValue, Explanation, explanation_value, ExplanationValue, FirstMissed, GroundsValue, InSpan, OpenGrounds, Outcomes, SentValue, UnfoundedGrounds}
 use Rattle.rtps_report.specs.declared.findings.Ending.TheVariants.{Clean}
 use Rattle.rtps_report.specs.declared.findings.Ending.{Ending}
 use Rattle.rtps_report.specs.declared.advice.Scope.{Scope}
-use Rattle.rtps_report.specs.declared.asked.Standard.{Standard}
 use Rattle.rtps_report.specs.declared.totals.Totals.{Totals}
 use Rattle.rtps_parts.specs.Parts.{amount, share, words_for, grouped}
-use Rattle.rtps_report.specs.Asked.{AskedValue, tail_of}
+use Rattle.rtps_report.specs.Asked.{AskedValue}
 use Rattle.rtps_report.specs.ByTopic.{AreByTopic, topics_of}
 use Rattle.rtps_report.specs.FullReport.{IsTold, ReportValue, facts_with}
 use Rattle.rtps_report.specs.NoteFacts.{note_facts, scope_of}
 use Rattle.rtps_report.specs.Recording.{RecordingValue}
 use Rattle.rtps_report.specs.Totals.{totals_of}
-use Rattle.rtps_report.specs.RowFacts.{is_late, is_noted, is_tail_alone, left_in, outcomes_of, row_from}
+use Rattle.rtps_report.specs.RowFacts.{is_clean_tail, is_late, is_noted, is_tail_alone, left_in, outcomes_of, row_from}
 use Rattle.rtps_report.specs.SideFacts.{side_facts}
 use Rattle.rtps_report.specs.Silences.{silences_of}
-use Rattle.rtps_report.specs.BestEfforts.{HeldValue}
+use Rattle.rtps_report.specs.BestEfforts.{HeldValue, numbers_told}
+use Rattle.rtps_report.specs.declared.best_effort.BestEffortNumbers.{BestEffortNumbers}
 use Rattle.rtps_report.specs.declared.side_facts.SideFacts.{SideFacts}
 use Rattle.rtps_report.specs.declared.silences.Silences.{Silences}
 use Rattle.rtps_evidence.specs.declared.waits.Wait.{Wait}
 use Rattle.rtps_report.specs.declared.advice.Advice.TheVariants.{Tail}
 use Rattle.rtps_report.specs.declared.note_facts.NoteFacts.{NoteFacts}
 use Rattle.rtps_lines.specs.Causes.{causes_of, findings_in, last_line}
-use Rattle.rtps_lines.specs.Notes.{NotedValue, joined_names, notes, number_words, topic_name}
+use Rattle.rtps_lines.specs.Notes.{NotedValue, joined_names, notes, number_words, talking_names, topic_name}
+use Rattle.rtps_lines.specs.TailNames.{longest_tail}
 use Rattle.rtps_parts.specs.RosNames.{topic_text, type_text}
 use Rattle.rtps_policies.specs.Unmatched.{UnmatchedValue}
-use Rattle.rtps_report.specs.Talk.{TalkValue, talk_value}
+use Rattle.rtps_report.specs.Talk.{LeftOutValue, TalkValue, left_out_value, talk_value}
 use Rattle.rtps_report.specs.Advice.{advice_of, sentence_of}
 use Rattle.rtps_report.specs.Reported.{number_of}
-use Rattle.rtps_lines.specs.Lines.{acknowledged_line, announced_line, asked_line, claimed_line, questions_line, second_text, sent_line, silence_lines, told_line, verdict_text, wait_text}
+use Rattle.rtps_lines.specs.Lines.{acknowledged_line, advice_text, announced_line, asked_line, claimed_line, questions_line, second_text, sent_line, silence_lines, told_line, verdict_text, wait_text}
 use Rattle.rtps_parts.specs.Table.{table}
 use Rattle.rtps_lines.specs.CheckMembers.{check_members}
 use Rattle.rtps_lines.specs.JsonText.{IsJsonLine, object_of}
 use Rattle.rtps_report.specs.Findings.{ending_as}
 use Rattle.rtps_check.specs.ArrivedText.{AreByTopic as LossyByTopic, is_lossy, lossy_lines, not_arrived_line}
-use Rattle.rtps_check.specs.TalkText.{AreByTopic as UnmatchedByTopic, hosted, one_way_block, unmatched_lines}
+use Rattle.rtps_check.specs.TalkText.{AreByTopic as UnmatchedByTopic, AreLeftByTopic as LeftOutByTopic, hosted, one_way_block, unmatched_lines}
 use Rattle.rtps_check.specs.declared.checked_text.Told.{Told}
 use Rattle.rtps_check.specs.declared.sections.RowTelling.{RowTelling}
 
@@ -69,7 +69,7 @@ where_some [] text other = other
 where_some (x ∷ xs) text other = text
 
 -- what to do where there is no pair to judge: the first case that fits
-unfoldable pub no_pair_remedy : TalkValue → List ExplanationValue → List ℕ
+unfoldable pub no_pair_remedy : TalkValue → List LeftOutValue → List ℕ
 no_pair_remedy talk left_out =
     where_some talk.unmatched (codes "see below which writers and readers do not match")
     (where_some talk.one_way (codes "see below which participants never answer")
@@ -78,18 +78,20 @@ no_pair_remedy talk left_out =
     else codes "record from before the start, and see in rtps-audit list --any FILE what is announced")))
 
 -- that there is no pair, and what to do
-abbrev pub no_pair_lines : TalkValue → List ExplanationValue → List ℕ
+abbrev pub no_pair_lines : TalkValue → List LeftOutValue → List ℕ
 no_pair_lines talk left_out = concat (codes "there is no pair to judge\n  -> " ∷ no_pair_remedy talk left_out ∷ codes "\n" ∷ [])
 
--- what is told beside the rows: when datagrams came, what weakens the report, what is told of the other recording, if there is one, which
--- rows it cannot speak of, by topic, who does not talk, what rows have to be, and how the run ends
+-- what is told beside the rows: when datagrams came, what weakens the report, what is told of the other recording, if there is one, the
+-- names of pairs that talk though they do not match, the pairs that it cannot speak of, by topic, who does not talk, whether each number has
+-- to be certain, and how the run ends
 pub record Beside : Type 0 where
   pub times : TimesValue
   pub facts : NoteFacts
   pub side : Option SideFacts
-  pub left_out : List ExplanationValue
+  pub talking : List ℕ
+  pub left_out : List LeftOutValue
   pub talk : TalkValue
-  pub standard : Standard
+  pub certain : Bool
   pub ending : Ending
 
 -- the first lines
@@ -162,19 +164,14 @@ kinds_text outcomes =
     ++ (kind_text (codes ", unsent ") outcomes.unsent
     ++ (kind_text (codes ", unanswered ") outcomes.unanswered ++ (kind_text (codes ", unconfirmed ") outcomes.unconfirmed ++ codes "\n"))))))
 
--- a number that a row missed is told: of a row that is held, where it is among the first that lack
-abbrev pub is_missed_told : Option InSpan → ℕ → Bool
-is_missed_told None number = true
-is_missed_told (Some in_span) number = not in_span.is_held || list_any (λ one. one == number) (numbers_of in_span.lacking)
-
--- the line of the least number that is missed, which has its spaces; nothing where none is, or where it is not told
-abbrev pub missed_text : TimesValue → Option InSpan → Option FirstMissed → List ℕ
-missed_text times in_span None = []
-missed_text times in_span (Some first) = if is_missed_told in_span first.number then asked_line times first else []
+-- the line of the least number that is missed, which has its spaces; nothing where none is
+abbrev pub missed_text : TimesValue → Option FirstMissed → List ℕ
+missed_text times None = []
+missed_text times (Some first) = asked_line times first
 
 -- that of a row
 abbrev pub missed_line : TimesValue → EvidenceValue → List ℕ
-missed_line times evidence = missed_text times evidence.in_span evidence.first_missed
+missed_line times evidence = missed_text times evidence.first_missed
 
 -- the line of a payload that was sent for a number, if one was
 abbrev pub payload_line : TimesValue → ℤ → Option SentValue → List ℕ
@@ -184,7 +181,7 @@ payload_line times number (Some sent) = codes "  " ++ sent_line times number (So
 -- the lines of `why` that explain a verdict on a number, behind two more spaces
 abbrev pub verdict_by : TimesValue → ℤ → EvidenceValue → GroundsValue → List ℕ
 verdict_by times number evidence CompleteGrounds = []
-verdict_by times number evidence (OpenGrounds teller count last) =
+verdict_by times number evidence (OpenGrounds teller count first last) =
     concat (codes "  " ∷ acknowledged_line times evidence.acknowledgement ∷ codes "  " ∷ told_line times number teller ∷ codes "  " ∷ questions_line times count last ∷ [])
 verdict_by times number evidence (ConflictGrounds first other) = payload_line times number first ++ payload_line times number other
 verdict_by times number evidence (UnfoundedGrounds teller claim) =
@@ -234,7 +231,7 @@ reason_lines told row =
 
 -- what to do, behind an arrow
 abbrev pub advice_line : RowTold → ExplanationValue → List ℕ
-advice_line told row = concat (codes "    -> " ∷ sentence_of (advice_of (silences_in told row) told.scope row.evidence) ∷ codes "\n" ∷ [])
+advice_line told row = concat (codes "    -> " ∷ advice_text told.times (advice_of told.times (silences_in told row) told.scope row.evidence) ∷ codes "\n" ∷ [])
 
 -- the lines of a pair
 abbrev pub row_lines : RowTold → ExplanationValue → List ℕ
@@ -259,10 +256,6 @@ abbrev pub section : RowTold → List ExplanationValue → List ℕ
 section told rows = headed (topic_head rows) (flat_map (noted_lines told) rows)
 
 -- ---- the pairs that lack only a tail
-
--- how many numbers the longest tail of these rows has
-abbrev pub longest_tail : List ExplanationValue → ℕ
-longest_tail rows = fold (λ longest row. max longest (outcomes_of row.evidence).unconfirmed) 0 rows
 
 -- that so many pairs lack only a tail, and what lets them pass
 abbrev pub tails_text : ℕ → ℕ → List ℕ → List ℕ
@@ -296,8 +289,10 @@ abbrev pub noted_beside : Scope → Beside → List ExplanationValue → NotedVa
 noted_beside scope beside rows =
     record {
       talk = beside.talk;
+      talking = beside.talking;
       left_out = beside.left_out;
       late = filter (λ row. is_late scope.from row.evidence) rows;
+      tails = filter (λ row. is_clean_tail scope.tail row.evidence) rows;
       rows = rows;
       side = beside.side;
       named = true;
@@ -310,7 +305,7 @@ told_notes scope beside rows = notes (codes "\n  -> ") beside.facts (noted_besid
 -- the lines behind them: what weakens the report, and whether the recording is clean
 abbrev pub ending_text : Scope → Beside → Totals → List ExplanationValue → List ℕ
 ending_text scope beside totals rows =
-    notes_block (told_notes scope beside rows) ++ 10 ∷ last_line beside.ending (causes_of beside.standard totals (findings_in beside.ending))
+    notes_block (told_notes scope beside rows) ++ 10 ∷ last_line totals (numbers_told beside.talk.best_effort_total) beside.ending (causes_of beside.certain totals (findings_in beside.ending))
 
 -- by what rows are told, where this is told beside them
 abbrev pub told_beside : Scope → Beside → RowTold
@@ -335,22 +330,24 @@ beside_value told =
       times = told.times.now;
       facts = told.facts;
       side = told.side;
-      left_out = map explanation_value told.left_out.now;
+      talking = told.talking.now;
+      left_out = map left_out_value told.left_out.now;
       talk = talk_value told.talk.now;
-      standard = told.standard;
+      certain = told.certain;
       ending = told.ending;
     }
 
--- what is told beside the rows of this report
-abbrev pub beside_of : AskedValue → RecordingValue → ReportValue → List Explanation → Beside
-beside_of asked recording report left_out =
+-- what is told beside the rows of this report, with these names
+abbrev pub beside_of : AskedValue → RecordingValue → ReportValue → List ℕ → List LeftOutValue → Beside
+beside_of asked recording report talking left_out =
     record {
       times = recording.times;
       facts = note_facts asked recording report;
       side = side_facts report;
-      left_out = map explanation_value left_out;
+      talking = talking;
+      left_out = left_out;
       talk = report.talk;
-      standard = asked.standard;
+      certain = asked.certain;
       ending = report.ending;
     }
 
@@ -358,9 +355,15 @@ beside_of asked recording report left_out =
 pub record IsCheckText (asked : AskedValue) (recording : RecordingValue) (report : ReportValue) (text : List ℕ) : Type 0 where
   pub rows : List Explanation
   pub rows_by_topic : AreByTopic report.explained.rows.items rows
-  pub left_out : List Explanation
-  pub left_out_by_topic : AreByTopic report.left_out left_out
-  pub is_text : IsTextBy (scope_of asked recording report) (beside_of asked recording report left_out) (map explanation_value rows) text
+  pub talking : List UnmatchedValue
+  pub talking_by_topic : UnmatchedByTopic report.talk.talking talking
+  pub left_out : List LeftOutValue
+  pub left_out_by_topic : LeftOutByTopic report.talk.left_out left_out
+  pub is_text : IsTextBy (scope_of asked recording report) (beside_of asked recording report (talking_names talking) left_out) (map explanation_value rows) text
+
+-- what `check` answers of what is asked of a recording, beside another one, if there is one: the text of its report, and the ending
+abbrev pub IsCheckedTextAs : AskedValue → Option RecordingValue → RecordingValue → List ℕ → Ending → Type 0
+IsCheckedTextAs asked other recording text ending = IsTold IsCheckText asked other recording text ending
 
 -- ---- JSON
 
@@ -377,9 +380,9 @@ IsCheckedJsonAs asked other recording text ending = IsTold IsCheckJson asked oth
 
 -- a run on these rows that ends so is clean exactly where it has no reason
 abbrev pub IsCleanWithoutReasons : AskedValue → Scope → List ExplanationValue → Ending → Type 0
-IsCleanWithoutReasons asked scope rows ending = (ending ≡ Clean) ↔ (causes_of asked.standard (totals_of scope rows) (findings_in ending) ≡ [])
+IsCleanWithoutReasons asked scope rows ending = (ending ≡ Clean) ↔ (causes_of asked.certain (totals_of scope rows) (findings_in ending) ≡ [])
 
 -- Whatever is asked of whatever rows, a run ends clean exactly where it gives no reason. own: a job that ends unclean has to say why.
 abbrev pub TellsWhyUnclean : Type 0
-TellsWhyUnclean = (unmatched : ℕ) (asked : AskedValue) (unread : Bool) (rows : List ExplanationValue) (counts : Counts) (recording : RecordingValue)
-    → IsCleanWithoutReasons asked (record { from = asked.from; tail = tail_of asked.standard; unread = unread }) rows (ending_as asked (facts_with unmatched asked rows counts recording))
+TellsWhyUnclean = (unmatched : ℕ) (best_effort : BestEffortNumbers) (asked : AskedValue) (unread : Bool) (rows : List ExplanationValue) (counts : Counts) (recording : RecordingValue)
+    → IsCleanWithoutReasons asked (record { from = asked.from; tail = asked.tail; unread = unread }) rows (ending_as asked (facts_with unmatched best_effort asked rows counts recording))

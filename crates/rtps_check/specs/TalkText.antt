@@ -20,7 +20,7 @@ use Rattle.rtps_policies.specs.Unmatched.{UnmatchedValue}
 use Rattle.rtps_policies.specs.declared.fitting.Policy.{Policy}
 use Rattle.rtps_policies.specs.declared.host.Host.{Host}
 use Rattle.rtps_policies.specs.declared.one_way.OneWay.{OneWay}
-use Rattle.rtps_report.specs.Talk.{TalkValue}
+use Rattle.rtps_report.specs.Talk.{LeftOutValue, TalkValue}
 
 -- a GUID, and where its participant is
 abbrev pub hosted : (GuidPrefix → Host) → Guid → List ℕ
@@ -74,6 +74,18 @@ pub record IsUnmatchedBlock (talk : TalkValue) (before text : List ℕ) : Type 0
   pub sorted : List UnmatchedValue
   pub by_topic : AreByTopic talk.unmatched sorted
   pub is_text : text ≡ before ++ unmatched_lines talk.hosts sorted
+
+-- ---- pairs that are left out
+
+-- by topic, octet by octet
+abbrev pub left_cmp : LeftOutValue → LeftOutValue → Ordering
+left_cmp one other = slice_cmp nat_cmp one.topic other.topic
+
+-- these are those by topic; those of one topic stay in their order
+pub record AreLeftByTopic (left sorted : List LeftOutValue) : Type 0 where
+  pub all : IsPermutation left sorted
+  pub by_topic : IsSorted left_cmp sorted
+  pub in_order : IsStable left_cmp left sorted
 
 -- ---- participants that talk one way
 

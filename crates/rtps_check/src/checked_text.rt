@@ -3,23 +3,23 @@ ghost use Rattle.rtps_evidence.specs.Explanation.{explanation_value};
 ghost use Rattle.rtps_parts.specs.Parts.{part_text};
 ghost use Rattle.rtps_report.specs.Asked.{asked_value};
 ghost use Rattle.rtps_report.specs.FullReport.{report_value};
-ghost use Rattle.rtps_report.specs.Talk.{talk_value};
+ghost use Rattle.rtps_report.specs.Talk.{left_out_value, talk_value};
 ghost use Rattle.rtps_check.specs.CheckText.{IsCheckJson, IsCheckText, IsTextBy, arrived_text, beside_value, clean_line as clean_line_lem, clean_lines, ending_text, first_lines, no_pair_remedy as no_pair_remedy_lem, notes_block, told_beside, told_notes as told_notes_lem, topics_text};
 
 use crate::arrived_block::push_arrived_block;
 use crate::one_way_block::push_one_way_block;
 use crate::sections::{RowTelling, push_sections};
-use crate::tails::{late_among, push_tail_block};
+use crate::tails::{clean_tails_among, late_among, push_tail_block};
 use crate::topic_table::push_topic_table;
-use crate::unmatched_block::push_unmatched_block;
+use crate::unmatched_block::{left_by_topic, push_unmatched_block, unmatched_by_topic};
 use json::Writer;
 use rtps_evidence::{Explanation, Times};
 use rtps_lines::{
-    Judged, NotedRows, causes_of, json_line, notes_of, push_check_members, push_last,
+    Judged, NotedRows, causes_of, json_line, notes_of, push_check_members, push_last, talking_names,
 };
 use rtps_parts::{Part, Words, render, words_for};
 use rtps_report::{
-    Ending, FullReport, NoteFacts, Scope, SideFacts, Standard, Talk, Totals, by_topic,
+    Ending, FullReport, LeftOut, NoteFacts, Scope, SideFacts, Talk, Totals, by_topic,
     facts_of_side, notes_on, scope_of, topics_of, totals_of,
 };
 use std::alloc::{AllocError, Global};
@@ -33,9 +33,11 @@ struct Told<'r, 'a> {
     /// What is told of the other recording; None where there is none.
     side: Option<SideFacts>,
     rows: &'r [Explanation<'a>],
-    left_out: &'r [Explanation<'a>],
+    /// The names of the pairs that talk though they do not match.
+    talking: &'r str,
+    left_out: &'r [LeftOut<'a>],
     talk: &'r Talk<'a>,
-    standard: Standard,
+    certain: bool,
     ending: Ending,
 }
 
@@ -62,8 +64,8 @@ fn clean_line(totals: &Totals) -> [Part<'static>; 4]
 
 /// What to do where there is no pair to judge: the first case that fits.
 #[tactic(auto, unfolding(crate::specs::CheckText::no_pair_remedy))]
-fn no_pair_remedy(talk: &Talk<'_>, left_out: &[Explanation<'_>]) -> &'static str
-    ensures { result.now ≡ no_pair_remedy_lem (talk_value talk.now) (map explanation_value left_out.now) }
+fn no_pair_remedy(talk: &Talk<'_>, left_out: &[LeftOut<'_>]) -> &'static str
+    ensures { result.now ≡ no_pair_remedy_lem (talk_value talk.now) (map left_out_value left_out.now) }
 {
     if !talk.unmatched.is_empty() {
         "see below which writers and readers do not match"
@@ -160,10 +162,13 @@ fn told_notes(alloc: Global, told: &Told<'_, '_>) -> Result<Vec<String>, AllocEr
         ≡ told_notes_lem told.now.scope (beside_value told.now) (map explanation_value told.now.rows.now)) }
 {
     let late = late_among(alloc, told.rows, told.scope.from)?;
+    let tails = clean_tails_among(alloc, told.rows, told.scope.tail)?;
     let rows = NotedRows {
         talk: told.talk,
+        talking: told.talking,
         left_out: told.left_out,
         late: &late,
+        tails: &tails,
         rows: told.rows,
         side: told.side,
         named: true,
@@ -182,13 +187,14 @@ fn push_ending(
 {
     let judged = Judged {
         totals,
-        standard: told.standard,
+        best_effort: told.talk.best_effort_total.told(),
+        certain: told.certain,
     };
     let notes = told_notes(alloc, told)?;
     push_notes(text, &notes)?;
     text.push_str("\n")?;
     let causes = causes_of(alloc, judged, &told.ending)?;
-    push_last(text, &told.ending, &causes)
+    push_last(text, judged, &told.ending, &causes)
 }
 
 fn text_of(alloc: Global, told: &Told<'_, '_>) -> Result<String, AllocError>
@@ -210,16 +216,19 @@ pub fn check_text(alloc: Global, report: &FullReport<'_>) -> Result<String, Allo
     ensures { IfOk result (λ text. IsCheckText (asked_value report.now.asked.now) report.now.recording.now (report_value report.now) (string_bytes text)) }
 {
     let rows = by_topic(alloc, &report.explained.rows)?;
-    let left_out = by_topic(alloc, &report.left_out)?;
+    let talking = unmatched_by_topic(alloc, &report.talk.talking)?;
+    let names = talking_names(alloc, talking)?;
+    let left_out = left_by_topic(alloc, &report.talk.left_out)?;
     let told = Told {
         scope: scope_of(report),
         times: report.recording.times(),
         facts: notes_on(report),
         side: facts_of_side(report),
         rows: &rows,
+        talking: &names,
         left_out: &left_out,
         talk: &report.talk,
-        standard: report.asked.standard,
+        certain: report.asked.certain,
         ending: report.ending,
     };
     let text = text_of(alloc, &told)?;

@@ -4,7 +4,7 @@ ghost use Rattle.std.specs.Prelude.{Option};
 ghost use Rattle.rtps_report.specs.Asked.{AskedValue};
 ghost use Rattle.rtps_report.specs.Laws.{HasOneText};
 ghost use Rattle.rtps_report.specs.Recording.{RecordingValue};
-ghost use Rattle.rtps_check.specs.CheckText.{IsCheckedJsonAs, TellsWhyUnclean};
+ghost use Rattle.rtps_check.specs.CheckText.{IsCheckedJsonAs, IsCheckedTextAs, TellsWhyUnclean};
 
 use rtps_report::laws::one_full_report;
 
@@ -12,6 +12,14 @@ use rtps_report::laws::one_full_report;
 pub fn unclean_has_a_reason()
     ensures { TellsWhyUnclean }
 {}
+
+/// What `check` prints of a recording, and how its run ends, is decided by the recording, by the other one beside it, if there is one, and
+/// by what is asked.
+pub fn one_text()
+    ensures { (asked : AskedValue) (other : Option RecordingValue) → HasOneText (IsCheckedTextAs asked other) }
+{
+    one_full_report();
+}
 
 /// What `check --json` prints of a recording, and how its run ends, is decided by the recording, by the other one beside it, if there is
 /// one, and by what is asked.

@@ -3,14 +3,14 @@ ghost use Rattle.rtps_evidence.specs.Explanation.{evidence_value, explanation_va
 ghost use Rattle.rtps_evidence.specs.Locations.{sent_value};
 ghost use Rattle.rtps_lines.specs.Lines.{silence_lines as silence_lines_lem};
 ghost use Rattle.rtps_parts.specs.Parts.{part_text};
-ghost use Rattle.rtps_check.specs.CheckText.{advice_line, headed, is_missed_told as is_missed_told_lem, kind_text, kinds_text, left_text, missed_line, noted_lines, pair_lines, payload_line, reason_lines, row_head, row_lines, row_told, section, sentence_line, topic_head as topic_head_lem, verdict_lines, wait_line};
+ghost use Rattle.rtps_check.specs.CheckText.{advice_line, headed, kind_text, kinds_text, left_text, missed_line, noted_lines, pair_lines, payload_line, reason_lines, row_head, row_lines, row_told, section, sentence_line, topic_head as topic_head_lem, verdict_lines, wait_line};
 
 use crate::not_arrived::push_not_arrived;
 use crate::unmatched_block::hosted_by;
 use rtps_evidence::{Evidence, Explanation, Grounds, InSpan, Outcomes, Sent, Times};
 use rtps_lines::{
-    AcknowledgedLine, AnnouncedLine, AskedLine, ClaimedLine, QuestionsLine, SecondText, ToldLine,
-    VerdictText, WaitText, push_field, push_sent, silence_lines,
+    AcknowledgedLine, AdviceText, AnnouncedLine, AskedLine, ClaimedLine, QuestionsLine, SecondText,
+    ToldLine, VerdictText, WaitText, push_field, push_sent, silence_lines,
 };
 use rtps_parts::{Part, render};
 use rtps_report::{
@@ -50,25 +50,12 @@ fn push_kinds(text: &mut String, outcomes: Outcomes) -> Result<(), AllocError>
     text.push_str("\n")
 }
 
-/// Whether a number that a row missed is told: of a row that is held, where it is among the first that lack.
-fn is_missed_told(in_span: Option<&InSpan>, number: u64) -> bool
-    ensures { result ≡ is_missed_told_lem (option_copied in_span.entry) number }
-{
-    match in_span {
-        Some(in_span) => !in_span.is_held || in_span.lacking.as_slice().contains(&number),
-        None => true,
-    }
-}
-
 fn push_missed(text: &mut String, evidence: &Evidence<'_>, times: &Times) -> Result<(), AllocError>
     ensures { OnOk result (string_bytes text.new ≡ string_bytes text.old ++ missed_line times.now (evidence_value evidence.now)) }
 {
-    let in_span = evidence.in_span.as_ref();
     match evidence.first_missed {
-        Some(first) if is_missed_told(in_span, first.number) => {
-            write!(text, "{}", AskedLine(times, first))
-        }
-        _ => Ok(()),
+        Some(first) => write!(text, "{}", AskedLine(times, first)),
+        None => Ok(()),
     }
 }
 
@@ -98,6 +85,7 @@ fn push_verdict(text: &mut String, evidence: &Evidence<'_>, times: &Times) -> Re
             teller,
             asked_since,
             last_asked,
+            ..
         } => {
             write!(
                 text,
@@ -225,8 +213,8 @@ fn push_advice(
     ensures { OnOk result (string_bytes text.new ≡ string_bytes text.old ++ advice_line (row_told told.entry) (explanation_value row.now)) }
 {
     let silences = told.talk.silences(row.pair);
-    let advice = advice_of(told.scope, &row.evidence, silences);
-    writeln!(text, "    -> {}", advice.sentence())
+    let advice = advice_of(told.scope, &row.evidence, silences, told.times);
+    writeln!(text, "    -> {}", AdviceText(told.times, advice))
 }
 
 fn push_row(

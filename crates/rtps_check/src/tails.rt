@@ -1,13 +1,13 @@
 ghost use Rattle.std.specs.Prelude.{◌≡◌, ◌++◌, IfOk, OnOk, filter, map, string_bytes};
 ghost use Rattle.rtps_evidence.specs.Explanation.{explanation_value};
-ghost use Rattle.rtps_report.specs.RowFacts.{is_late as is_late_lem};
-ghost use Rattle.rtps_check.specs.CheckText.{lacks_tail_alone, longest_tail as longest_tail_lem, row_told, tail_block, tails_text};
+ghost use Rattle.rtps_report.specs.RowFacts.{is_clean_tail as is_clean_tail_lem, is_late as is_late_lem};
+ghost use Rattle.rtps_check.specs.CheckText.{lacks_tail_alone, row_told, tail_block, tails_text};
 
 use crate::sections::RowTelling;
 use rtps_evidence::Explanation;
-use rtps_lines::{names_of, number_words, push_field};
+use rtps_lines::{longest_tail, names_of, number_words, push_field};
 use rtps_parts::{Part, Words, render};
-use rtps_report::{Advice, is_late, is_tail_alone, outcomes_of};
+use rtps_report::{Advice, is_clean_tail, is_late, is_tail_alone};
 use std::alloc::{AllocError, Global};
 
 fn tails_among<'a>(
@@ -43,14 +43,21 @@ pub(crate) fn late_among<'a>(
     Ok(late)
 }
 
-fn longest_tail(rows: &[Explanation<'_>]) -> u64
-    ensures { result ≡ longest_tail_lem (map explanation_value rows.now) }
+/// Those of these rows that are clean with a tail.
+pub(crate) fn clean_tails_among<'a>(
+    alloc: Global,
+    rows: &[Explanation<'a>],
+    tail: u64,
+) -> Result<Vec<Explanation<'a>>, AllocError>
+    ensures { IfOk result (λ tails. map explanation_value tails.items ≡ filter (λ row. is_clean_tail_lem tail row.evidence) (map explanation_value rows.now)) }
 {
-    let mut longest = 0u64;
+    let mut tails = Vec::new(alloc);
     for row in rows {
-        longest = longest.max(outcomes_of(&row.evidence).unconfirmed);
+        if is_clean_tail(tail, &row.evidence) {
+            tails.push(*row)?;
+        }
     }
-    longest
+    Ok(tails)
 }
 
 fn push_tails(text: &mut String, pairs: usize, longest: u64, names: &str) -> Result<(), AllocError>

@@ -1,13 +1,13 @@
 ghost use Rattle.std.specs.Prelude.{◌≡◌, ◌++◌, IfOk, OnOk, None, map, option_copied, string_bytes};
 ghost use Rattle.rtps_policies.specs.Unmatched.{unmatched_value};
-ghost use Rattle.rtps_report.specs.Talk.{talk_value};
-ghost use Rattle.rtps_check.specs.TalkText.{AreByTopic, IsUnmatchedBlock, policy_line, topic_line, unmatched_pair, unmatched_pairs};
+ghost use Rattle.rtps_report.specs.Talk.{left_out_value, talk_value};
+ghost use Rattle.rtps_check.specs.TalkText.{AreByTopic, AreLeftByTopic, IsUnmatchedBlock, policy_line, topic_line, unmatched_pair, unmatched_pairs};
 
 use rtps_ids::Guid;
 use rtps_lines::{HostedGuid, Naming, PolicyValue, unmatched_words, words_of_policy};
 use rtps_parts::{Part, render};
 use rtps_policies::{Policy, Unmatched};
-use rtps_report::Talk;
+use rtps_report::{LeftOut, Talk};
 use std::alloc::{AllocError, Global};
 
 /// A GUID, and where its participant is.
@@ -18,8 +18,8 @@ pub(crate) fn hosted_by(talk: &Talk<'_>, guid: Guid) -> HostedGuid
     HostedGuid(guid, talk.address_of(guid.prefix))
 }
 
-/// Those that do not match, by topic, octet by octet. Those of one topic stay in their order.
-fn by_topic<'u, 'a>(
+/// Two each that do not match, by topic, octet by octet. Those of one topic stay in their order.
+pub(crate) fn unmatched_by_topic<'u, 'a>(
     alloc: Global,
     unmatched: &'u [Unmatched<'a>],
 ) -> Result<Vec<&'u Unmatched<'a>>, AllocError>
@@ -30,6 +30,18 @@ fn by_topic<'u, 'a>(
         sorted.push(one)?;
     }
     sorted.sort_by_key(|one| one.writer.endpoint.topic)?;
+    Ok(sorted)
+}
+
+/// Pairs that are left out, by topic, octet by octet. Those of one topic stay in their order.
+pub(crate) fn left_by_topic<'a>(
+    alloc: Global,
+    left: &[LeftOut<'a>],
+) -> Result<Vec<LeftOut<'a>>, AllocError>
+    ensures { IfOk result (λ sorted. AreLeftByTopic (map left_out_value left.now) (map left_out_value sorted.items)) }
+{
+    let mut sorted = Vec::from_slice(alloc, left)?;
+    sorted.sort_by_key(|one| one.topic)?;
     Ok(sorted)
 }
 
@@ -113,7 +125,7 @@ pub(crate) fn push_unmatched_block(
         Part::Amount(talk.unmatched.len() as u128, unmatched_words()),
         Part::Text("\n"),
     ];
-    let sorted = by_topic(alloc, &talk.unmatched)?;
+    let sorted = unmatched_by_topic(alloc, &talk.unmatched)?;
     render(text, &head)?;
     push_pairs(text, sorted, talk)?;
     text.push_str(

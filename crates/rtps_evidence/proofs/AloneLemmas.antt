@@ -21,10 +21,10 @@ nowhere_there : (other : Option OtherRecording) (pair : Pair) (n : ℕ) → is_h
 nowhere_there other pair n h = grind (arith, nat_tests)
 
 -- the outcomes by two sets of numbers that are the same
-outcomes_same : (there other : ℕ → Bool) (from last : ℕ) (since : Option Location) (pair : Pair) (acts : List PlacedValue) (outcomes : Outcomes) → ((n : ℕ) → there n ≡ other n)
-    → AreOutcomes there from last since pair acts outcomes → AreOutcomes other from last since pair acts outcomes
+outcomes_same : (there other : ℕ → Bool) (from last : ℕ) (times : List (Option ℕ)) (since : Option Location) (pair : Pair) (acts : List PlacedValue) (outcomes : Outcomes) → ((n : ℕ) → there n ≡ other n)
+    → AreOutcomes there from last times since pair acts outcomes → AreOutcomes other from last times since pair acts outcomes
 unfolding outcome_of
-outcomes_same there other from last since pair acts outcomes same are = record {
+outcomes_same there other from last times since pair acts outcomes same are = record {
   received = are.received ∙ alike Received;
   arrived = are.arrived ∙ alike Arrived;
   missed = are.missed ∙ alike Missed;
@@ -34,11 +34,11 @@ outcomes_same there other from last since pair acts outcomes same are = record {
   unconfirmed = are.unconfirmed ∙ alike Unconfirmed;
 }
   where
-    found : (n : ℕ) → outcome_of there since pair acts n ≡ outcome_of other since pair acts n
-    found n = ap (λ b. outcome_of (λ m. b) since pair acts n) (same n)
+    found : (n : ℕ) → outcome_of there times since pair acts n ≡ outcome_of other times since pair acts n
+    found n = ap (λ b. outcome_of (λ m. b) times since pair acts n) (same n)
 
-    alike : (kind : Outcome) → count_of kind (outcome_of there since pair acts) from (last + 1) ≡ count_of kind (outcome_of other since pair acts) from (last + 1)
-    alike kind = count_same (λ n. is_outcome kind (outcome_of there since pair acts n)) (λ n. is_outcome kind (outcome_of other since pair acts n)) from (last + 1) (λ n low high. ap (is_outcome kind) (found n))
+    alike : (kind : Outcome) → count_of kind (outcome_of there times since pair acts) from (last + 1) ≡ count_of kind (outcome_of other times since pair acts) from (last + 1)
+    alike kind = count_same (λ n. is_outcome kind (outcome_of there times since pair acts n)) (λ n. is_outcome kind (outcome_of other times since pair acts n)) from (last + 1) (λ n low high. ap (is_outcome kind) (found n))
 
 pub not_held_is_alone : NotHeldIsAlone
 not_held_is_alone = λ own beside pair recording in_span alone is.
@@ -53,15 +53,16 @@ not_held_is_alone = λ own beside pair recording in_span alone is.
         joined = is.joined;
         here = is.here;
         first = is.first;
+        wrote = is.wrote;
         until = is.until;
-        outcomes = outcomes_same there (is_there None pair) own.from last (since_of own) pair all in_span.outcomes none is.outcomes;
+        outcomes = outcomes_same there (is_there None pair) own.from last beside.times (since_of own) pair all in_span.outcomes none is.outcomes;
         base = is.base;
         held = is.held ∙ alone;
         absent = absent;
         lacking = lacking;
         wait = is.wait;
       };
-      arrived = arrived_is_all_that_changes.1 there own.from last (since_of own) pair all in_span.outcomes none is.outcomes;
+      arrived = arrived_is_all_that_changes.1 there own.from last beside.times (since_of own) pair all in_span.outcomes none is.outcomes;
       absent = absent;
       lacking = lacking;
     }

@@ -1,6 +1,6 @@
 -- The rule by counts is the rule by numbers.
 use Rattle.std.proofs.lemmas.Grind.{common_steps}
-use Rattle.std.proofs.Common.{◌≡◌, ◌∙◌, ℕ, ◌+◌, ◌-◌, ◌<◌, ◌≤◌, ◌==◌, ◌&&◌, ◌||◌, ◌⊎◌, Bool, true, false, cond, max, map, nat_lt, not, List, [], ◌∷◌, Option, Some, None, refl, sym, ap, subst, arith, inl, inr}
+use Rattle.std.proofs.Common.{◌≡◌, ◌∙◌, ℕ, ◌+◌, ◌-◌, ◌<◌, ◌≤◌, ◌==◌, ◌&&◌, ◌||◌, ◌⊎◌, Bool, true, false, cond, max, map, nat_le, nat_lt, not, List, [], ◌∷◌, Option, Some, None, refl, sym, ap, subst, arith, inl, inr}
 use Rattle.std.specs.Prelude.{if◌then◌else◌, is_some}
 use Rattle.std.specs.List.{find}
 use Rattle.std.proofs.lemmas.Bool.{and_parts, cases_lt, lt-ltb, ltb-true}
@@ -9,7 +9,7 @@ use Rattle.rtps_discovery.specs.declared.matching.Pair.{Pair}
 use Rattle.rtps_audit.specs.Delivery.{greatest}
 use Rattle.rtps_audit.specs.Placed.{PlacedValue}
 use Rattle.rtps_coverage.specs.Counts.{count_in}
-use Rattle.rtps_evidence.specs.Clean.{CountsSayTail, IsBelowBase, IsPastBase, IsTail, has_all, is_open, loses_none}
+use Rattle.rtps_evidence.specs.Clean.{CountsSayTail, IsBelowBase, IsPastBase, IsTail, has_all, is_begun, is_open, loses_none}
 use Rattle.rtps_evidence.specs.Locations.{base_said, greatest_base}
 use Rattle.rtps_evidence.specs.Missed.{is_wanting}
 use Rattle.rtps_evidence.specs.Outcomes.{AreOutcomes, count_of, is_brought, is_outcome, is_unanswered, outcome_of}
@@ -85,12 +85,12 @@ zero_where held n h h2 = grind (arith, nat_tests)
 
 -- ---- the counts of a row that loses nothing, and its numbers
 
-module _ (held : Bool) (there : ℕ → Bool) (from last : ℕ) (since : Option Location) (pair : Pair) (acts : List PlacedValue) (outcomes : Outcomes) (nowhere : held ≡ false → (n : ℕ) → there n ≡ false) (are : AreOutcomes there from last since pair acts outcomes) where
+module _ (held : Bool) (there : ℕ → Bool) (from last : ℕ) (times : List (Option ℕ)) (since : Option Location) (pair : Pair) (acts : List PlacedValue) (outcomes : Outcomes) (nowhere : held ≡ false → (n : ℕ) → there n ≡ false) (are : AreOutcomes there from last times since pair acts outcomes) where
   abbrev outcome : ℕ → Outcome
-  outcome n = outcome_of there since pair acts n
+  outcome n = outcome_of there times since pair acts n
 
-  none_counted : (kind : Outcome) (count n : ℕ) → count ≡ count_of kind (outcome_of there since pair acts) from (last + 1) → count ≡ 0 → from ≤ n → n ≤ last → is_outcome kind (outcome n) ≡ false
-  none_counted kind count n is none low high = none_has (λ m. is_outcome kind (outcome_of there since pair acts m)) from (last + 1) n (sym is ∙ none) low (omega arith)
+  none_counted : (kind : Outcome) (count n : ℕ) → count ≡ count_of kind (outcome_of there times since pair acts) from (last + 1) → count ≡ 0 → from ≤ n → n ≤ last → is_outcome kind (outcome n) ≡ false
+  none_counted kind count n is none low high = none_has (λ m. is_outcome kind (outcome_of there times since pair acts m)) from (last + 1) n (sym is ∙ none) low (omega arith)
 
   is_kept : loses_none held outcomes ≡ true → (n : ℕ) → from ≤ n → n ≤ last → IsKept held (there n) (outcome n)
   is_kept none n low high =
@@ -104,24 +104,25 @@ module _ (held : Bool) (there : ℕ → Bool) (from last : ℕ) (since : Option 
         nowhere = λ alone. nowhere alone n;
       }
 
-  tail_said : loses_none held outcomes ≡ true → 1 < greatest_base pair.writer pair.reader acts → IsTail held there from last since pair acts
+  tail_said : loses_none held outcomes ≡ true → 1 < greatest_base pair.writer pair.reader acts → from ≤ greatest_base pair.writer pair.reader acts → IsTail held there from last times since pair acts
   unfolding outcome_of
-  tail_said none above =
+  tail_said none above onward =
       let said = base_said pair.writer pair.reader in
       record {
         acknowledged = above;
-        below = λ n a b lt. below_base held (is_received pair.writer pair.reader acts n) (there n) (is_wanting since pair.writer pair.reader acts n) (is_brought since pair acts n) (is_unanswered since pair acts n)
+        onward = onward;
+        below = λ n a b lt. below_base held (is_received pair.writer pair.reader acts n) (there n) (is_wanting since pair.writer pair.reader acts n) (is_brought since pair acts n) (is_unanswered times since pair acts n)
             (is_some (first_claiming pair.writer pair.reader n acts)) (is_kept none n a b) (found_where said n acts lt);
         others = λ n a b le.
             let unclaimed = none_where said n acts le in
-            past_base held (is_received pair.writer pair.reader acts n) (there n) (is_wanting since pair.writer pair.reader acts n) (is_brought since pair acts n) (is_unanswered since pair acts n)
+            past_base held (is_received pair.writer pair.reader acts n) (there n) (is_wanting since pair.writer pair.reader acts n) (is_brought since pair acts n) (is_unanswered times since pair acts n)
             (is_some (first_claiming pair.writer pair.reader n acts)) (is_kept none n a b) (ap (is_certain_by pair.writer pair.reader n acts) unclaimed) (ap is_some unclaimed);
       }
 
   whole_said : held ≡ true → loses_none held outcomes ≡ true → outcomes.unconfirmed ≡ 0 → (n : ℕ) → from ≤ n → n ≤ last → IsBelowBase true (outcome n)
   unfolding outcome_of
   whole_said held_is none all n low high =
-      came (is_received pair.writer pair.reader acts n) (there n) (is_wanting since pair.writer pair.reader acts n) (is_brought since pair acts n) (is_unanswered since pair acts n)
+      came (is_received pair.writer pair.reader acts n) (there n) (is_wanting since pair.writer pair.reader acts n) (is_brought since pair acts n) (is_unanswered times since pair acts n)
       (is_some (first_claiming pair.writer pair.reader n acts)) (subst (λ h. IsKept h (there n) (outcome n)) held_is (is_kept none n low high)) (none_counted Unconfirmed outcomes.unconfirmed n are.unconfirmed all low high)
 
 -- ---- the other way round
@@ -141,32 +142,32 @@ is_other held kind outcome h h2 h3 h4 = grind (arith, nat_tests)
 is_zero : (n : ℕ) → n ≡ 0 → (n == 0) ≡ true
 is_zero n is = grind (arith, nat_tests, is)
 
-as_tail : (held : Bool) (there : ℕ → Bool) (from last : ℕ) (since : Option Location) (pair : Pair) (acts : List PlacedValue) → IsTail held there from last since pair acts
-    → (n : ℕ) → from ≤ n → n < last + 1 → IsAsTail held (outcome_of there since pair acts n)
-as_tail held there from last since pair acts tail n low high = grind (arith, nat_tests)
+as_tail : (held : Bool) (there : ℕ → Bool) (from last : ℕ) (times : List (Option ℕ)) (since : Option Location) (pair : Pair) (acts : List PlacedValue) → IsTail held there from last times since pair acts
+    → (n : ℕ) → from ≤ n → n < last + 1 → IsAsTail held (outcome_of there times since pair acts n)
+as_tail held there from last times since pair acts tail n low high = grind (arith, nat_tests)
 
-none_of : (held : Bool) (there : ℕ → Bool) (kind : Outcome) (from last : ℕ) (since : Option Location) (pair : Pair) (acts : List PlacedValue) → is_outcome kind Received ≡ false → is_outcome kind (also_came held) ≡ false → is_outcome kind Unconfirmed ≡ false
-    → ((n : ℕ) → from ≤ n → n < last + 1 → IsAsTail held (outcome_of there since pair acts n)) → count_of kind (outcome_of there since pair acts) from (last + 1) ≡ 0
-none_of held there kind from last since pair acts r l u tail = grind (arith, nat_tests, common_steps, count_none, is_other)
+none_of : (held : Bool) (there : ℕ → Bool) (kind : Outcome) (from last : ℕ) (times : List (Option ℕ)) (since : Option Location) (pair : Pair) (acts : List PlacedValue) → is_outcome kind Received ≡ false → is_outcome kind (also_came held) ≡ false → is_outcome kind Unconfirmed ≡ false
+    → ((n : ℕ) → from ≤ n → n < last + 1 → IsAsTail held (outcome_of there times since pair acts n)) → count_of kind (outcome_of there times since pair acts) from (last + 1) ≡ 0
+none_of held there kind from last times since pair acts r l u tail = grind (arith, nat_tests, common_steps, count_none, is_other)
 
-tail_meant : (held : Bool) (there : ℕ → Bool) (from last : ℕ) (since : Option Location) (pair : Pair) (acts : List PlacedValue) (outcomes : Outcomes) → AreOutcomes there from last since pair acts outcomes
-    → ((n : ℕ) → from ≤ n → n < last + 1 → IsAsTail held (outcome_of there since pair acts n)) → loses_none held outcomes ≡ true
-tail_meant true there from last since pair acts outcomes are tail =
-    let missed = is_zero outcomes.missed (are.missed ∙ none_of true there Missed from last since pair acts refl refl refl tail) in
-    let unsent = is_zero outcomes.unsent (are.unsent ∙ none_of true there Unsent from last since pair acts refl refl refl tail) in
-    let unanswered = is_zero outcomes.unanswered (are.unanswered ∙ none_of true there Unanswered from last since pair acts refl refl refl tail) in
-    let likely = is_zero outcomes.likely (are.likely ∙ none_of true there Likely from last since pair acts refl refl refl tail) in
+tail_meant : (held : Bool) (there : ℕ → Bool) (from last : ℕ) (times : List (Option ℕ)) (since : Option Location) (pair : Pair) (acts : List PlacedValue) (outcomes : Outcomes) → AreOutcomes there from last times since pair acts outcomes
+    → ((n : ℕ) → from ≤ n → n < last + 1 → IsAsTail held (outcome_of there times since pair acts n)) → loses_none held outcomes ≡ true
+tail_meant true there from last times since pair acts outcomes are tail =
+    let missed = is_zero outcomes.missed (are.missed ∙ none_of true there Missed from last times since pair acts refl refl refl tail) in
+    let unsent = is_zero outcomes.unsent (are.unsent ∙ none_of true there Unsent from last times since pair acts refl refl refl tail) in
+    let unanswered = is_zero outcomes.unanswered (are.unanswered ∙ none_of true there Unanswered from last times since pair acts refl refl refl tail) in
+    let likely = is_zero outcomes.likely (are.likely ∙ none_of true there Likely from last times since pair acts refl refl refl tail) in
     rw (missed, unsent, unanswered, likely) refl
-tail_meant false there from last since pair acts outcomes are tail =
-    let missed = is_zero outcomes.missed (are.missed ∙ none_of false there Missed from last since pair acts refl refl refl tail) in
-    let unsent = is_zero outcomes.unsent (are.unsent ∙ none_of false there Unsent from last since pair acts refl refl refl tail) in
-    let unanswered = is_zero outcomes.unanswered (are.unanswered ∙ none_of false there Unanswered from last since pair acts refl refl refl tail) in
+tail_meant false there from last times since pair acts outcomes are tail =
+    let missed = is_zero outcomes.missed (are.missed ∙ none_of false there Missed from last times since pair acts refl refl refl tail) in
+    let unsent = is_zero outcomes.unsent (are.unsent ∙ none_of false there Unsent from last times since pair acts refl refl refl tail) in
+    let unanswered = is_zero outcomes.unanswered (are.unanswered ∙ none_of false there Unanswered from last times since pair acts refl refl refl tail) in
     rw (missed, unsent, unanswered) refl
 
 -- where each number came, none is unconfirmed
-whole_meant : (there : ℕ → Bool) (from last : ℕ) (since : Option Location) (pair : Pair) (acts : List PlacedValue) (outcomes : Outcomes) → AreOutcomes there from last since pair acts outcomes
-    → ((n : ℕ) → from ≤ n → n ≤ last → IsBelowBase true (outcome_of there since pair acts n)) → outcomes.unconfirmed ≡ 0
-whole_meant there from last since pair acts outcomes are all = grind (arith, nat_tests, common_steps, count_none)
+whole_meant : (there : ℕ → Bool) (from last : ℕ) (times : List (Option ℕ)) (since : Option Location) (pair : Pair) (acts : List PlacedValue) (outcomes : Outcomes) → AreOutcomes there from last times since pair acts outcomes
+    → ((n : ℕ) → from ≤ n → n ≤ last → IsBelowBase true (outcome_of there times since pair acts n)) → outcomes.unconfirmed ≡ 0
+whole_meant there from last times since pair acts outcomes are all = grind (arith, nat_tests, common_steps, count_none)
 
 -- of a tail, the unconfirmed numbers are those from the greatest base on that have this
 unconfirmed_past : (from last base : ℕ) (outcome : ℕ → Outcome) (has : ℕ → Bool) → ((n : ℕ) → from ≤ n → n ≤ last → n < base → is_outcome Unconfirmed (outcome n) ≡ false)
@@ -183,13 +184,17 @@ unconfirmed_past from last base outcome has below others = elim (cases_lt (last 
       omega (arith, split, none, rest)
 ]
 
-tail_counted : (there : ℕ → Bool) (from last : ℕ) (since : Option Location) (pair : Pair) (acts : List PlacedValue) (outcomes : Outcomes) → AreOutcomes there from last since pair acts outcomes → IsTail false there from last since pair acts
-    → outcomes.unconfirmed ≡ last + 1 - max from (greatest_base pair.writer pair.reader acts)
-tail_counted there from last since pair acts outcomes are tail =
+max_onward : (from base : ℕ) → from ≤ base → max from base ≡ base
+max_onward from base le = omega arith
+
+tail_counted : (there : ℕ → Bool) (from last : ℕ) (times : List (Option ℕ)) (since : Option Location) (pair : Pair) (acts : List PlacedValue) (outcomes : Outcomes) → AreOutcomes there from last times since pair acts outcomes → IsTail false there from last times since pair acts
+    → outcomes.unconfirmed ≡ last + 1 - greatest_base pair.writer pair.reader acts
+tail_counted there from last times since pair acts outcomes are tail =
     are.unconfirmed
-    ∙ unconfirmed_past from last (greatest_base pair.writer pair.reader acts) (outcome_of there since pair acts) (λ n. true) (λ n low high lt. never (outcome_of there since pair acts n) (tail.below n low high lt))
+    ∙ unconfirmed_past from last (greatest_base pair.writer pair.reader acts) (outcome_of there times since pair acts) (λ n. true) (λ n low high lt. never (outcome_of there times since pair acts n) (tail.below n low high lt))
     (λ n low high ge. ap (is_outcome Unconfirmed) (tail.others n low high ge))
     ∙ count_all (λ n. true) (max from (greatest_base pair.writer pair.reader acts)) (last + 1) (λ n low high. refl)
+    ∙ ap (λ m. last + 1 - m) (max_onward from (greatest_base pair.writer pair.reader acts) tail.onward)
   where
     never : (outcome : Outcome) → IsBelowBase false outcome → is_outcome Unconfirmed outcome ≡ false
     never outcome (inl is) = ap (is_outcome Unconfirmed) is
@@ -199,45 +204,54 @@ tail_counted there from last since pair acts outcomes are tail =
 not_there : (r t w b u c : Bool) → IsPastBase true (first_of r t w b u c) → is_outcome Unconfirmed (first_of r t w b u c) ≡ not t
 not_there r t w b u c h = grind (arith, nat_tests)
 
-held_tail_counted : (there : ℕ → Bool) (from last : ℕ) (since : Option Location) (pair : Pair) (acts : List PlacedValue) (outcomes : Outcomes) → AreOutcomes there from last since pair acts outcomes → IsTail true there from last since pair acts
-    → outcomes.unconfirmed ≡ count_in (λ n. not (there n)) (max from (greatest_base pair.writer pair.reader acts)) (last + 1)
+held_tail_counted : (there : ℕ → Bool) (from last : ℕ) (times : List (Option ℕ)) (since : Option Location) (pair : Pair) (acts : List PlacedValue) (outcomes : Outcomes) → AreOutcomes there from last times since pair acts outcomes → IsTail true there from last times since pair acts
+    → outcomes.unconfirmed ≡ count_in (λ n. not (there n)) (greatest_base pair.writer pair.reader acts) (last + 1)
 unfolding outcome_of
-held_tail_counted there from last since pair acts outcomes are tail =
+held_tail_counted there from last times since pair acts outcomes are tail =
     are.unconfirmed
-    ∙ unconfirmed_past from last (greatest_base pair.writer pair.reader acts) (outcome_of there since pair acts) (λ n. not (there n)) (λ n low high lt. never (outcome_of there since pair acts n) (tail.below n low high lt))
-    (λ n low high ge. not_there (is_received pair.writer pair.reader acts n) (there n) (is_wanting since pair.writer pair.reader acts n) (is_brought since pair acts n) (is_unanswered since pair acts n)
+    ∙ unconfirmed_past from last (greatest_base pair.writer pair.reader acts) (outcome_of there times since pair acts) (λ n. not (there n)) (λ n low high lt. never (outcome_of there times since pair acts n) (tail.below n low high lt))
+    (λ n low high ge. not_there (is_received pair.writer pair.reader acts n) (there n) (is_wanting since pair.writer pair.reader acts n) (is_brought since pair acts n) (is_unanswered times since pair acts n)
     (is_some (first_claiming pair.writer pair.reader n acts)) (tail.others n low high ge))
+    ∙ ap (λ m. count_in (λ n. not (there n)) m (last + 1)) (max_onward from (greatest_base pair.writer pair.reader acts) tail.onward)
   where
     never : (outcome : Outcome) → IsBelowBase true outcome → is_outcome Unconfirmed outcome ≡ false
     never outcome (inl is) = ap (is_outcome Unconfirmed) is
     never outcome (inr is) = ap (is_outcome Unconfirmed) is
 
+le_of : (a b : ℕ) → nat_le a b ≡ true → a ≤ b
+le_of a b h = grind (arith, nat_tests)
+
+of_le : (a b : ℕ) → a ≤ b → nat_le a b ≡ true
+of_le a b h = grind (arith, nat_tests)
+
 and_four : (a b c d : Bool) → a ≡ true → b ≡ true → c ≡ true → d ≡ true → (a && (b && (c && d))) ≡ true
 and_four a b c d is_a is_b is_c is_d = rw (is_a, is_b, is_c, is_d) refl
 
 pub counts_say_tail : CountsSayTail
-counts_say_tail = λ held there from last since pair acts outcomes nowhere are.
+counts_say_tail = λ held there from last times since pair acts outcomes nowhere are.
     let base = greatest_base pair.writer pair.reader acts in
     record {
       tail = λ verdict open_it. (
         λ is.
-            let parts = and_parts (nat_lt 1 base) (loses_none held outcomes) (and_parts (is_open verdict) (nat_lt 1 base && loses_none held outcomes) is).1 in
-            tail_said held there from last since pair acts outcomes nowhere are parts.1 (ltb-true 1 base parts.0),
+            let parts = and_parts (is_begun from base) (loses_none held outcomes) (and_parts (is_open verdict) (is_begun from base && loses_none held outcomes) is).1 in
+            let begun = and_parts (nat_lt 1 base) (nat_le from base) parts.0 in
+            tail_said held there from last times since pair acts outcomes nowhere are parts.1 (ltb-true 1 base begun.0) (le_of from base begun.1),
         λ tail.
             let above = lt-ltb 1 base tail.acknowledged in
-            let all = tail_meant held there from last since pair acts outcomes are (as_tail held there from last since pair acts tail) in
-            rw (open_it, above, all) refl,
+            let onward = of_le from base tail.onward in
+            let all = tail_meant held there from last times since pair acts outcomes are (as_tail held there from last times since pair acts tail) in
+            rw (open_it, above, onward, all) refl,
       );
-      unconfirmed = λ alone tail. tail_counted there from last since pair acts outcomes are (subst (λ h. IsTail h there from last since pair acts) alone tail);
-      not_there = λ held_is tail. held_tail_counted there from last since pair acts outcomes are (subst (λ h. IsTail h there from last since pair acts) held_is tail);
+      unconfirmed = λ alone tail. tail_counted there from last times since pair acts outcomes are (subst (λ h. IsTail h there from last times since pair acts) alone tail);
+      not_there = λ held_is tail. held_tail_counted there from last times since pair acts outcomes are (subst (λ h. IsTail h there from last times since pair acts) held_is tail);
       whole = λ verdict held_is open_it. (
         λ is.
             let parts = and_parts (is_open verdict) (loses_none held outcomes && (outcomes.unconfirmed == 0)) (and_parts held (is_open verdict && (loses_none held outcomes && (outcomes.unconfirmed == 0))) is).1 in
             let none = and_parts (loses_none held outcomes) (outcomes.unconfirmed == 0) parts.1 in
-            whole_said held there from last since pair acts outcomes nowhere are held_is none.0 (zero_of outcomes.unconfirmed none.1),
+            whole_said held there from last times since pair acts outcomes nowhere are held_is none.0 (zero_of outcomes.unconfirmed none.1),
         λ all.
-            let none = subst (λ h. loses_none h outcomes ≡ true) (sym held_is) (tail_meant true there from last since pair acts outcomes are (λ n low high. inl (all n low (omega arith)))) in
-            let unconfirmed = is_zero outcomes.unconfirmed (whole_meant there from last since pair acts outcomes are all) in
+            let none = subst (λ h. loses_none h outcomes ≡ true) (sym held_is) (tail_meant true there from last times since pair acts outcomes are (λ n low high. inl (all n low (omega arith)))) in
+            let unconfirmed = is_zero outcomes.unconfirmed (whole_meant there from last times since pair acts outcomes are all) in
             and_four held (is_open verdict) (loses_none held outcomes) (outcomes.unconfirmed == 0) held_is open_it none unconfirmed,
       );
     }

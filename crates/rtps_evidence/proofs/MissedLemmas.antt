@@ -1,7 +1,7 @@
 -- The numbers that are asked for and missed.
 use Rattle.std.proofs.lemmas.Grind.{common_steps}
 use Rattle.std.proofs.lemmas.Bool.Decides.{nat_tests}
-use Rattle.std.proofs.Common.{◌≡◌, ◌∙◌, ℕ, ◌+◌, ◌<◌, ◌≤◌, ◌&&◌, ◌||◌, Bool, true, false, cond, not, filter, List, [], ◌∷◌, Option, Some, None, refl, sym, ap, arith, rules}
+use Rattle.std.proofs.Common.{◌≡◌, ◌∙◌, ℕ, ◌+◌, ◌≤◌, ◌&&◌, ◌||◌, Bool, true, false, cond, not, filter, List, [], ◌∷◌, Option, Some, None, refl, ap, arith, rules}
 use Rattle.std.specs.List.{cons_option, find, list_any}
 use Rattle.std.specs.Option.{option_map}
 use Rattle.std.specs.Prelude.{if◌then◌else◌}
@@ -15,8 +15,8 @@ use Rattle.rtps_evidence.proofs.AskingLemmas.{requester_is_origin}
 use Rattle.rtps_coverage.specs.Counts.{count_in}
 use Rattle.rtps_coverage.specs.Stretches.{stretches_have}
 use Rattle.rtps_evidence.specs.Locations.{find_last, is_behind, location_of}
-use Rattle.rtps_evidence.specs.Missed.{AreMissed, again_behind, announces, asks_for, brings, brings_before, brings_behind, first_place, gone_behind, has_guid, is_asked_in_vain, is_missed, is_wanting, missed_at, missed_by, place_announced}
-use Rattle.rtps_evidence.specs.Received.{is_received}
+use Rattle.rtps_evidence.specs.Missed.{AreMissed, again_behind, announces, asks_for, brings, brings_before, brings_behind, first_place, gone_behind, has_guid, is_asked_in_vain, is_missed, is_missed_for_good, is_wanting, missed_at, missed_by, place_announced}
+use Rattle.rtps_evidence.specs.Received.{is_received, least_in}
 use Rattle.rtps_evidence.specs.Requests.{is_in_vain, met_among, new_request, requested}
 use Rattle.rtps_evidence.specs.WriterSummary.{option_any}
 use Rattle.rtps_coverage.specs.declared.stretch.Stretch.{Stretch}
@@ -26,7 +26,7 @@ use Rattle.rtps_evidence.specs.declared.location.Location.{Location}
 use Rattle.rtps_evidence.proofs.ClaimedLemmas.{withdrawer}
 use Rattle.rtps_coverage.proofs.Offered.{count_same}
 use Rattle.rtps_evidence.proofs.FindLemmas.{any_filter, find_filter}
-use Rattle.rtps_evidence.proofs.NotReceivedLemmas.{least_found, least_none}
+use Rattle.rtps_evidence.proofs.NotReceivedLemmas.{least_same}
 use Rattle.rtps_evidence.proofs.QuestionLemmas.{filter_filter}
 
 -- ---- what is missed
@@ -71,24 +71,22 @@ missed_by_request since pair placed n lacking known =
 
 -- ---- counted, and the least of them
 
-pub some_missed : (from last least count : ℕ) (place : Option Location) (pair : Pair) (placed : List PlacedValue) (items lent : List Stretch) (first : Option FirstMissed) → lent ≡ items
-    → ((n : ℕ) → from ≤ n → n ≤ last → stretches_have items n ≡ is_missed place pair.writer pair.reader placed n) → from ≤ least → stretches_have lent least ≡ true → ((n : ℕ) → from ≤ n → n < least → stretches_have lent n ≡ false)
-    → count ≡ count_in (stretches_have items) from (last + 1) → least < last + 1 → first ≡ missed_by pair.writer pair.reader placed (Some least)
-    → AreMissed from last place pair.writer pair.reader placed (record { count = count; first = first })
-some_missed from last least count place pair placed items lent first same is low inside below counted high found = record {
-  count = counted ∙ count_same (stretches_have items) (is_missed place pair.writer pair.reader placed) from (last + 1) (λ n a b. is n a (omega arith));
-  first =
-      found
-      ∙ sym (ap (missed_by pair.writer pair.reader placed)
-      (least_found (is_missed place pair.writer pair.reader placed) from (last + 1) least low high
-      (sym (is least low (omega arith)) ∙ sym (ap (λ l. stretches_have l least) same) ∙ inside)
-      (λ m begun before. sym (is m begun (omega arith)) ∙ sym (ap (λ l. stretches_have l m) same) ∙ below m begun before)));
+-- what is left of numbers that are missed are those that are missed and not there
+pub left_missed : (there : ℕ → Bool) (from last count : ℕ) (place : Option Location) (pair : Pair) (placed : List PlacedValue) (items beside left : List Stretch) (first : Option FirstMissed)
+    → ((n : ℕ) → from ≤ n → n ≤ last → stretches_have items n ≡ is_missed place pair.writer pair.reader placed n) → ((n : ℕ) → stretches_have beside n ≡ there n)
+    → ((n : ℕ) → from ≤ n → n ≤ last → stretches_have left n ≡ (stretches_have items n && not (stretches_have beside n)))
+    → count ≡ count_in (stretches_have left) from (last + 1) → first ≡ missed_by pair.writer pair.reader placed (least_in (stretches_have left) from (last + 1))
+    → AreMissed there from last place pair.writer pair.reader placed (record { count = count; first = first })
+left_missed there from last count place pair placed items beside left first is has lacks counted found = record {
+  count = counted ∙ count_same (stretches_have left) (is_missed_for_good there place pair.writer pair.reader placed) from (last + 1) (λ n low high. same n low (omega arith));
+  first = found ∙ ap (missed_by pair.writer pair.reader placed)
+      (least_same (stretches_have left) (is_missed_for_good there place pair.writer pair.reader placed) from (last + 1) (λ n low high. same n low (omega arith)));
 }
-
-pub none_missed : (from last least count : ℕ) (place : Option Location) (pair : Pair) (placed : List PlacedValue) (items lent : List Stretch) → lent ≡ items
-    → ((n : ℕ) → from ≤ n → n ≤ last → stretches_have items n ≡ is_missed place pair.writer pair.reader placed n) → ((n : ℕ) → from ≤ n → n < least → stretches_have lent n ≡ false)
-    → count ≡ count_in (stretches_have items) from (last + 1) → last + 1 ≤ least → AreMissed from last place pair.writer pair.reader placed (record { count = count; first = None })
-none_missed from last least count place pair placed items lent same is below counted high = grind (arith, nat_tests, common_steps, count_same, least_none)
+  where
+    same : (n : ℕ) → from ≤ n → n ≤ last → stretches_have left n ≡ is_missed_for_good there place pair.writer pair.reader placed n
+    same n low high =
+        lacks n low high ∙ ap (λ b. b && not (stretches_have beside n)) (is n low high)
+        ∙ ap (λ b. is_missed place pair.writer pair.reader placed n && not b) (has n)
 
 -- ---- who asked for it last, and what told it gone since
 

@@ -48,6 +48,15 @@ least_found has lo hi k low high is none = found_in has lo (hi - lo) k low (omeg
 pub least_none : (has : ℕ → Bool) (lo hi : ℕ) → ((m : ℕ) → lo ≤ m → m < hi → has m ≡ false) → least_in has lo hi ≡ None
 least_none has lo hi none = none_in has lo (hi - lo) (λ m low high. none m low (omega arith))
 
+same_in : (has other : ℕ → Bool) (lo n : ℕ) → ((m : ℕ) → lo ≤ m → m < lo + n → has m ≡ other m) → find has (range_with_len lo n) ≡ find other (range_with_len lo n)
+same_in has other lo zero same = refl
+same_in has other lo (suc n) same =
+    ap (λ b. cond b (Some lo) (find has (range_with_len (lo + 1) n))) (same lo (omega arith) (omega arith))
+    ∙ ap (λ o. cond (other lo) (Some lo) o) (same_in has other (lo + 1) n (λ m low high. same m (omega arith) (omega arith)))
+
+pub least_same : (has other : ℕ → Bool) (lo hi : ℕ) → ((m : ℕ) → lo ≤ m → m < hi → has m ≡ other m) → least_in has lo hi ≡ least_in other lo hi
+least_same has other lo hi same = same_in has other lo (hi - lo) (λ m low high. same m low (omega arith))
+
 -- ---- what keeps it
 
 pub kept_unclaimed : (writer reader : Guid) (n : ℕ) (acts : List PlacedValue) (claim : Option PlacedValue) → None ≡ option_map (claim_at writer reader) claim

@@ -11,7 +11,7 @@ use Rattle.rtps_audit.specs.Intake.{Intake, acts_together}
 use Rattle.rtps_audit.specs.Laws.{HasNoTwoVerdicts, HasOneReport}
 use Rattle.rtps_audit.specs.declared.report.Row.{Row}
 use Rattle.rtps_evidence.specs.Evidence.{IsBeside, IsEvidenceBy, IsShown}
-use Rattle.rtps_evidence.specs.Explanation.{ExplanationValue, HasOneExplanation, IsNamed, evidence_value, explanation_value, topic_of, type_of}
+use Rattle.rtps_evidence.specs.Explanation.{ExplanationValue, HasOneExplanation, IsNamed, PairsHaveOneExplanation, evidence_value, explanation_value, topic_of, type_of}
 use Rattle.rtps_evidence.specs.OtherSide.{Beside}
 use Rattle.rtps_evidence.specs.declared.explanation.Explanation.{Explanation}
 use Rattle.rtps_evidence.specs.declared.evidence.Evidence.{Evidence}
@@ -20,9 +20,9 @@ use Rattle.rtps_evidence.specs.declared.location.Location.{Location}
 use Rattle.rtps_evidence.specs.declared.span.Span.{Span}
 use Rattle.rtps_evidence.proofs.OneSpan.{HasOneMap, one_extent}
 
-one_shown : (from : ℕ) (since : Option Location) (pair : Pair) (recording : List (List ActValue)) (one other : Evidence) → one.verdict ≡ other.verdict → one.in_span ≡ other.in_span
-    → IsShown from since pair recording one → IsShown from since pair recording other → evidence_value one ≡ evidence_value other
-one_shown from since pair recording one other same beside is also = grind (arith, nat_tests)
+one_shown : (there : ℕ → Bool) (from : ℕ) (since : Option Location) (pair : Pair) (recording : List (List ActValue)) (one other : Evidence) → one.verdict ≡ other.verdict → one.in_span ≡ other.in_span
+    → IsShown there from since pair recording one → IsShown there from since pair recording other → evidence_value one ≡ evidence_value other
+one_shown there from since pair recording one other same beside is also = grind (arith, nat_tests)
 
 one_beside : (spans : Bool) (beside : Beside) (span : Span) (pair : Pair) (recording : List (List ActValue)) (one other : Option InSpan) → IsBeside spans beside span pair recording one → IsBeside spans beside span pair recording other → one ≡ other
 one_beside spans beside span pair recording one other h h2 = grind (arith, nat_tests)
@@ -66,3 +66,9 @@ one_explanation one_report no_two unique spans from beside intake one other is a
     let pairs = is.pairs ∙ ap (map (λ (row : Row). row.pair)) reports.0 ∙ sym also.pairs in
     let called = subst (λ (d : DirectoryValue). All (IsNamed d.endpoints) other.rows.items) (sym same) also.named in
     (one_list unique no_two spans from beside intake is.directory.endpoints one.rows.items other.rows.items pairs is.named called is.shown also.shown, is.counts ∙ reports.1 ∙ sym also.counts)
+
+pub one_pairs : HasNoTwoVerdicts → HasOneMap → PairsHaveOneExplanation
+one_pairs no_two unique spans from beside intake pairs one other is also =
+    let same : is.directory ≡ also.directory = unique (acts_together intake.announcing) is.directory also.directory is.is_map also.is_map in
+    let called = subst (λ (d : DirectoryValue). All (IsNamed d.endpoints) other) (sym same) also.named in
+    one_list unique no_two spans from beside intake is.directory.endpoints one other (is.of_pairs ∙ sym also.of_pairs) is.named called is.shown also.shown

@@ -8,9 +8,10 @@ use Rattle.rtps_discovery.specs.Directory.{DirectoryValue, IsMapOf, settled_at}
 use Rattle.rtps_discovery.specs.declared.matching.Pair.{Pair}
 use Rattle.rtps_audit.specs.Intake.{Intake, acts_together}
 use Rattle.rtps_audit.specs.Placed.{placed_in}
-use Rattle.rtps_evidence.specs.Spans.{IsExtent, IsFirstIn, IsFrom, IsLeastFrom, IsOwedFrom, IsSpan, IsVolatileIn, IsWhole, is_for_reader, is_joined_here, is_volatile, least_owed}
+use Rattle.rtps_evidence.specs.Spans.{IsExtent, IsFirstIn, IsFrom, IsLeastFrom, IsOwedFrom, IsSpan, IsVolatileIn, IsWhole, announced_before, is_for_reader, is_gone_first, is_joined_here, is_volatile, least_owed}
 use Rattle.rtps_evidence.specs.declared.location.Location.{Location}
 use Rattle.rtps_evidence.specs.declared.span.Span.{Span}
+use Rattle.rtps_evidence.proofs.SpanLemmas.{one_end}
 
 -- what is announced tells one directory
 abbrev pub HasOneMap : Type 0
@@ -27,7 +28,9 @@ one_volatile unique intake reader one other is also =
 one_owed : HasOneMap → (from : ℕ) (place : Location) (pair : Pair) (intake : Intake) (one other : ℕ) → IsOwedFrom from place pair intake one → IsOwedFrom from place pair intake other → one ≡ other
 one_owed unique from place pair intake one other is also =
     let same = one_volatile unique intake pair.reader is.volatile also.volatile is.is_volatile also.is_volatile in
-    is.is ∙ ap (λ v. least_owed from v place pair.writer (placed_in intake.acts)) same ∙ sym also.is
+    let gone = one_end (is_gone_first place pair (placed_in intake.acts)) is.gone_end also.gone_end is.is_gone_end also.is_gone_end in
+    let announced = announced_before place pair.writer (placed_in intake.acts) in
+    is.is ∙ ap (λ v. least_owed from v announced is.gone_end) same ∙ ap (least_owed from also.volatile announced) gone ∙ sym also.is
 
 one_first : HasOneMap → (from : ℕ) (place : Location) (pair : Pair) (intake : Intake) (one other : ℕ) → IsFirstIn from place pair intake one → IsFirstIn from place pair intake other → one ≡ other
 one_first unique from place pair intake one other is also =

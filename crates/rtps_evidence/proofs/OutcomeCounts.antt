@@ -84,19 +84,19 @@ is_last r t w b u c = grind (arith, nat_tests)
 -- ---- all together
 
 -- these sets of numbers are those of each outcome and the ones before it, from lo on and below hi
-pub record AreCumulated (there : ℕ → Bool) (lo hi : ℕ) (since : Option Location) (pair : Pair) (acts : List PlacedValue) (received arrived missed unsent unanswered likely : ℕ → Bool) : Type 0 where
+pub record AreCumulated (there : ℕ → Bool) (lo hi : ℕ) (times : List (Option ℕ)) (since : Option Location) (pair : Pair) (acts : List PlacedValue) (received arrived missed unsent unanswered likely : ℕ → Bool) : Type 0 where
   pub of_received : (n : ℕ) → lo ≤ n → n < hi → received n ≡ is_received pair.writer pair.reader acts n
   pub of_arrived : (n : ℕ) → lo ≤ n → n < hi → arrived n ≡ with_arrived (is_received pair.writer pair.reader acts n) (there n)
   pub of_missed : (n : ℕ) → lo ≤ n → n < hi → missed n ≡ with_missed (is_received pair.writer pair.reader acts n) (there n) (is_wanting since pair.writer pair.reader acts n)
   pub of_unsent : (n : ℕ) → lo ≤ n → n < hi → unsent n ≡ with_unsent (is_received pair.writer pair.reader acts n) (there n) (is_wanting since pair.writer pair.reader acts n) (is_brought since pair acts n)
   pub of_unanswered : (n : ℕ) → lo ≤ n → n < hi → unanswered n
-      ≡ with_unanswered (is_received pair.writer pair.reader acts n) (there n) (is_wanting since pair.writer pair.reader acts n) (is_brought since pair acts n) (is_unanswered since pair acts n)
+      ≡ with_unanswered (is_received pair.writer pair.reader acts n) (there n) (is_wanting since pair.writer pair.reader acts n) (is_brought since pair acts n) (is_unanswered times since pair acts n)
   pub of_likely : (n : ℕ) → lo ≤ n → n < hi → likely n
-      ≡ with_likely (is_received pair.writer pair.reader acts n) (there n) (is_wanting since pair.writer pair.reader acts n) (is_brought since pair acts n) (is_unanswered since pair acts n) (is_some (first_claiming pair.writer pair.reader n acts))
+      ≡ with_likely (is_received pair.writer pair.reader acts n) (there n) (is_wanting since pair.writer pair.reader acts n) (is_brought since pair acts n) (is_unanswered times since pair acts n) (is_some (first_claiming pair.writer pair.reader n acts))
 
-pub outcomes_counted : (there : ℕ → Bool) (from last : ℕ) (since : Option Location) (pair : Pair) (acts : List PlacedValue) (received arrived missed unsent unanswered likely : ℕ → Bool)
-    → AreCumulated there from (last + 1) since pair acts received arrived missed unsent unanswered likely
-    → AreOutcomes there from last since pair acts (record {
+pub outcomes_counted : (there : ℕ → Bool) (from last : ℕ) (times : List (Option ℕ)) (since : Option Location) (pair : Pair) (acts : List PlacedValue) (received arrived missed unsent unanswered likely : ℕ → Bool)
+    → AreCumulated there from (last + 1) times since pair acts received arrived missed unsent unanswered likely
+    → AreOutcomes there from last times since pair acts (record {
       received = count_in received from (last + 1);
       arrived = count_in arrived from (last + 1) - count_in received from (last + 1);
       missed = count_in missed from (last + 1) - count_in arrived from (last + 1);
@@ -106,11 +106,11 @@ pub outcomes_counted : (there : ℕ → Bool) (from last : ℕ) (since : Option 
       unconfirmed = last + 1 - from - count_in likely from (last + 1);
     })
 unfolding outcome_of
-outcomes_counted there from last since pair acts received arrived missed unsent unanswered likely are =
+outcomes_counted there from last times since pair acts received arrived missed unsent unanswered likely are =
     let r = is_received pair.writer pair.reader acts in
     let w = is_wanting since pair.writer pair.reader acts in
     let b = is_brought since pair acts in
-    let u = is_unanswered since pair acts in
+    let u = is_unanswered times since pair acts in
     let c : ℕ → Bool = λ n. is_some (first_claiming pair.writer pair.reader n acts) in
     let outcome : ℕ → Outcome = λ n. first_of (r n) (there n) (w n) (b n) (u n) (c n) in
     let one = count_same received (λ n. is_outcome Received (outcome n)) from (last + 1) (λ n low high. are.of_received n low high ∙ sym (is_first (r n) (there n) (w n) (b n) (u n) (c n))) in
@@ -149,16 +149,16 @@ missed_put before r t w m x h h2 h3 = grind (arith, nat_tests)
 pub unsent_put : (before r t w b u x : Bool) → before ≡ with_missed r t w → (r ≡ false → u ≡ not b) → x ≡ (before || u) → x ≡ with_unsent r t w b
 unsent_put before r t w b u x h h2 h3 = grind (arith, nat_tests)
 
-pub unanswered_put : (before r t w b s u x : Bool) → before ≡ with_unsent r t w b → (r ≡ false → s ≡ u) → x ≡ (before || s) → x ≡ with_unanswered r t w b u
+pub unanswered_put : (before r t w b s u x : Bool) → before ≡ with_unsent r t w b → (r ≡ false → b ≡ true → s ≡ u) → x ≡ (before || s) → x ≡ with_unanswered r t w b u
 unanswered_put before r t w b s u x h h2 h3 = grind (arith, nat_tests)
 
 -- ---- what another recording changes
 
-changed : (there : ℕ → Bool) (since : Option Location) (pair : Pair) (acts : List PlacedValue) (n : ℕ) → IsChangedAlone there since pair acts n
+changed : (there : ℕ → Bool) (times : List (Option ℕ)) (since : Option Location) (pair : Pair) (acts : List PlacedValue) (n : ℕ) → IsChangedAlone there times since pair acts n
 unfolding outcome_of
-changed there since pair acts n =
+changed there times since pair acts n =
     let r = is_received pair.writer pair.reader acts n in
-    let first : Bool → Bool → Outcome = λ one t. first_of one t (is_wanting since pair.writer pair.reader acts n) (is_brought since pair acts n) (is_unanswered since pair acts n) (is_some (first_claiming pair.writer pair.reader n acts)) in
+    let first : Bool → Bool → Outcome = λ one t. first_of one t (is_wanting since pair.writer pair.reader acts n) (is_brought since pair acts n) (is_unanswered times since pair acts n) (is_some (first_claiming pair.writer pair.reader n acts)) in
     record {
       elsewhere = λ no. ap (first r) no;
       received = λ yes. ap (λ one. first one (there n)) yes ∙ sym (ap (λ one. first one false) yes);
@@ -169,31 +169,31 @@ changed there since pair acts n =
 not_arrived : (r t w b u c : Bool) → t ≡ false → is_outcome Arrived (first_of r t w b u c) ≡ false
 not_arrived r t w b u c h = grind (arith, nat_tests)
 
-none_arrived : (there : ℕ → Bool) (from last : ℕ) (since : Option Location) (pair : Pair) (acts : List PlacedValue) (outcomes : Outcomes) → ((n : ℕ) → there n ≡ false) → AreOutcomes there from last since pair acts outcomes → outcomes.arrived ≡ 0
+none_arrived : (there : ℕ → Bool) (from last : ℕ) (times : List (Option ℕ)) (since : Option Location) (pair : Pair) (acts : List PlacedValue) (outcomes : Outcomes) → ((n : ℕ) → there n ≡ false) → AreOutcomes there from last times since pair acts outcomes → outcomes.arrived ≡ 0
 unfolding outcome_of
-none_arrived there from last since pair acts outcomes none are =
+none_arrived there from last times since pair acts outcomes none are =
     are.arrived
-    ∙ count_none (λ n. is_outcome Arrived (outcome_of there since pair acts n)) from (last + 1) (λ n low high.
-    not_arrived (is_received pair.writer pair.reader acts n) (there n) (is_wanting since pair.writer pair.reader acts n) (is_brought since pair acts n) (is_unanswered since pair acts n) (is_some (first_claiming pair.writer pair.reader n acts)) (none n))
+    ∙ count_none (λ n. is_outcome Arrived (outcome_of there times since pair acts n)) from (last + 1) (λ n low high.
+    not_arrived (is_received pair.writer pair.reader acts n) (there n) (is_wanting since pair.writer pair.reader acts n) (is_brought since pair acts n) (is_unanswered times since pair acts n) (is_some (first_claiming pair.writer pair.reader n acts)) (none n))
 
 pub arrived_is_all_that_changes : ArrivedIsAllThatChanges
 arrived_is_all_that_changes = (changed, none_arrived)
 
 -- received numbers that are not there: those that are received, without those that are there and did not arrive
-pub absent_counted : (there has : ℕ → Bool) (from last : ℕ) (since : Option Location) (pair : Pair) (acts : List PlacedValue) (outcomes : Outcomes) (count : ℕ) → AreOutcomes there from last since pair acts outcomes
+pub absent_counted : (there has : ℕ → Bool) (from last : ℕ) (times : List (Option ℕ)) (since : Option Location) (pair : Pair) (acts : List PlacedValue) (outcomes : Outcomes) (count : ℕ) → AreOutcomes there from last times since pair acts outcomes
     → ((n : ℕ) → has n ≡ there n) → count ≡ count_in has from (last + 1)
     → outcomes.received - (count - outcomes.arrived) ≡ count_in (λ n. is_received pair.writer pair.reader acts n && not (there n)) from (last + 1)
 unfolding outcome_of
-absent_counted there has from last since pair acts outcomes count are same counted =
+absent_counted there has from last times since pair acts outcomes count are same counted =
     let r = is_received pair.writer pair.reader acts in
     let w = is_wanting since pair.writer pair.reader acts in
     let b = is_brought since pair acts in
-    let u = is_unanswered since pair acts in
+    let u = is_unanswered times since pair acts in
     let c : ℕ → Bool = λ n. is_some (first_claiming pair.writer pair.reader n acts) in
     let both : ℕ → Bool = λ n. r n && there n in
     let here = count_same has there from (last + 1) (λ n low high. same n) in
-    let received = count_same (λ n. is_outcome Received (outcome_of there since pair acts n)) r from (last + 1) (λ n low high. is_first (r n) (there n) (w n) (b n) (u n) (c n)) in
-    let arrived = count_same (λ n. is_outcome Arrived (outcome_of there since pair acts n)) (λ n. there n && not (both n)) from (last + 1) (λ n low high. is_arrived (r n) (there n) (w n) (b n) (u n) (c n)) in
+    let received = count_same (λ n. is_outcome Received (outcome_of there times since pair acts n)) r from (last + 1) (λ n low high. is_first (r n) (there n) (w n) (b n) (u n) (c n)) in
+    let arrived = count_same (λ n. is_outcome Arrived (outcome_of there times since pair acts n)) (λ n. there n && not (both n)) from (last + 1) (λ n low high. is_arrived (r n) (there n) (w n) (b n) (u n) (c n)) in
     let of_there = count_rest both there from (last + 1) (λ n is. (and_parts (r n) (there n) is).1) in
     let of_received = count_rest both r from (last + 1) (λ n is. (and_parts (r n) (there n) is).0) in
     let absent = count_same (λ n. r n && not (both n)) (λ n. r n && not (there n)) from (last + 1) (λ n low high. is_absent (r n) (there n)) in

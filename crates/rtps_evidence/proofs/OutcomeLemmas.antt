@@ -38,8 +38,8 @@ each_has_one outcomes (n ∷ ns) = by (outcomes n) (each_has_one outcomes ns)
     by Unconfirmed h = omega (arith, h)
 
 pub outcomes_add_up : OutcomesAddUp
-outcomes_add_up = λ there from last since pair acts outcomes are.
-    let all = each_has_one (outcome_of there since pair acts) (range_with_len from (last + 1 - from)) in
+outcomes_add_up = λ there from last times since pair acts outcomes are.
+    let all = each_has_one (outcome_of there times since pair acts) (range_with_len from (last + 1 - from)) in
     let size = length-range_with_len from (last + 1 - from) in
     omega (arith, all, size, are.received, are.arrived, are.missed, are.unsent, are.unanswered, are.likely, are.unconfirmed)
 

@@ -2,7 +2,7 @@
 use Rattle.std.proofs.lemmas.Grind.{common_steps}
 use Rattle.std.proofs.Common.{◌≡◌, ◌∙◌, ℕ, zero, suc, ◌+◌, ◌-◌, ◌<◌, ◌≤◌, ◌&&◌, ◌⊎◌, Bool, true, false, cond, List, [], ◌∷◌, ◌++◌, drop, filter, get_or, length, map, take, Option, Some, None, refl, sym, ap, subst, arith, inl, inr, pos}
 use Rattle.std.specs.Prelude.{IfSome, is_some, if◌then◌else◌, slice_get}
-use Rattle.std.specs.List.{cons_option, drop-map, last_or}
+use Rattle.std.specs.List.{cons_option, drop-map, find, last_or}
 use Rattle.std.specs.Option.{option_map}
 use Rattle.std.proofs.lemmas.Bool.{cases_lt, and_parts}
 use Rattle.std.proofs.lemmas.Bool.Decides.{nat_tests}
@@ -103,9 +103,26 @@ pub filter_filter : {X : Type 0} (test keeps : X → Bool) → ((x : X) → test
 filter_filter test keeps h [] = refl
 filter_filter test keeps h (x ∷ xs) = filter_kept test x (keeps x) (filter keeps xs) xs (h x) (filter_filter test keeps h xs)
 
+-- the first that passes is the first of those that do
+find_first : {X : Type 0} (test : X → Bool) (xs : List X) → find test xs ≡ slice_get (filter test xs) 0
+find_first test [] = refl
+find_first test (x ∷ xs) = by (test x) (find_first test xs)
+  where
+    by : (b : Bool) → find test xs ≡ slice_get (filter test xs) 0 → cond b (Some x) (find test xs) ≡ slice_get (cond b (x ∷ filter test xs) (filter test xs)) 0
+    by true same = refl
+    by false same = same
+
+find_same : {X : Type 0} (test : X → Bool) (xs ys : List X) → filter test xs ≡ filter test ys → find test xs ≡ find test ys
+find_same test xs ys same = find_first test xs ∙ ap (λ l. slice_get l 0) same ∙ sym (find_first test ys)
+
 -- what the writer's acts ask is what all acts do
 pub asked_same : (place : Option Location) (writer reader : Guid) (placed : List PlacedValue) (questions : Questions) → AreAsked place writer reader (filter (is_from writer) placed) questions → AreAsked place writer reader placed questions
-asked_same place writer reader placed questions is = record { count = is.count ∙ ap length same; last = is.last ∙ ap (λ l. option_map location_of (last_or None l)) same }
+asked_same place writer reader placed questions is =
+    record {
+      count = is.count ∙ ap length same;
+      first = is.first ∙ ap (option_map location_of) (find_same (questions_behind place writer reader) (filter (is_from writer) placed) placed same);
+      last = is.last ∙ ap (λ l. option_map location_of (last_or None l)) same;
+    }
   where
     same : filter (questions_behind place writer reader) (filter (is_from writer) placed) ≡ filter (questions_behind place writer reader) placed
     same = filter_filter (questions_behind place writer reader) (is_from writer) (λ at passes. speaker_is_origin writer at
@@ -168,7 +185,12 @@ none_asks_before place writer reader recording acts count of_writer within befor
 -- so what all acts ask behind the place is what the others ask
 pub asked_rest : (place : Option Location) (writer reader : Guid) (acts : List Placed) (start : ℕ) (questions : Questions) → filter (questions_behind place writer reader) (take start (map placed_value acts)) ≡ []
     → AreAsked place writer reader (map placed_value (take (length acts - start) (drop start acts))) questions → AreAsked place writer reader (map placed_value acts) questions
-asked_rest place writer reader acts start questions none is = record { count = is.count ∙ ap length same; last = is.last ∙ ap (λ l. option_map location_of (last_or None l)) same }
+asked_rest place writer reader acts start questions none is =
+    record {
+      count = is.count ∙ ap length same;
+      first = is.first ∙ ap (option_map location_of) (find_same (questions_behind place writer reader) (map placed_value (take (length acts - start) (drop start acts))) (map placed_value acts) same);
+      last = is.last ∙ ap (λ l. option_map location_of (last_or None l)) same;
+    }
   where
     all : take (length acts - start) (drop start acts) ≡ drop start acts
     all = take_all (length acts - start) (drop start acts) (let e = length-drop start acts in omega arith)

@@ -19,6 +19,11 @@ pub rows_more : (old new : List Explanation) (x : Explanation) (rows : List Row)
     → map row_of old ≡ take i rows → map row_of new ≡ take (i + 1) rows
 rows_more old new x rows i d lt is pair verdict so_far = grind (arith, nat_tests, common_steps)
 
+-- rows of pairs, one more at a time
+pub judged_more : (old new : List Row) (x : Row) (pairs : List Pair) (i : ℕ) (d : Pair) → i < length pairs → new ≡ old ++ x ∷ [] → x.pair ≡ get_or pairs i d
+    → map (λ (row : Row). row.pair) old ≡ take i pairs → map (λ (row : Row). row.pair) new ≡ take (i + 1) pairs
+judged_more old new x pairs i d lt is pair so_far = grind (arith, nat_tests, common_steps)
+
 -- the verdict on a row's pair is that on the judgement's
 pub judged_row : (judgement : Judgement) (pair : Pair) (acts : List (List ActValue)) → judgement.pair ≡ pair → IsVerdictIn judgement.span pair acts judgement.verdict → IsVerdictIn judgement.span judgement.pair acts judgement.verdict
 judged_row judgement pair acts same judged = subst (λ (p : Pair). IsVerdictIn judgement.span p acts judgement.verdict) (sym same) judged

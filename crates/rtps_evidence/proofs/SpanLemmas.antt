@@ -1,26 +1,30 @@
 -- Where a reader joins and leaves, and from which number on.
 use Rattle.std.proofs.lemmas.Grind.{common_steps}
-use Rattle.std.proofs.Common.{◌≡◌, ◌∙◌, ℕ, ◌+◌, ◌<◌, ◌≤◌, ◌^◌, ◌&&◌, ◌||◌, Bool, true, false, cond, nat_lt, max, map, filter, get_or, length, take, List, [], ◌∷◌, Option, Some, None, refl, sym, ap, subst, arith}
+use Rattle.std.proofs.lemmas.List.{map-append}
+use Rattle.std.proofs.Common.{◌≡◌, ◌∙◌, ℕ, suc, ◌+◌, ◌-◌, ◌<◌, ◌≤◌, ◌^◌, ◌&&◌, ◌||◌, Bool, true, false, cond, not, nat_lt, max, map, filter, get_or, length, take, List, [], ◌∷◌, ◌++◌, append-nil, append_assoc, take-append-drop, drop, Option, Some, None, refl, sym, ap, subst, arith, inl, inr, rules}
 use Rattle.std.specs.Prelude.{IfSome, unwrap_or}
-use Rattle.std.specs.List.{cons_option, find, list_any}
+use Rattle.std.specs.List.{before_first, cons_option, find, list_any, prefix_len}
 use Rattle.std.specs.Option.{option_map}
-use Rattle.std.proofs.lemmas.Bool.{and_parts}
+use Rattle.std.proofs.lemmas.Bool.{and_parts, cases_lt}
+use Rattle.std.proofs.lemmas.List.Folds.{list_any-append}
 use Rattle.std.proofs.lemmas.Bool.Decides.{nat_tests}
 use Rattle.rtps_ids.specs.declared.identity.Guid.{Guid}
 use Rattle.rtps_discovery.specs.Leaving.{is_one_of, leaves}
 use Rattle.rtps_discovery.specs.declared.matching.Pair.{Pair}
-use Rattle.rtps_receiver.specs.Speech.{is_request, origin_of}
+use Rattle.rtps_receiver.specs.Speech.{is_request, is_spoken_by, origin_of}
 use Rattle.rtps_receiver.specs.Values.{ActValue}
 use Rattle.rtps_receiver.specs.Said.{numbers_have, said}
 use Rattle.rtps_receiver.specs.declared.said.Numbers.{Numbers}
 use Rattle.rtps_audit.specs.Delivery.{greatest}
-use Rattle.rtps_audit.specs.Placed.{PlacedValue, answer_at, answers_among, is_from}
+use Rattle.rtps_audit.specs.Intake.{Intake}
+use Rattle.rtps_audit.specs.Placed.{PlacedValue, answer_at, answers_among, is_from, placed_in, placed_value}
+use Rattle.rtps_audit.specs.declared.placed.Placed.{Placed}
 use Rattle.rtps_audit.specs.Speech.{base_for}
 use Rattle.rtps_audit.proofs.Offered.{speaker_is_origin}
 use Rattle.rtps_evidence.proofs.AskingLemmas.{requester_is_origin}
-use Rattle.rtps_evidence.specs.Locations.{is_before, is_behind}
-use Rattle.rtps_evidence.specs.Missed.{asks_for, brings_behind}
-use Rattle.rtps_evidence.specs.Spans.{IsLeastFrom, announced_before, claims_at_before, claims_before, is_for_reader, leaves_behind, lesser_of}
+use Rattle.rtps_evidence.specs.Locations.{is_before, is_behind, number_said}
+use Rattle.rtps_evidence.specs.Missed.{asks_for, brings_behind, brings_some}
+use Rattle.rtps_evidence.specs.Spans.{IsEndOf, IsLeastFrom, IsOwedFrom, IsVolatileIn, least_owed, announced_before, claims_at_before, claims_before, gaps_behind, is_for_reader, is_gone_first, leaves_behind, lesser_of}
 use Rattle.rtps_evidence.specs.declared.location.Location.{Location}
 use Rattle.rtps_evidence.proofs.MissedLemmas.{brought_same}
 use Rattle.rtps_evidence.proofs.FindLemmas.{any_filter}
@@ -91,6 +95,137 @@ greatest_filter number keeps none (x ∷ placed) = by (keeps x) refl (greatest_f
 
 pub announced_same : (writer : Guid) (place : Location) (placed : List PlacedValue) → announced_before place writer (filter (is_from writer) placed) ≡ announced_before place writer placed
 announced_same writer place placed = grind (arith, nat_tests, common_steps, greatest_filter, speaker_is_origin)
+
+pub said_same : (writer : Guid) (placed : List PlacedValue) → greatest (map (number_said writer) (filter (is_from writer) placed)) ≡ greatest (map (number_said writer) placed)
+said_same writer placed = grind (arith, nat_tests, common_steps, greatest_filter, speaker_is_origin)
+
+-- ---- what is told gone first
+
+pub end_same : (one other : ℕ → Bool) (end : ℕ) → ((n : ℕ) → one n ≡ other n) → IsEndOf other end → IsEndOf one end
+end_same one other end same is = record { below = λ n has. is.below n (sym (same n) ∙ has); last = λ some. same (end - 1) ∙ is.last some }
+
+pub end_none : (has : ℕ → Bool) → ((n : ℕ) → has n ≡ false) → IsEndOf has 0
+end_none has none = record { below = λ n is. absurd (let no : false ≡ true = sym (none n) ∙ is in cc); last = λ some. absurd (omega arith) }
+
+pub end_found : (has : ℕ → Bool) (end : ℕ) → ((n : ℕ) → end ≤ n → has n ≡ false) → (0 < end → has (end - 1) ≡ true) → IsEndOf has end
+end_found has end past last = record {
+  below = λ n is. elim (cases_lt n end) [
+    | inl lt ↦ lt
+    | inr ge ↦ absurd (let no : false ≡ true = sym (past n ge) ∙ is in cc)
+  ];
+  last = last;
+}
+
+pub end_max : (one other : ℕ → Bool) (a b : ℕ) → IsEndOf one a → IsEndOf other b → IsEndOf (λ n. one n || other n) (max a b)
+end_max one other a b is also = record {
+  below = λ n has. below n (one n) (other n) refl refl has;
+  last = λ some. elim (cases_lt a b) [
+    | inl lt ↦
+        let at : max a b ≡ b = omega arith in
+        subst (λ m. (one (m - 1) || other (m - 1)) ≡ true) (sym at) (second (one (b - 1)) (other (b - 1)) (also.last (omega arith)))
+    | inr ge ↦
+        let at : max a b ≡ a = omega arith in
+        subst (λ m. (one (m - 1) || other (m - 1)) ≡ true) (sym at) (first (one (a - 1)) (other (a - 1)) (is.last (omega arith)))
+  ];
+}
+  where
+    below : (n : ℕ) (c d : Bool) → one n ≡ c → other n ≡ d → (one n || other n) ≡ true → n < max a b
+    below n true d at_one at_other has = let lt = is.below n at_one in omega arith
+    below n false true at_one at_other has = let lt = also.below n at_other in omega arith
+    below n false false at_one at_other has = absurd (let no : true ≡ false = sym has ∙ ap (λ c. c || other n) at_one ∙ at_other in cc)
+
+pub one_end : (has : ℕ → Bool) (one other : ℕ) → IsEndOf has one → IsEndOf has other → one ≡ other
+one_end has one other is also = elim (cases_lt one other) [
+  | inl lt ↦ absurd (let low = is.below (other - 1) (also.last (omega arith)) in omega arith)
+  | inr ge ↦ elim (cases_lt other one) [
+    | inl lt ↦ absurd (let low = also.below (one - 1) (is.last (omega arith)) in omega arith)
+    | inr le ↦ omega arith
+  ]
+]
+
+one_more : (m : ℕ) → 1 + m ≡ suc m
+one_more m = omega arith
+
+first_past : (test : PlacedValue → Bool) (x : PlacedValue) (xs : List PlacedValue) → test x ≡ false → before_first test (x ∷ xs) ≡ x ∷ before_first test xs
+first_past test x xs out = ap (λ b. take (cond (not b) (1 + prefix_len (λ y. not (test y)) xs) 0) (x ∷ xs)) out ∙ ap (λ m. take m (x ∷ xs)) (one_more (prefix_len (λ y. not (test y)) xs))
+
+first_stops : (test : PlacedValue → Bool) (x : PlacedValue) (xs : List PlacedValue) → test x ≡ true → before_first test (x ∷ xs) ≡ []
+first_stops test x xs is = ap (λ b. take (cond (not b) (1 + prefix_len (λ y. not (test y)) xs) 0) (x ∷ xs)) is
+
+-- what stands before the first that passes, behind some that do not
+pub before_first_on : (test : PlacedValue → Bool) (xs ys : List PlacedValue) → list_any test xs ≡ false → before_first test (xs ++ ys) ≡ xs ++ before_first test ys
+before_first_on test [] ys none = refl
+before_first_on test (x ∷ xs) ys none = first_past test x (xs ++ ys) (here (test x) (list_any test xs) none) ∙ ap (λ l. x ∷ l) (before_first_on test xs ys (there (test x) (list_any test xs) none))
+  where
+    here : (a b : Bool) → (a || b) ≡ false → a ≡ false
+    here a b h = grind (arith, nat_tests)
+
+    there : (a b : Bool) → (a || b) ≡ false → b ≡ false
+    there a b h = grind (arith, nat_tests)
+
+-- what stands before the first that passes, where these do not and the next one does
+pub before_first_at : (test : PlacedValue → Bool) (xs : List PlacedValue) (x : PlacedValue) (ys : List PlacedValue) → list_any test xs ≡ false → test x ≡ true → before_first test (xs ++ x ∷ ys) ≡ xs
+before_first_at test xs x ys none is = before_first_on test xs (x ∷ ys) none ∙ ap (λ l. xs ++ l) (first_stops test x ys is) ∙ append-nil xs
+
+-- the same of acts of the code, up to the one at a place, by which it stops
+pub before_first_here : (test : PlacedValue → Bool) (acts : List Placed) (i : ℕ) (x : Placed) → map placed_value (take (i + 1) acts) ≡ map placed_value (take i acts) ++ placed_value x ∷ []
+    → list_any test (map placed_value (take i acts)) ≡ false → test (placed_value x) ≡ true → before_first test (map placed_value acts) ≡ map placed_value (take i acts)
+before_first_here test acts i x more none is =
+    ap (λ l. before_first test (map placed_value l)) (sym (take-append-drop (i + 1) acts))
+    ∙ ap (before_first test) (map-append placed_value (take (i + 1) acts) (drop (i + 1) acts) ∙ ap (λ l. l ++ map placed_value (drop (i + 1) acts)) more ∙ append_assoc (map placed_value (take i acts)) (placed_value x ∷ []) (map placed_value (drop (i + 1) acts)))
+    ∙ before_first_at test (map placed_value (take i acts)) (placed_value x) (map placed_value (drop (i + 1) acts)) none is
+
+-- all of them, where it does not stop
+pub before_first_all : (test : PlacedValue → Bool) (xs : List PlacedValue) → list_any test xs ≡ false → before_first test xs ≡ xs
+before_first_all test xs none = sym (ap (before_first test) (append-nil xs)) ∙ before_first_on test xs [] none ∙ append-nil xs
+
+or_no : (b : Bool) → (b || false) ≡ b
+or_no b = grind (arith, nat_tests)
+
+pub any_one_more : (test : PlacedValue → Bool) (xs : List PlacedValue) (x : PlacedValue) → list_any test (xs ++ x ∷ []) ≡ (list_any test xs || test x)
+any_one_more test xs x = list_any-append test xs (x ∷ []) ∙ ap (λ b. list_any test xs || b) (or_no (test x))
+
+-- of acts that are left out none passes, and none has it
+pub before_first_same : (test has keeps : PlacedValue → Bool) → ((x : PlacedValue) → keeps x ≡ false → test x ≡ false) → ((x : PlacedValue) → keeps x ≡ false → has x ≡ false) → (xs : List PlacedValue)
+    → list_any has (before_first test (filter keeps xs)) ≡ list_any has (before_first test xs)
+before_first_same test has keeps out none [] = refl
+before_first_same test has keeps out none (x ∷ xs) = by (keeps x) (test x) refl refl (before_first_same test has keeps out none xs)
+  where
+    by : (k t : Bool) → keeps x ≡ k → test x ≡ t → list_any has (before_first test (filter keeps xs)) ≡ list_any has (before_first test xs)
+        → list_any has (before_first test (cond (keeps x) (x ∷ filter keeps xs) (filter keeps xs))) ≡ list_any has (before_first test (x ∷ xs))
+    by true true kept stops h =
+        ap (λ k. list_any has (before_first test (cond k (x ∷ filter keeps xs) (filter keeps xs)))) kept
+        ∙ ap (list_any has) (first_stops test x (filter keeps xs) stops ∙ sym (first_stops test x xs stops))
+    by true false kept on h =
+        ap (λ k. list_any has (before_first test (cond k (x ∷ filter keeps xs) (filter keeps xs)))) kept
+        ∙ ap (list_any has) (first_past test x (filter keeps xs) on) ∙ ap (λ b. has x || b) h ∙ sym (ap (list_any has) (first_past test x xs on))
+    by false t left at h =
+        ap (λ k. list_any has (before_first test (cond k (x ∷ filter keeps xs) (filter keeps xs)))) left
+        ∙ h ∙ ap (λ b. b || list_any has (before_first test xs)) (sym (none x left)) ∙ sym (ap (list_any has) (first_past test x xs (out x left)))
+
+unspoken : (writer : Guid) (x : PlacedValue) → is_from writer x ≡ false → is_spoken_by x.act writer ≡ false
+unspoken writer x out = search rules
+
+brings_out : (place : Option Location) (pair : Pair) (x : PlacedValue) → is_from pair.writer x ≡ false → brings_some place pair.writer pair.reader x ≡ false
+brings_out place pair x out = let no = unspoken pair.writer x out in grind (arith, nat_tests, no)
+
+gaps_out : (place : Option Location) (pair : Pair) (n : ℕ) (x : PlacedValue) → is_from pair.writer x ≡ false → gaps_behind place pair.writer pair.reader n x ≡ false
+gaps_out place pair n x out = let no = unspoken pair.writer x out in grind (arith, nat_tests, no)
+
+pub gone_first_same : (place : Location) (pair : Pair) (placed : List PlacedValue) (n : ℕ) → is_gone_first place pair (filter (is_from pair.writer) placed) n ≡ is_gone_first place pair placed n
+gone_first_same place pair placed n =
+    before_first_same (brings_some (Some place) pair.writer pair.reader) (gaps_behind (Some place) pair.writer pair.reader n) (is_from pair.writer) (λ x out. brings_out (Some place) pair x out) (λ x out. gaps_out (Some place) pair n x out) placed
+
+-- the least number that may be owed, by the acts of the writer
+pub owed_here : (from : ℕ) (place : Location) (pair : Pair) (intake : Intake) (acts : List PlacedValue) (volatile : Bool) (announced gone owed : ℕ) → acts ≡ filter (is_from pair.writer) (placed_in intake.acts)
+    → IsVolatileIn intake pair.reader volatile → announced ≡ announced_before place pair.writer acts → IsEndOf (is_gone_first place pair acts) gone → owed ≡ least_owed from volatile announced gone → IsOwedFrom from place pair intake owed
+owed_here from place pair intake acts volatile announced gone owed are is_volatile said is_gone is = record {
+  volatile = volatile;
+  is_volatile = is_volatile;
+  gone_end = gone;
+  is_gone_end = end_same (is_gone_first place pair (placed_in intake.acts)) (is_gone_first place pair acts) gone (λ n. sym (ap (λ l. is_gone_first place pair l n) are ∙ gone_first_same place pair (placed_in intake.acts) n)) is_gone;
+  is = is ∙ ap (λ a. least_owed from volatile a gone) (said ∙ ap (announced_before place pair.writer) are ∙ announced_same pair.writer place (placed_in intake.acts));
+}
 
 -- ---- who leaves first
 

@@ -1,7 +1,7 @@
 -- The walk over what a pair said ends in silence where its words are true.
 use Rattle.std.proofs.lemmas.Grind.{common_steps}
 use Rattle.std.proofs.lemmas.Bool.Decides.{nat_tests}
-use Rattle.std.proofs.Common.{◌≡◌, ◌∙◌, ℕ, suc, ◌≤◌, ◌&&◌, ◌||◌, Bool, true, false, cond, not, filter, length, pos, List, [], ◌∷◌, ◌++◌, Option, Some, None, refl, sym, ap, subst, arith, rules}
+use Rattle.std.proofs.Common.{◌≡◌, ◌∙◌, ℕ, suc, ◌+◌, ◌^◌, ◌≤◌, ◌&&◌, ◌||◌, Bool, true, false, cond, not, filter, length, pos, List, [], ◌∷◌, ◌++◌, Option, Some, None, refl, sym, ap, subst, arith, rules}
 use Rattle.std.specs.Prelude.{is_some}
 use Rattle.std.specs.List.{cons_option, find, list_any}
 use Rattle.std.proofs.lemmas.Bool.{and_parts}
@@ -15,9 +15,10 @@ use Rattle.rtps_audit.specs.Speech.{base_for}
 use Rattle.rtps_audit.specs.declared.answer.Answer.{Answer}
 use Rattle.rtps_evidence.specs.Locations.{is_before, location_of}
 use Rattle.rtps_evidence.specs.Outcomes.{Silence, answered, answers_left, asked_about, heard, is_answered, is_silent, is_unanswered, told_gone, walked_all}
-use Rattle.rtps_evidence.specs.Outcomes.Silence.{Unasked, Once, Again, Answered}
+use Rattle.rtps_evidence.specs.Outcomes.Silence.{Unasked, Once, Again, Answered, Silent, Ended}
 use Rattle.rtps_evidence.specs.Questions.{place_of}
-use Rattle.rtps_evidence.specs.Received.{is_gone, withdraws}
+use Rattle.rtps_evidence.specs.Received.{withdraws}
+use Rattle.rtps_evidence.specs.Times.{is_long, is_long_between, time_of}
 use Rattle.rtps_evidence.specs.UnansweredLaw.{AreInOrder, IsUnanswered, UnansweredIsByItsWords, answers_between, asks_about, asks_before, is_data_frag}
 use Rattle.rtps_evidence.specs.declared.location.Location.{Location}
 use Rattle.rtps_evidence.proofs.ActOrder.{Before, Each, NotAfter, all_earlier, all_later, each_weaker, is_before as before_first, is_not_before, none_earlier, order_left, order_rest, order_right, precedes, same_place}
@@ -206,13 +207,17 @@ answered_twice s = grind (arith, nat_tests)
 silent_answered : (s : Silence) → is_silent (answered s) ≡ is_silent s
 silent_answered s = grind (arith, nat_tests)
 
-silent_asked : (s : Silence) → is_silent (asked_about s) ≡ is_silent s
-silent_asked s = grind (arith, nat_tests)
+silent_asked : (datagram : ℕ) (s : Silence) → is_silent (asked_about datagram s) ≡ is_silent s
+silent_asked datagram s = grind (arith, nat_tests)
 
-told_answered : (s : Silence) → answered (told_gone s) ≡ told_gone s
-told_answered s = grind (arith, nat_tests)
+told_answered : (times : List (Option ℕ)) (datagram : ℕ) (s : Silence) → answered (told_gone times datagram s) ≡ told_gone times datagram s
+told_answered times datagram s = grind (arith, nat_tests)
 
-module _ (since : Option Location) (pair : Pair) (n : ℕ) where
+silent_if : (b : Bool) → is_silent (cond b Silent Ended) ≡ b
+silent_if true = refl
+silent_if false = refl
+
+module _ (times : List (Option ℕ)) (since : Option Location) (pair : Pair) (n : ℕ) where
   abbrev goes : PlacedValue → Bool
   goes x = withdraws pair.writer pair.reader n x
 
@@ -231,18 +236,18 @@ module _ (since : Option Location) (pair : Pair) (n : ℕ) where
   asks_no_answer : (x : PlacedValue) → asks x ≡ true → answers x ≡ false
   asks_no_answer x is = grind (arith, nat_tests)
 
-  unheard : (x : PlacedValue) (s : Silence) → goes x ≡ false → asks x ≡ false → heard since pair n x s ≡ s
-  unheard x s out none = ap (λ b. cond b (told_gone s) (cond (asks x) (asked_about s) s)) out ∙ ap (λ b. cond b (asked_about s) s) none
+  unheard : (x : PlacedValue) (s : Silence) → goes x ≡ false → asks x ≡ false → heard times since pair n x s ≡ s
+  unheard x s out none = ap (λ b. cond b (told_gone times x.datagram s) (cond (asks x) (asked_about x.datagram s) s)) out ∙ ap (λ b. cond b (asked_about x.datagram s) s) none
 
   abbrev step : PlacedValue → Silence → Silence
-  step x s = cond (answers x) (answered s) (heard since pair n x s)
+  step x s = cond (answers x) (answered s) (heard times since pair n x s)
 
   abbrev merged : Silence → List PlacedValue → Silence
   merged s [] = s
   merged s (x ∷ xs) = merged (step x s) xs
 
   abbrev walk_from : List Answer → Silence → List PlacedValue → Bool
-  walk_from left s acts = is_silent (walked_all since pair n (record { answers = left; silence = s }) acts).silence
+  walk_from left s acts = is_silent (walked_all times since pair n (record { answers = left; silence = s }) acts).silence
 
   abbrev Alike : List PlacedValue → Type 0
   Alike xs = (left : List Answer) (waits : Bool) (s : Silence) → Waits pair left waits xs → walk_from left s (filter (is_from pair.writer) xs) ≡ is_silent (merged (cond waits (answered s) s) xs)
@@ -260,11 +265,11 @@ module _ (since : Option Location) (pair : Pair) (n : ℕ) where
       stay : Stay (location_of x) (answers_among pair (x ∷ xs))
       stay = answers_stay pair (location_of x) (x ∷ xs) (same_place (location_of x), none_earlier x xs order)
 
-      walk_is : is_from pair.writer x ≡ true → walk_from left s (filter (is_from pair.writer) (x ∷ xs)) ≡ walk_from (answers_among pair (x ∷ xs)) (heard since pair n x t) kept
+      walk_is : is_from pair.writer x ≡ true → walk_from left s (filter (is_from pair.writer) (x ∷ xs)) ≡ walk_from (answers_among pair (x ∷ xs)) (heard times since pair n x t) kept
       walk_is from =
           ap (λ b. walk_from left s (cond b (x ∷ kept) kept)) from
-          ∙ ap (λ l. walk_from l (heard since pair n x (cond (is_answered (location_of x) left) (answered s) s)) kept) (here.left ∙ stay.left)
-          ∙ ap (λ b. walk_from (answers_among pair (x ∷ xs)) (heard since pair n x (cond b (answered s) s)) kept) (here.some ∙ ap (λ b. waits || b) stay.none ∙ or_no waits)
+          ∙ ap (λ l. walk_from l (heard times since pair n x (cond (is_answered (location_of x) left) (answered s) s)) kept) (here.left ∙ stay.left)
+          ∙ ap (λ b. walk_from (answers_among pair (x ∷ xs)) (heard times since pair n x (cond b (answered s) s)) kept) (here.some ∙ ap (λ b. waits || b) stay.none ∙ or_no waits)
 
       walk_past : is_from pair.writer x ≡ false → walk_from left s (filter (is_from pair.writer) (x ∷ xs)) ≡ walk_from left s kept
       walk_past from = ap (λ b. walk_from left s (cond b (x ∷ kept) kept)) from
@@ -279,22 +284,22 @@ module _ (since : Option Location) (pair : Pair) (n : ℕ) where
           walk_is from
           ∙ ap (λ u. walk_from (answers_among pair (x ∷ xs)) u kept) (unheard x t out.0 out.1)
           ∙ onward (answers_among pair (x ∷ xs)) true t (answer_waits pair x xs (answers_among pair (x ∷ xs)) false answer order (none_waits pair (x ∷ xs) xs))
-          ∙ ap (λ b. is_silent (merged (cond b (answered t) (heard since pair n x t)) xs)) (sym answer)
+          ∙ ap (λ b. is_silent (merged (cond b (answered t) (heard times since pair n x t)) xs)) (sym answer)
       by true from false answer =
           walk_is from
-          ∙ onward (answers_among pair (x ∷ xs)) false (heard since pair n x t) (same_waits pair x xs (answers_among pair (x ∷ xs)) false answer (none_waits pair (x ∷ xs) xs))
-          ∙ ap (λ b. is_silent (merged (cond b (answered t) (heard since pair n x t)) xs)) (sym answer)
+          ∙ onward (answers_among pair (x ∷ xs)) false (heard times since pair n x t) (same_waits pair x xs (answers_among pair (x ∷ xs)) false answer (none_waits pair (x ∷ xs) xs))
+          ∙ ap (λ b. is_silent (merged (cond b (answered t) (heard times since pair n x t)) xs)) (sym answer)
       by false from true answer =
           walk_past from
           ∙ onward left true s (answer_waits pair x xs left waits answer order rest)
           ∙ ap (λ u. is_silent (merged u xs)) (sym (once_more waits))
-          ∙ ap (λ b. is_silent (merged (cond b (answered t) (heard since pair n x t)) xs)) (sym answer)
+          ∙ ap (λ b. is_silent (merged (cond b (answered t) (heard times since pair n x t)) xs)) (sym answer)
       by false from false answer =
           let out = unspoken_stays x (other_unspoken pair.writer x from) in
           walk_past from
           ∙ onward left waits s (same_waits pair x xs left waits answer rest)
           ∙ ap (λ u. is_silent (merged u xs)) (sym (unheard x t out.0 out.1))
-          ∙ ap (λ b. is_silent (merged (cond b (answered t) (heard since pair n x t)) xs)) (sym answer)
+          ∙ ap (λ b. is_silent (merged (cond b (answered t) (heard times since pair n x t)) xs)) (sym answer)
 
   alike : (xs : List PlacedValue) → AreInOrder xs → Alike xs
   alike [] order left waits s all = by waits
@@ -304,35 +309,39 @@ module _ (since : Option Location) (pair : Pair) (n : ℕ) where
       by false = refl
   alike (x ∷ xs) order left waits s all = alike_step x xs left waits s order all (alike xs (order_rest x xs order))
 
-  walk_is_merged : (acts : List PlacedValue) → AreInOrder acts → is_unanswered since pair acts n ≡ is_silent (merged Unasked acts)
+  walk_is_merged : (acts : List PlacedValue) → AreInOrder acts → is_unanswered times since pair acts n ≡ is_silent (merged Unasked acts)
   walk_is_merged acts order = alike acts order (answers_among pair acts) false Unasked (none_waits pair acts acts)
 
   -- ---- where none tells it gone
 
-  stepped : (x : PlacedValue) (s : Silence) → goes x ≡ false → step x s ≡ cond (answers x) (answered s) (cond (asks x) (asked_about s) s)
-  stepped x s out = ap (λ b. cond (answers x) (answered s) (cond b (told_gone s) (cond (asks x) (asked_about s) s))) out
+  stepped : (x : PlacedValue) (s : Silence) → goes x ≡ false → step x s ≡ cond (answers x) (answered s) (cond (asks x) (asked_about x.datagram s) s)
+  stepped x s out = ap (λ b. cond (answers x) (answered s) (cond b (told_gone times x.datagram s) (cond (asks x) (asked_about x.datagram s) s))) out
 
   quiet : (s : Silence) (xs : List PlacedValue) → NoneOf goes xs → is_silent (merged s xs) ≡ is_silent s
   quiet s [] none = refl
   quiet s (x ∷ xs) (out, none) = quiet (step x s) xs none ∙ ap is_silent (stepped x s out) ∙ by (answers x) (asks x)
     where
-      by : (a q : Bool) → is_silent (cond a (answered s) (cond q (asked_about s) s)) ≡ is_silent s
+      by : (a q : Bool) → is_silent (cond a (answered s) (cond q (asked_about x.datagram s) s)) ≡ is_silent s
       by true q = silent_answered s
-      by false true = silent_asked s
+      by false true = silent_asked x.datagram s
       by false false = refl
 
   stays_unasked : (xs : List PlacedValue) → NoneOf goes xs → NoneOf asks xs → merged Unasked xs ≡ Unasked
   stays_unasked [] none unasked = refl
   stays_unasked (x ∷ xs) (out, none) (unasked, rest) =
-      ap (λ s. merged s xs) (stepped x Unasked out ∙ ap (λ q. cond (answers x) Unasked (cond q Once Unasked)) unasked ∙ by (answers x)) ∙ stays_unasked xs none rest
+      ap (λ s. merged s xs) (stepped x Unasked out ∙ ap (λ q. cond (answers x) Unasked (cond q (Once x.datagram) Unasked)) unasked ∙ by (answers x)) ∙ stays_unasked xs none rest
     where
       by : (a : Bool) → cond a Unasked Unasked ≡ Unasked
       by true = refl
       by false = refl
 
-  -- whether it ends in silence where it is told gone
-  abbrev ends : Silence → Bool
-  ends s = is_silent (told_gone s)
+  -- whether it ends in silence where it is told gone by an act
+  abbrev ends : PlacedValue → Silence → Bool
+  ends g s = is_silent (told_gone times g.datagram s)
+
+  -- that act comes long behind a datagram
+  abbrev late : PlacedValue → ℕ → Bool
+  late g asked = is_long_between times asked g.datagram
 
   stays_answered : (xs : List PlacedValue) → NoneOf goes xs → merged Answered xs ≡ Answered
   stays_answered [] none = refl
@@ -343,22 +352,23 @@ module _ (since : Option Location) (pair : Pair) (n : ℕ) where
       by false true = refl
       by false false = refl
 
-  from_again : (xs : List PlacedValue) → NoneOf goes xs → ends (merged Again xs) ≡ not (list_any answers xs)
-  from_again [] none = refl
-  from_again (x ∷ xs) (out, none) = ap (λ s. ends (merged s xs)) (stepped x Again out) ∙ by (answers x) (asks x) (from_again xs none)
+  from_again : (g : PlacedValue) (asked : ℕ) (xs : List PlacedValue) → NoneOf goes xs → ends g (merged (Again asked) xs) ≡ (not (list_any answers xs) && late g asked)
+  from_again g asked [] none = silent_if (late g asked)
+  from_again g asked (x ∷ xs) (out, none) = ap (λ s. ends g (merged s xs)) (stepped x (Again asked) out) ∙ by (answers x) (asks x) (from_again g asked xs none)
     where
-      by : (a q : Bool) → ends (merged Again xs) ≡ not (list_any answers xs) → ends (merged (cond a Answered (cond q Again Again)) xs) ≡ not (a || list_any answers xs)
-      by true q rest = ap ends (stays_answered xs none)
+      by : (a q : Bool) → ends g (merged (Again asked) xs) ≡ (not (list_any answers xs) && late g asked) → ends g (merged (cond a Answered (cond q (Again asked) (Again asked))) xs) ≡ (not (a || list_any answers xs) && late g asked)
+      by true q rest = ap (ends g) (stays_answered xs none)
       by false true rest = rest
       by false false rest = rest
 
-  from_once : (xs : List PlacedValue) → NoneOf goes xs → ends (merged Once xs) ≡ (list_any asks xs && not (list_any answers xs))
-  from_once [] none = refl
-  from_once (x ∷ xs) (out, none) = ap (λ s. ends (merged s xs)) (stepped x Once out) ∙ by (answers x) (asks x) (from_once xs none)
+  from_once : (g : PlacedValue) (asked : ℕ) (xs : List PlacedValue) → NoneOf goes xs → ends g (merged (Once asked) xs) ≡ ((list_any asks xs && not (list_any answers xs)) && late g asked)
+  from_once g asked [] none = refl
+  from_once g asked (x ∷ xs) (out, none) = ap (λ s. ends g (merged s xs)) (stepped x (Once asked) out) ∙ by (answers x) (asks x) (from_once g asked xs none)
     where
-      by : (a q : Bool) → ends (merged Once xs) ≡ (list_any asks xs && not (list_any answers xs)) → ends (merged (cond a Answered (cond q Again Once)) xs) ≡ ((q || list_any asks xs) && not (a || list_any answers xs))
-      by true q rest = ap ends (stays_answered xs none) ∙ sym (and_no (q || list_any asks xs))
-      by false true rest = from_again xs none
+      by : (a q : Bool) → ends g (merged (Once asked) xs) ≡ ((list_any asks xs && not (list_any answers xs)) && late g asked)
+          → ends g (merged (cond a Answered (cond q (Again asked) (Once asked))) xs) ≡ (((q || list_any asks xs) && not (a || list_any answers xs)) && late g asked)
+      by true q rest = ap (ends g) (stays_answered xs none) ∙ sym (ap (λ b. b && late g asked) (and_no (q || list_any asks xs)))
+      by false true rest = from_again g asked xs none
       by false false rest = rest
 
   -- ---- up to the first act that tells it gone, and behind it
@@ -367,32 +377,39 @@ module _ (since : Option Location) (pair : Pair) (n : ℕ) where
   merged_on s [] ys = refl
   merged_on s (x ∷ xs) ys = merged_on (step x s) xs ys
 
-  stays_gone : (s : Silence) (xs : List PlacedValue) → merged (told_gone s) xs ≡ told_gone s
-  stays_gone s [] = refl
-  stays_gone s (x ∷ xs) = ap (λ t. merged t xs) (by (answers x) (goes x) (asks x)) ∙ stays_gone s xs
+  stays_gone : (datagram : ℕ) (s : Silence) (xs : List PlacedValue) → merged (told_gone times datagram s) xs ≡ told_gone times datagram s
+  stays_gone datagram s [] = refl
+  stays_gone datagram s (x ∷ xs) = ap (λ t. merged t xs) (by (answers x) (goes x) (asks x)) ∙ stays_gone datagram s xs
     where
-      by : (a w q : Bool) → cond a (answered (told_gone s)) (cond w (told_gone (told_gone s)) (cond q (asked_about (told_gone s)) (told_gone s))) ≡ told_gone s
-      by true w q = told_answered s
-      by false true q = told_twice s
-      by false false true = stays_told s
+      by : (a w q : Bool)
+          → cond a (answered (told_gone times datagram s)) (cond w (told_gone times x.datagram (told_gone times datagram s)) (cond q (asked_about x.datagram (told_gone times datagram s)) (told_gone times datagram s))) ≡ told_gone times datagram s
+      by true w q = told_answered times datagram s
+      by false true q = told_twice times datagram x.datagram s
+      by false false true = stays_told times datagram x.datagram s
       by false false false = refl
 
-  told_at : (s : Silence) (before : List PlacedValue) (g : PlacedValue) (rest : List PlacedValue) → goes g ≡ true → is_silent (merged s (before ++ g ∷ rest)) ≡ ends (merged s before)
-  told_at s before g rest is = grind (arith, nat_tests, common_steps, merged_on, stays_gone, gone_no_answer, asks)
+  told_at : (s : Silence) (before : List PlacedValue) (g : PlacedValue) (rest : List PlacedValue) → goes g ≡ true → is_silent (merged s (before ++ g ∷ rest)) ≡ ends g (merged s before)
+  told_at s before g rest is = ap is_silent (merged_on s before (g ∷ rest) ∙ ap (λ t. merged t rest) (here (merged s before)) ∙ stays_gone g.datagram (merged s before) rest)
+    where
+      here : (t : Silence) → step g t ≡ told_gone times g.datagram t
+      here t =
+          ap (λ b. cond b (answered t) (heard times since pair n g t)) (gone_no_answer g is)
+          ∙ ap (λ b. cond b (told_gone times g.datagram t) (cond (asks g) (asked_about g.datagram t) t)) is
 
-  asked_at : (one : List PlacedValue) (q : PlacedValue) (two : List PlacedValue) → NoneOf goes (one ++ q ∷ two) → NoneOf asks one → asks q ≡ true → ends (merged Unasked (one ++ q ∷ two)) ≡ (list_any asks two && not (list_any answers two))
-  asked_at one q two none unasked is =
+  asked_at : (g : PlacedValue) (one : List PlacedValue) (q : PlacedValue) (two : List PlacedValue) → NoneOf goes (one ++ q ∷ two) → NoneOf asks one → asks q ≡ true
+      → ends g (merged Unasked (one ++ q ∷ two)) ≡ ((list_any asks two && not (list_any answers two)) && late g q.datagram)
+  asked_at g one q two none unasked is =
       let parts = none_both one (q ∷ two) none in
       let at = parts.1 in
-      ap ends (merged_on Unasked one (q ∷ two) ∙ ap (λ t. merged (step q t) two) (stays_unasked one parts.0 unasked) ∙ ap (λ t. merged t two) (here at.0))
-      ∙ from_once two at.1
+      ap (ends g) (merged_on Unasked one (q ∷ two) ∙ ap (λ t. merged (step q t) two) (stays_unasked one parts.0 unasked) ∙ ap (λ t. merged t two) (here at.0))
+      ∙ from_once g q.datagram two at.1
     where
       none_both : (xs ys : List PlacedValue) → NoneOf goes (xs ++ ys) → NoneOf goes xs × NoneOf goes ys
       none_both [] ys none = (tt, none)
       none_both (x ∷ xs) ys (out, none) = let more = none_both xs ys none in ((out, more.0), more.1)
 
-      here : goes q ≡ false → step q Unasked ≡ Once
-      here out = stepped q Unasked out ∙ ap (λ a. cond a Unasked (cond (asks q) Once Unasked)) (asks_no_answer q is) ∙ ap (λ b. cond b Once Unasked) is
+      here : goes q ≡ false → step q Unasked ≡ Once q.datagram
+      here out = stepped q Unasked out ∙ ap (λ a. cond a Unasked (cond (asks q) (Once q.datagram) Unasked)) (asks_no_answer q is) ∙ ap (λ b. cond b (Once q.datagram) Unasked) is
 
 -- ---- by places
 
@@ -433,14 +450,14 @@ answered_behind : (since : Option Location) (pair : Pair) (n : ℕ) (one : List 
 answered_behind since pair n one q two is order =
     list_any-append (answers_from pair (location_of q)) one (q ∷ two)
     ∙ ap (λ b. b || list_any (answers_from pair (location_of q)) (q ∷ two)) (none_answers pair (location_of q) one (all_earlier one q two (asks_whole since pair n q is) order))
-    ∙ ap (λ b. (not (is_before (location_of q) q) && b) || list_any (answers_from pair (location_of q)) two) (asks_no_answer since pair n q is)
+    ∙ ap (λ b. (not (is_before (location_of q) q) && b) || list_any (answers_from pair (location_of q)) two) (asks_no_answer [] since pair n q is)
     ∙ ap (λ b. b || list_any (answers_from pair (location_of q)) two) (and_no (not (is_before (location_of q) q)))
     ∙ all_answers pair (location_of q) two (none_earlier q two (order_right one (q ∷ two) order))
 
 -- ---- the words
 
 -- acts, cut at the first that tells n gone, and at the first before it that asks about n
-record Cut (since : Option Location) (pair : Pair) (acts : List PlacedValue) (n : ℕ) (g q : PlacedValue) : Type 0 where
+record Cut (times : List (Option ℕ)) (since : Option Location) (pair : Pair) (acts : List PlacedValue) (n : ℕ) (g q : PlacedValue) : Type 0 where
   one : List PlacedValue
   two : List PlacedValue
   rest : List PlacedValue
@@ -451,17 +468,18 @@ record Cut (since : Option Location) (pair : Pair) (acts : List PlacedValue) (n 
   asks : asks_about since pair n q ≡ true
 
 -- what is so of them
-record Facts (since : Option Location) (pair : Pair) (acts : List PlacedValue) (n : ℕ) (g q : PlacedValue) (two : List PlacedValue) : Type 0 where
-  walk : is_unanswered since pair acts n ≡ (list_any (asks_about since pair n) two && not (list_any (λ (x : PlacedValue). is_answer x.act pair.reader pair.writer) two))
+record Facts (times : List (Option ℕ)) (since : Option Location) (pair : Pair) (acts : List PlacedValue) (n : ℕ) (g q : PlacedValue) (two : List PlacedValue) : Type 0 where
+  walk : is_unanswered times since pair acts n
+      ≡ ((list_any (asks_about since pair n) two && not (list_any (λ (x : PlacedValue). is_answer x.act pair.reader pair.writer) two)) && is_long_between times q.datagram g.datagram)
   asked : length (filter (asks_before (location_of g) since pair n) acts) ≡ suc (length (filter (asks_about since pair n) two))
   silent : list_any (answers_between (location_of q) (location_of g) pair) acts ≡ list_any (λ (x : PlacedValue). is_answer x.act pair.reader pair.writer) two
 
-facts_at : (since : Option Location) (pair : Pair) (n : ℕ) (one : List PlacedValue) (q : PlacedValue) (two : List PlacedValue) (g : PlacedValue) (rest : List PlacedValue) → NoneOf (withdraws pair.writer pair.reader n) (one ++ q ∷ two)
-    → withdraws pair.writer pair.reader n g ≡ true → NoneOf (asks_about since pair n) one → asks_about since pair n q ≡ true → AreInOrder ((one ++ q ∷ two) ++ g ∷ rest) → Facts since pair ((one ++ q ∷ two) ++ g ∷ rest) n g q two
-facts_at since pair n one q two g rest none gone unasked is order =
+facts_at : (times : List (Option ℕ)) (since : Option Location) (pair : Pair) (n : ℕ) (one : List PlacedValue) (q : PlacedValue) (two : List PlacedValue) (g : PlacedValue) (rest : List PlacedValue) → NoneOf (withdraws pair.writer pair.reader n) (one ++ q ∷ two)
+    → withdraws pair.writer pair.reader n g ≡ true → NoneOf (asks_about since pair n) one → asks_about since pair n q ≡ true → AreInOrder ((one ++ q ∷ two) ++ g ∷ rest) → Facts times since pair ((one ++ q ∷ two) ++ g ∷ rest) n g q two
+facts_at times since pair n one q two g rest none gone unasked is order =
     let before = one ++ q ∷ two in
     record {
-      walk = walk_is_merged since pair n (before ++ g ∷ rest) order ∙ told_at since pair n Unasked before g rest gone ∙ asked_at since pair n one q two none unasked is;
+      walk = walk_is_merged times since pair n (before ++ g ∷ rest) order ∙ told_at times since pair n Unasked before g rest gone ∙ asked_at times since pair n g one q two none unasked is;
       asked =
           ap length (found_before pair n (asks_about since pair n) before g rest gone order
           ∙ filter-append (asks_about since pair n) one (q ∷ two)
@@ -474,13 +492,13 @@ facts_at since pair n one q two g rest none gone unasked is order =
           ∙ answered_behind since pair n one q two is (order_left before (g ∷ rest) order);
     }
 
-facts : (since : Option Location) (pair : Pair) (acts : List PlacedValue) (n : ℕ) (g q : PlacedValue) (cut : Cut since pair acts n g q) → AreInOrder acts → Facts since pair acts n g q cut.two
-facts since pair acts n g q cut order =
-    subst (λ l. Facts since pair l n g q cut.two) (sym cut.is)
-    (facts_at since pair n cut.one q cut.two g cut.rest cut.none cut.gone cut.unasked cut.asks (subst AreInOrder cut.is order))
+facts : (times : List (Option ℕ)) (since : Option Location) (pair : Pair) (acts : List PlacedValue) (n : ℕ) (g q : PlacedValue) (cut : Cut times since pair acts n g q) → AreInOrder acts → Facts times since pair acts n g q cut.two
+facts times since pair acts n g q cut order =
+    subst (λ l. Facts times since pair l n g q cut.two) (sym cut.is)
+    (facts_at times since pair n cut.one q cut.two g cut.rest cut.none cut.gone cut.unasked cut.asks (subst AreInOrder cut.is order))
 
-cut_at : (since : Option Location) (pair : Pair) (acts : List PlacedValue) (n : ℕ) (g q : PlacedValue) (at : SplitAt (withdraws pair.writer pair.reader n) acts g) → find (asks_about since pair n) at.before ≡ Some q → Cut since pair acts n g q
-cut_at since pair acts n g q at found =
+cut_at : (times : List (Option ℕ)) (since : Option Location) (pair : Pair) (acts : List PlacedValue) (n : ℕ) (g q : PlacedValue) (at : SplitAt (withdraws pair.writer pair.reader n) acts g) → find (asks_about since pair n) at.before ≡ Some q → Cut times since pair acts n g q
+cut_at times since pair acts n g q at found =
     let first = split (asks_about since pair n) at.before q found in
     record {
       one = first.before;
@@ -494,57 +512,71 @@ cut_at since pair acts n g q at found =
     }
 
 -- the first that asks before the act
-first_found : (since : Option Location) (pair : Pair) (acts : List PlacedValue) (n : ℕ) (g : PlacedValue) (at : SplitAt (withdraws pair.writer pair.reader n) acts g) → AreInOrder acts
+first_found : (times : List (Option ℕ)) (since : Option Location) (pair : Pair) (acts : List PlacedValue) (n : ℕ) (g : PlacedValue) (at : SplitAt (withdraws pair.writer pair.reader n) acts g) → AreInOrder acts
     → find (asks_before (location_of g) since pair n) acts ≡ find (asks_about since pair n) at.before
-first_found since pair acts n g at order =
+first_found times since pair acts n g at order =
     find_kept (asks_before (location_of g) since pair n) acts
     ∙ ap first_item (ap (filter (asks_before (location_of g) since pair n)) at.is ∙ found_before pair n (asks_about since pair n) at.before g at.rest at.passes (subst AreInOrder at.is order))
     ∙ sym (find_kept (asks_about since pair n) at.before)
 
+long_said : (one other : Option ℕ) (asked told : ℕ) → is_long one other ≡ true → one ≡ Some asked → other ≡ Some told → asked + 10 ^ 8 ≤ told
+long_said one other asked told h h2 h3 = grind (arith, nat_tests)
+
+long_meant : (one other : Option ℕ) → ((asked told : ℕ) → one ≡ Some asked → other ≡ Some told → asked + 10 ^ 8 ≤ told) → is_long one other ≡ true
+long_meant None other h = refl
+long_meant (Some asked) None h = refl
+long_meant (Some asked) (Some told) h = let le = h asked told refl refl in grind (arith, nat_tests, le)
+
 not_true : (b : Bool) → not b ≡ true → b ≡ false
 not_true b h = grind (arith, nat_tests)
 
-said : (since : Option Location) (pair : Pair) (acts : List PlacedValue) (n : ℕ) → AreInOrder acts → is_unanswered since pair acts n ≡ true → IsUnanswered since pair acts n
-said since pair acts n order is = by (find (withdraws pair.writer pair.reader n) acts) refl
+said : (times : List (Option ℕ)) (since : Option Location) (pair : Pair) (acts : List PlacedValue) (n : ℕ) → AreInOrder acts → is_unanswered times since pair acts n ≡ true → IsUnanswered times since pair acts n
+said times since pair acts n order is = by (find (withdraws pair.writer pair.reader n) acts) refl
   where
-    walk : is_silent (merged since pair n Unasked acts) ≡ true
-    walk = sym (walk_is_merged since pair n acts order) ∙ is
+    walk : is_silent (merged times since pair n Unasked acts) ≡ true
+    walk = sym (walk_is_merged times since pair n acts order) ∙ is
 
     asked : (g : PlacedValue) → find (withdraws pair.writer pair.reader n) acts ≡ Some g → (at : SplitAt (withdraws pair.writer pair.reader n) acts g) → (first : Option PlacedValue) → find (asks_about since pair n) at.before ≡ first
-        → IsUnanswered since pair acts n
+        → IsUnanswered times since pair acts n
     asked g found at None none = absurd (
-        let unasked = ap (ends since pair n) (stays_unasked since pair n at.before at.none (none_left (asks_about since pair n) at.before none)) in
-        let told = ap (λ l. is_silent (merged since pair n Unasked l)) at.is ∙ told_at since pair n Unasked at.before g at.rest at.passes in
+        let unasked = ap (ends times since pair n g) (stays_unasked times since pair n at.before at.none (none_left (asks_about since pair n) at.before none)) in
+        let told = ap (λ l. is_silent (merged times since pair n Unasked l)) at.is ∙ told_at times since pair n Unasked at.before g at.rest at.passes in
         let no : true ≡ false = sym walk ∙ told ∙ unasked in cc)
     asked g found at (Some q) some =
-        let cut = cut_at since pair acts n g q at some in
-        let so = facts since pair acts n g q cut order in
-        let parts = and_parts (list_any (asks_about since pair n) cut.two) (not (list_any (λ (x : PlacedValue). is_answer x.act pair.reader pair.writer) cut.two)) (sym so.walk ∙ is) in
+        let cut = cut_at times since pair acts n g q at some in
+        let so = facts times since pair acts n g q cut order in
+        let asks : Bool = list_any (asks_about since pair n) cut.two in
+        let silent : Bool = not (list_any (λ (x : PlacedValue). is_answer x.act pair.reader pair.writer) cut.two) in
+        let whole = and_parts (asks && silent) (is_long_between times q.datagram g.datagram) (sym so.walk ∙ is) in
+        let parts = and_parts asks silent whole.0 in
         let again = some_length (filter (asks_about since pair n) cut.two) (sym (any_kept (asks_about since pair n) cut.two) ∙ parts.0) in
         record {
           gone = g;
           is_gone = found;
           asked = (let size = so.asked in omega arith);
           first = q;
-          is_first = first_found since pair acts n g at order ∙ some;
+          is_first = first_found times since pair acts n g at order ∙ some;
           silent = so.silent ∙ not_true _ parts.1;
+          long = λ one two at_one at_two. long_said (time_of times q.datagram) (time_of times g.datagram) one two whole.1 at_one at_two;
         }
 
-    by : (gone : Option PlacedValue) → find (withdraws pair.writer pair.reader n) acts ≡ gone → IsUnanswered since pair acts n
+    by : (gone : Option PlacedValue) → find (withdraws pair.writer pair.reader n) acts ≡ gone → IsUnanswered times since pair acts n
     by None none = absurd (
-        let stays = quiet since pair n Unasked acts (none_left (withdraws pair.writer pair.reader n) acts none) in
+        let stays = quiet times since pair n Unasked acts (none_left (withdraws pair.writer pair.reader n) acts none) in
         let no : true ≡ false = sym walk ∙ stays in cc)
     by (Some g) found = let at = split (withdraws pair.writer pair.reader n) acts g found in asked g found at (find (asks_about since pair n) at.before) refl
 
-meant : (since : Option Location) (pair : Pair) (acts : List PlacedValue) (n : ℕ) → AreInOrder acts → IsUnanswered since pair acts n → is_unanswered since pair acts n ≡ true
-meant since pair acts n order words =
+meant : (times : List (Option ℕ)) (since : Option Location) (pair : Pair) (acts : List PlacedValue) (n : ℕ) → AreInOrder acts → IsUnanswered times since pair acts n → is_unanswered times since pair acts n ≡ true
+meant times since pair acts n order words =
     let at = split (withdraws pair.writer pair.reader n) acts words.gone words.is_gone in
-    let cut = cut_at since pair acts n words.gone words.first at (sym (first_found since pair acts n words.gone at order) ∙ words.is_first) in
-    let so = facts since pair acts n words.gone words.first cut order in
+    let cut = cut_at times since pair acts n words.gone words.first at (sym (first_found times since pair acts n words.gone at order) ∙ words.is_first) in
+    let so = facts times since pair acts n words.gone words.first cut order in
     let again : 1 ≤ length (filter (asks_about since pair n) cut.two) = (let two = words.asked in let size = so.asked in omega arith) in
     so.walk
-    ∙ ap (λ b. b && not (list_any (λ (x : PlacedValue). is_answer x.act pair.reader pair.writer) cut.two)) (any_kept (asks_about since pair n) cut.two ∙ length_some (filter (asks_about since pair n) cut.two) again)
-    ∙ ap not (sym so.silent ∙ words.silent)
+    ∙ ap (λ b. (b && not (list_any (λ (x : PlacedValue). is_answer x.act pair.reader pair.writer) cut.two)) && is_long_between times words.first.datagram words.gone.datagram)
+    (any_kept (asks_about since pair n) cut.two ∙ length_some (filter (asks_about since pair n) cut.two) again)
+    ∙ ap (λ b. not b && is_long_between times words.first.datagram words.gone.datagram) (sym so.silent ∙ words.silent)
+    ∙ long_meant (time_of times words.first.datagram) (time_of times words.gone.datagram) words.long
 
 pub unanswered_is_by_its_words : UnansweredIsByItsWords
-unanswered_is_by_its_words = λ since pair acts n order. (λ is. said since pair acts n order is, λ words. meant since pair acts n order words)
+unanswered_is_by_its_words = λ times since pair acts n order. (λ is. said times since pair acts n order is, λ words. meant times since pair acts n order words)

@@ -1,6 +1,6 @@
 -- Which numbers are claimed up to a datagram, and which payloads are certain by that. own: a pair's answers are gone through once,
 -- and what is told gone then costs a look at them.
-use Rattle.std.specs.Prelude.{ℕ, Bool, true, false, ◌≡◌, ◌≤◌, ◌==◌, ◌&&◌, nat_le, nat_lt, not, map, List, Option, Some, None}
+use Rattle.std.specs.Prelude.{ℕ, Bool, true, false, ◌≡◌, ◌≤◌, ◌&&◌, nat_le, nat_lt, not, map, List}
 use Rattle.std.specs.List.{list_any}
 use Rattle.rtps_ids.specs.declared.identity.Guid.{Guid}
 use Rattle.rtps_discovery.specs.declared.matching.Pair.{Pair}

@@ -17,7 +17,7 @@ use Rattle.rtps_evidence.specs.Missed.{AreMissed}
 use Rattle.rtps_evidence.specs.OtherSide.{Beside, alone, is_held, is_there, without_other}
 use Rattle.rtps_evidence.specs.Outcomes.{AreOutcomes, absent_of, lacking_of}
 use Rattle.rtps_evidence.specs.Received.{AreReceived}
-use Rattle.rtps_evidence.specs.Spans.{IsExtent, since_of}
+use Rattle.rtps_evidence.specs.Spans.{IsExtent, since_of, wrote_before}
 use Rattle.rtps_evidence.specs.Waits.{told_wait}
 use Rattle.rtps_evidence.specs.declared.evidence.Evidence.{Evidence}
 use Rattle.rtps_evidence.specs.declared.in_span.InSpan.{InSpan}
@@ -28,15 +28,15 @@ use Rattle.rtps_evidence.specs.declared.span.Span.{Span}
 abbrev pub IsVerdictIn : Span → Pair → List (List ActValue) → Verdict → Type 0
 IsVerdictIn span pair acts verdict = IsVerdictFrom span.from (speech_by pair.writer pair.reader (datagrams_until span.until acts)) verdict
 
--- It is the evidence of a recording for a writer and a reader, by the numbers from `from` on, where the reader is there behind a place: the
--- verdict, and what it rests on.
-pub record IsShown (from : ℕ) (since : Option Location) (pair : Pair) (recording : List (List ActValue)) (evidence : Evidence) : Type 0 where
+-- It is the evidence of a recording for a writer and a reader, by the numbers from `from` on, where the reader is there behind a place, and
+-- these numbers are there in another recording: the verdict, and what it rests on.
+pub record IsShown (there : ℕ → Bool) (from : ℕ) (since : Option Location) (pair : Pair) (recording : List (List ActValue)) (evidence : Evidence) : Type 0 where
   pub verdict : IsVerdictFrom from (speech_by pair.writer pair.reader recording) evidence.verdict
   pub announcement : evidence.announcement ≡ announcement_of from pair.writer (last_announced_from from (speech_by pair.writer pair.reader recording)) (placed_in recording)
   pub acknowledgement : evidence.acknowledgement ≡ acknowledgement_of from pair.writer pair.reader (placed_in recording)
   pub amounts : AreAmounts from (last_announced_from from (speech_by pair.writer pair.reader recording)) pair.writer pair.reader (placed_in recording) (record { payloads = evidence.payloads; gone = evidence.gone; untold = evidence.untold })
   pub received : AreReceived from (last_announced_from from (speech_by pair.writer pair.reader recording)) pair.writer pair.reader (placed_in recording) (record { count = evidence.received; not_received = evidence.not_received })
-  pub missed : AreMissed from (last_announced_from from (speech_by pair.writer pair.reader recording)) since pair.writer pair.reader (placed_in recording) (record { count = evidence.missed; first = evidence.first_missed })
+  pub missed : AreMissed there from (last_announced_from from (speech_by pair.writer pair.reader recording)) since pair.writer pair.reader (placed_in recording) (record { count = evidence.missed; first = evidence.first_missed })
   pub grounds : grounds_value evidence.grounds ≡ grounds_by evidence.verdict pair (placed_in recording)
 
 -- what a row in a span has beside: the span, what became of its numbers, the greatest base of the reader's answers, what another
@@ -45,8 +45,9 @@ pub record IsInSpan (own : Span) (beside : Beside) (pair : Pair) (recording : Li
   pub joined : in_span.joined ≡ own.joined
   pub here : in_span.is_joined_here ≡ own.is_joined_here
   pub first : in_span.from ≡ own.from
+  pub wrote : in_span.wrote_before ≡ wrote_before own.from pair.writer (placed_in recording)
   pub until : in_span.until ≡ own.until
-  pub outcomes : AreOutcomes (is_there beside.other pair) own.from (last_announced_from own.from (speech_by pair.writer pair.reader recording)) (since_of own) pair (placed_in recording) in_span.outcomes
+  pub outcomes : AreOutcomes (is_there beside.other pair) own.from (last_announced_from own.from (speech_by pair.writer pair.reader recording)) beside.times (since_of own) pair (placed_in recording) in_span.outcomes
   pub base : in_span.base ≡ greatest_base pair.writer pair.reader (placed_in recording)
   pub held : in_span.is_held ≡ is_held beside.other pair
   pub absent : in_span.absent
@@ -67,7 +68,7 @@ IsBeside false beside span pair recording found = found ≡ None
 pub record IsEvidenceBy (spans : Bool) (from : ℕ) (beside : Beside) (pair : Pair) (intake : Intake) (evidence : Evidence) : Type 0 where
   pub span : Span
   pub extent : IsExtent spans from pair intake span
-  pub shown : IsShown span.from (since_of span) pair (datagrams_until span.until intake.acts) evidence
+  pub shown : IsShown (is_there beside.other pair) span.from (since_of span) pair (datagrams_until span.until intake.acts) evidence
   pub in_span : IsBeside spans beside span pair (datagrams_until span.until intake.acts) evidence.in_span
 
 -- that of all datagrams

@@ -81,7 +81,7 @@ abbrev pub type_of : Option EndpointValue → List ℕ
 type_of None = []
 type_of (Some endpoint) = endpoint.type_name
 
--- the topic and the type are those of the pair's writer, which are its reader's too, since the two match
+-- The topic and the type are those of the pair's writer. Those of its reader are the same where the two match
 pub record IsNamed (entries : Entries) (explanation : Explanation) : Type 0 where
   pub topic : explanation.topic.now ≡ topic_of (settled_at entries explanation.pair.writer)
   pub type_name : explanation.type_name.now ≡ type_of (settled_at entries explanation.pair.writer)
@@ -89,6 +89,15 @@ pub record IsNamed (entries : Entries) (explanation : Explanation) : Type 0 wher
 -- the row of the report that is explained
 abbrev pub row_of : Explanation → Row
 row_of explanation = record { pair = explanation.pair; verdict = explanation.evidence.verdict }
+
+-- These are rows of these pairs, of whatever writers and readers: each has its names, and its evidence by the numbers from `from` on. Another
+-- recording and times may stand beside.
+pub record AreExplained (spans : Bool) (from : ℕ) (beside : Beside) (intake : Intake) (pairs : List Pair) (rows : List Explanation) : Type 0 where
+  pub of_pairs : map (λ row. row.pair) rows ≡ pairs
+  pub directory : DirectoryValue
+  pub is_map : IsMapOf (acts_together intake.announcing) directory
+  pub named : All (IsNamed directory.endpoints) rows
+  pub shown : All (λ row. IsEvidenceBy spans from beside row.pair intake row.evidence) rows
 
 -- The rows are of the report's pairs by the numbers from `from` on, each with its names and its evidence, and the counts are
 -- the report's. Where rows are not in spans, they are the report's. Another recording and times may stand beside.
@@ -113,3 +122,9 @@ HasOneExplanation =
     (spans : Bool) (from : ℕ) (beside : Beside) (intake : Intake) (one other : Explained)
     → IsExplainedBy spans from beside intake one → IsExplainedBy spans from beside intake other
     → (map explanation_value one.rows.items ≡ map explanation_value other.rows.items) × (one.counts ≡ other.counts)
+
+-- so are pairs of what is taken in
+abbrev pub PairsHaveOneExplanation : Type 0
+PairsHaveOneExplanation =
+    (spans : Bool) (from : ℕ) (beside : Beside) (intake : Intake) (pairs : List Pair) (one other : List Explanation)
+    → AreExplained spans from beside intake pairs one → AreExplained spans from beside intake pairs other → map explanation_value one ≡ map explanation_value other

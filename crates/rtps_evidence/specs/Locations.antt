@@ -52,6 +52,15 @@ kind_of (GapAct value) = Gap
 kind_of (DataFragAct value) = DataFrag
 kind_of (NackFragAct value) = NackFrag
 
+-- it is a GAP
+abbrev pub is_gap : ActBodyValue → Bool
+is_gap (GapAct value) = true
+is_gap (DataAct value) = false
+is_gap (HeartbeatAct value) = false
+is_gap (AckNackAct value) = false
+is_gap (DataFragAct value) = false
+is_gap (NackFragAct value) = false
+
 -- what an act says of numbers to the reader, where it hears the act from the writer
 abbrev pub said_to : Guid → Guid → PlacedValue → SaidValue
 said_to writer reader placed = if is_spoken_by placed.act writer && is_heard_by placed.act reader then said placed.act.body else nothing
@@ -114,6 +123,10 @@ claim_in answer = record { below = pos (natural answer.base); place = record { d
 -- the greatest base of all answers of the reader to the writer, or 0
 abbrev pub greatest_base : Guid → Guid → List PlacedValue → ℕ
 greatest_base writer reader acts = greatest (map (base_said writer reader) acts)
+
+-- the reader acknowledges some number of the writer, by whatever answer: its base is above 1
+abbrev pub acknowledges : Guid → Guid → List PlacedValue → Bool
+acknowledges writer reader acts = nat_lt 1 (greatest_base writer reader acts)
 
 -- the first answer with the greatest base of all answers, where that is above the first number that is asked for
 abbrev pub acknowledgement_of : ℕ → Guid → Guid → List PlacedValue → Option Claim

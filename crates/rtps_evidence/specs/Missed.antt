@@ -1,7 +1,8 @@
 -- Which numbers a reader missed. DDSI-RTPS 2.5, 8.3.8.1 "AckNack": the set of an ACKNACK names the numbers that the reader lacks.
 -- own: a number that is not received mostly came all the same; one that was asked for and not sent, or sent and asked for again, is the
--- alarm. Acts are those of the datagrams that a row is by; `since` is the place behind which the reader is there (None: everywhere).
-use Rattle.std.specs.Prelude.{ℕ, Bool, false, ◌+◌, ◌≡◌, ◌&&◌, ◌||◌, not, List, [], ◌∷◌, Option, Some, None}
+-- alarm. Acts are those of the datagrams that a row is by; `since` is the place behind which the reader is there (None: everywhere);
+-- `there` says which numbers another recording has a payload of, which was made at the reader's host (none, where there is none).
+use Rattle.std.specs.Prelude.{ℕ, Bool, false, ◌+◌, ◌≡◌, ◌&&◌, ◌||◌, not, is_some, List, [], ◌∷◌, Option, Some, None}
 use Rattle.std.specs.List.{find, list_any}
 use Rattle.std.specs.Option.{option_map}
 use Rattle.rtps_ids.specs.declared.identity.Guid.{Guid}
@@ -49,7 +50,12 @@ brings writer reader n placed = (is_spoken_by placed.act writer && is_heard_by p
 abbrev pub brings_behind : Option Location → Guid → Guid → ℕ → PlacedValue → Bool
 brings_behind place writer reader n placed = is_behind place placed && brings writer reader n placed
 
--- the same since the reader is there, and before a place
+-- the same of whatever number
+abbrev pub brings_some : Option Location → Guid → Guid → PlacedValue → Bool
+brings_some place writer reader placed =
+    is_behind place placed && ((is_spoken_by placed.act writer && is_heard_by placed.act reader) && is_some (said placed.act.body).brought)
+
+-- the same of n since the reader is there, and before a place
 abbrev pub brings_before : Option Location → Location → Guid → Guid → ℕ → PlacedValue → Bool
 brings_before since place writer reader n placed = is_before place placed && brings_behind since writer reader n placed
 
@@ -96,11 +102,17 @@ abbrev pub missed_by : Guid → Guid → List PlacedValue → Option ℕ → Opt
 missed_by writer reader acts None = None
 missed_by writer reader acts (Some n) = option_map (missed_at writer reader n acts) (find_last (asks_for writer reader n) acts)
 
--- the least number from `from` on, up to the last one, that is missed
-abbrev pub first_missed_of : ℕ → ℕ → Option Location → Guid → Guid → List PlacedValue → Option FirstMissed
-first_missed_of from last since writer reader acts = missed_by writer reader acts (least_in (is_missed since writer reader acts) from (last + 1))
+-- n is missed, and it is not there: it did not reach the reader's host by another way either
+abbrev pub is_missed_for_good : (ℕ → Bool) → Option Location → Guid → Guid → List PlacedValue → ℕ → Bool
+is_missed_for_good there since writer reader acts n = is_missed since writer reader acts n && not (there n)
 
--- of the numbers from `from` on, up to the last one: how many are missed, and the least of them
-pub record AreMissed (from last : ℕ) (since : Option Location) (writer reader : Guid) (acts : List PlacedValue) (missed : Missed) : Type 0 where
-  pub count : missed.count ≡ count_in (is_missed since writer reader acts) from (last + 1)
-  pub first : missed.first ≡ first_missed_of from last since writer reader acts
+-- the least number from `from` on, up to the last one, that is missed and not there
+abbrev pub first_missed_of : (ℕ → Bool) → ℕ → ℕ → Option Location → Guid → Guid → List PlacedValue → Option FirstMissed
+first_missed_of there from last since writer reader acts =
+    missed_by writer reader acts (least_in (is_missed_for_good there since writer reader acts) from (last + 1))
+
+-- of the numbers from `from` on, up to the last one: how many are missed and not there, and the least of them
+pub record AreMissed (there : ℕ → Bool) (from last : ℕ) (since : Option Location) (writer reader : Guid) (acts : List PlacedValue)
+    (missed : Missed) : Type 0 where
+  pub count : missed.count ≡ count_in (is_missed_for_good there since writer reader acts) from (last + 1)
+  pub first : missed.first ≡ first_missed_of there from last since writer reader acts

@@ -1,8 +1,9 @@
 -- What became of each number that is asked about. DDSI-RTPS 2.5, 8.3.8.1 "AckNack": the set of an ACKNACK names the numbers that the
 -- reader lacks; 8.3.8.6 "Heartbeat": one without the final flag asks for an answer. own: of a number that is not received for certain,
 -- what the two said tells mostly whether it came, and a recording made at the reader's host tells what came to that host. Acts are those
--- of the datagrams that a row is by; `since` is the place behind which the reader is there (None: everywhere); `there` says which numbers
--- the other recording has a payload of that the reader hears (none, where the pair is not held against one).
+-- of the datagrams that a row is by, and `times` are when all datagrams came; `since` is the place behind which the reader is there
+-- (None: everywhere); `there` says which numbers the other recording has a payload of that the reader hears (none, where the pair is not
+-- held against one).
 use Rattle.std.specs.Prelude.{ℕ, Bool, true, false, ◌+◌, ◌-◌, ◌≡◌, ◌==◌, ◌&&◌, ◌||◌, nat_le, nat_lt, not, if◌then◌else◌, filter, is_some, List, [], ◌∷◌, Option}
 use Rattle.std.specs.List.{list_any}
 use Rattle.rtps_discovery.specs.declared.matching.Pair.{Pair}
@@ -20,6 +21,7 @@ use Rattle.rtps_evidence.specs.Locations.{location_of}
 use Rattle.rtps_evidence.specs.Missed.{brings_behind, is_wanting}
 use Rattle.rtps_evidence.specs.Questions.{questions_behind}
 use Rattle.rtps_evidence.specs.Received.{HoldsPayload, first_claiming, is_received, withdraws}
+use Rattle.rtps_evidence.specs.Times.{is_long_between}
 use Rattle.rtps_evidence.specs.declared.location.Location.{Location}
 use Rattle.rtps_evidence.specs.declared.outcome.Outcome.{Outcome}
 use Rattle.rtps_evidence.specs.declared.outcome.Outcome.TheVariants.{Received, Arrived, Missed, Unsent, Unanswered, Likely, Unconfirmed}
@@ -31,7 +33,7 @@ use Rattle.rtps_evidence.specs.declared.outcome.Outcomes.{Outcomes}
 abbrev pub is_brought : Option Location → Pair → List PlacedValue → ℕ → Bool
 is_brought since pair acts n = list_any (brings_behind since pair.writer pair.reader n) acts
 
--- ---- unanswered: asked about again and again while the writer had it, and no answer until it was told gone
+-- ---- unanswered: asked about again and again while the writer had it, and no answer for 100 ms, until it was told gone
 
 -- a HEARTBEAT says that the writer has n
 abbrev pub is_offered : ActBodyValue → ℕ → Bool
@@ -46,13 +48,13 @@ is_offered (NackFrag value) n = false
 pub data Silence : Type 0 where
   -- nobody asked about it
   Unasked : Silence
-  -- one HEARTBEAT asked about it
-  Once : Silence
-  -- two or more did
-  Again : Silence
+  -- one HEARTBEAT asked about it, in this datagram
+  Once : (asked : ℕ) → Silence
+  -- two or more did, the first of them in this datagram
+  Again : (asked : ℕ) → Silence
   -- the reader answered behind the first of them
   Answered : Silence
-  -- it was told gone, and was asked about again and again without an answer
+  -- it was told gone, and was asked about again and again for long without an answer
   Silent : Silence
   -- it was told gone otherwise
   Ended : Silence
@@ -60,35 +62,36 @@ pub data Silence : Type 0 where
 -- behind an answer
 abbrev pub answered : Silence → Silence
 answered Unasked = Unasked
-answered Once = Answered
-answered Again = Answered
+answered (Once asked) = Answered
+answered (Again asked) = Answered
 answered Answered = Answered
 answered Silent = Silent
 answered Ended = Ended
 
--- behind a HEARTBEAT that asks about it
-abbrev pub asked_about : Silence → Silence
-asked_about Unasked = Once
-asked_about Once = Again
-asked_about Again = Again
-asked_about Answered = Answered
-asked_about Silent = Silent
-asked_about Ended = Ended
+-- behind a HEARTBEAT in a datagram that asks about it
+abbrev pub asked_about : ℕ → Silence → Silence
+asked_about datagram Unasked = Once datagram
+asked_about datagram (Once asked) = Again asked
+asked_about datagram (Again asked) = Again asked
+asked_about datagram Answered = Answered
+asked_about datagram Silent = Silent
+asked_about datagram Ended = Ended
 
--- behind an act that tells it gone: the first one counts
-abbrev pub told_gone : Silence → Silence
-told_gone Unasked = Ended
-told_gone Once = Ended
-told_gone Again = Silent
-told_gone Answered = Ended
-told_gone Silent = Silent
-told_gone Ended = Ended
+-- Behind an act in a datagram that tells it gone: the first one counts. A healthy reader answers some milliseconds late, and a writer that
+-- keeps few numbers moves on before that
+abbrev pub told_gone : List (Option ℕ) → ℕ → Silence → Silence
+told_gone times datagram Unasked = Ended
+told_gone times datagram (Once asked) = Ended
+told_gone times datagram (Again asked) = if is_long_between times asked datagram then Silent else Ended
+told_gone times datagram Answered = Ended
+told_gone times datagram Silent = Silent
+told_gone times datagram Ended = Ended
 
 -- behind an act of the writer
-abbrev pub heard : Option Location → Pair → ℕ → PlacedValue → Silence → Silence
-heard since pair n placed silence =
-    if withdraws pair.writer pair.reader n placed then told_gone silence
-    else if questions_behind since pair.writer pair.reader placed && is_offered placed.act.body n then asked_about silence
+abbrev pub heard : List (Option ℕ) → Option Location → Pair → ℕ → PlacedValue → Silence → Silence
+heard times since pair n placed silence =
+    if withdraws pair.writer pair.reader n placed then told_gone times placed.datagram silence
+    else if questions_behind since pair.writer pair.reader placed && is_offered placed.act.body n then asked_about placed.datagram silence
     else silence
 
 -- an answer stands before a place
@@ -111,42 +114,42 @@ pub record Walk : Type 0 where
   pub silence : Silence
 
 -- behind one act of the writer more, and the answers before it
-abbrev pub walked : Option Location → Pair → ℕ → Walk → PlacedValue → Walk
-walked since pair n walk placed =
+abbrev pub walked : List (Option ℕ) → Option Location → Pair → ℕ → Walk → PlacedValue → Walk
+walked times since pair n walk placed =
     record {
       answers = answers_left (location_of placed) walk.answers;
-      silence = heard since pair n placed (if is_answered (location_of placed) walk.answers then answered walk.silence else walk.silence);
+      silence = heard times since pair n placed (if is_answered (location_of placed) walk.answers then answered walk.silence else walk.silence);
     }
 
 -- behind these acts of the writer, one after another
-abbrev pub walked_all : Option Location → Pair → ℕ → Walk → List PlacedValue → Walk
-walked_all since pair n walk [] = walk
-walked_all since pair n walk (placed ∷ acts) = walked_all since pair n (walked since pair n walk placed) acts
+abbrev pub walked_all : List (Option ℕ) → Option Location → Pair → ℕ → Walk → List PlacedValue → Walk
+walked_all times since pair n walk [] = walk
+walked_all times since pair n walk (placed ∷ acts) = walked_all times since pair n (walked times since pair n walk placed) acts
 
 -- it ends in silence
 abbrev pub is_silent : Silence → Bool
 is_silent Silent = true
 is_silent Unasked = false
-is_silent Once = false
-is_silent Again = false
+is_silent (Once asked) = false
+is_silent (Again asked) = false
 is_silent Answered = false
 is_silent Ended = false
 
 -- the writer's acts and the reader's answers, one after another, end in silence
-abbrev pub is_unanswered : Option Location → Pair → List PlacedValue → ℕ → Bool
-is_unanswered since pair acts n =
-    is_silent (walked_all since pair n (record { answers = answers_among pair acts; silence = Unasked }) (filter (is_from pair.writer) acts)).silence
+abbrev pub is_unanswered : List (Option ℕ) → Option Location → Pair → List PlacedValue → ℕ → Bool
+is_unanswered times since pair acts n =
+    is_silent (walked_all times since pair n (record { answers = answers_among pair acts; silence = Unasked }) (filter (is_from pair.writer) acts)).silence
 
 -- ---- each number has one outcome
 
 -- what became of a number: the first that fits
-unfoldable pub outcome_of : (ℕ → Bool) → Option Location → Pair → List PlacedValue → ℕ → Outcome
-outcome_of there since pair acts n =
+unfoldable pub outcome_of : (ℕ → Bool) → List (Option ℕ) → Option Location → Pair → List PlacedValue → ℕ → Outcome
+outcome_of there times since pair acts n =
     if is_received pair.writer pair.reader acts n then Received
     else if there n then Arrived
     else if is_wanting since pair.writer pair.reader acts n then Missed
     else if not (is_brought since pair acts n) then Unsent
-    else if is_unanswered since pair acts n then Unanswered
+    else if is_unanswered times since pair acts n then Unanswered
     else if is_some (first_claiming pair.writer pair.reader n acts) then Likely
     else Unconfirmed
 
@@ -166,14 +169,14 @@ abbrev pub count_of : Outcome → (ℕ → Outcome) → ℕ → ℕ → ℕ
 count_of outcome outcomes lo hi = count_in (λ n. is_outcome outcome (outcomes n)) lo hi
 
 -- of the numbers from `from` on, up to the last one: how many have each outcome
-pub record AreOutcomes (there : ℕ → Bool) (from last : ℕ) (since : Option Location) (pair : Pair) (acts : List PlacedValue) (outcomes : Outcomes) : Type 0 where
-  pub received : outcomes.received ≡ count_of Received (outcome_of there since pair acts) from (last + 1)
-  pub arrived : outcomes.arrived ≡ count_of Arrived (outcome_of there since pair acts) from (last + 1)
-  pub missed : outcomes.missed ≡ count_of Missed (outcome_of there since pair acts) from (last + 1)
-  pub unsent : outcomes.unsent ≡ count_of Unsent (outcome_of there since pair acts) from (last + 1)
-  pub unanswered : outcomes.unanswered ≡ count_of Unanswered (outcome_of there since pair acts) from (last + 1)
-  pub likely : outcomes.likely ≡ count_of Likely (outcome_of there since pair acts) from (last + 1)
-  pub unconfirmed : outcomes.unconfirmed ≡ count_of Unconfirmed (outcome_of there since pair acts) from (last + 1)
+pub record AreOutcomes (there : ℕ → Bool) (from last : ℕ) (times : List (Option ℕ)) (since : Option Location) (pair : Pair) (acts : List PlacedValue) (outcomes : Outcomes) : Type 0 where
+  pub received : outcomes.received ≡ count_of Received (outcome_of there times since pair acts) from (last + 1)
+  pub arrived : outcomes.arrived ≡ count_of Arrived (outcome_of there times since pair acts) from (last + 1)
+  pub missed : outcomes.missed ≡ count_of Missed (outcome_of there times since pair acts) from (last + 1)
+  pub unsent : outcomes.unsent ≡ count_of Unsent (outcome_of there times since pair acts) from (last + 1)
+  pub unanswered : outcomes.unanswered ≡ count_of Unanswered (outcome_of there times since pair acts) from (last + 1)
+  pub likely : outcomes.likely ≡ count_of Likely (outcome_of there times since pair acts) from (last + 1)
+  pub unconfirmed : outcomes.unconfirmed ≡ count_of Unconfirmed (outcome_of there times since pair acts) from (last + 1)
 
 -- how many they are together
 abbrev pub all_of : Outcomes → ℕ
@@ -198,21 +201,21 @@ nowhere n = false
 -- they add up to the numbers that are asked about
 abbrev pub OutcomesAddUp : Type 0
 OutcomesAddUp =
-    (there : ℕ → Bool) (from last : ℕ) (since : Option Location) (pair : Pair) (acts : List PlacedValue) (outcomes : Outcomes)
-    → AreOutcomes there from last since pair acts outcomes → all_of outcomes ≡ last + 1 - from
+    (there : ℕ → Bool) (from last : ℕ) (times : List (Option ℕ)) (since : Option Location) (pair : Pair) (acts : List PlacedValue) (outcomes : Outcomes)
+    → AreOutcomes there from last times since pair acts outcomes → all_of outcomes ≡ last + 1 - from
 
 -- what another recording changes of a number: nothing, where it is not there, or is received; else it arrived
-pub record IsChangedAlone (there : ℕ → Bool) (since : Option Location) (pair : Pair) (acts : List PlacedValue) (n : ℕ) : Type 0 where
-  pub elsewhere : there n ≡ false → outcome_of there since pair acts n ≡ outcome_of nowhere since pair acts n
-  pub received : is_received pair.writer pair.reader acts n ≡ true → outcome_of there since pair acts n ≡ outcome_of nowhere since pair acts n
-  pub arrived : there n ≡ true → is_received pair.writer pair.reader acts n ≡ false → outcome_of there since pair acts n ≡ Arrived
+pub record IsChangedAlone (there : ℕ → Bool) (times : List (Option ℕ)) (since : Option Location) (pair : Pair) (acts : List PlacedValue) (n : ℕ) : Type 0 where
+  pub elsewhere : there n ≡ false → outcome_of there times since pair acts n ≡ outcome_of nowhere times since pair acts n
+  pub received : is_received pair.writer pair.reader acts n ≡ true → outcome_of there times since pair acts n ≡ outcome_of nowhere times since pair acts n
+  pub arrived : there n ≡ true → is_received pair.writer pair.reader acts n ≡ false → outcome_of there times since pair acts n ≡ Arrived
 
 -- it changes no more; and where no number is there, none arrived
 abbrev pub ArrivedIsAllThatChanges : Type 0
 ArrivedIsAllThatChanges =
-    ((there : ℕ → Bool) (since : Option Location) (pair : Pair) (acts : List PlacedValue) (n : ℕ) → IsChangedAlone there since pair acts n)
-    × ((there : ℕ → Bool) (from last : ℕ) (since : Option Location) (pair : Pair) (acts : List PlacedValue) (outcomes : Outcomes)
-    → ((n : ℕ) → there n ≡ false) → AreOutcomes there from last since pair acts outcomes → outcomes.arrived ≡ 0)
+    ((there : ℕ → Bool) (times : List (Option ℕ)) (since : Option Location) (pair : Pair) (acts : List PlacedValue) (n : ℕ) → IsChangedAlone there times since pair acts n)
+    × ((there : ℕ → Bool) (from last : ℕ) (times : List (Option ℕ)) (since : Option Location) (pair : Pair) (acts : List PlacedValue) (outcomes : Outcomes)
+    → ((n : ℕ) → there n ≡ false) → AreOutcomes there from last times since pair acts outcomes → outcomes.arrived ≡ 0)
 
 -- where no payload of a number is told to the reader, no run ends with one
 abbrev pub UnsentIsNotHeld : Type 0

@@ -1,6 +1,7 @@
 -- Whether a reader was asked since its last answer. DDSI-RTPS 2.5, 8.3.8.6 "Heartbeat": one without the final flag asks for an
 -- answer. own: a reader that was not asked is late, and one that was asked and did not answer is gone.
 use Rattle.std.specs.Prelude.{ℕ, Bool, false, ◌≡◌, ◌&&◌, not, List, filter, length, Option}
+use Rattle.std.specs.List.{find}
 use Rattle.std.specs.Option.{option_map}
 use Rattle.rtps_ids.specs.declared.identity.Guid.{Guid}
 use Rattle.rtps_receiver.specs.Speech.{is_answer, is_heard_by, is_spoken_by}
@@ -33,18 +34,23 @@ place_answered writer reader acts = option_map location_of (find_last (λ placed
 abbrev pub place_of : Answer → Location
 place_of answer = record { datagram = answer.datagram; at = answer.at }
 
--- how many of these acts ask behind a place, and where the last of them stands
+-- how many of these acts ask behind a place, and where the first and the last of them stand
 pub record AreAsked (place : Option Location) (writer reader : Guid) (acts : List PlacedValue) (questions : Questions) : Type 0 where
   pub count : questions.count ≡ length (filter (questions_behind place writer reader) acts)
+  pub first : questions.first ≡ option_map location_of (find (questions_behind place writer reader) acts)
   pub last : questions.last ≡ option_map location_of (find_last (questions_behind place writer reader) acts)
 
--- how often the reader was asked since its last answer, and where at last
+-- how often the reader was asked since its last answer, and where at first and at last
 abbrev pub AreQuestions : Guid → Guid → List PlacedValue → Questions → Type 0
 AreQuestions writer reader acts questions = AreAsked (place_answered writer reader acts) writer reader acts questions
 
 -- how often
 abbrev pub asked_since : Guid → Guid → List PlacedValue → ℕ
 asked_since writer reader acts = length (filter (questions_behind (place_answered writer reader acts) writer reader) acts)
+
+-- where at first
+abbrev pub first_asked : Guid → Guid → List PlacedValue → Option Location
+first_asked writer reader acts = option_map location_of (find (questions_behind (place_answered writer reader acts) writer reader) acts)
 
 -- where at last
 abbrev pub last_asked : Guid → Guid → List PlacedValue → Option Location

@@ -1,7 +1,7 @@
 -- How much of a recording the row of a pair is by: from which number on, and up to which datagram. DDSI-RTPS 2.5, 8.5.4 "The Simple
 -- Endpoint Discovery Protocol". own: what a writer sent before a reader was there, and what it sends behind its leaving, is not owed.
-use Rattle.std.specs.Prelude.{ℕ, Bool, true, false, ◌-◌, ◌+◌, ◌≡◌, ◌≤◌, ◌<◌, ◌==◌, ◌&&◌, ◌||◌, nat_lt, not, if◌then◌else◌, max, min, List, map, Option, Some, None, unwrap_or, ◌^◌}
-use Rattle.std.specs.List.{find, list_any}
+use Rattle.std.specs.Prelude.{ℕ, Bool, true, false, ◌-◌, ◌+◌, ◌≡◌, ◌≤◌, ◌<◌, ◌==◌, ◌&&◌, ◌||◌, nat_lt, not, if◌then◌else◌, max, min, List, map, Option, Some, None, unwrap_or}
+use Rattle.std.specs.List.{before_first, find, list_any}
 use Rattle.std.specs.Option.{option_map}
 use Rattle.rtps_ids.specs.declared.identity.Guid.{Guid}
 use Rattle.rtps_discovery.specs.Directory.{DirectoryValue, IsMapOf, settled_at}
@@ -15,8 +15,9 @@ use Rattle.rtps_audit.specs.Intake.{Intake, acts_together}
 use Rattle.rtps_audit.specs.Placed.{PlacedValue, placed_in}
 use Rattle.rtps_receiver.specs.Said.{natural}
 use Rattle.rtps_audit.specs.declared.answer.Answer.{Answer}
-use Rattle.rtps_evidence.specs.Locations.{base_said, is_before, is_behind, number_said}
-use Rattle.rtps_evidence.specs.Missed.{asks_for, brings_behind, place_announced}
+use Rattle.rtps_evidence.specs.Locations.{base_said, is_before, is_behind, is_gap, number_said}
+use Rattle.rtps_evidence.specs.Missed.{asks_for, brings_behind, brings_some, place_announced}
+use Rattle.rtps_evidence.specs.Received.{withdraws}
 use Rattle.rtps_evidence.specs.declared.location.Location.{Location}
 use Rattle.rtps_evidence.specs.declared.span.Span.{Span}
 
@@ -63,10 +64,25 @@ number_before place writer placed = if is_before place placed then number_said w
 abbrev pub announced_before : Location → Guid → List PlacedValue → ℕ
 announced_before place writer acts = greatest (map (number_before place writer) acts)
 
--- The least number that may be owed to a reader which joins at a place: to a volatile one, only what is announced behind it. Numbers
--- end at 2^63 - 1
-abbrev pub least_owed : ℕ → Bool → Location → Guid → List PlacedValue → ℕ
-least_owed from volatile place writer acts = if volatile then max from (min (announced_before place writer acts + 1) (2 ^ 63 - 1)) else from
+-- the reader hears a GAP, behind a place, that tells n gone
+abbrev pub gaps_behind : Option Location → Guid → Guid → ℕ → PlacedValue → Bool
+gaps_behind place writer reader n placed = is_behind place placed && (is_gap placed.act.body && withdraws writer reader n placed)
+
+-- it does in front of all that the writer sends it behind the place: what a writer calls irrelevant before it sent the reader anything was
+-- written before they matched
+abbrev pub is_gone_first : Location → Pair → List PlacedValue → ℕ → Bool
+is_gone_first place pair acts n =
+    list_any (gaps_behind (Some place) pair.writer pair.reader n) (before_first (brings_some (Some place) pair.writer pair.reader) acts)
+
+-- one more than the greatest number that has it; 0 where none has it
+pub record IsEndOf (has : ℕ → Bool) (end : ℕ) : Type 0 where
+  pub below : (n : ℕ) → has n ≡ true → n < end
+  pub last : 0 < end → has (end - 1) ≡ true
+
+-- The least number that may be owed to a reader: to a volatile one, only what is announced behind the place where it joins, and is not
+-- told gone first. Where numbers are announced up to the last that there is, 2^63 - 1, it is the one behind that
+abbrev pub least_owed : ℕ → Bool → ℕ → ℕ → ℕ
+least_owed from volatile announced gone_end = if volatile then max from (max (announced + 1) gone_end) else from
 
 -- n is for the reader: it hears a payload of it, or a fragment of one, behind the place where it joins; or it asks for it, wherever
 abbrev pub is_for_reader : Location → Pair → List PlacedValue → ℕ → Bool
@@ -99,7 +115,9 @@ pub record IsVolatileIn (intake : Intake) (reader : Guid) (volatile : Bool) : Ty
 pub record IsOwedFrom (from : ℕ) (place : Location) (pair : Pair) (intake : Intake) (owed : ℕ) : Type 0 where
   pub volatile : Bool
   pub is_volatile : IsVolatileIn intake pair.reader volatile
-  pub is : owed ≡ least_owed from volatile place pair.writer (placed_in intake.acts)
+  pub gone_end : ℕ
+  pub is_gone_end : IsEndOf (is_gone_first place pair (placed_in intake.acts)) gone_end
+  pub is : owed ≡ least_owed from volatile (announced_before place pair.writer (placed_in intake.acts)) gone_end
 
 -- the number from which on a row is, where the reader joins at a place of this recording
 pub record IsFirstIn (from : ℕ) (place : Location) (pair : Pair) (intake : Intake) (number : ℕ) : Type 0 where
@@ -111,6 +129,10 @@ pub record IsFirstIn (from : ℕ) (place : Location) (pair : Pair) (intake : Int
 pub record IsFrom (from : ℕ) (joined : Option Location) (pair : Pair) (intake : Intake) (number : ℕ) : Type 0 where
   pub elsewhere : is_joined_here joined pair (placed_in intake.acts) ≡ false → number ≡ from
   pub here : (place : Location) → joined ≡ Some place → is_joined_here joined pair (placed_in intake.acts) ≡ true → IsFirstIn from place pair intake number
+
+-- the writer announces numbers by these acts, and all of them stand before this one
+abbrev pub wrote_before : ℕ → Guid → List PlacedValue → Bool
+wrote_before from writer acts = nat_lt 0 (greatest (map (number_said writer) acts)) && nat_lt (greatest (map (number_said writer) acts)) from
 
 -- ---- up to which datagram
 

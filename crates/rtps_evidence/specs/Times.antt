@@ -1,19 +1,21 @@
 -- When the datagrams of a recording came. own: DDSI-RTPS 2.5 gives a datagram no time of its own, but a capture has the time at which
 -- it took each frame. Times are nanoseconds since 1970 began. A list of them has the time of each datagram in the order of sending,
 -- None where it has none; datagrams count from 1.
-use Rattle.std.specs.Prelude.{ℕ, Bool, false, ◌+◌, ◌-◌, ◌/◌, ◌^◌, ◌≡◌, ◌<◌, ◌&&◌, nat_lt, if◌then◌else◌, is_some, length, map, max, slice_index_or, take, List, [], ◌∷◌, Option, Some, None}
+use Rattle.std.specs.Prelude.{ℕ, Bool, true, false, ◌+◌, ◌-◌, ◌/◌, ◌^◌, ◌≡◌, ◌<◌, ◌&&◌, nat_le, nat_lt, if◌then◌else◌, is_some, length, map, max, slice_index_or, take, List, [], ◌∷◌, Option, Some, None}
 use Rattle.std.specs.List.{list_any}
 use Rattle.rtps_audit.specs.Delivery.{greatest}
 use Rattle.rtps_evidence.specs.declared.times.Seconds.{Seconds}
 
--- the start of a capture, which is the time of the first frame that has one, and the time of each datagram
+-- the start of a capture, which is the time of the first frame that has one, its end, which is the greatest time of a frame, and the
+-- time of each datagram. A frame counts whether it gave a datagram or not
 pub record TimesValue : Type 0 where
   pub start : Option ℕ
+  pub end : Option ℕ
   pub of_datagrams : List (Option ℕ)
 
 -- those of a text
 abbrev pub no_times : TimesValue
-no_times = record { start = None; of_datagrams = [] }
+no_times = record { start = None; end = None; of_datagrams = [] }
 
 -- the time of a datagram; None of 0, and past the last
 abbrev pub time_of : List (Option ℕ) → ℕ → Option ℕ
@@ -23,7 +25,7 @@ time_of times number = if nat_lt 0 number then slice_index_or times (number - 1)
 abbrev pub are_there : List (Option ℕ) → Bool
 are_there times = list_any is_some times
 
--- ---- the end
+-- ---- the greatest time
 
 -- the later of two times, where there are two
 abbrev pub later_of : Option ℕ → Option ℕ → Option ℕ
@@ -40,6 +42,23 @@ end_of (time ∷ times) = later_of time (end_of times)
 pub record AreEnds (times ends : List (Option ℕ)) : Type 0 where
   pub size : length ends ≡ length times
   pub each : (k : ℕ) → k < length times → slice_index_or ends k None ≡ end_of (take (k + 1) times)
+
+-- ---- how far apart
+
+-- 100 ms or more lie between two times, the second behind the first; so it is said where one of them is wanting
+abbrev pub is_long : Option ℕ → Option ℕ → Bool
+is_long None later = true
+is_long (Some earlier) None = true
+is_long (Some earlier) (Some later) = nat_le (earlier + 10 ^ 8) later
+
+-- the same of the times of two datagrams
+abbrev pub is_long_between : List (Option ℕ) → ℕ → ℕ → Bool
+is_long_between times earlier later = is_long (time_of times earlier) (time_of times later)
+
+-- the same behind a datagram, if there is one
+abbrev pub is_long_since : List (Option ℕ) → Option ℕ → ℕ → Bool
+is_long_since times None later = true
+is_long_since times (Some earlier) later = is_long_between times earlier later
 
 -- ---- times that go back
 

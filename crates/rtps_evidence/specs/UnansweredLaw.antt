@@ -1,6 +1,6 @@
 -- What an unanswered number is, with no walk. DDSI-RTPS 2.5, 8.3.8.6 "Heartbeat": one without the final flag asks for an answer. own: the
 -- definition in `Outcomes` goes on act by act, as the code does; these are the words that say what it is for.
-use Rattle.std.specs.Prelude.{ℕ, Bool, true, false, ◌≡◌, ◌≤◌, ◌↔◌, ◌==◌, ◌&&◌, ◌||◌, not, filter, length, List, [], ◌∷◌, Option, Some}
+use Rattle.std.specs.Prelude.{ℕ, Bool, true, false, ◌+◌, ◌^◌, ◌≡◌, ◌≤◌, ◌↔◌, ◌==◌, ◌&&◌, ◌||◌, not, filter, length, List, [], ◌∷◌, Option, Some}
 use Rattle.std.specs.List.{find, list_any}
 use Rattle.rtps_discovery.specs.declared.matching.Pair.{Pair}
 use Rattle.rtps_receiver.specs.Speech.{is_answer}
@@ -13,6 +13,7 @@ use Rattle.rtps_evidence.specs.Locations.{is_before, is_behind, location_of}
 use Rattle.rtps_evidence.specs.Outcomes.{is_offered, is_unanswered}
 use Rattle.rtps_evidence.specs.Questions.{questions_behind}
 use Rattle.rtps_evidence.specs.Received.{withdraws}
+use Rattle.rtps_evidence.specs.Times.{time_of}
 use Rattle.rtps_evidence.specs.declared.location.Location.{Location}
 
 -- ---- the order of acts
@@ -55,21 +56,23 @@ abbrev pub answers_between : Location → Location → Pair → PlacedValue → 
 answers_between first last pair placed = is_before last placed && (not (is_before first placed) && is_answer placed.act pair.reader pair.writer)
 
 -- n is unanswered: some act that the reader hears tells it gone; before the first such act stand two or more HEARTBEATs that ask about it;
--- and no answer of the reader to the writer stands between the first of these and that act
-pub record IsUnanswered (since : Option Location) (pair : Pair) (acts : List PlacedValue) (n : ℕ) : Type 0 where
+-- no answer of the reader to the writer stands between the first of these and that act; and, where both have times, the first of these came
+-- 100 ms or more before that act
+pub record IsUnanswered (times : List (Option ℕ)) (since : Option Location) (pair : Pair) (acts : List PlacedValue) (n : ℕ) : Type 0 where
   pub gone : PlacedValue
   pub is_gone : find (withdraws pair.writer pair.reader n) acts ≡ Some gone
   pub asked : 2 ≤ length (filter (asks_before (location_of gone) since pair n) acts)
   pub first : PlacedValue
   pub is_first : find (asks_before (location_of gone) since pair n) acts ≡ Some first
   pub silent : list_any (answers_between (location_of first) (location_of gone) pair) acts ≡ false
+  pub long : (asked told : ℕ) → time_of times first.datagram ≡ Some asked → time_of times gone.datagram ≡ Some told → asked + 10 ^ 8 ≤ told
 
 -- ---- laws
 
 -- of acts in the order of their places, the walk ends in silence exactly where these words are true
 abbrev pub UnansweredIsByItsWords : Type 0
 UnansweredIsByItsWords =
-    (since : Option Location) (pair : Pair) (acts : List PlacedValue) (n : ℕ) → AreInOrder acts → (is_unanswered since pair acts n ≡ true) ↔ IsUnanswered since pair acts n
+    (times : List (Option ℕ)) (since : Option Location) (pair : Pair) (acts : List PlacedValue) (n : ℕ) → AreInOrder acts → (is_unanswered times since pair acts n ≡ true) ↔ IsUnanswered times since pair acts n
 
 -- the acts of a recording of octets, or of its first datagrams, are in that order
 abbrev pub RecordingsAreInOrder : Type 0

@@ -3,13 +3,15 @@ ghost use Rattle.std.specs.List.{find};
 ghost use Rattle.rtps_discovery.specs.declared.matching.Pair.{Pair as PairValue};
 ghost use Rattle.rtps_receiver.specs.Values.{ActValue};
 ghost use Rattle.rtps_audit.specs.Delivery.{greatest};
+ghost use Rattle.rtps_audit.specs.Index.{IsIndexBy};
+ghost use Rattle.rtps_audit.specs.Intake.{Intake};
 ghost use Rattle.rtps_audit.specs.Placed.{answers_among, placed_in};
 ghost use Rattle.rtps_receiver.specs.Said.{natural};
-ghost use Rattle.rtps_evidence.specs.Locations.{acknowledgement_of, claim_in as claim_in_lem, claim_of};
+ghost use Rattle.rtps_evidence.specs.Locations.{acknowledgement_of, acknowledges as acknowledges_lem, claim_in as claim_in_lem, claim_of};
 
 use crate::location::Location;
-use rtps_audit::Answer;
-use rtps_ids::SeqNum;
+use rtps_audit::{Answer, FirstAsked, Index};
+use rtps_discovery::Pair;
 
 /// An answer of the reader to the writer.
 #[derive(Clone, Copy)]
@@ -44,6 +46,13 @@ pub(crate) fn greatest_base(answers: &[Answer]) -> u64
     greatest
 }
 
+/// Whether a reader acknowledges some number of a writer, any two GUIDs, by whatever answer of an index's recording.
+pub fn acknowledges(index: &Index<'_>, pair: Pair) -> bool
+    ensures { (intake : Intake) → IsIndexBy intake index.now → result ≡ acknowledges_lem pair.writer pair.reader (placed_in intake.acts) }
+{
+    greatest_base(index.answers_of(pair)) > 1
+}
+
 /// The first of these answers that has the base.
 fn first_with(answers: &[Answer], base: u64) -> Option<Claim>
     ensures { result ≡ find (λ claim. natural claim.below == base) (map claim_in_lem answers.now) }
@@ -69,12 +78,12 @@ fn first_above(answers: &[Answer], datagram: u64, number: u64) -> Option<Claim>
 }
 
 /// The first of a pair's answers that has the greatest base of all, where that is above `from`.
-pub(crate) fn find_acknowledgement(answers: &[Answer], from: SeqNum) -> Option<Claim>
+pub(crate) fn find_acknowledgement(answers: &[Answer], from: FirstAsked) -> Option<Claim>
     ensures { (pair : PairValue) (recording : List (List ActValue)) → answers.now ≡ answers_among pair (placed_in recording)
         → result ≡ acknowledgement_of from pair.writer pair.reader (placed_in recording) }
 {
     let base = greatest_base(answers);
-    if base <= from.get().cast_unsigned() {
+    if base <= from.get() {
         return None;
     }
     first_with(answers, base)

@@ -7,18 +7,18 @@ ghost use Rattle.rtps_evidence.specs.Locations.{sends, tells};
 
 use crate::said_to::said_to;
 use crate::withdrawal::{Withdrawal, push_withdrawn};
-use rtps_audit::Placed;
+use rtps_audit::{FirstAsked, Placed};
 use rtps_coverage::Stretch;
 use rtps_coverage::stretches::{count_of, in_order, push};
 use rtps_discovery::Pair;
-use rtps_ids::{Memory, SeqNum};
+use rtps_ids::Memory;
 use rtps_receiver::Numbers;
 use std::alloc::Global;
 
 /// The numbers that are asked for: those from `from` to the last announced one. There are none where `last` is `from` - 1.
 #[derive(Clone, Copy)]
 pub(crate) struct AskedNumbers {
-    pub(crate) from: SeqNum,
+    pub(crate) from: FirstAsked,
     pub(crate) last: u64,
     ghost in_range: { (1 ≤ from) × (from - 1 ≤ last) × (last < 2 ^ 63) },
 }
@@ -125,7 +125,7 @@ impl HeardNumbers {
             → AreNumbers (is_told writer reader acts) (is_sent writer reader acts) is_gone self.old
             → IfOk result (AreAmounts asked.now.from asked.now.last writer reader acts) }
     {
-        let first = asked.from.get().cast_unsigned();
+        let first = asked.from.get();
         let end = asked.last + 1;
         let told = count_of(&mut self.told, first, end)?;
         let payloads = count_of(&mut self.sent, first, end)?;

@@ -6,10 +6,10 @@ ghost use Rattle.rtps_coverage.specs.Rising.{AreRising, some_reaches};
 
 use crate::acknowledgement::greatest_base;
 use crate::withdrawal::Withdrawal;
-use rtps_audit::Answer;
+use rtps_audit::{Answer, FirstAsked};
 use rtps_coverage::Stretch;
 use rtps_coverage::rising::{end_at, rising};
-use rtps_ids::{Memory, SeqNum};
+use rtps_ids::Memory;
 use std::alloc::Global;
 
 /// What a pair's answers claim, and what is told gone before that.
@@ -110,11 +110,11 @@ pub(crate) fn gone_among(
     alloc: Global,
     withdrawals: &[Withdrawal],
     answers: &[Answer],
-    from: SeqNum,
+    from: FirstAsked,
 ) -> Result<Vec<Stretch>, Memory>
     ensures { IfOk result (λ gone. (n : ℕ) → from ≤ n → stretches_have gone.items n ≡ list_any (withdrawn_unclaimed answers.now n) withdrawals.now) }
 {
-    if !go_past(withdrawals, from.get().cast_unsigned()) {
+    if !go_past(withdrawals, from.get()) {
         return Ok(Vec::new(alloc));
     }
     let mut stretches = claims_of(alloc, answers)?;

@@ -1,10 +1,11 @@
-ghost use Rattle.std.specs.Prelude.{◌≡◌, IfOk, List};
+ghost use Rattle.std.specs.Prelude.{ℕ, Bool, ◌≡◌, IfOk, List};
 ghost use Rattle.rtps_receiver.specs.Values.{ActValue};
 ghost use Rattle.rtps_audit.specs.Index.{IsIndexBy};
 ghost use Rattle.rtps_audit.specs.Intake.{Intake};
 ghost use Rattle.rtps_audit.specs.RunVerdict.{IsVerdictFrom};
 ghost use Rattle.rtps_audit.specs.Said.{IsSaid, datagrams_until};
 ghost use Rattle.rtps_audit.specs.Speech.{speech_by};
+ghost use Rattle.rtps_coverage.specs.Stretches.{stretches_have};
 
 use crate::acknowledgement::{Claim, find_acknowledgement};
 use crate::exchange::Exchange;
@@ -48,7 +49,7 @@ pub struct Evidence<'a> {
     /// The least of them that it may not have received, and what keeps it from being certain; None where there is none.
     pub not_received: Option<NotReceived>,
     /// How many of them it missed: it may not have received them, and of its last request for each nothing was sent behind it, or
-    /// it was sent before it, since the reader joined.
+    /// it was sent before it, since the reader joined. Of a pair that is held against another recording: those that did not arrive.
     pub missed: u64,
     /// The least of them; None where there is none.
     pub first_missed: Option<FirstMissed>,
@@ -60,7 +61,7 @@ pub struct Evidence<'a> {
 
 impl<'a> Evidence<'a> {
     ghost use Rattle.rtps_evidence.specs.Evidence.{IsBeside, IsEvidence, IsEvidenceFrom, IsShown, IsVerdictIn};
-    ghost use Rattle.rtps_evidence.specs.OtherSide.{AreSides, AreThere, Beside};
+    ghost use Rattle.rtps_evidence.specs.OtherSide.{AreSides, AreThere, Beside, is_there};
     ghost use Rattle.rtps_evidence.specs.Spans.{since_of};
     ghost use Rattle.rtps_evidence.specs.WriterSummary.{IsSummary, IsSummaryOf};
 
@@ -98,9 +99,9 @@ impl<'a> Evidence<'a> {
         requires from { summary.now.asked.from ≡ judgement.now.span.from }
         requires until { summary.now.until ≡ judgement.now.span.until }
         ensures judged { IfOk result (λ evidence. evidence.verdict ≡ judgement.now.verdict) }
-        ensures shown { (intake : Intake) → IsIndexBy intake sides.now.index.now → IsSummaryOf intake.acts summary.now
+        ensures shown { (intake : Intake) (beside : Beside) → AreSides intake beside sides.now → IsSummaryOf intake.acts summary.now
             → IsVerdictIn judgement.now.span judgement.now.pair intake.acts judgement.now.verdict
-            → IfOk result (IsShown judgement.now.span.from (since_of judgement.now.span) judgement.now.pair (datagrams_until judgement.now.span.until intake.acts)) }
+            → IfOk result (IsShown (is_there beside.other judgement.now.pair) judgement.now.span.from (since_of judgement.now.span) judgement.now.pair (datagrams_until judgement.now.span.until intake.acts)) }
         ensures beside { (intake : Intake) (beside : Beside) → AreSides intake beside sides.now → IsSummaryOf intake.acts summary.now
             → IsVerdictIn judgement.now.span judgement.now.pair intake.acts judgement.now.verdict
             → IfOk result (λ evidence. IsBeside judgement.now.in_spans beside judgement.now.span judgement.now.pair (datagrams_until judgement.now.span.until intake.acts) evidence.in_span) }
@@ -129,9 +130,10 @@ impl<'a> Evidence<'a> {
         requires writer { summary.now.writer ≡ exchange.now.pair.writer }
         requires from { summary.now.asked.from ≡ exchange.now.span.from }
         ensures judged { IfOk result (λ evidence. evidence.verdict ≡ verdict) }
-        ensures shown { (recording : List (List ActValue)) → IsSaid exchange.now.pair recording exchange.now.said → IsSummary recording summary.now
+        ensures shown { (recording : List (List ActValue)) (there : ℕ → Bool) → IsSaid exchange.now.pair recording exchange.now.said → IsSummary recording summary.now
             → IsVerdictFrom exchange.now.span.from (speech_by exchange.now.pair.writer exchange.now.pair.reader recording) verdict
-            → IfOk result (IsShown exchange.now.span.from (since_of exchange.now.span) exchange.now.pair recording) }
+            → ((n : ℕ) → stretches_have exchange.now.there.now n ≡ there n)
+            → IfOk result (IsShown there exchange.now.span.from (since_of exchange.now.span) exchange.now.pair recording) }
         ensures beside { (recording : List (List ActValue)) (beside : Beside) → IsSaid exchange.now.pair recording exchange.now.said
             → IsSummary recording summary.now
             → IsVerdictFrom exchange.now.span.from (speech_by exchange.now.pair.writer exchange.now.pair.reader recording) verdict
@@ -148,7 +150,7 @@ impl<'a> Evidence<'a> {
             missed: &missed,
         };
         let in_span = InSpan::of(alloc, exchange, &unreceived, asked)?;
-        let missed = count_missed(&mut missed, exchange, asked)?;
+        let missed = count_missed(alloc, &mut missed, exchange, asked)?;
         let received = count_received(&mut lacking, exchange, asked)?;
         let amounts = heard.amounts(asked)?;
         Ok(Evidence {

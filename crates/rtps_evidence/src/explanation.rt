@@ -4,11 +4,12 @@ ghost use Rattle.rtps_audit.specs.Index.{IsIndexBy};
 ghost use Rattle.rtps_audit.specs.Intake.{Intake};
 ghost use Rattle.rtps_audit.specs.Report.{IsJudgedFrom};
 ghost use Rattle.rtps_evidence.specs.Evidence.{IsEvidenceBy};
-ghost use Rattle.rtps_evidence.specs.Explanation.{IsExplainedBy, IsExplainedFrom, IsNamed, row_of, topic_of, type_of};
+ghost use Rattle.rtps_evidence.specs.Explanation.{AreExplained, IsExplainedBy, IsExplainedFrom, IsNamed, row_of, topic_of, type_of};
 ghost use Rattle.rtps_evidence.specs.OtherSide.{AreSides, Beside};
 
 use crate::evidence::Evidence;
 use crate::exchange::Extent;
+use crate::judged_pairs::judged_rows;
 use crate::judgement::Judgement;
 use crate::other_side::Sides;
 use crate::times::Times;
@@ -18,13 +19,13 @@ use rtps_discovery::{Directory, Pair};
 use rtps_ids::{Guid, Memory};
 use std::alloc::Global;
 
-/// A reliable writer and reader that match, and why they have their verdict.
+/// A writer and a reader, and why they have their verdict.
 #[derive(Clone, Copy)]
 pub struct Explanation<'a> {
     pub pair: Pair,
     /// The topic of both.
     pub topic: &'a [u8],
-    /// The type of both.
+    /// The type of the writer.
     pub type_name: &'a [u8],
     pub evidence: Evidence<'a>,
 }
@@ -48,13 +49,14 @@ fn names_of<'a>(directory: &Directory<'a>, guid: Guid) -> (&'a [u8], &'a [u8])
     }
 }
 
-/// Explains each of these rows of a report by the numbers of an extent.
-fn explain_rows<'a>(
+/// Explains each of these rows of a report by the numbers of an extent, and tells how far it is.
+fn explain_rows<'a, P: Watch>(
     alloc: Global,
     sides: &Sides<'_, 'a, '_, '_>,
     directory: &Directory<'a>,
     rows: &[Row],
     extent: Extent,
+    watch: &mut P,
 ) -> Result<Vec<Explanation<'a>>, Memory>
     ensures pairs { IfOk result (λ explained. map (λ row. row.pair) explained.items ≡ map (λ row. row.pair) rows.now) }
     ensures rows { (intake : Intake) → IsIndexBy intake sides.now.index.now → extent.in_spans ≡ false → IfOk result (λ explained. map row_of explained.items ≡ rows.now) }
@@ -80,7 +82,28 @@ fn explain_rows<'a>(
             type_name,
             evidence,
         })?;
+        watch.explained(explained.len(), rows.len());
     }
+    Ok(explained)
+}
+
+/// Explains each of these pairs, of whatever writers and readers, in their order, by the numbers of an extent, as [`explain_index`] explains
+/// those of its report. `known` are rows of a report by the same numbers: what they say need not be found again. They are looked through
+/// fastest where they are in order. It tells how far it is. `Memory` is answered where what is kept cannot grow.
+pub fn explain_pairs<'a, P: Watch>(
+    alloc: Global,
+    sides: &Sides<'_, 'a, '_, '_>,
+    pairs: &[Pair],
+    known: &[Row],
+    extent: Extent,
+    watch: &mut P,
+) -> Result<Vec<Explanation<'a>>, Memory>
+    ensures { (intake : Intake) (beside : Beside) → AreSides intake beside sides.now
+        → All (IsJudgedFrom extent.from intake.acts) known.now
+        → IfOk result (λ found. AreExplained extent.in_spans extent.from beside intake pairs.now found.items) }
+{
+    let rows = judged_rows(alloc, sides.index, pairs, known, extent.from)?;
+    let explained = explain_rows(alloc, sides, sides.index.directory(), &rows, extent, watch)?;
     Ok(explained)
 }
 
@@ -98,7 +121,7 @@ pub fn explain_index<'a, P: Watch>(
 {
     let index = sides.index;
     let report = index.report_from(extent.from, watch)?;
-    let rows = explain_rows(alloc, sides, index.directory(), &report.rows, extent)?;
+    let rows = explain_rows(alloc, sides, index.directory(), &report.rows, extent, watch)?;
     Ok(Explained {
         rows,
         counts: report.counts,

@@ -62,7 +62,7 @@ impl FirstNumbers {
             ≡ kept (first_ten (λ n. not (stretches_have stretches.old.items n)) asked.now.from (asked.now.last + 1))) }
     {
         let rest = others_of(alloc, stretches, asked)?;
-        let from = asked.from.get().cast_unsigned();
+        let from = asked.from.get();
         Ok(FirstNumbers::inside(&rest, from, asked.last + 1))
     }
 

@@ -6,7 +6,7 @@ ghost use Rattle.rtps_receiver.specs.Said.{natural as natural_lem};
 ghost use Rattle.rtps_evidence.specs.Grounds.{grounds_by, grounds_value, number_in};
 ghost use Rattle.rtps_evidence.specs.Grounds.GroundsValue.{ConflictGrounds, OpenGrounds};
 ghost use Rattle.rtps_evidence.specs.Locations.{first_sent as first_sent_lem, other_sent as other_sent_lem, teller_of};
-ghost use Rattle.rtps_evidence.specs.Questions.{asked_since as asked_since_lem, last_asked as last_asked_lem};
+ghost use Rattle.rtps_evidence.specs.Questions.{asked_since as asked_since_lem, first_asked as first_asked_lem, last_asked as last_asked_lem};
 
 use crate::acknowledgement::{Claim, find_claim};
 use crate::exchange::Exchange;
@@ -27,6 +27,8 @@ pub enum Grounds<'a> {
         /// How many HEARTBEATs without the final flag the reader hears from the writer behind its last answer to it, or behind the
         /// beginning where there is none.
         asked_since: u64,
+        /// Where the first of them stands.
+        first_asked: Option<Location>,
         /// Where the last of them stands.
         last_asked: Option<Location>,
     },
@@ -71,12 +73,14 @@ fn open_grounds<'a>(acts: &[Placed<'a>], answers: &[Answer], pair: Pair, number:
     ensures { (recording : List (List ActValue)) → map placed_value acts.now ≡ filter (is_from pair.writer) (placed_in recording)
         → answers.now ≡ answers_among pair (placed_in recording)
         → grounds_value result ≡ OpenGrounds (teller_of pair.writer pair.reader number (placed_in recording))
-        (asked_since_lem pair.writer pair.reader (placed_in recording)) (last_asked_lem pair.writer pair.reader (placed_in recording)) }
+        (asked_since_lem pair.writer pair.reader (placed_in recording)) (first_asked_lem pair.writer pair.reader (placed_in recording))
+        (last_asked_lem pair.writer pair.reader (placed_in recording)) }
 {
     let questions = questions_since(acts, answers, pair);
     Grounds::Open {
         teller: find_teller(acts, pair, number),
         asked_since: questions.count,
+        first_asked: questions.first,
         last_asked: questions.last,
     }
 }

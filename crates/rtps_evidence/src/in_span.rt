@@ -9,12 +9,13 @@ ghost use Rattle.rtps_evidence.specs.Claimed.{AreLacking};
 ghost use Rattle.rtps_evidence.specs.Clean.{has_all as has_all_lem, is_clean as is_clean_lem, is_complete as is_complete_lem, is_open as is_open_lem, is_tail as is_tail_lem, is_whole as is_whole_lem, loses_none as loses_none_lem};
 ghost use Rattle.rtps_evidence.specs.Missed.{is_missed};
 ghost use Rattle.rtps_coverage.specs.Rising.{AreRising};
-ghost use Rattle.rtps_evidence.specs.Spans.{since_of};
+ghost use Rattle.rtps_evidence.specs.Spans.{since_of, wrote_before as wrote_before_lem};
 
 use crate::acknowledgement::greatest_base;
 use crate::amount::AskedNumbers;
 use crate::exchange::Exchange;
 use crate::first_numbers::FirstNumbers;
+use crate::last_announcement::greatest_number;
 use crate::location::Location;
 use crate::outcome::{Outcomes, Unreceived};
 use crate::waits::{Wait, told_wait};
@@ -31,6 +32,8 @@ pub struct InSpan {
     pub is_joined_here: bool,
     /// The row is by the numbers from this one on.
     pub from: u64,
+    /// Whether the writer announced numbers, and all of them stand before that one.
+    pub wrote_before: bool,
     /// The row is by the datagrams before this one, in which the reader leaves; None where it does not.
     pub until: Option<u64>,
     pub outcomes: Outcomes,
@@ -68,6 +71,15 @@ fn is_open(verdict: &Verdict) -> bool
         Verdict::Conflict { .. } => false,
         Verdict::Unfounded { .. } => false,
     }
+}
+
+/// Whether the writer of an exchange announced numbers in it, and all of them stand before the first one of its span.
+fn wrote_before(exchange: &Exchange<'_, '_>) -> bool
+    ensures { (recording : List (List ActValue)) → IsSaid exchange.now.pair recording exchange.now.said
+        → result ≡ wrote_before_lem exchange.now.span.from exchange.now.pair.writer (placed_in recording) }
+{
+    let announced = greatest_number(exchange.said.acts, exchange.pair.writer);
+    0 < announced && announced < exchange.span.from.get()
 }
 
 impl Outcomes {
@@ -109,7 +121,8 @@ impl InSpan {
         Ok(Some(InSpan {
             joined: exchange.span.joined,
             is_joined_here: exchange.span.is_joined_here,
-            from: exchange.span.from.get().cast_unsigned(),
+            from: exchange.span.from.get(),
+            wrote_before: wrote_before(exchange),
             until: exchange.span.until,
             outcomes,
             base: greatest_base(exchange.said.answers),
@@ -127,12 +140,12 @@ impl InSpan {
         self.outcomes.has_all() && (!self.is_held || self.outcomes.likely == 0)
     }
 
-    /// Whether what a row of this verdict lacks is a tail alone: numbers behind all that the reader acknowledged, of which nothing
-    /// says that they are lost.
+    /// Whether what a row of this verdict lacks is a tail alone: numbers behind all that the reader acknowledged, which is something,
+    /// and all that stands before the row. Nothing says that they are lost.
     pub fn is_tail(&self, verdict: &Verdict) -> bool
-        ensures { result ≡ is_tail_lem self.now.is_held verdict.now self.now.outcomes self.now.base }
+        ensures { result ≡ is_tail_lem self.now.is_held verdict.now self.now.outcomes self.now.from self.now.base }
     {
-        is_open(verdict) && 1 < self.base && self.loses_none()
+        is_open(verdict) && 1 < self.base && self.from <= self.base && self.loses_none()
     }
 
     /// Whether a row of this verdict lacks nothing, though it is open: its pair is held, and each number is received or arrived.
@@ -144,7 +157,7 @@ impl InSpan {
 
     /// Whether a row of this verdict is clean, where a reader that did not leave may lack a tail of so many numbers.
     pub fn is_clean(&self, verdict: &Verdict, tail: u64) -> bool
-        ensures { result ≡ is_clean_lem tail (is_some self.now.until) self.now.is_held verdict.now self.now.outcomes self.now.base }
+        ensures { result ≡ is_clean_lem tail (is_some self.now.until) self.now.is_held verdict.now self.now.outcomes self.now.from self.now.base }
     {
         if is_complete(verdict) {
             return self.loses_none();

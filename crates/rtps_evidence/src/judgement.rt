@@ -6,7 +6,7 @@ ghost use Rattle.rtps_evidence.specs.Evidence.{IsVerdictIn};
 ghost use Rattle.rtps_evidence.specs.Spans.{IsExtent};
 
 use crate::span::Span;
-use rtps_audit::{Index, Row, Verdict};
+use rtps_audit::{FirstAsked, Index, Row, Verdict};
 use rtps_discovery::Pair;
 use rtps_ids::{Memory, SeqNum};
 
@@ -38,7 +38,7 @@ fn verdict_on(index: &Index<'_>, row: Row, span: &Span, from: SeqNum) -> Result<
         → IfOk result (IsVerdictIn span.now row.pair intake.acts) }
     ensures same { span.now.from ≡ from → span.now.until ≡ None → IfOk result (λ verdict. verdict ≡ row.verdict) }
 {
-    if span.from == from && span.until.is_none() {
+    if span.from == FirstAsked::of(from) && span.until.is_none() {
         return Ok(row.verdict);
     }
     index.judge_until(row.pair, span.from, span.until)

@@ -29,7 +29,7 @@ pub(crate) fn others_of(
         → stretches_have rest.items n ≡ not (stretches_have stretches.old.items n)) }
 {
     stretches.sort_by_key(|stretch| stretch.lo)?;
-    let from = asked.from.get().cast_unsigned();
+    let from = asked.from.get();
     let rest = outside(alloc, stretches, from, asked.last + 1)?;
     Ok(rest)
 }

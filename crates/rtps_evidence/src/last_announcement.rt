@@ -6,8 +6,8 @@ ghost use Rattle.rtps_audit.specs.Placed.{placed_value};
 ghost use Rattle.rtps_evidence.specs.Locations.{announcement_at, announcement_of, number_said as number_said_lem};
 
 use crate::location::{Kind, Location, kind_of, location_of};
-use rtps_audit::{Placed, announced_number};
-use rtps_ids::{Guid, SeqNum};
+use rtps_audit::{FirstAsked, Placed, announced_number};
+use rtps_ids::Guid;
 
 /// The submessage that announces a number first.
 #[derive(Clone, Copy)]
@@ -53,13 +53,13 @@ fn first_announcing(acts: &[Placed<'_>], writer: Guid, number: u64) -> Option<An
 pub(crate) fn find_announcement(
     acts: &[Placed<'_>],
     writer: Guid,
-    from: SeqNum,
+    from: FirstAsked,
     number: u64,
 ) -> Option<Announcement>
     requires { number < 2 ^ 63 }
     ensures { result ≡ announcement_of from writer number (map placed_value acts.now) }
 {
-    if number < from.get().cast_unsigned() {
+    if number < from.get() {
         return None;
     }
     first_announcing(acts, writer, number)

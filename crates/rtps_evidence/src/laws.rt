@@ -4,7 +4,7 @@
 ghost use Rattle.rtps_evidence.specs.Certificates.{CompleteIsShown, ConflictIsShown, OpenIsShown, UnfoundedIsShown};
 ghost use Rattle.rtps_evidence.specs.Clean.{CountsSayTail};
 ghost use Rattle.rtps_evidence.specs.Evidence.{NotHeldIsAlone};
-ghost use Rattle.rtps_evidence.specs.Explanation.{HasOneExplanation};
+ghost use Rattle.rtps_evidence.specs.Explanation.{HasOneExplanation, PairsHaveOneExplanation};
 ghost use Rattle.rtps_evidence.specs.FirstNumbers.{KeptNumbersAreThere};
 ghost use Rattle.rtps_evidence.specs.Outcomes.{ArrivedIsAllThatChanges, OutcomesAddUp, UnsentIsNotHeld};
 ghost use Rattle.rtps_evidence.specs.Received.{ReceivedIsExact};
@@ -92,5 +92,13 @@ pub fn one_explanation()
 {
     one_map();
     one_report();
+    has_no_two_verdicts();
+}
+
+/// Any pairs of what an index takes in are explained in one way.
+pub fn pairs_have_one_explanation()
+    ensures { PairsHaveOneExplanation }
+{
+    one_map();
     has_no_two_verdicts();
 }

@@ -1,7 +1,7 @@
-ghost use Rattle.std.specs.Prelude.{ℕ, ◌≡◌, ◌<◌, ◌^◌, IfSome};
+ghost use Rattle.std.specs.Prelude.{ℕ, ◌≡◌, ◌<◌, ◌^◌, is_some, IfSome};
 ghost use Rattle.rtps_audit.specs.Placed.{placed_value};
 ghost use Rattle.rtps_receiver.specs.Said.{is_at};
-ghost use Rattle.rtps_evidence.specs.Missed.{brings as brings_lem, brings_behind};
+ghost use Rattle.rtps_evidence.specs.Missed.{brings as brings_lem, brings_behind, brings_some};
 
 use crate::location::{Location, is_behind};
 use crate::said_to::said_to;
@@ -18,6 +18,7 @@ pub(crate) struct Listener {
 /// The number of the payload that the pair's reader hears by an act since it is there, or of which it hears fragments.
 pub(crate) fn number_behind(placed: &Placed<'_>, listener: &Listener) -> Option<u64>
     ensures in_range { IfSome result (λ number. number < 2 ^ 63) }
+    ensures some { is_some result ≡ brings_some listener.now.since listener.now.pair.writer listener.now.pair.reader (placed_value placed.now) }
     ensures brought { (n : ℕ) → brings_behind listener.now.since listener.now.pair.writer listener.now.pair.reader n (placed_value placed.now) ≡ is_at n result }
 {
     if is_behind(listener.since, placed) {

@@ -1,45 +1,80 @@
-ghost use Rattle.std.specs.Prelude.{ℕ, ◌≡◌, ◌≤◌, IfOk, List};
+ghost use Rattle.std.specs.Prelude.{ℕ, Bool, ◌≡◌, ◌≤◌, ◌+◌, ◌&&◌, not, IfOk, List};
 ghost use Rattle.rtps_receiver.specs.Values.{ActValue};
 ghost use Rattle.rtps_audit.specs.Placed.{placed_in};
 ghost use Rattle.rtps_audit.specs.Said.{IsSaid};
 ghost use Rattle.rtps_coverage.specs.Stretches.{stretches_have};
-ghost use Rattle.rtps_evidence.specs.Missed.{AreMissed, is_missed};
+ghost use Rattle.rtps_evidence.specs.Missed.{AreMissed, is_missed, missed_by};
+ghost use Rattle.rtps_evidence.specs.Received.{least_in};
 ghost use Rattle.rtps_evidence.specs.Spans.{since_of};
 
 use crate::amount::AskedNumbers;
 use crate::exchange::Exchange;
 use crate::first_missed::{FirstMissed, first_missed_at};
+use crate::lacking::others_of;
 use rtps_coverage::Stretch;
 use rtps_coverage::stretches::{count_of, least_inside};
 use rtps_ids::Memory;
+use std::alloc::Global;
 
-/// Of the numbers that are asked for: how many are missed, and the least of them.
+/// Of the numbers that are asked for: how many are missed and not there in another recording, and the least of them.
 #[derive(Clone, Copy)]
 pub(crate) struct Missed {
     pub(crate) count: u64,
     pub(crate) first: Option<FirstMissed>,
 }
 
-/// Of the numbers that are asked for: how many are missed, and the least of them, where these are missed. It puts them in another
+/// Of the numbers that are asked for: those of these that are not there. Other numbers may be among them. It puts these in another
 /// order.
+fn not_there(
+    alloc: Global,
+    numbers: &mut Vec<Stretch>,
+    there: &[Stretch],
+    asked: &AskedNumbers,
+) -> Result<Vec<Stretch>, Memory>
+    ensures { IfOk result (λ left. (n : ℕ) → asked.now.from ≤ n → n ≤ asked.now.last → stretches_have left.items n
+        ≡ (stretches_have numbers.old.items n && not (stretches_have there.now n))) }
+{
+    let mut others = others_of(alloc, numbers, asked)?;
+    others.extend_from_slice(there)?;
+    let left = others_of(alloc, &mut others, asked)?;
+    Ok(left)
+}
+
+/// The least of the numbers that are asked for and that one of these stretches has, as one that is missed; None where there is none.
+fn first_among(
+    numbers: &[Stretch],
+    exchange: &Exchange<'_, '_>,
+    asked: &AskedNumbers,
+) -> Option<FirstMissed>
+    ensures { (recording : List (List ActValue)) → IsSaid exchange.now.pair recording exchange.now.said
+        → result ≡ missed_by exchange.now.pair.writer exchange.now.pair.reader (placed_in recording) (least_in (stretches_have numbers.now) asked.now.from (asked.now.last + 1)) }
+{
+    let from = asked.from.get();
+    let end = asked.last + 1;
+    let least = least_inside(numbers, from, end);
+    if least < end {
+        return first_missed_at(exchange, least);
+    }
+    None
+}
+
+/// Of the numbers that are asked for: how many are missed and not there, and the least of them, where these are missed. It puts them
+/// in another order.
 pub(crate) fn count_missed(
+    alloc: Global,
     missed: &mut Vec<Stretch>,
     exchange: &Exchange<'_, '_>,
     asked: &AskedNumbers,
 ) -> Result<Missed, Memory>
-    ensures { (recording : List (List ActValue)) → IsSaid exchange.now.pair recording exchange.now.said
+    ensures { (recording : List (List ActValue)) (there : ℕ → Bool) → IsSaid exchange.now.pair recording exchange.now.said
+        → ((n : ℕ) → stretches_have exchange.now.there.now n ≡ there n)
         → ((n : ℕ) → asked.now.from ≤ n → n ≤ asked.now.last → stretches_have missed.old.items n
         ≡ is_missed (since_of exchange.now.span) exchange.now.pair.writer exchange.now.pair.reader (placed_in recording) n)
-        → IfOk result (AreMissed asked.now.from asked.now.last (since_of exchange.now.span) exchange.now.pair.writer exchange.now.pair.reader (placed_in recording)) }
+        → IfOk result (AreMissed there asked.now.from asked.now.last (since_of exchange.now.span) exchange.now.pair.writer exchange.now.pair.reader (placed_in recording)) }
 {
-    let from = asked.from.get().cast_unsigned();
-    let end = asked.last + 1;
-    let least = least_inside(missed, from, end);
-    let count = count_of(missed, from, end)?;
-    let first = if least < end {
-        first_missed_at(exchange, least)
-    } else {
-        None
-    };
+    let mut left = not_there(alloc, missed, exchange.there, asked)?;
+    let first = first_among(&left, exchange, asked);
+    let from = asked.from.get();
+    let count = count_of(&mut left, from, asked.last + 1)?;
     Ok(Missed { count, first })
 }

@@ -116,7 +116,7 @@ fn count_with(
     ensures count { IfOk result (λ count. count ≡ count_in (λ n. stretches_have numbers.old.items n || stretches_have more.now n) asked.now.from (asked.now.last + 1)) }
 {
     numbers.extend_from_slice(more)?;
-    count_of(numbers, asked.from.get().cast_unsigned(), asked.last + 1)
+    count_of(numbers, asked.from.get(), asked.last + 1)
 }
 
 impl Unreceived<'_> {
@@ -140,7 +140,7 @@ impl Unreceived<'_> {
         if !exchange.is_held {
             return Ok(FirstNumbers::none());
         }
-        let from = asked.from.get().cast_unsigned();
+        let from = asked.from.get();
         let mut numbers = outside(alloc, self.numbers, from, asked.last + 1)?;
         numbers.extend_from_slice(exchange.there)?;
         let lacking = FirstNumbers::outside(alloc, &mut numbers, asked)?;
@@ -165,18 +165,18 @@ impl Outcomes {
             → AreLacking asked.now.from asked.now.last exchange.now.pair (placed_in recording) unreceived.now.numbers.now
             → ((n : ℕ) → asked.now.from ≤ n → n ≤ asked.now.last → stretches_have unreceived.now.missed.now n
             ≡ is_missed (since_of exchange.now.span) exchange.now.pair.writer exchange.now.pair.reader (placed_in recording) n)
-            → IfOk result (AreOutcomes there asked.now.from asked.now.last (since_of exchange.now.span) exchange.now.pair (placed_in recording)) }
+            → IfOk result (AreOutcomes there asked.now.from asked.now.last exchange.now.times.now.of_datagrams (since_of exchange.now.span) exchange.now.pair (placed_in recording)) }
     {
         let acts = exchange.said.acts;
         let lacking = unreceived.numbers;
         let mut brought = brought_among(alloc, acts, &exchange.listener(), lacking)?;
+        let silent = find_silent(alloc, exchange, &brought)?;
         let unsent = others_of(alloc, &mut brought, asked)?;
-        let silent = find_silent(alloc, exchange, asked, lacking)?;
         let claimed = [Stretch {
             lo: 0,
             hi: greatest_base(exchange.said.answers),
         }];
-        let from = asked.from.get().cast_unsigned();
+        let from = asked.from.get();
         let end = asked.last + 1;
         let mut numbers = outside(alloc, lacking, from, end)?;
         let received = count_with(&mut numbers, &[], asked)?;
@@ -205,7 +205,7 @@ impl Outcomes {
         asked: &AskedNumbers,
     ) -> Result<u64, Memory>
         ensures { (acts : List PlacedValue) (there : ℕ → Bool) → ((n : ℕ) → stretches_have exchange.now.there.now n ≡ there n)
-            → AreOutcomes there asked.now.from asked.now.last (since_of exchange.now.span) exchange.now.pair acts self.now
+            → AreOutcomes there asked.now.from asked.now.last exchange.now.times.now.of_datagrams (since_of exchange.now.span) exchange.now.pair acts self.now
             → IfOk result (λ absent. absent ≡ absent_of exchange.now.is_held there asked.now.from asked.now.last exchange.now.pair acts) }
     {
         if !exchange.is_held {

@@ -1,8 +1,9 @@
 ghost use Rattle.std.specs.Prelude.{◌≡◌, ◌-◌, ◌<◌, ◌≤◌, filter, length, map, slice_get, IfSome, List, None};
-ghost use Rattle.std.specs.List.{last_or};
+ghost use Rattle.std.specs.List.{find, last_or};
 ghost use Rattle.std.specs.Option.{option_map};
 ghost use Rattle.rtps_receiver.specs.Values.{ActValue, spoken_body_value};
 ghost use Rattle.rtps_audit.specs.Placed.{answers_among, is_from, placed_in, placed_value};
+ghost use Rattle.rtps_evidence.specs.Locations.{location_of as location_of_lem};
 ghost use Rattle.rtps_evidence.specs.Questions.{AreAsked, AreQuestions, is_question as is_question_lem, place_of as place_of_lem, questions_behind};
 
 use crate::location::{Location, is_behind, location_of};
@@ -14,6 +15,8 @@ use rtps_receiver::{ActBody, SpokenBody};
 #[derive(Clone, Copy)]
 pub(crate) struct Questions {
     pub(crate) count: u64,
+    /// Where the first of them stands.
+    pub(crate) first: Option<Location>,
     /// Where the last of them stands.
     pub(crate) last: Option<Location>,
 }
@@ -41,6 +44,18 @@ pub(crate) fn asks_behind(placed: &Placed<'_>, pair: Pair, place: Option<Locatio
         && is_question(&placed.act.body)
 }
 
+/// Where the pair's writer asks its reader first by these acts, behind a place.
+fn first_question(acts: &[Placed<'_>], pair: Pair, place: Option<Location>) -> Option<Location>
+    ensures { result ≡ option_map location_of_lem (find (questions_behind place pair.writer pair.reader) (map placed_value acts.now)) }
+{
+    for placed in acts {
+        if asks_behind(placed, pair, place) {
+            return Some(location_of(placed));
+        }
+    }
+    None
+}
+
 /// How often the pair's writer asks its reader by these acts, behind a place.
 fn questions_among(acts: &[Placed<'_>], pair: Pair, place: Option<Location>) -> Questions
     ensures { AreAsked place pair.writer pair.reader (map placed_value acts.now) result }
@@ -53,7 +68,11 @@ fn questions_among(acts: &[Placed<'_>], pair: Pair, place: Option<Location>) -> 
             last = Some(location_of(placed));
         }
     }
-    Questions { count, last }
+    Questions {
+        count,
+        first: first_question(acts, pair, place),
+        last,
+    }
 }
 
 /// Where an answer stands.

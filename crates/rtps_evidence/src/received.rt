@@ -82,7 +82,7 @@ pub(crate) fn count_received(
         → AreLacking asked.now.from asked.now.last exchange.now.pair (placed_in recording) lacking.old.items
         → IfOk result (AreReceived asked.now.from asked.now.last exchange.now.pair.writer exchange.now.pair.reader (placed_in recording)) }
 {
-    let from = asked.from.get().cast_unsigned();
+    let from = asked.from.get();
     let end = asked.last + 1;
     let least = least_inside(lacking, from, end);
     let others = count_of(lacking, from, end)?;

@@ -14,7 +14,7 @@ use crate::first_numbers::FirstNumbers;
 use crate::judgement::span_of;
 use crate::other_side::{Arrivals, Sides};
 use crate::said_to::said_to;
-use rtps_audit::{Index, Placed, Said};
+use rtps_audit::{FirstAsked, Index, Placed, Said};
 use rtps_coverage::Stretch;
 use rtps_coverage::stretches::count_of;
 use rtps_discovery::Pair;
@@ -89,7 +89,7 @@ pub fn recorded_of(
 {
     let span = span_of(index, pair, extent.from, extent.in_spans);
     let said = Said::until(index, pair, span.until);
-    let from = span.from.get().cast_unsigned();
+    let from = span.from.get();
     let behind = greatest_sent(said.acts, pair.writer) + 1;
     let mut sent = sent_among(alloc, said.acts, pair)?;
     let recorded = count_of(&mut sent, from, behind.max(from))?;
@@ -100,11 +100,11 @@ pub fn recorded_of(
 }
 
 /// The numbers from `from` on, up to the greatest that the writer sends by these acts, to whomever.
-fn sent_from(from: SeqNum, acts: &[Placed<'_>], writer: Guid) -> AskedNumbers
+fn sent_from(from: FirstAsked, acts: &[Placed<'_>], writer: Guid) -> AskedNumbers
     ensures from { result.from ≡ from }
     ensures last { result.last ≡ max (greatest (map (number_sent_lem writer) (map placed_value acts.now))) (from - 1) }
 {
-    let before = from.get().cast_unsigned() - 1;
+    let before = from.get() - 1;
     let last = greatest_sent(acts, writer).max(before);
     AskedNumbers { from, last }
 }
@@ -126,7 +126,7 @@ pub fn arrived_of(
     }
     let said = Said::until(sides.index, pair, span.until);
     let asked = sent_from(span.from, said.acts, pair.writer);
-    let from = asked.from.get().cast_unsigned();
+    let from = asked.from.get();
     let arrived = count_of(&mut arrivals.numbers, from, asked.last + 1)?;
     let lacking = FirstNumbers::outside(alloc, &mut arrivals.numbers, &asked)?;
     Ok(Some(ArrivedNumbers { arrived, lacking }))

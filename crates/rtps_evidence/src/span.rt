@@ -1,16 +1,17 @@
 ghost use Rattle.std.specs.Prelude.{◌≡◌, ◌==◌, ◌≤◌, ◌<◌, ◌^◌, map, IfSome};
-ghost use Rattle.std.specs.List.{find, list_any};
+ghost use Rattle.std.specs.List.{before_first, find, list_any};
 ghost use Rattle.std.specs.Option.{option_map};
 ghost use Rattle.rtps_receiver.specs.Said.{numbers_have};
 ghost use Rattle.rtps_audit.specs.Index.{IsIndexBy};
 ghost use Rattle.rtps_audit.specs.Intake.{Intake};
 ghost use Rattle.rtps_audit.specs.Placed.{placed_in, placed_value};
-ghost use Rattle.rtps_evidence.specs.Missed.{asks_for, brings_behind, first_place as first_place_lem};
-ghost use Rattle.rtps_evidence.specs.Spans.{IsFirstIn, IsFirstOwed, IsLeastFrom, IsOwedFrom, IsVolatileIn, announced_before, claims_at_before, is_joined_here, is_lowest as is_lowest_lem, leaves_behind as leaves_behind_lem, left_in as left_in_lem, lesser_of, number_before as number_before_lem};
+ghost use Rattle.rtps_evidence.specs.Missed.{asks_for, brings_behind, brings_some, first_place as first_place_lem};
+ghost use Rattle.rtps_evidence.specs.Spans.{IsEndOf, IsFirstIn, IsFirstOwed, IsLeastFrom, IsOwedFrom, IsVolatileIn, announced_before, claims_at_before, gaps_behind, is_joined_here, is_lowest as is_lowest_lem, leaves_behind as leaves_behind_lem, left_in as left_in_lem, lesser_of, number_before as number_before_lem};
 
 use crate::listener::{Listener, number_behind};
-use crate::location::{Location, is_before, is_behind};
-use rtps_audit::{AnnouncedPlace, Answer, Index, Placed, announced_number};
+use crate::location::{Location, is_before, is_behind, is_gap};
+use crate::said_to::said_to;
+use rtps_audit::{AnnouncedPlace, Answer, FirstAsked, Index, Placed, announced_number};
 use rtps_discovery::{Durability, Pair, leaves, leaving_writers};
 use rtps_ids::{Guid, SeqNum};
 use rtps_receiver::Numbers;
@@ -24,7 +25,7 @@ pub struct Span {
     /// since it joined; else all acts are.
     pub is_joined_here: bool,
     /// The row is by the numbers from this one on.
-    pub from: SeqNum,
+    pub from: FirstAsked,
     /// The row is by the datagrams before this one, in which the reader leaves; None where it does not.
     pub until: Option<u64>,
 }
@@ -166,25 +167,72 @@ fn is_volatile(index: &Index<'_>, reader: Guid) -> bool
     }
 }
 
+/// One more than the greatest of these numbers; 0 where there is none.
+fn end_of(numbers: &Numbers<'_>) -> u64
+    ensures end { IsEndOf (numbers_have numbers.now) result }
+    ensures in_range { result ≤ 2 ^ 63 }
+{
+    let mut end = 0;
+    'apart: while let Some(range) = numbers.range_from(end) {
+        end = range.end;
+    }
+    end
+}
+
+/// The same of the numbers that an act tells gone, where it is a GAP that the listener hears; 0 where it is none.
+fn gap_end(placed: &Placed<'_>, listener: &Listener) -> u64
+    ensures end { IsEndOf (λ n. gaps_behind listener.now.since listener.now.pair.writer listener.now.pair.reader n (placed_value placed.now)) result }
+    ensures in_range { result ≤ 2 ^ 63 }
+{
+    if is_behind(listener.since, placed) && is_gap(&placed.act.body) {
+        end_of(&said_to(placed, listener.pair).gone)
+    } else {
+        0
+    }
+}
+
+/// The same of the GAPs among these acts that the listener hears before it is sent anything.
+fn gone_end(acts: &[Placed<'_>], listener: &Listener) -> u64
+    ensures end { IsEndOf (λ n. list_any (gaps_behind listener.now.since listener.now.pair.writer listener.now.pair.reader n)
+        (before_first (brings_some listener.now.since listener.now.pair.writer listener.now.pair.reader) (map placed_value acts.now))) result }
+    ensures in_range { result ≤ 2 ^ 63 }
+{
+    let mut end = 0u64;
+    for placed in acts {
+        if number_behind(placed, listener).is_some() {
+            return end;
+        }
+        end = end.max(gap_end(placed, listener));
+    }
+    end
+}
+
 /// The least number, from `from` on, that may be owed to a reader that joins at a place.
 fn owed_from(index: &Index<'_>, pair: Pair, place: Location, from: SeqNum) -> u64
     ensures owed { (intake : Intake) → IsIndexBy intake index.now → IsOwedFrom from place pair intake result }
-    ensures in_range { result < 2 ^ 63 }
+    ensures in_range { result ≤ 2 ^ 63 }
     ensures positive { 1 ≤ result }
 {
     let from = from.get().cast_unsigned();
-    if !is_volatile(index, pair.reader) {
-        return from;
+    let acts = index.acts_of(pair.writer);
+    let announced = greatest_before(acts, pair.writer, place);
+    let listener = Listener {
+        pair,
+        since: Some(place),
+    };
+    let gone = gone_end(acts, &listener);
+    if is_volatile(index, pair.reader) {
+        from.max(announced + 1).max(gone)
+    } else {
+        from
     }
-    let announced = greatest_before(index.acts_of(pair.writer), pair.writer, place);
-    from.max((announced + 1).min(i64::MAX.cast_unsigned()))
 }
 
 /// The least number from `owed` on that is for the reader, which joins at a place; `owed` where none is.
 fn first_owed(index: &Index<'_>, pair: Pair, place: Location, owed: u64) -> u64
-    requires { owed < 2 ^ 63 }
+    requires { owed ≤ 2 ^ 63 }
     ensures first { (intake : Intake) → IsIndexBy intake index.now → IsFirstOwed owed place pair (placed_in intake.acts) result }
-    ensures in_range { result < 2 ^ 63 }
+    ensures in_range { result ≤ 2 ^ 63 }
     ensures onward { owed ≤ result }
 {
     let listener = Listener {
@@ -229,14 +277,14 @@ pub fn left_in(index: &Index<'_>, reader: Guid, place: Location) -> Option<u64>
 }
 
 /// The number from which on a row is, of a reader that joins at a place.
-fn first_number(index: &Index<'_>, pair: Pair, place: Location, from: SeqNum) -> SeqNum
+fn first_number(index: &Index<'_>, pair: Pair, place: Location, from: SeqNum) -> FirstAsked
     ensures { (intake : Intake) → IsIndexBy intake index.now → IsFirstIn from place pair intake result }
 {
     let owed = owed_from(index, pair, place, from);
     let first = first_owed(index, pair, place, owed);
-    match SeqNum::new(first.cast_signed()) {
+    match FirstAsked::new(first) {
         Some(first) => first,
-        None => from,
+        None => FirstAsked::of(from),
     }
 }
 
@@ -275,7 +323,7 @@ impl Span {
         Span {
             joined,
             is_joined_here: joins_here(index, pair, joined),
-            from,
+            from: FirstAsked::of(from),
             until: None,
         }
     }
@@ -291,7 +339,7 @@ impl Span {
         let from = if whole.is_joined_here {
             first_number(index, pair, place, from)
         } else {
-            from
+            FirstAsked::of(from)
         };
         Span {
             joined: Some(place),

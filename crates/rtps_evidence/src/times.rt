@@ -1,6 +1,6 @@
 ghost use Rattle.std.specs.Prelude.{◌≡◌, [], take, IfOk, None};
 ghost use Rattle.rtps_audit.specs.Said.{datagrams_until};
-ghost use Rattle.rtps_evidence.specs.Times.{AreEnds, are_there as are_there_lem, back_from, end_of, later_of, second_of, seconds_between, seconds_of, step_back as step_back_lem, time_of};
+ghost use Rattle.rtps_evidence.specs.Times.{AreEnds, are_there as are_there_lem, back_from, end_of, is_long_between, later_of, second_of, seconds_between, seconds_of, step_back as step_back_lem, time_of};
 
 use rtps_ids::Memory;
 use std::alloc::Global;
@@ -8,6 +8,9 @@ use std::marker::Model;
 
 /// How many nanoseconds a millisecond has.
 const MILLISECOND: u64 = 1_000_000;
+
+/// How many nanoseconds are long between a question and the end of what is asked about: 100 ms.
+const LONG: u64 = 100_000_000;
 
 /// A time as it is said, in milliseconds: cut off towards zero, with its sign. 0 has none.
 #[derive(Clone, Copy)]
@@ -44,6 +47,8 @@ impl Seconds {
 pub struct Times {
     /// The time of the first frame of the capture that has one, whether it gave a datagram or not.
     start: Option<u64>,
+    /// The greatest time of a frame of the capture, whether it gave a datagram or not.
+    end: Option<u64>,
     /// The time of each datagram. There are none of a text.
     of_datagrams: Vec<Option<u64>>,
     /// The greatest time among the first datagrams, up to each.
@@ -55,7 +60,7 @@ impl Model for Times {
 
     ghost Value = { TimesValue };
 
-    ghost view = { λ times. record { start = times.start; of_datagrams = times.of_datagrams.items } };
+    ghost view = { λ times. record { start = times.start; end = times.end; of_datagrams = times.of_datagrams.items } };
 
     ghost invariant = { λ times. AreEnds times.of_datagrams.items times.ends.items };
 }
@@ -98,30 +103,40 @@ fn ends_of(alloc: Global, times: &[Option<u64>]) -> Result<Vec<Option<u64>>, Mem
 impl Times {
     /// No times, as of a text. It takes no memory.
     pub fn none(alloc: Global) -> Times
-        ensures { result ≡ record { start = None; of_datagrams = [] } }
+        ensures { result ≡ record { start = None; end = None; of_datagrams = [] } }
     {
         Times {
             start: None,
+            end: None,
             of_datagrams: Vec::new(alloc),
             ends: Vec::new(alloc),
         }
     }
 
-    /// The start of a capture, and the time of each of its datagrams, in the order of sending. `Memory` is answered where
+    /// The start and the end of a capture, and the time of each of its datagrams, in the order of sending. `Memory` is answered where
     /// what is kept of them cannot grow.
     pub fn of(
         alloc: Global,
         start: Option<u64>,
+        end: Option<u64>,
         of_datagrams: Vec<Option<u64>>,
     ) -> Result<Times, Memory>
-        ensures { IfOk result (λ times. times ≡ record { start = start; of_datagrams = of_datagrams.items }) }
+        ensures { IfOk result (λ times. times ≡ record { start = start; end = end; of_datagrams = of_datagrams.items }) }
     {
         let ends = ends_of(alloc, &of_datagrams)?;
         Ok(Times {
             start,
+            end,
             of_datagrams,
             ends,
         })
+    }
+
+    /// The greatest time of a frame of the capture. None of a text, and where no frame has a time.
+    pub fn of_last_frame(&self) -> Option<u64>
+        ensures { result ≡ self.now.end }
+    {
+        self.end
     }
 
     /// Whether some datagram has a time.
@@ -139,6 +154,17 @@ impl Times {
             return None;
         }
         self.of_datagrams[number as usize - 1]
+    }
+
+    /// Whether the second of two datagrams came 100 ms or more behind the first; so it is said where one of them has no time.
+    pub(crate) fn is_long(&self, earlier: u64, later: u64) -> bool
+        ensures { result ≡ is_long_between self.now.of_datagrams earlier later }
+    {
+        match (self.of_datagram(earlier), self.of_datagram(later)) {
+            (Some(earlier), Some(later)) => LONG <= later.saturating_sub(earlier),
+            (Some(_), None) => true,
+            (None, _) => true,
+        }
     }
 
     /// The greatest time among the first `count` datagrams, or among all where there are no more. It takes one step.

@@ -78,7 +78,7 @@ impl WriterSummary {
         let acts = exchange.said.acts;
         let writer = exchange.pair.writer;
         let from = exchange.span.from;
-        let before = from.get().cast_unsigned() - 1;
+        let before = from.get() - 1;
         let last = greatest_number(acts, writer).max(before);
         let (mut alike, others) = split(alloc, acts, writer)?;
         alike.put_in_order(alloc)?;

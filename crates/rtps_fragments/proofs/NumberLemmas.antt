@@ -11,7 +11,7 @@ use Rattle.rtps_ids.specs.declared.identity.Guid.{Guid}
 use Rattle.rtps_audit.proofs.Offered.{contains_cases, contains_head, contains_none}
 use Rattle.rtps_fragments.specs.FragmentDelivery.{last_fragment}
 use Rattle.rtps_fragments.specs.Samples.{has_sample, samples_of}
-use Rattle.rtps_fragments.specs.ToldSamples.{SentValue, is_sample, overheard, shape_of}
+use Rattle.rtps_fragments.specs.ToldSamples.{SentValue, is_sample, shape_of}
 use Rattle.rtps_fragments.specs.Whole.{has_whole, is_number, is_put, number_cmp, key_number}
 use Rattle.rtps_fragments.specs.declared.piece.SampleKey.{SampleKey}
 use Rattle.rtps_fragments.specs.declared.whole.SampleNumber.{SampleNumber}

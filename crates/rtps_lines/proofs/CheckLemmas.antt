@@ -1,10 +1,10 @@
 -- How deep the object of a report that is checked nests.
-use Rattle.std.proofs.Common.{◌≤◌, ◌++◌, arith}
+use Rattle.std.proofs.Common.{◌≤◌, ◌++◌, Option, Some, arith}
 use Rattle.json.specs.Json.{max_depth}
 use Rattle.json.specs.Tree.{depth, members_depth}
 use Rattle.rtps_report.specs.FullReport.{AskedValue, RecordingValue, ReportValue, rows_of}
 use Rattle.rtps_lines.specs.CheckMembers.{check_members, check_telling, notes_members, report_causes, report_notes, status_members}
-use Rattle.rtps_lines.specs.JsonText.{members_of, object_of, rows_members}
+use Rattle.rtps_lines.specs.JsonText.{TellingValue, members_of, object_of, rows_members}
 use Rattle.rtps_lines.specs.TalkMembers.{talk_members}
 use Rattle.rtps_lines.proofs.JsonLemmas.{joined, rows_depth, strings_within}
 use Rattle.rtps_lines.proofs.TalkLemmas.{talk_depth}
@@ -13,7 +13,7 @@ pub check_depth : (asked : AskedValue) (recording : RecordingValue) (report : Re
 check_depth asked recording report =
     let causes = report_causes asked recording report in
     let notes = report_notes asked recording report in
-    let telling = check_telling asked recording report in
+    let telling : Option TellingValue = Some (check_telling asked recording report) in
     let rows = rows_members telling (rows_of report) report.explained.counts recording in
     let few = strings_within causes in
     let last = strings_within notes in

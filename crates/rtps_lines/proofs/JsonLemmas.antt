@@ -21,12 +21,13 @@ use Rattle.rtps_evidence.specs.declared.times.Seconds.{Seconds}
 use Rattle.rtps_evidence.specs.declared.waits.Wait.{Wait}
 use Rattle.rtps_report.specs.Vocabulary.{Absent, Announcement, Claim, Complete, CompleteGrounds, Conflict, ConflictGrounds, Counts, EvidenceValue, Explanation, ExplanationValue, FirstMissed, GroundsValue, InSpan, Key, Location, NotReceived, Open, OpenGrounds, PayloadValue, SentValue, Teller, Unfounded, UnfoundedGrounds, Verdict, Whole, explanation_value}
 use Rattle.rtps_report.specs.declared.recording.Reasons.{Reasons}
-use Rattle.rtps_report.specs.Advice.{advice_of, sentence_of}
+use Rattle.rtps_report.specs.Advice.{advice_of}
 use Rattle.rtps_report.specs.RowFacts.{is_clean}
 use Rattle.rtps_report.specs.Recording.{RecordingValue}
+use Rattle.rtps_report.specs.Silences.{silences_of}
 use Rattle.rtps_report.specs.Talk.{TalkValue}
-use Rattle.rtps_lines.specs.Lines.{silence_lines}
-use Rattle.rtps_lines.specs.JsonText.{Member, TellingValue, advice_json, advice_members, announcement_json, array_of, audit_telling, claim_json, count_json, counts_members, delivery_members, evidence_members, first_missed_members, ignored_members, is_advised, items_of, lacking_members, members_of, not_received_json, numbers_json, object_of, outcomes_json, pair_members, payload_members, place_json, place_members, reasons_members, report_json, row_json, rows_members, second_at, second_json, sent_json, shown_members, silence_member, silence_members, span_by, span_members, spanned_members, teller_json, tells_silence, timed_members, told_silences, tokens_of, tokens_of_member, until_json, until_members, verdict_members, wait_json, wait_member, wait_members}
+use Rattle.rtps_lines.specs.Lines.{advice_text, silence_lines}
+use Rattle.rtps_lines.specs.JsonText.{Member, TellingValue, advice_json, advice_member, announcement_json, array_of, claim_json, count_json, counts_members, delivery_members, evidence_members, first_missed_members, further_members, ignored_members, items_of, lacking_members, members_of, not_received_json, numbers_json, object_of, outcomes_json, pair_members, payload_members, place_json, place_members, reasons_members, report_json, row_json, rows_members, second_at, second_json, sent_json, shown_members, silence_member, silence_members, span_by, span_members, spanned_members, teller_json, timed_members, tokens_of, tokens_of_member, until_json, until_members, verdict_members, wait_json, wait_member, wait_members}
 use Rattle.rtps_lines.proofs.PartLemmas.{four_parts}
 
 -- ---- tokens
@@ -90,7 +91,7 @@ pub mapped_tokens : {X : Type 0} (f : X → Json) (xs : List X) → json_tokens 
 mapped_tokens f xs = ap (λ rest. begin_array ∷ rest) (list_tokens (map f xs) ∙ ap (λ rest. rest ++ end_array ∷ []) (flat_map-map json_tokens f xs))
 
 -- the array of rows
-pub rows_tokens : (telling : TellingValue) (times : TimesValue) (rows : List Explanation)
+pub rows_tokens : (telling : Option TellingValue) (times : TimesValue) (rows : List Explanation)
     → flat_map (λ row. json_tokens (row_json telling times (explanation_value row))) rows ++ end_array ∷ [] ≡ items_tokens (items_of (map (row_json telling times) (map explanation_value rows)))
 rows_tokens telling times [] = refl
 rows_tokens telling times (row ∷ rows) =
@@ -178,7 +179,7 @@ delivery_within times evidence = omega (arith, not_received_within times evidenc
 
 shown_within : (times : TimesValue) (grounds : GroundsValue) → members_depth (members_of (shown_members times grounds)) ≤ 2
 shown_within times CompleteGrounds = omega arith
-shown_within times (OpenGrounds teller count last) = omega (arith, teller_within times teller, place_within times last)
+shown_within times (OpenGrounds teller count first last) = omega (arith, teller_within times teller, place_within times last)
 shown_within times (ConflictGrounds first other) = omega (arith, sent_within times first, sent_within times other)
 shown_within times (UnfoundedGrounds teller claim) = omega (arith, claim_within times claim, teller_within times teller)
 
@@ -230,38 +231,40 @@ span_by_within telling times evidence (Some in_span) =
     (omega (arith, outcomes_within telling.has_other in_span, end)) in
     omega (arith, members)
 
-silences_within : (talk : Option TalkValue) (times : TimesValue) (row : ExplanationValue) → members_depth (members_of (silence_members talk times row)) ≤ 1
+silences_within : (talk : TalkValue) (times : TimesValue) (row : ExplanationValue) → members_depth (members_of (silence_members talk times row)) ≤ 1
 silences_within talk times row =
-    if_within 1 (tells_silence talk times row.evidence.in_span) (silence_member talk times row ∷ [])
-    (omega (arith, strings_within (silence_lines times (told_silences talk row.pair))))
+    timed_within 1 times (silence_member talk times row ∷ []) (omega (arith, strings_within (silence_lines times (silences_of talk row.pair))))
 
-told_within : (told : Bool) (telling : TellingValue) (row : ExplanationValue) → members_depth (members_of (if told then (codes "advice", advice_json telling row) ∷ [] else [])) ≤ 1
-told_within true telling row =
-    omega (arith, sentence_within (is_clean telling.scope.tail row.evidence) (sentence_of (advice_of (told_silences telling.talk row.pair) telling.scope row.evidence)))
-told_within false telling row = omega arith
+advice_within : (telling : TellingValue) (times : TimesValue) (row : ExplanationValue) → depth (advice_json telling times row) ≤ 0
+advice_within telling times row =
+    omega (arith, sentence_within (is_clean telling.scope.tail row.evidence) (advice_text times (advice_of times (silences_of telling.talk row.pair) telling.scope row.evidence)))
 
 spanned_within : (telling : TellingValue) (times : TimesValue) (row : ExplanationValue) → members_depth (members_of (spanned_members telling times row)) ≤ 2
 spanned_within telling times row =
     let silence = silence_members telling.talk times row in
-    let advice = advice_members telling row in
-    let end = joined 1 silence advice (silences_within telling.talk times row) (told_within (is_advised telling.talk row.evidence.in_span) telling row) in
+    let advice : List Member = advice_member telling times row ∷ [] in
+    let end = joined 1 silence advice (silences_within telling.talk times row) (omega (arith, advice_within telling times row)) in
     joined 2 (span_members telling times row.evidence) (silence ++ advice) (span_by_within telling times row.evidence row.evidence.in_span) (omega (arith, end))
 
-row_within : (telling : TellingValue) (times : TimesValue) (row : ExplanationValue) → depth (row_json telling times row) ≤ 3
+further_within : (telling : Option TellingValue) (times : TimesValue) (row : ExplanationValue) → members_depth (members_of (further_members telling times row)) ≤ 2
+further_within None times row = omega arith
+further_within (Some telling) times row = spanned_within telling times row
+
+row_within : (telling : Option TellingValue) (times : TimesValue) (row : ExplanationValue) → depth (row_json telling times row) ≤ 3
 row_within telling times row =
     let evidence = row.evidence in
     let told = evidence_members times evidence in
     let delivered = delivery_members times evidence in
     let grounds = shown_members times evidence.grounds in
-    let spanned = spanned_members telling times row in
-    let shown = joined 2 grounds spanned (shown_within times evidence.grounds) (spanned_within telling times row) in
+    let spanned = further_members telling times row in
+    let shown = joined 2 grounds spanned (shown_within times evidence.grounds) (further_within telling times row) in
     let last = joined 2 delivered (grounds ++ spanned) (delivery_within times evidence) shown in
     let late = joined 2 told (delivered ++ (grounds ++ spanned)) (evidence_within times evidence) last in
     let later = joined 2 (verdict_members evidence.verdict) (told ++ (delivered ++ (grounds ++ spanned))) (verdict_within evidence.verdict) late in
     let all = joined 2 (pair_members row) (verdict_members evidence.verdict ++ (told ++ (delivered ++ (grounds ++ spanned)))) (omega arith) later in
     omega (arith, all)
 
-rows_within : (telling : TellingValue) (times : TimesValue) (rows : List ExplanationValue) → items_depth (items_of (map (row_json telling times) rows)) ≤ 3
+rows_within : (telling : Option TellingValue) (times : TimesValue) (rows : List ExplanationValue) → items_depth (items_of (map (row_json telling times) rows)) ≤ 3
 rows_within telling times [] = omega arith
 rows_within telling times (row ∷ rows) = omega (arith, row_within telling times row, rows_within telling times rows)
 
@@ -273,14 +276,14 @@ reasons_within : (reasons : Option Reasons) → members_depth (members_of (reaso
 reasons_within None = omega arith
 reasons_within (Some reasons) = omega arith
 
-pub rows_depth : (telling : TellingValue) (rows : List ExplanationValue) (counts : Counts) (recording : RecordingValue) → members_depth (members_of (rows_members telling rows counts recording)) ≤ 4
+pub rows_depth : (telling : Option TellingValue) (rows : List ExplanationValue) (counts : Counts) (recording : RecordingValue) → members_depth (members_of (rows_members telling rows counts recording)) ≤ 4
 rows_depth telling rows counts recording =
     let frames = joined 0 (ignored_members recording.ignored) (reasons_members recording.reasons) (ignored_within recording.ignored) (reasons_within recording.reasons) in
     let last = joined 0 (counts_members counts) (ignored_members recording.ignored ++ reasons_members recording.reasons) (omega arith) frames in
     omega (arith, rows_within telling recording.times rows, last)
 
 pub report_depth : (rows : List ExplanationValue) (counts : Counts) (recording : RecordingValue) → depth (report_json rows counts recording) ≤ 5
-report_depth rows counts recording = omega (arith, rows_depth (audit_telling counts recording.reasons) rows counts recording)
+report_depth rows counts recording = omega (arith, rows_depth None rows counts recording)
 
 pub report_within : (rows : List ExplanationValue) (counts : Counts) (recording : RecordingValue) → depth (report_json rows counts recording) ≤ max_depth
 report_within rows counts recording = omega (arith, report_depth rows counts recording)

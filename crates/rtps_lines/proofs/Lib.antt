@@ -6,3 +6,4 @@ mod TalkLemmas
 mod SecondLemmas
 mod JoinLemmas
 mod NoteLemmas
+mod TailLemmas

@@ -1,15 +1,17 @@
--- Notes on rows that are silent for one reason, and on pairs of best effort.
-use Rattle.std.proofs.Common.{◌≡◌, ◌++◌, ◌∷◌, [], ◌∙◌, ◌==◌, ℕ, Bool, List, ap, append-nil, append_assoc, arith, codes, false, get_or, if◌then◌else◌, length, map, refl, sym, true}
+-- Notes on pairs that are silent for one reason, and on pairs of best effort.
+use Rattle.std.proofs.Common.{◌≡◌, ◌++◌, ◌∷◌, [], ◌∙◌, ◌==◌, ℕ, Bool, List, Option, Some, ap, append-nil, append_assoc, arith, codes, false, get_or, if◌then◌else◌, length, map, refl, sym, true}
 use Rattle.std.proofs.lemmas.Bool.Decides.{nat_tests}
 use Rattle.std.proofs.lemmas.Bool.{ne_eqb}
 use Rattle.std.proofs.lemmas.List.{length-map}
 use Rattle.std.specs.List.{flat_map}
 use Rattle.rtps_parts.specs.Parts.{WordsValue, amount, part_text, share, words_for}
 use Rattle.rtps_parts.specs.declared.part.Part.{Part}
+use Rattle.rtps_policies.specs.Unmatched.{UnmatchedValue}
 use Rattle.rtps_policies.specs.declared.silence.Silence.{Silence}
 use Rattle.rtps_report.specs.BestEfforts.{BestEffortValue}
-use Rattle.rtps_report.specs.Vocabulary.{Explanation, explanation_value}
-use Rattle.rtps_lines.specs.Notes.{best_effort_note, best_effort_remedy, left_out_by, names_if, silent_by}
+use Rattle.rtps_report.specs.Talk.{LeftOutValue, left_out_value}
+use Rattle.rtps_report.specs.declared.talk.LeftOut.{LeftOut}
+use Rattle.rtps_lines.specs.Notes.{best_effort_note, best_effort_remedy, left_names, left_out_by, name_behind, names_behind, silent_by, talking_behind, talking_text}
 
 -- a note is told where there is some of it
 pub some_note : (n : ℕ) (text : List ℕ) → (n ≡ 0 → ⊥) → text ∷ [] ≡ (if n == 0 then [] else text ∷ [])
@@ -19,17 +21,34 @@ some_note n text some = sym (ap (λ (none : Bool). if none then [] else text ∷
 pub behind : (before after last part rest : List (List ℕ)) → after ≡ before ++ part → last ≡ after ++ rest → last ≡ before ++ (part ++ rest)
 behind before after last part rest this those = those ∙ ap (λ all. all ++ rest) this ∙ append_assoc before part rest
 
--- ---- rows that are silent
+-- ---- pairs that are silent
 
-pub some_silent : (named : Bool) (reason : Silence) (rows : List Explanation) → (length rows == 0) ≡ false
-    → left_out_by reason (length rows) (names_if named (map explanation_value rows)) ∷ [] ≡ silent_by named reason (map explanation_value rows)
+pub some_silent : (named : Bool) (reason : Silence) (pairs : List LeftOut) → (length pairs == 0) ≡ false
+    → left_out_by reason (length pairs) (left_names named (map left_out_value pairs)) ∷ [] ≡ silent_by named reason (map left_out_value pairs)
 some_silent named reason [] some = absurd (let bad = some in cc)
-some_silent named reason (row ∷ rows) some =
-    ap (λ n. left_out_by reason n (names_if named (map explanation_value (row ∷ rows))) ∷ []) (sym (length-map (row ∷ rows) explanation_value))
+some_silent named reason (one ∷ more) some =
+    ap (λ n. left_out_by reason n (left_names named (map left_out_value (one ∷ more))) ∷ []) (sym (length-map (one ∷ more) left_out_value))
 
-pub none_silent : (named : Bool) (reason : Silence) (rows : List Explanation) → (length rows == 0) ≡ true → [] ≡ silent_by named reason (map explanation_value rows)
+pub none_silent : (named : Bool) (reason : Silence) (pairs : List LeftOut) → (length pairs == 0) ≡ true → [] ≡ silent_by named reason (map left_out_value pairs)
 none_silent named reason [] none = refl
-none_silent named reason (row ∷ rows) none = absurd (grind (arith, nat_tests))
+none_silent named reason (one ∷ more) none = absurd (grind (arith, nat_tests))
+
+-- the name of one more
+pub names_more : (before : Option (List ℕ)) (one : LeftOutValue) (more : List LeftOutValue) (start named all : List ℕ)
+    → start ++ names_behind before (one ∷ more) ≡ all → named ≡ start ++ name_behind before one.topic → named ++ names_behind (Some one.topic) more ≡ all
+names_more before one more start named all so_far next =
+    ap (λ text. text ++ names_behind (Some one.topic) more) next ∙ append_assoc start (name_behind before one.topic) (names_behind (Some one.topic) more) ∙ so_far
+
+-- those of one more that talk though they do not match
+pub talking_more : (separator : List ℕ) (one : UnmatchedValue) (more : List UnmatchedValue) (start named all : List ℕ)
+    → start ++ talking_behind separator (one ∷ more) ≡ all → named ≡ start ++ talking_text separator one → named ++ talking_behind (codes ", ") more ≡ all
+talking_more separator one more start named all so_far next =
+    ap (λ text. text ++ talking_behind (codes ", ") more) next ∙ append_assoc start (talking_text separator one) (talking_behind (codes ", ") more) ∙ so_far
+
+-- of so many as none, none is left
+pub nothing_left : {X : Type 0} (xs : List X) → length xs ≡ 0 → xs ≡ []
+nothing_left [] none = refl
+nothing_left (x ∷ xs) none = absurd (omega arith)
 
 -- ---- pairs of best effort
 

@@ -5,8 +5,7 @@ use Rattle.std.proofs.lemmas.List.Folds.{flat_map-map}
 use Rattle.std.specs.List.{flat_map}
 use Rattle.json.specs.Json.{Json, boolean, string}
 use Rattle.json.specs.Token.{Token, begin_array, end_array}
-use Rattle.json.specs.Tree.{depth, items_depth, json_tokens, members_depth}
-use Rattle.rtps_evidence.specs.Explanation.{ExplanationValue, explanation_value}
+use Rattle.json.specs.Tree.{depth, json_tokens, members_depth}
 use Rattle.rtps_evidence.specs.Times.{TimesValue, are_there}
 use Rattle.rtps_policies.specs.Fitting.{ProfileValue}
 use Rattle.rtps_policies.specs.PolicyText.{policy_name}
@@ -16,12 +15,13 @@ use Rattle.rtps_policies.specs.declared.host.Address.{Address}
 use Rattle.rtps_evidence.specs.FirstNumbers.{numbers_of}
 use Rattle.rtps_report.specs.BestEfforts.{HeldValue}
 use Rattle.rtps_report.specs.FullReport.{ReportValue}
+use Rattle.rtps_report.specs.Talk.{LeftOutValue}
 use Rattle.rtps_report.specs.declared.participant.Participant.{Participant}
-use Rattle.rtps_lines.specs.JsonText.{Member, array_of, items_of, members_of, second_at, second_json, timed_members, tokens_of, tokens_of_member, until_json}
+use Rattle.rtps_lines.specs.JsonText.{Member, array_of, members_of, second_at, second_json, timed_members, tokens_of, tokens_of_member, until_json}
 use Rattle.rtps_lines.specs.PolicyValues.{value_text}
-use Rattle.rtps_lines.specs.TalkMembers.{address_json, best_effort_json, first_of, held_json, held_members, last_of, one_way_json, participant_json, participants_member, reasons_json, stay_times, talk_members, unmatched_json, unobserved_json, values_json}
+use Rattle.rtps_lines.specs.TalkMembers.{address_json, best_effort_json, first_of, held_json, held_members, last_of, one_way_json, participant_json, participants_member, reasons_json, stay_times, talk_members, talking_json, unmatched_json, unobserved_json, values_json}
 use Rattle.rtps_lines.specs.declared.policy_values.Naming.TheVariants.{Dds}
-use Rattle.rtps_lines.proofs.JsonLemmas.{items_within, joined, mapped_tokens, numbers_within, second_within, strings_within, timed_within}
+use Rattle.rtps_lines.proofs.JsonLemmas.{items_within, joined, mapped_tokens, numbers_within, second_within, timed_within}
 use Rattle.rtps_lines.proofs.PartLemmas.{four_parts}
 
 -- ---- tokens
@@ -75,11 +75,11 @@ timed_tokens times a b c d = go (are_there times.of_datagrams)
     go false = refl
 
 -- four members, some others, and a last one
-pub six_tokens : (a b c d : Member) (others : List Member) (last : Member)
-    → tokens_of_member a ++ (tokens_of_member b ++ (tokens_of_member c ++ (tokens_of_member d ++ (tokens_of others ++ tokens_of_member last))))
-    ≡ tokens_of (a ∷ b ∷ c ∷ d ∷ (others ++ last ∷ []))
-six_tokens a b c d others last =
-    ap (λ (rest : List Token). tokens_of_member a ++ (tokens_of_member b ++ (tokens_of_member c ++ (tokens_of_member d ++ rest))))
+pub seven_tokens : (a b c d e : Member) (others : List Member) (last : Member)
+    → tokens_of_member a ++ (tokens_of_member b ++ (tokens_of_member c ++ (tokens_of_member d ++ (tokens_of_member e ++ (tokens_of others ++ tokens_of_member last)))))
+    ≡ tokens_of (a ∷ b ∷ c ∷ d ∷ e ∷ (others ++ last ∷ []))
+seven_tokens a b c d e others last =
+    ap (λ (rest : List Token). tokens_of_member a ++ (tokens_of_member b ++ (tokens_of_member c ++ (tokens_of_member d ++ (tokens_of_member e ++ rest)))))
     (ap (λ (end : List Token). tokens_of others ++ end) (sym (append-nil (tokens_of_member last))) ∙ sym (flat_map-append tokens_of_member others (last ∷ [])))
 
 -- four lists of members
@@ -99,6 +99,9 @@ values_within policies profile = omega (arith, items_within (λ policy. string (
 
 unmatched_within : (one : UnmatchedValue) → depth (unmatched_json one) ≤ 2
 unmatched_within one = omega (arith, reasons_within one.reasons, values_within one.reasons one.writer, values_within one.reasons one.reader)
+
+talking_within : (one : UnmatchedValue) → depth (talking_json one) ≤ 2
+talking_within one = omega (arith, reasons_within one.reasons)
 
 address_within : (address : Option Address) → depth (address_json address) ≤ 0
 address_within None = omega arith
@@ -136,10 +139,11 @@ held_within false held = omega arith
 pub talk_depth : (times : TimesValue) (report : ReportValue) → members_depth (members_of (talk_members times report)) ≤ 3
 talk_depth times report =
     let unmatched = items_within unmatched_json 2 report.talk.unmatched unmatched_within in
-    let left_out = items_within (λ (row : ExplanationValue). unobserved_json (report.talk.silence row.pair) row) 1 (map explanation_value report.left_out) (λ row. omega arith) in
+    let talking = items_within talking_json 2 report.talk.talking talking_within in
+    let left_out = items_within (λ (one : LeftOutValue). unobserved_json (report.talk.silence one.pair) one) 1 report.talk.left_out (λ one. omega arith) in
     let one_way = items_within one_way_json 1 report.talk.one_way (λ one. omega arith) in
     let sums = items_within best_effort_json 1 report.talk.best_effort (λ sum. omega arith) in
     let participants = items_within (participant_json times) 1 report.talk.participants (participant_within times) in
     let held = held_members (is_some report.arrived) report.talk.held in
     let end = joined 3 held (participants_member times report.talk.participants ∷ []) (held_within (is_some report.arrived) report.talk.held) (omega (arith, participants)) in
-    omega (arith, unmatched, left_out, one_way, sums, end)
+    omega (arith, unmatched, talking, left_out, one_way, sums, end)

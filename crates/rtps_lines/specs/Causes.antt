@@ -1,19 +1,19 @@
--- Why a run of `check` does not end clean, in words. own: the last line is all that a job's log may keep.
-use Rattle.std.specs.Prelude.{ℕ, ◌-◌, ◌++◌, ◌==◌, Bool, if◌then◌else◌, List, [], ◌∷◌, codes, Option, None, Some}
+-- How a run ends, in words: what is known of its numbers where it is clean, or why it is not. own: the last line is all that a job's log
+-- may keep, and no number is called received that may not be.
+use Rattle.std.specs.Prelude.{ℕ, ◌-◌, ◌++◌, ◌==◌, nat_le, Bool, if◌then◌else◌, List, [], ◌∷◌, codes, Option, None, Some}
 use Rattle.std.specs.List.{concat}
-use Rattle.rtps_parts.specs.Parts.{WordsValue, amount, grouped, joined}
+use Rattle.rtps_parts.specs.Parts.{WordsValue, amount, grouped, joined, share, words_for}
 use Rattle.rtps_report.specs.Findings.{no_findings}
-use Rattle.rtps_report.specs.declared.asked.Standard.TheVariants.{AllClean, AllComplete}
+use Rattle.rtps_report.specs.declared.best_effort.BestEffortNumbers.{BestEffortNumbers}
 use Rattle.rtps_report.specs.declared.findings.Ending.TheVariants.{Clean, Unmet}
 use Rattle.rtps_report.specs.declared.findings.Ending.{Ending}
 use Rattle.rtps_report.specs.declared.findings.FewRows.{FewRows}
 use Rattle.rtps_report.specs.declared.findings.Findings.{Findings}
-use Rattle.rtps_report.specs.declared.asked.Standard.{Standard}
 use Rattle.rtps_report.specs.declared.totals.Totals.{Totals}
 use Rattle.rtps_report.specs.declared.recording.Links.{Links as LinksFound}
 use Rattle.rtps_lines.specs.Notes.{detail_of, pair_words, words_of}
 use Rattle.rtps_lines.specs.declared.causes.Lost.{Lost}
-use Rattle.rtps_lines.specs.declared.notes.Weakness.TheVariants.{Cut, Fragments, Links, Pieces, Unsettled}
+use Rattle.rtps_lines.specs.declared.notes.Weakness.TheVariants.{Cut, Links, Pieces, Unsettled}
 
 -- what is found by an ending
 abbrev pub findings_in : Ending → Findings
@@ -67,6 +67,17 @@ abbrev pub few_cause : Option FewRows → List (List ℕ)
 few_cause None = []
 few_cause (Some few) = concat (amount few.rows pair_words ∷ codes " of " ∷ grouped few.expected ∷ codes " expected" ∷ []) ∷ []
 
+-- how many numbers pairs of best effort have, and how many of these are recorded
+abbrev pub best_effort_text : BestEffortNumbers → List ℕ
+best_effort_text told =
+    concat (amount told.pairs (record { one = codes "best-effort pair has "; many = codes "best-effort pairs have " }) ∷ share told.recorded told.numbers
+    ∷ words_for told.numbers (record { one = codes " number in this recording"; many = codes " numbers in this recording" }) ∷ [])
+
+-- there is no row, and not all numbers of pairs of best effort are recorded
+abbrev pub lossy_cause : Option BestEffortNumbers → List (List ℕ)
+lossy_cause None = []
+lossy_cause (Some told) = (codes "no reliable pair; " ++ best_effort_text told) ∷ []
+
 -- so many numbers were lost, in so many pairs
 abbrev pub lost_cause : Lost → WordsValue → List (List ℕ)
 lost_cause lost words = if lost.pairs == 0 then [] else concat (amount lost.numbers words ∷ codes " " ∷ amount lost.pairs pair_words ∷ []) ∷ []
@@ -76,15 +87,9 @@ abbrev pub uncertain_of : Totals → Bool → Lost
 uncertain_of totals certain =
     if certain then record { numbers = totals.numbers - totals.received; pairs = totals.uncertain_pairs } else record { numbers = 0; pairs = 0 }
 
--- rows that have to be complete: how many are not, and what they missed, where that is asked
-abbrev pub incomplete_causes : Totals → Findings → List (List ℕ)
-incomplete_causes totals findings =
-    cause (totals.pairs - totals.complete_pairs) incomplete_words
-    ++ lost_cause (record { numbers = totals.missed; pairs = findings.missed }) missed_words
-
--- rows that have to be clean: how many are not for their verdict, and what they lost
-abbrev pub unclean_causes : Totals → Bool → List (List ℕ)
-unclean_causes totals certain =
+-- rows that are not what they have to be: how many are not clean for their verdict, and what they lost
+abbrev pub row_causes : Totals → Bool → List (List ℕ)
+row_causes totals certain =
     cause totals.unclean_pairs incomplete_words
     ++ (lost_cause (record { numbers = totals.missed; pairs = totals.missed_pairs }) missed_words
     ++ (lost_cause (record { numbers = totals.unsent; pairs = totals.unsent_pairs }) unsent_words
@@ -92,24 +97,37 @@ unclean_causes totals certain =
     ++ (lost_cause (record { numbers = totals.lost; pairs = totals.lost_pairs }) lost_words
     ++ lost_cause (uncertain_of totals certain) uncertain_words))))
 
--- rows that are not what they have to be
-abbrev pub row_causes : Standard → Totals → Findings → List (List ℕ)
-row_causes AllComplete totals findings = incomplete_causes totals findings
-row_causes (AllClean tail certain) totals findings = unclean_causes totals certain
-
 -- something of the recording was not read, or is in no row
 abbrev pub unread_causes : Findings → List (List ℕ)
 unread_causes findings =
     cause findings.unsettled (words_of Unsettled)
     ++ (cause findings.pieces (words_of Pieces)
-    ++ (cause findings.cut (words_of Cut) ++ (links_cause findings.links ++ cause findings.fragments (words_of Fragments))))
+    ++ (cause findings.cut (words_of Cut) ++ links_cause findings.links))
 
--- all of them, for rows of which this is counted
-abbrev pub causes_of : Standard → Totals → Findings → List (List ℕ)
-causes_of standard totals findings =
-    empty_cause findings.empty ++ (row_causes standard totals findings ++ (cause findings.unmatched unmatched_words ++ (few_cause findings.few ++ unread_causes findings)))
+-- all of them, for rows of which this is counted, where each number has to be certain or not
+abbrev pub causes_of : Bool → Totals → Findings → List (List ℕ)
+causes_of certain totals findings =
+    empty_cause findings.empty ++ (row_causes totals certain ++ (cause findings.unmatched unmatched_words ++ (lossy_cause findings.lossy ++ (few_cause findings.few ++ unread_causes findings))))
 
--- the last line
-abbrev pub last_line : Ending → List (List ℕ) → List ℕ
-last_line Clean causes = codes "clean\n"
-last_line ending causes = concat (codes "not clean: " ∷ joined (codes "; ") causes ∷ codes "\n" ∷ [])
+-- the words for all numbers, of which so many are received for certain
+abbrev pub certain_words : WordsValue
+certain_words =
+    record {
+      one = codes " number is received for certain, none is known to be lost";
+      many = codes " numbers are received for certain, none is known to be lost";
+    }
+
+-- what stands behind `clean`: how many numbers are received for certain, where any other did not arrive
+abbrev pub certain_detail : Totals → List ℕ
+certain_detail totals =
+    if nat_le (totals.numbers - totals.received) totals.arrived then []
+    else concat (codes ": " ∷ share totals.received totals.numbers ∷ words_for totals.numbers certain_words ∷ [])
+
+-- the same, or what pairs of best effort have, where there is no row
+abbrev pub clean_detail : Totals → BestEffortNumbers → List ℕ
+clean_detail totals best_effort = if totals.pairs == 0 then codes ": no reliable pair; " ++ best_effort_text best_effort else certain_detail totals
+
+-- the last line, of a report of whose rows this is counted, and of whose pairs of best effort that
+abbrev pub last_line : Totals → BestEffortNumbers → Ending → List (List ℕ) → List ℕ
+last_line totals best_effort Clean causes = codes "clean" ++ (clean_detail totals best_effort ++ codes "\n")
+last_line totals best_effort ending causes = concat (codes "not clean: " ∷ joined (codes "; ") causes ∷ codes "\n" ∷ [])

@@ -2,14 +2,14 @@
 -- own: other programs read the outcome, its reasons and what to do without taking lines apart. They stand around those of `audit --json`.
 use Rattle.std.specs.Prelude.{◌++◌, ℕ, false, is_some, List, [], ◌∷◌, codes, map, Some}
 use Rattle.json.specs.Json.{string}
-use Rattle.rtps_evidence.specs.Explanation.{explanation_value}
+use Rattle.rtps_report.specs.BestEfforts.{numbers_told}
 use Rattle.rtps_report.specs.FullReport.{AskedValue, RecordingValue, ReportValue, rows_of}
 use Rattle.rtps_report.specs.NoteFacts.{note_facts, scope_of}
 use Rattle.rtps_report.specs.SideFacts.{side_facts}
 use Rattle.rtps_report.specs.Totals.{totals_of}
 use Rattle.rtps_report.specs.declared.findings.Ending.{Ending}
 use Rattle.rtps_report.specs.declared.findings.Ending.TheVariants.{Clean}
-use Rattle.rtps_lines.specs.Causes.{causes_of, findings_in}
+use Rattle.rtps_lines.specs.Causes.{causes_of, findings_in, last_line}
 use Rattle.rtps_lines.specs.JsonText.{Member, TellingValue, array_of, rows_members}
 use Rattle.rtps_lines.specs.Notes.{NotedValue, notes}
 use Rattle.rtps_lines.specs.TalkMembers.{talk_members}
@@ -29,25 +29,30 @@ notes_members notes = (codes "notes", array_of (map string notes)) ∷ []
 
 -- why the run of this report does not end clean
 abbrev pub report_causes : AskedValue → RecordingValue → ReportValue → List (List ℕ)
-report_causes asked recording report = causes_of asked.standard (totals_of (scope_of asked recording report) (rows_of report)) (findings_in report.ending)
+report_causes asked recording report = causes_of asked.certain (totals_of (scope_of asked recording report) (rows_of report)) (findings_in report.ending)
+
+-- the last line of what is told of it
+abbrev pub report_last : AskedValue → RecordingValue → ReportValue → List ℕ
+report_last asked recording report =
+    last_line (totals_of (scope_of asked recording report) (rows_of report)) (numbers_told report.talk.best_effort_total) report.ending (report_causes asked recording report)
 
 -- of what the notes of a report tell, where topics are not named
 abbrev pub noted_of : ReportValue → NotedValue
 noted_of report =
-    record { talk = report.talk; left_out = map explanation_value report.left_out; late = []; rows = []; side = side_facts report; named = false }
+    record { talk = report.talk; talking = []; left_out = report.talk.left_out; late = []; tails = []; rows = []; side = side_facts report; named = false }
 
 -- what weakens it
 abbrev pub report_notes : AskedValue → RecordingValue → ReportValue → List (List ℕ)
 report_notes asked recording report = notes (codes " -> ") (note_facts asked recording report) (noted_of report)
 
--- by what the objects of its rows are told: what to do is told of all of them
+-- by what the objects of its rows are told
 abbrev pub check_telling : AskedValue → RecordingValue → ReportValue → TellingValue
 check_telling asked recording report =
-    record { scope = scope_of asked recording report; talk = Some report.talk; has_other = is_some report.arrived }
+    record { scope = scope_of asked recording report; talk = report.talk; has_other = is_some report.arrived }
 
--- all members: those of `audit --json`, with what to do for each row, and who does not talk, between them
+-- all members: between them those of `audit --json`, with the span of each row and what to do, and who does not talk
 abbrev pub check_members : AskedValue → RecordingValue → ReportValue → List Member
 check_members asked recording report =
     status_members report.ending (report_causes asked recording report)
-    ++ (rows_members (check_telling asked recording report) (rows_of report) report.explained.counts recording
+    ++ (rows_members (Some (check_telling asked recording report)) (rows_of report) report.explained.counts recording
     ++ (talk_members recording.times report ++ notes_members (report_notes asked recording report)))

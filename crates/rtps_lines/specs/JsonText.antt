@@ -3,15 +3,13 @@
 -- and numbers are integers in decimal, but seconds have three places. Names are strings of what `list` writes between the quotes, and places
 -- are as `why` writes them. Where some datagram of the recording has a time, each place has a second, and so has each datagram that stands
 -- alone.
-use Rattle.std.specs.Prelude.{ℕ, ℤ, ◌≡◌, ◌++◌, ◌&&◌, Bool, true, false, if◌then◌else◌, is_some, List, [], ◌∷◌, codes, length, map, Option, None, Some}
+use Rattle.std.specs.Prelude.{ℕ, ℤ, ◌≡◌, ◌++◌, Bool, if◌then◌else◌, List, [], ◌∷◌, codes, length, map, Option, None, Some}
 use Rattle.std.specs.Fmt.{decimal, signed_decimal}
 use Rattle.std.specs.List.{flat_map}
-use Rattle.std.specs.Option.{option_map}
 use Rattle.json.specs.Json.{Json, null, boolean, number, string, array, object, Items, no_items, item, Members, no_members, member, document}
 use Rattle.json.specs.Print.{print}
 use Rattle.json.specs.Token.{Token, key}
 use Rattle.json.specs.Tree.{json_tokens}
-use Rattle.rtps_discovery.specs.declared.matching.Pair.{Pair}
 use Rattle.rtps_evidence.specs.FirstNumbers.{numbers_of}
 use Rattle.rtps_evidence.specs.Times.{TimesValue, are_there, seconds_of}
 use Rattle.rtps_evidence.specs.declared.times.Seconds.{Seconds}
@@ -19,14 +17,12 @@ use Rattle.rtps_evidence.specs.declared.waits.Wait.{Wait}
 use Rattle.rtps_report.specs.Vocabulary.{Absent, Announcement, Claim, Complete, CompleteGrounds, Conflict, ConflictGrounds, Counts, EvidenceValue, ExplanationValue, FirstMissed, GroundsValue, InSpan, Key, Location, NotReceived, Open, OpenGrounds, Outcomes, PayloadValue, SentValue, Teller, Unfounded, UnfoundedGrounds, Verdict, Whole}
 use Rattle.rtps_report.specs.declared.recording.Reasons.{Reasons}
 use Rattle.rtps_report.specs.declared.advice.Scope.{Scope}
-use Rattle.rtps_report.specs.Advice.{advice_of, sentence_of}
-use Rattle.rtps_report.specs.NoteFacts.{is_unread}
+use Rattle.rtps_report.specs.Advice.{advice_of}
 use Rattle.rtps_report.specs.RowFacts.{is_clean, row_from}
 use Rattle.rtps_report.specs.Recording.{RecordingValue}
-use Rattle.rtps_report.specs.Silences.{no_silences, silences_of}
+use Rattle.rtps_report.specs.Silences.{silences_of}
 use Rattle.rtps_report.specs.Talk.{TalkValue, talk_value}
-use Rattle.rtps_report.specs.declared.silences.Silences.{Silences}
-use Rattle.rtps_lines.specs.Lines.{kind_text, second_in, seconds_text, silence_lines}
+use Rattle.rtps_lines.specs.Lines.{advice_text, kind_text, second_in, seconds_text, silence_lines}
 use Rattle.rtps_lines.specs.declared.json_object.Telling.{Telling}
 use Rattle.rtps_parts.specs.Names.{guid_text, octet_text}
 
@@ -168,7 +164,7 @@ asked_members times count last = (codes "asked_since", count_json count) ∷ (co
 -- what the verdict rests on
 abbrev pub shown_members : TimesValue → GroundsValue → List Member
 shown_members times CompleteGrounds = []
-shown_members times (OpenGrounds teller count last) = (codes "told", teller_json times teller) ∷ asked_members times count last
+shown_members times (OpenGrounds teller count first last) = (codes "told", teller_json times teller) ∷ asked_members times count last
 shown_members times (ConflictGrounds first other) = (codes "sent", array_of (sent_json times first ∷ sent_json times other ∷ [])) ∷ []
 shown_members times (UnfoundedGrounds teller claim) = (codes "claimed", claim_json times claim) ∷ (codes "told", teller_json times teller) ∷ []
 
@@ -241,17 +237,15 @@ wait_member times wait = (codes "wait", wait_json times wait)
 abbrev pub wait_members : TimesValue → Option Wait → List Member
 wait_members times wait = timed_members times (wait_member times wait ∷ [])
 
--- by what the objects of rows are told: their scope, who does not talk, where it is told of all rows what to do, and whether there is
--- another recording. Without who does not talk it is told of rows in spans alone
+-- by what the objects of the rows of a report are told: their scope, who does not talk, and whether there is another recording
 pub record TellingValue : Type 0 where
   pub scope : Scope
-  pub talk : Option TalkValue
+  pub talk : TalkValue
   pub has_other : Bool
 
 -- that of the code, as a value
 abbrev pub telling_value : Telling → TellingValue
-telling_value telling =
-    record { scope = telling.scope; talk = option_map (λ talk. talk_value talk.now) telling.talk; has_other = telling.has_other }
+telling_value telling = record { scope = telling.scope; talk = talk_value telling.talk.now; has_other = telling.has_other }
 
 -- of a row in a span: its first number, the datagram in which its reader leaves, what became of its numbers, the first that did not
 -- arrive, whether it is clean, and the longest wait
@@ -265,51 +259,46 @@ span_by telling times evidence (Some in_span) = (codes "from", count_json (row_f
 abbrev pub span_members : TellingValue → TimesValue → EvidenceValue → List Member
 span_members telling times evidence = span_by telling times evidence evidence.in_span
 
--- who is silent of the two of a pair, where it is told who does not talk
-abbrev pub told_silences : Option TalkValue → Pair → Silences
-told_silences None pair = no_silences
-told_silences (Some talk) pair = silences_of talk pair
-
 -- the sentences on who is silent of the two of a row
-abbrev pub silence_member : Option TalkValue → TimesValue → ExplanationValue → Member
-silence_member talk times row = (codes "silence", array_of (map string (silence_lines times (told_silences talk row.pair))))
+abbrev pub silence_member : TalkValue → TimesValue → ExplanationValue → Member
+silence_member talk times row = (codes "silence", array_of (map string (silence_lines times (silences_of talk row.pair))))
 
--- it is told who is silent: of rows in spans, where it is told who does not talk, and where there are times
-abbrev pub tells_silence : Option TalkValue → TimesValue → Option InSpan → Bool
-tells_silence talk times in_span = is_some talk && (is_some in_span && are_there times.of_datagrams)
+-- the same, where there are times
+abbrev pub silence_members : TalkValue → TimesValue → ExplanationValue → List Member
+silence_members talk times row = timed_members times (silence_member talk times row ∷ [])
 
--- these sentences, where they are told
-abbrev pub silence_members : Option TalkValue → TimesValue → ExplanationValue → List Member
-silence_members talk times row = if tells_silence talk times row.evidence.in_span then silence_member talk times row ∷ [] else []
+-- what to do for a row that is not clean
+abbrev pub sentence_json : TellingValue → TimesValue → ExplanationValue → Json
+sentence_json telling times row = string (advice_text times (advice_of times (silences_of telling.talk row.pair) telling.scope row.evidence))
 
 -- what to do for a row; null for a clean one
-abbrev pub advice_json : TellingValue → ExplanationValue → Json
-advice_json telling row =
+abbrev pub advice_json : TellingValue → TimesValue → ExplanationValue → Json
+advice_json telling times row =
     if is_clean telling.scope.tail row.evidence then null
-    else string (sentence_of (advice_of (told_silences telling.talk row.pair) telling.scope row.evidence))
+    else sentence_json telling times row
 
--- it is told what to do for a row
-abbrev pub is_advised : Option TalkValue → Option InSpan → Bool
-is_advised None in_span = is_some in_span
-is_advised (Some talk) in_span = true
+-- that as a member
+abbrev pub advice_member : TellingValue → TimesValue → ExplanationValue → Member
+advice_member telling times row = (codes "advice", advice_json telling times row)
 
--- the advice, where it is told
-abbrev pub advice_members : TellingValue → ExplanationValue → List Member
-advice_members telling row = if is_advised telling.talk row.evidence.in_span then (codes "advice", advice_json telling row) ∷ [] else []
-
--- what is told of a row beside its evidence
+-- what is told of a row of a report beside its evidence
 abbrev pub spanned_members : TellingValue → TimesValue → ExplanationValue → List Member
 spanned_members telling times row =
-    span_members telling times row.evidence ++ (silence_members telling.talk times row ++ advice_members telling row)
+    span_members telling times row.evidence ++ (silence_members telling.talk times row ++ advice_member telling times row ∷ [])
+
+-- the same; nothing of a row of an audit, which is in no span
+abbrev pub further_members : Option TellingValue → TimesValue → ExplanationValue → List Member
+further_members None times row = []
+further_members (Some telling) times row = spanned_members telling times row
 
 -- a row of the report with its evidence
-abbrev pub row_json : TellingValue → TimesValue → ExplanationValue → Json
+abbrev pub row_json : Option TellingValue → TimesValue → ExplanationValue → Json
 row_json telling times row =
     object_of (pair_members row
     ++ (verdict_members row.evidence.verdict
     ++ (evidence_members times row.evidence
     ++ (delivery_members times row.evidence
-    ++ (shown_members times row.evidence.grounds ++ spanned_members telling times row)))))
+    ++ (shown_members times row.evidence.grounds ++ further_members telling times row)))))
 
 -- how many frames of a capture gave no datagram; a text has none
 abbrev pub ignored_members : Option ℕ → List Member
@@ -328,23 +317,17 @@ counts_members counts = (codes "datagrams", count_json counts.datagrams) ∷ (co
     ∷ (codes "fragments", count_json counts.fragments) ∷ (codes "undirected", count_json counts.undirected) ∷ (codes "unsettled", count_json counts.unsettled) ∷ []
 
 -- the rows, under their name
-abbrev pub pairs_member : TellingValue → TimesValue → List ExplanationValue → Member
+abbrev pub pairs_member : Option TellingValue → TimesValue → List ExplanationValue → Member
 pairs_member telling times rows = (codes "pairs", array_of (map (row_json telling times) rows))
 
 -- what is told of these rows and counts, and of the frames of this recording
-abbrev pub rows_members : TellingValue → List ExplanationValue → Counts → RecordingValue → List Member
+abbrev pub rows_members : Option TellingValue → List ExplanationValue → Counts → RecordingValue → List Member
 rows_members telling rows counts recording =
     pairs_member telling recording.times rows ∷ (counts_members counts ++ (ignored_members recording.ignored ++ reasons_members recording.reasons))
 
--- by what the rows of an audit are told: with what to do, where they are in spans. No tail is allowed, and there is no other recording. A
--- row in a span has its own first number
-abbrev pub audit_telling : Counts → Option Reasons → TellingValue
-audit_telling counts reasons =
-    record { scope = record { from = 1; tail = 0; unread = is_unread counts reasons }; talk = None; has_other = false }
-
 -- the whole report, as an object of `audit --json`
 abbrev pub report_json : List ExplanationValue → Counts → RecordingValue → Json
-report_json rows counts recording = object_of (rows_members (audit_telling counts recording.reasons) rows counts recording)
+report_json rows counts recording = object_of (rows_members None rows counts recording)
 
 -- the tokens of a member: its name, and those of its value
 abbrev pub tokens_of_member : Member → List Token

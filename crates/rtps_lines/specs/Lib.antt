@@ -4,5 +4,6 @@ pub mod JsonText
 pub mod Lines
 pub mod Notes
 pub mod QosNames
+pub mod TailNames
 pub mod PolicyValues
 pub mod TalkMembers

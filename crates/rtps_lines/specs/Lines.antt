@@ -6,6 +6,7 @@ use Rattle.std.specs.Fmt.{decimal, signed_decimal}
 use Rattle.rtps_report.specs.Vocabulary.{Absent, Announcement, Claim, Complete, Conflict, FirstMissed, Key, Location, Open, PayloadValue, SentValue, Teller, Unfounded, Verdict, Whole}
 use Rattle.rtps_ids.specs.declared.identity.Guid.{Guid}
 use Rattle.rtps_parts.specs.Names.{guid_text}
+use Rattle.rtps_parts.specs.Parts.{WordsValue, words_for}
 use Rattle.rtps_policies.specs.AddressText.{address_text}
 use Rattle.rtps_policies.specs.declared.host.Address.{Address}
 use Rattle.rtps_evidence.specs.declared.location.Kind.{Kind}
@@ -13,6 +14,8 @@ use Rattle.rtps_evidence.specs.declared.location.Kind.TheVariants.{Data, Heartbe
 use Rattle.rtps_evidence.specs.declared.times.Seconds.{Seconds}
 use Rattle.rtps_evidence.specs.declared.waits.Wait.{Wait}
 use Rattle.rtps_evidence.specs.Times.{TimesValue, second_of, seconds_of, time_of}
+use Rattle.rtps_report.specs.Advice.{ended_in, sentence_of}
+use Rattle.rtps_report.specs.declared.advice.Advice.{Advice}
 use Rattle.rtps_report.specs.declared.silences.Silences.{Silences}
 use Rattle.rtps_discovery.specs.declared.endpoint.Side.{Side}
 use Rattle.rtps_discovery.specs.declared.endpoint.Side.TheVariants.{Writer, Reader}
@@ -128,10 +131,14 @@ again_text times (Some place) = codes "sent again " ++ (place_comma times place 
 abbrev pub asked_line : TimesValue → FirstMissed → List ℕ
 asked_line times first = 32 ∷ 32 ∷ inner_line (codes "number" ∷ decimal first.number ∷ codes "asked for" ∷ place_comma times first.asked ∷ (again_text times first.again ++ since_text times first.gone) ∷ [])
 
+-- how often, in a word
+abbrev pub times_words : WordsValue
+times_words = record { one = codes "time"; many = codes "times" }
+
 -- how often the writer asked for an answer since the last one
 abbrev pub questions_line : TimesValue → ℕ → Option Location → List ℕ
 questions_line times count None = inner_line (codes "not asked since its last answer" ∷ [])
-questions_line times count (Some place) = inner_line (codes "asked" ∷ decimal count ∷ codes "times since its last answer, last" ∷ place_text times place ∷ [])
+questions_line times count (Some place) = inner_line (codes "asked" ∷ decimal count ∷ words_for count times_words ∷ codes "since its last answer, last" ∷ place_text times place ∷ [])
 
 -- a GUID, and where its participant is, if that is known
 abbrev pub hosted_text : Guid → Option Address → List ℕ
@@ -150,6 +157,20 @@ abbrev pub wait_text : TimesValue → Wait → List ℕ
 wait_text times wait =
     codes "let the writer wait " ++ (seconds_text (seconds_of wait.nanoseconds)
     ++ (codes " s: asked " ++ (place_comma times wait.asked ++ (codes " " ++ answered_text times wait.answered))))
+
+-- a second behind a sentence; nothing where there is none
+unfoldable pub at_second : Option Seconds → List ℕ
+at_second None = []
+at_second (Some second) = codes " at " ++ (seconds_text second ++ codes " s")
+
+-- when the last datagram of a participant came that ended; nothing where the advice is of none
+abbrev pub ended_text : TimesValue → Option ℕ → List ℕ
+ended_text times None = []
+ended_text times (Some datagram) = at_second (second_in times datagram)
+
+-- what to do for a pair, in one sentence
+abbrev pub advice_text : TimesValue → Advice → List ℕ
+advice_text times advice = sentence_of advice ++ ended_text times (ended_in advice)
 
 -- the participant of a writer or a reader says nothing since this datagram, and does not leave
 abbrev pub silence_line : TimesValue → Side → ℕ → List ℕ

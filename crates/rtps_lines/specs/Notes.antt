@@ -11,12 +11,17 @@ use Rattle.rtps_policies.specs.declared.silence.Silence.TheVariants.{OneParticip
 use Rattle.rtps_report.specs.BestEfforts.{BestEffortValue}
 use Rattle.rtps_report.specs.Participants.{are_on_one_host}
 use Rattle.rtps_report.specs.RowFacts.{absent_in, is_held_in}
-use Rattle.rtps_report.specs.Talk.{TalkValue, talk_value}
+use Rattle.rtps_report.specs.Talk.{LeftOutValue, TalkValue, left_out_value, talk_value}
+use Rattle.rtps_policies.specs.Unmatched.{UnmatchedValue}
+use Rattle.rtps_policies.specs.declared.fitting.Policy.{Policy}
 use Rattle.rtps_report.specs.declared.participant.Participant.{Participant}
 use Rattle.rtps_report.specs.ByTopic.{topics_of}
 use Rattle.rtps_report.specs.declared.note_facts.NoteFacts.{NoteFacts}
 use Rattle.rtps_report.specs.declared.side_facts.SideFacts.{SideFacts}
 use Rattle.rtps_lines.specs.Lines.{seconds_text}
+use Rattle.rtps_lines.specs.PolicyValues.{policy_words}
+use Rattle.rtps_lines.specs.TailNames.{tail_names}
+use Rattle.std.specs.Str.{bytes_eq}
 use Rattle.rtps_lines.specs.declared.notes.NotedRows.{NotedRows}
 use Rattle.rtps_lines.specs.declared.side_notes.Unread.{Unread}
 use Rattle.rtps_lines.specs.declared.notes.Weakness.{Weakness}
@@ -101,26 +106,65 @@ is_silence OneWay OneWay = true
 is_silence Silent Silent = true
 is_silence _ _ = false
 
--- the rows whose pairs are silent for this reason
-abbrev pub silent_in : (Pair → Silence) → Silence → List ExplanationValue → List ExplanationValue
-silent_in silence_of silence rows = filter (λ row. is_silence (silence_of row.pair) silence) rows
+-- the pairs that are silent for this reason
+abbrev pub silent_in : (Pair → Silence) → Silence → List LeftOutValue → List LeftOutValue
+silent_in silence_of silence pairs = filter (λ one. is_silence (silence_of one.pair) silence) pairs
 
--- the note on rows that are silent for a reason, by topic; none where there is no such row
-abbrev pub silent_by : Bool → Silence → List ExplanationValue → List (List ℕ)
+-- the name of a topic behind that of the pair before, if there is one: nothing where that is the same
+abbrev pub name_behind : Option (List ℕ) → List ℕ → List ℕ
+name_behind None topic = codes ": " ++ topic_text topic
+name_behind (Some before) topic = if bytes_eq before topic then [] else codes ", " ++ topic_text topic
+
+-- the names of the topics of pairs, which stand by topic, behind that pair
+abbrev pub names_behind : Option (List ℕ) → List LeftOutValue → List ℕ
+names_behind before [] = []
+names_behind before (one ∷ more) = name_behind before one.topic ++ names_behind (Some one.topic) more
+
+-- the same behind a colon, where topics are named
+abbrev pub left_names : Bool → List LeftOutValue → List ℕ
+left_names named pairs = if named then names_behind None pairs else []
+
+-- the note on pairs that are silent for a reason, by topic; none where there is no such pair
+abbrev pub silent_by : Bool → Silence → List LeftOutValue → List (List ℕ)
 silent_by named reason [] = []
-silent_by named reason (row ∷ rows) = left_out_by reason (length (row ∷ rows)) (names_if named (row ∷ rows)) ∷ []
+silent_by named reason (one ∷ more) = left_out_by reason (length (one ∷ more)) (left_names named (one ∷ more)) ∷ []
 
--- the note on those of these rows that are silent for a reason
-abbrev pub silent_note : Bool → (Pair → Silence) → List ExplanationValue → Silence → List (List ℕ)
-silent_note named silence_of rows silence = silent_by named silence (silent_in silence_of silence rows)
+-- the note on those of these pairs that are silent for a reason
+abbrev pub silent_note : Bool → (Pair → Silence) → List LeftOutValue → Silence → List (List ℕ)
+silent_note named silence_of pairs silence = silent_by named silence (silent_in silence_of silence pairs)
 
 -- the reasons, in the order in which they are told
 abbrev pub silences : List Silence
 silences = OneParticipant ∷ TwoDomains ∷ OneWay ∷ Silent ∷ []
 
--- the notes on rows that are left out
-abbrev pub left_out_notes : Bool → (Pair → Silence) → List ExplanationValue → List (List ℕ)
-left_out_notes named silence_of rows = flat_map (silent_note named silence_of rows) silences
+-- the notes on pairs that are left out
+abbrev pub left_out_notes : Bool → (Pair → Silence) → List LeftOutValue → List (List ℕ)
+left_out_notes named silence_of pairs = flat_map (silent_note named silence_of pairs) silences
+
+-- the names of policies
+abbrev pub policies_text : List Policy → List ℕ
+policies_text [] = []
+policies_text (policy ∷ policies) = policy_words policy ++ flat_map (λ other. codes ", " ++ policy_words other) policies
+
+-- the name of the topic of two that talk though they do not match, and for which policies they do not
+abbrev pub talking_text : List ℕ → UnmatchedValue → List ℕ
+talking_text separator one = separator ++ (topic_text one.writer.endpoint.topic ++ (codes " (" ++ (policies_text one.reasons ++ codes ")")))
+
+-- those of more, the first one behind this separator
+abbrev pub talking_behind : List ℕ → List UnmatchedValue → List ℕ
+talking_behind separator [] = []
+talking_behind separator (one ∷ more) = talking_text separator one ++ talking_behind (codes ", ") more
+
+-- those behind a colon; nothing where there are none
+abbrev pub talking_names : List UnmatchedValue → List ℕ
+talking_names pairs = talking_behind (codes ": ") pairs
+
+-- the note on so many pairs that talk though they do not match, and their names; none where there is no such pair
+abbrev pub talking_note : ℕ → List ℕ → List (List ℕ)
+talking_note pairs names =
+    if pairs == 0 then []
+    else concat (amount pairs (record { one = codes "pair talks though it does not match by the standard"; many = codes "pairs talk though they do not match by the standard" })
+    ∷ names ∷ []) ∷ []
 
 -- that times go back by so many seconds, and behind an arrow what to do
 abbrev pub back_by : List ℕ → List ℕ → List ℕ
@@ -178,12 +222,16 @@ late_by pairs names arrow =
 abbrev pub late_note : List ℕ → ℕ → List ℕ → List (List ℕ)
 late_note arrow pairs names = if pairs == 0 then [] else late_by pairs names arrow ∷ []
 
--- the note on rows that are clean with a tail, and on the longest; none where there is no such row
-abbrev pub tail_note : NoteFacts → List (List ℕ)
-tail_note facts =
+-- the note on rows that are clean with a tail, and on the longest, and then this of their topics; none where there is no such row
+abbrev pub tail_note : NoteFacts → List ℕ → List (List ℕ)
+tail_note facts names =
     if facts.tails == 0 then []
     else concat (amount facts.tails (record { one = codes "pair is"; many = codes "pairs are" }) ∷ codes " clean with a tail, of at most "
-    ∷ amount facts.longest number_words ∷ []) ∷ []
+    ∷ amount facts.longest number_words ∷ names ∷ []) ∷ []
+
+-- the topics of rows with tails, where topics are named
+abbrev pub tail_names_if : Bool → List ExplanationValue → List ℕ
+tail_names_if named rows = if named then tail_names rows else []
 
 -- ---- what another recording shows, made at the reader's host
 
@@ -254,12 +302,14 @@ unread_there side =
 
 -- ---- all of them
 
--- of what notes tell: who does not talk, the rows that are left out, those whose writer wrote nothing since their reader joined, and all
--- rows, each by topic; what another recording shows, if there is one; and whether topics are named
+-- of what notes tell: who does not talk, the names of those that talk though they do not match, the pairs that are left out, the rows whose writer wrote nothing since their reader joined, those
+-- that are clean with a tail, and all rows, each by topic; what another recording shows, if there is one; and whether topics are named
 pub record NotedValue : Type 0 where
   pub talk : TalkValue
-  pub left_out : List ExplanationValue
+  pub talking : List ℕ
+  pub left_out : List LeftOutValue
   pub late : List ExplanationValue
+  pub tails : List ExplanationValue
   pub rows : List ExplanationValue
   pub side : Option SideFacts
   pub named : Bool
@@ -269,8 +319,10 @@ abbrev pub noted_value : NotedRows → NotedValue
 noted_value rows =
     record {
       talk = talk_value rows.talk.now;
-      left_out = map explanation_value rows.left_out.now;
+      talking = rows.talking.now;
+      left_out = map left_out_value rows.left_out.now;
       late = map explanation_value rows.late.now;
+      tails = map explanation_value rows.tails.now;
       rows = map explanation_value rows.rows.now;
       side = rows.side;
       named = rows.named;
@@ -293,7 +345,8 @@ abbrev pub notes : List ℕ → NoteFacts → NotedValue → List (List ℕ)
 notes arrow facts noted =
     order_note arrow facts.back
     ++ (host_note arrow noted.talk.participants
+    ++ (talking_note (length noted.talk.talking) noted.talking
     ++ (left_out_notes noted.named noted.talk.silence noted.left_out
     ++ (best_effort_note arrow noted.talk.best_effort_total (shares_if noted.named noted.talk.best_effort)
     ++ (side_notes arrow noted noted.side
-    ++ (late_note arrow facts.late (names_if noted.named noted.late) ++ (tail_note facts ++ flat_map (note arrow) (weaknesses facts)))))))
+    ++ (late_note arrow facts.late (names_if noted.named noted.late) ++ (tail_note facts (tail_names_if noted.named noted.tails) ++ flat_map (note arrow) (weaknesses facts))))))))

@@ -1,5 +1,5 @@
 -- The words for what writers offer and readers request. DDS 1.4, 2.2.3, and XTypes 1.3, 7.6.3.1.1, for the names of kinds.
-use Rattle.std.specs.Prelude.{ℕ, ◌==◌, ◌++◌, Bool, if◌then◌else◌, List, [], ◌∷◌, codes, decimal}
+use Rattle.std.specs.Prelude.{ℕ, ◌==◌, Bool, if◌then◌else◌, List, [], ◌∷◌, codes, decimal}
 use Rattle.std.specs.List.{concat, flat_map, join_by}
 use Rattle.rtps_discovery.specs.Matching.{is_writer}
 use Rattle.rtps_discovery.specs.declared.endpoint.Durability.{Durability}

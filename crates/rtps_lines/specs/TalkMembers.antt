@@ -4,7 +4,6 @@ use Rattle.std.specs.Prelude.{ℕ, ◌++◌, Bool, if◌then◌else◌, is_some,
 use Rattle.std.specs.Option.{option_map}
 use Rattle.json.specs.Json.{Json, boolean, null, string}
 use Rattle.rtps_discovery.specs.declared.matching.Pair.{Pair}
-use Rattle.rtps_evidence.specs.Explanation.{ExplanationValue, explanation_value}
 use Rattle.rtps_evidence.specs.FirstNumbers.{numbers_of}
 use Rattle.rtps_evidence.specs.Times.{TimesValue}
 use Rattle.rtps_parts.specs.Names.{guid_text}
@@ -20,6 +19,7 @@ use Rattle.rtps_policies.specs.declared.silence.Silence.{Silence}
 use Rattle.rtps_policies.specs.declared.silence.Silence.TheVariants as silence
 use Rattle.rtps_report.specs.BestEfforts.{BestEffortValue, HeldValue}
 use Rattle.rtps_report.specs.FullReport.{ReportValue}
+use Rattle.rtps_report.specs.Talk.{LeftOutValue}
 use Rattle.rtps_report.specs.declared.participant.Participant.{Participant}
 use Rattle.rtps_lines.specs.JsonText.{Member, array_of, count_json, name_json, numbers_json, object_of, second_member, timed_members, until_json}
 use Rattle.rtps_lines.specs.PolicyValues.{value_text}
@@ -44,6 +44,16 @@ unmatched_json one =
 abbrev pub unmatched_member : List UnmatchedValue → Member
 unmatched_member unmatched = (codes "unmatched", array_of (map unmatched_json unmatched))
 
+-- a writer and a reader that talk though they do not match
+abbrev pub talking_json : UnmatchedValue → Json
+talking_json one =
+    object_of ((codes "topic", name_json one.writer.endpoint.topic) ∷ (codes "writer", string (guid_text one.writer.endpoint.guid))
+    ∷ (codes "reader", string (guid_text one.reader.endpoint.guid)) ∷ (codes "because", reasons_json one.reasons) ∷ [])
+
+-- the member of all of them
+abbrev pub talking_member : List UnmatchedValue → Member
+talking_member talking = (codes "talking", array_of (map talking_json talking))
+
 -- why a pair is silent, in a word
 unfoldable pub silence_name : Silence → List ℕ
 silence_name silence.OneParticipant = codes "one participant"
@@ -52,14 +62,14 @@ silence_name silence.OneWay = codes "one way"
 silence_name silence.Silent = codes "silent"
 
 -- a pair of which the recording cannot speak, and why
-abbrev pub unobserved_json : Silence → ExplanationValue → Json
-unobserved_json reason row =
-    object_of ((codes "topic", name_json row.topic) ∷ (codes "writer", string (guid_text row.pair.writer)) ∷ (codes "reader", string (guid_text row.pair.reader))
+abbrev pub unobserved_json : Silence → LeftOutValue → Json
+unobserved_json reason one =
+    object_of ((codes "topic", name_json one.topic) ∷ (codes "writer", string (guid_text one.pair.writer)) ∷ (codes "reader", string (guid_text one.pair.reader))
     ∷ (codes "because", string (silence_name reason)) ∷ [])
 
 -- the member of all pairs that are left out
-abbrev pub unobserved_member : (Pair → Silence) → List ExplanationValue → Member
-unobserved_member silence_of rows = (codes "unobserved", array_of (map (λ row. unobserved_json (silence_of row.pair) row) rows))
+abbrev pub unobserved_member : (Pair → Silence) → List LeftOutValue → Member
+unobserved_member silence_of pairs = (codes "unobserved", array_of (map (λ one. unobserved_json (silence_of one.pair) one) pairs))
 
 -- a participant that names another, the one that never answers, and in how many datagrams it is named
 abbrev pub one_way_json : OneWay → Json
@@ -133,5 +143,5 @@ participants_member times participants = (codes "participants", array_of (map (p
 -- all of them
 abbrev pub talk_members : TimesValue → ReportValue → List Member
 talk_members times report =
-    unmatched_member report.talk.unmatched ∷ unobserved_member report.talk.silence (map explanation_value report.left_out) ∷ one_way_member report.talk.one_way
+    unmatched_member report.talk.unmatched ∷ talking_member report.talk.talking ∷ unobserved_member report.talk.silence report.talk.left_out ∷ one_way_member report.talk.one_way
     ∷ best_effort_member report.talk.best_effort ∷ (held_members (is_some report.arrived) report.talk.held ++ participants_member times report.talk.participants ∷ [])

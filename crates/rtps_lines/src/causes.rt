@@ -1,11 +1,11 @@
-ghost use Rattle.std.specs.Prelude.{◌≡◌, ◌++◌, OnOk, IfOk, map};
+ghost use Rattle.std.specs.Prelude.{◌≡◌, ◌++◌, OnOk, IfOk, flat_map, map};
 ghost use Rattle.std.specs.String.{string_bytes};
-ghost use Rattle.rtps_parts.specs.Parts.{words_value};
-ghost use Rattle.rtps_lines.specs.Causes.{cause, causes_of as causes_of_lem, empty_cause, few_cause, findings_in as findings_in_lem, incomplete_causes, incomplete_words as incomplete_words_lem, last_line, links_cause, lost_cause, lost_words as lost_words_lem, missed_words as missed_words_lem, row_causes, unanswered_words as unanswered_words_lem, uncertain_of as uncertain_of_lem, uncertain_words as uncertain_words_lem, unclean_causes, unmatched_words as unmatched_words_lem, unread_causes, unsent_words as unsent_words_lem};
+ghost use Rattle.rtps_parts.specs.Parts.{part_text, words_value};
+ghost use Rattle.rtps_lines.specs.Causes.{best_effort_text, cause, certain_detail, certain_words as certain_words_lem, causes_of as causes_of_lem, clean_detail, empty_cause, few_cause, findings_in as findings_in_lem, incomplete_words as incomplete_words_lem, last_line, links_cause, lossy_cause, lost_cause, lost_words as lost_words_lem, missed_words as missed_words_lem, row_causes, unanswered_words as unanswered_words_lem, uncertain_of as uncertain_of_lem, uncertain_words as uncertain_words_lem, unmatched_words as unmatched_words_lem, unread_causes, unsent_words as unsent_words_lem};
 
 use crate::notes::{Weakness, pair_words};
-use rtps_parts::{Part, Words, push_joined, push_rendered};
-use rtps_report::{Ending, FewRows, Findings, Links, Standard, Totals};
+use rtps_parts::{Part, Words, push_joined, push_rendered, render, words_for};
+use rtps_report::{BestEffortNumbers, Ending, FewRows, Findings, Links, Totals};
 use std::alloc::{AllocError, Global};
 
 fn findings_in(ending: &Ending) -> Findings
@@ -56,6 +56,42 @@ fn push_few(alloc: Global, causes: &mut Vec<String>, few: Option<FewRows>) -> Re
         Part::Text(" expected"),
     ];
     push_rendered(alloc, causes, &parts)
+}
+
+/// How many numbers pairs of best effort have, and how many of these are recorded.
+fn best_effort_parts(told: BestEffortNumbers) -> [Part<'static>; 3]
+    ensures { flat_map part_text result ≡ best_effort_text told }
+{
+    let pairs = Words {
+        one: "best-effort pair has ",
+        many: "best-effort pairs have ",
+    };
+    let numbers = Words {
+        one: " number in this recording",
+        many: " numbers in this recording",
+    };
+    [
+        Part::Amount(u128::from(told.pairs), pairs),
+        Part::Share(told.recorded, told.numbers),
+        Part::Text(words_for(told.numbers, numbers)),
+    ]
+}
+
+fn push_lossy(
+    alloc: Global,
+    causes: &mut Vec<String>,
+    lossy: Option<BestEffortNumbers>,
+) -> Result<(), AllocError>
+    ensures { OnOk result (map string_bytes causes.new.items ≡ map string_bytes causes.old.items ++ lossy_cause lossy) }
+{
+    let Some(told) = lossy else {
+        return Ok(());
+    };
+    let mut text = String::new(alloc);
+    text.push_str("no reliable pair; ")?;
+    render(&mut text, &best_effort_parts(told))?;
+    causes.push(text)?;
+    Ok(())
 }
 
 /// Numbers that rows lost, and how many rows did.
@@ -164,30 +200,13 @@ pub fn unmatched_words() -> Words
     }
 }
 
-fn push_incomplete(
-    alloc: Global,
-    causes: &mut Vec<String>,
-    totals: &Totals,
-    found: &Findings,
-) -> Result<(), AllocError>
-    ensures { OnOk result (map string_bytes causes.new.items ≡ map string_bytes causes.old.items ++ incomplete_causes totals.now found.now) }
-{
-    let incomplete = totals.pairs.saturating_sub(totals.complete_pairs);
-    let missed = Lost {
-        numbers: totals.missed,
-        pairs: found.missed,
-    };
-    push_cause(alloc, causes, u128::from(incomplete), incomplete_words())?;
-    push_lost(alloc, causes, missed, missed_words())
-}
-
-fn push_unclean(
+fn push_row_causes(
     alloc: Global,
     causes: &mut Vec<String>,
     totals: &Totals,
     certain: bool,
 ) -> Result<(), AllocError>
-    ensures { OnOk result (map string_bytes causes.new.items ≡ map string_bytes causes.old.items ++ unclean_causes totals.now certain) }
+    ensures { OnOk result (map string_bytes causes.new.items ≡ map string_bytes causes.old.items ++ row_causes totals.now certain) }
 {
     let unclean = u128::from(totals.unclean_pairs);
     let missed = Lost {
@@ -240,29 +259,16 @@ fn push_unread(alloc: Global, causes: &mut Vec<String>, found: &Findings) -> Res
     push_cause(alloc, causes, unsettled, Weakness::Unsettled.words())?;
     push_cause(alloc, causes, pieces, Weakness::Pieces.words())?;
     push_cause(alloc, causes, u128::from(found.cut), Weakness::Cut.words())?;
-    push_links(alloc, causes, found.links)?;
-    push_cause(alloc, causes, found.fragments, Weakness::Fragments.words())
+    push_links(alloc, causes, found.links)
 }
 
-/// What was counted of rows, and what they have to be.
+/// What was counted of rows, and whether each number of theirs has to be certain.
 #[derive(Clone, Copy)]
 pub struct Judged<'t> {
     pub totals: &'t Totals,
-    pub standard: Standard,
-}
-
-fn push_row_causes(
-    alloc: Global,
-    causes: &mut Vec<String>,
-    judged: Judged<'_>,
-    found: &Findings,
-) -> Result<(), AllocError>
-    ensures { OnOk result (map string_bytes causes.new.items ≡ map string_bytes causes.old.items ++ row_causes judged.entry.standard judged.entry.totals.now found.now) }
-{
-    match judged.standard {
-        Standard::AllComplete => push_incomplete(alloc, causes, judged.totals, found),
-        Standard::AllClean { certain, .. } => push_unclean(alloc, causes, judged.totals, certain),
-    }
+    /// What pairs of best effort have.
+    pub best_effort: BestEffortNumbers,
+    pub certain: bool,
 }
 
 fn push_causes(
@@ -271,12 +277,13 @@ fn push_causes(
     judged: Judged<'_>,
     found: &Findings,
 ) -> Result<(), AllocError>
-    ensures { OnOk result (map string_bytes causes.new.items ≡ map string_bytes causes.old.items ++ causes_of_lem judged.entry.standard judged.entry.totals.now found.now) }
+    ensures { OnOk result (map string_bytes causes.new.items ≡ map string_bytes causes.old.items ++ causes_of_lem judged.entry.certain judged.entry.totals.now found.now) }
 {
     let unmatched = u128::from(found.unmatched);
     push_empty(alloc, causes, found.empty)?;
-    push_row_causes(alloc, causes, judged, found)?;
+    push_row_causes(alloc, causes, judged.totals, judged.certain)?;
     push_cause(alloc, causes, unmatched, unmatched_words())?;
+    push_lossy(alloc, causes, found.lossy)?;
     push_few(alloc, causes, found.few)?;
     push_unread(alloc, causes, found)
 }
@@ -287,18 +294,65 @@ pub fn causes_of(
     judged: Judged<'_>,
     ending: &Ending,
 ) -> Result<Vec<String>, AllocError>
-    ensures { IfOk result (λ causes. map string_bytes causes.items ≡ causes_of_lem judged.entry.standard judged.entry.totals.now (findings_in_lem ending.now)) }
+    ensures { IfOk result (λ causes. map string_bytes causes.items ≡ causes_of_lem judged.entry.certain judged.entry.totals.now (findings_in_lem ending.now)) }
 {
     let mut causes = Vec::new(alloc);
     push_causes(alloc, &mut causes, judged, &findings_in(ending))?;
     Ok(causes)
 }
 
-pub fn push_last(text: &mut String, ending: &Ending, causes: &[String]) -> Result<(), AllocError>
-    ensures { OnOk result (string_bytes text.new ≡ string_bytes text.old ++ last_line ending.now (map string_bytes causes.now)) }
+fn certain_words() -> Words
+    ensures { words_value result ≡ certain_words_lem }
+{
+    Words {
+        one: " number is received for certain, none is known to be lost",
+        many: " numbers are received for certain, none is known to be lost",
+    }
+}
+
+/// Appends how many numbers are received for certain, where any other did not arrive.
+fn push_certain(text: &mut String, totals: &Totals) -> Result<(), AllocError>
+    ensures { OnOk result (string_bytes text.new ≡ string_bytes text.old ++ certain_detail totals.now) }
+{
+    if totals.numbers.saturating_sub(totals.received) <= totals.arrived {
+        return Ok(());
+    }
+    let parts = [
+        Part::Text(": "),
+        Part::Share(totals.received, totals.numbers),
+        Part::Text(words_for(totals.numbers, certain_words())),
+    ];
+    render(text, &parts)
+}
+
+/// Appends what stands behind `clean`: the same, or what pairs of best effort have, where there is no row.
+fn push_detail(text: &mut String, judged: Judged<'_>) -> Result<(), AllocError>
+    ensures { OnOk result (string_bytes text.new ≡ string_bytes text.old ++ clean_detail judged.entry.totals.now judged.entry.best_effort) }
+{
+    if judged.totals.pairs == 0 {
+        text.push_str(": no reliable pair; ")?;
+        render(text, &best_effort_parts(judged.best_effort))
+    } else {
+        push_certain(text, judged.totals)
+    }
+}
+
+/// Appends the last line of what is told of a report.
+pub fn push_last(
+    text: &mut String,
+    judged: Judged<'_>,
+    ending: &Ending,
+    causes: &[String],
+) -> Result<(), AllocError>
+    ensures { OnOk result (string_bytes text.new
+        ≡ string_bytes text.old ++ last_line judged.entry.totals.now judged.entry.best_effort ending.now (map string_bytes causes.now)) }
 {
     match ending {
-        Ending::Clean => text.push_str("clean\n"),
+        Ending::Clean => {
+            text.push_str("clean")?;
+            push_detail(text, judged)?;
+            text.push_str("\n")
+        }
         Ending::Unclean | Ending::Unmet(_) => {
             text.push_str("not clean: ")?;
             push_joined(text, "; ", causes)?;

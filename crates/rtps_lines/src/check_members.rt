@@ -2,12 +2,12 @@ ghost use Rattle.std.specs.Prelude.{◌≡◌, ◌++◌, IfOk, OnOk, map};
 ghost use Rattle.std.specs.String.{string_bytes};
 ghost use Rattle.rtps_report.specs.Asked.{asked_value};
 ghost use Rattle.rtps_report.specs.FullReport.{report_value};
-ghost use Rattle.rtps_lines.specs.CheckMembers.{check_members, check_telling, report_causes, report_notes, status_members, status_text};
+ghost use Rattle.rtps_lines.specs.CheckMembers.{check_members, check_telling, report_causes, report_last, report_notes, status_members, status_text};
 ghost use Rattle.rtps_lines.specs.JsonText.{telling_value, tokens_of};
 
-use crate::causes::{Judged, causes_of};
+use crate::causes::{Judged, causes_of, push_last};
 use crate::json_members::{push_text, push_texts};
-use crate::json_object::{Telling, push_report_members};
+use crate::json_object::{Telling, ToldRows, push_report_members};
 use crate::notes::{NotedRows, notes_of};
 use crate::talk_members::{has_other, push_talk_members};
 use json::Writer;
@@ -32,15 +32,36 @@ fn push_status(writer: &mut Writer, ending: &Ending, causes: &[String]) -> Resul
     push_texts(writer, "because", causes)
 }
 
+/// Why the run of a report does not end clean.
 fn report_causes_of(alloc: Global, report: &FullReport<'_>) -> Result<Vec<String>, AllocError>
     ensures { IfOk result (λ causes. map string_bytes causes.items ≡ report_causes (asked_value report.now.asked.now) report.now.recording.now (report_value report.now)) }
 {
     let totals = totals_of(&report.explained.rows, scope_of(report));
     let judged = Judged {
         totals: &totals,
-        standard: report.asked.standard,
+        best_effort: report.talk.best_effort_total.told(),
+        certain: report.asked.certain,
     };
     causes_of(alloc, judged, &report.ending)
+}
+
+/// Appends the last line of what is told of a report.
+pub fn push_report_last(
+    alloc: Global,
+    text: &mut String,
+    report: &FullReport<'_>,
+) -> Result<(), AllocError>
+    ensures { OnOk result (string_bytes text.new
+        ≡ string_bytes text.old ++ report_last (asked_value report.now.asked.now) report.now.recording.now (report_value report.now)) }
+{
+    let totals = totals_of(&report.explained.rows, scope_of(report));
+    let judged = Judged {
+        totals: &totals,
+        best_effort: report.talk.best_effort_total.told(),
+        certain: report.asked.certain,
+    };
+    let causes = report_causes_of(alloc, report)?;
+    push_last(text, judged, &report.ending, &causes)
 }
 
 /// What weakens a report, in one line each, without the names of topics.
@@ -49,8 +70,10 @@ fn report_notes_of(alloc: Global, report: &FullReport<'_>) -> Result<Vec<String>
 {
     let rows = NotedRows {
         talk: &report.talk,
-        left_out: &report.left_out,
+        talking: "",
+        left_out: &report.talk.left_out,
         late: &[],
+        tails: &[],
         rows: &[],
         side: facts_of_side(report),
         named: false,
@@ -64,7 +87,7 @@ fn telling_of<'t, 'a>(report: &'t FullReport<'a>) -> Telling<'t, 'a>
 {
     Telling {
         scope: scope_of(report),
-        talk: Some(&report.talk),
+        talk: &report.talk,
         has_other: has_other(report),
     }
 }
@@ -82,7 +105,12 @@ pub fn push_check_members(
     let causes = report_causes_of(alloc, report)?;
     let notes = report_notes_of(alloc, report)?;
     push_status(writer, &report.ending, &causes)?;
-    push_report_members(alloc, writer, report, telling_of(report))?;
+    let rows = ToldRows {
+        explained: &report.explained,
+        recording: report.recording,
+        telling: Some(telling_of(report)),
+    };
+    push_report_members(alloc, writer, &rows)?;
     push_talk_members(alloc, writer, report)?;
     push_texts(writer, "notes", &notes)
 }

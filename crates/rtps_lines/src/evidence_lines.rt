@@ -2,13 +2,15 @@ ghost use Rattle.std.specs.Prelude.{◌≡◌, ◌++◌, OnOk, Some};
 ghost use Rattle.std.specs.Option.{option_map};
 ghost use Rattle.std.specs.String.{string_bytes};
 ghost use Rattle.rtps_evidence.specs.Locations.{sent_value};
-ghost use Rattle.rtps_lines.specs.Lines.{acknowledged_line, again_text, announced_line, answered_text, asked_line, claimed_line, questions_line, sent_line, since_text, told_line, verdict_text, wait_text};
+ghost use Rattle.rtps_parts.specs.Parts.{words_value};
+ghost use Rattle.rtps_lines.specs.Lines.{acknowledged_line, again_text, announced_line, answered_text, asked_line, claimed_line, questions_line, sent_line, since_text, times_words as times_words_lem, told_line, verdict_text, wait_text};
 
 use crate::fields::{PlaceComma, PlaceText, SecondsText, kind_name, push_field, push_payload};
 use rtps_audit::Verdict;
 use rtps_evidence::{
     Announcement, Claim, FirstMissed, Location, Seconds, Sent, Teller, Times, Wait,
 };
+use rtps_parts::{Words, words_for};
 use std::alloc::AllocError;
 use std::fmt;
 
@@ -143,6 +145,15 @@ impl fmt::Display for SinceText<'_> {
     }
 }
 
+fn times_words() -> Words
+    ensures { words_value result ≡ times_words_lem }
+{
+    Words {
+        one: "time",
+        many: "times",
+    }
+}
+
 #[derive(Drop)]
 pub struct QuestionsLine<'t>(pub &'t Times, pub u64, pub Option<Location>);
 
@@ -154,9 +165,10 @@ impl fmt::Display for QuestionsLine<'_> {
             return writeln!(f, "  not asked since its last answer");
         };
         let (count, place) = (self.1, PlaceText(self.0, place));
+        let times = words_for(u128::from(count), times_words());
         writeln!(
             f,
-            "  asked {count} times since its last answer, last {place}"
+            "  asked {count} {times} since its last answer, last {place}"
         )
     }
 }

@@ -4,7 +4,7 @@
 ghost use Rattle.std.specs.Prelude.{◌≡◌, ◌++◌, codes, OnOk, Some};
 ghost use Rattle.std.specs.String.{string_bytes};
 ghost use Rattle.rtps_wire.specs.Values.{payload_value};
-ghost use Rattle.rtps_lines.specs.Lines.{hosted_text, kind_text, payload_text, place_comma, place_text, second_text, seconds_text};
+ghost use Rattle.rtps_lines.specs.Lines.{advice_text, ended_text, hosted_text, kind_text, payload_text, place_comma, place_text, second_text, seconds_text};
 ghost use Rattle.rtps_lines.specs.QosNames.{durability_text, reliability_text, side_text};
 
 use itoa::{Buffer, Integer};
@@ -12,6 +12,7 @@ use rtps_discovery::{Durability, Reliability, Side};
 use rtps_evidence::{Kind, Location, Seconds, Times};
 use rtps_ids::Guid;
 use rtps_policies::Address;
+use rtps_report::Advice;
 use rtps_wire::Payload;
 use std::alloc::AllocError;
 use std::fmt;
@@ -51,6 +52,38 @@ impl fmt::Display for SecondText<'_> {
             Some(second) => write!(f, ", {} s", SecondsText(second)),
             None => Ok(()),
         }
+    }
+}
+
+/// When the last datagram of a participant came that ended; nothing where it has no time, or where there is none.
+#[derive(Drop)]
+struct EndedText<'t>(&'t Times, Option<u64>);
+
+impl fmt::Display for EndedText<'_> {
+    ghost output = { λ text. Some (ended_text text.0.now text.1) };
+
+    #[tactic(auto, unfolding(crate::specs::Lines::at_second))]
+    fn fmt<W: fmt::Write>(&self, f: &mut fmt::Formatter<W>) -> fmt::Result {
+        let Some(datagram) = self.1 else {
+            return Ok(());
+        };
+        match self.0.second(datagram) {
+            Some(second) => write!(f, " at {} s", SecondsText(second)),
+            None => Ok(()),
+        }
+    }
+}
+
+/// What to do for a pair, in one sentence.
+#[derive(Drop)]
+pub struct AdviceText<'t>(pub &'t Times, pub Advice);
+
+impl fmt::Display for AdviceText<'_> {
+    ghost output = { λ text. Some (advice_text text.0.now text.1) };
+
+    fn fmt<W: fmt::Write>(&self, f: &mut fmt::Formatter<W>) -> fmt::Result {
+        let ended = EndedText(self.0, self.1.ended_in());
+        write!(f, "{}{ended}", self.1.sentence())
     }
 }
 

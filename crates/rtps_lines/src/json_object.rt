@@ -7,10 +7,9 @@ ghost use Rattle.json.specs.Token.{key, number as number_token, string as string
 ghost use Rattle.json.specs.Tree.{depth, json_tokens};
 ghost use Rattle.rtps_evidence.specs.Explanation.{evidence_value, explanation_value};
 ghost use Rattle.rtps_evidence.specs.Grounds.{grounds_value};
-ghost use Rattle.rtps_report.specs.FullReport.{report_value, rows_of};
-ghost use Rattle.rtps_lines.specs.JsonText.{IsJsonLine, advice_members, arrived_member, arrived_members, audit_telling as audit_telling_lem, counts_members, ignored_members, is_advised as is_advised_lem, lacking_member, lacking_members, lost_members, outcome_members, outcomes_json, pair_members, pairs_member, reasons_members, report_json, row_json, rows_members, shown_members, silence_member, silence_members, span_members, spanned_members, telling_value, tells_silence as tells_silence_lem, told_silences as told_silences_lem, tokens_of, tokens_of_member, until_members, verdict_members};
-ghost use Rattle.rtps_report.specs.Talk.{talk_value};
+ghost use Rattle.rtps_lines.specs.JsonText.{IsJsonLine, advice_member, arrived_member, arrived_members, counts_members, further_members, ignored_members, lacking_member, lacking_members, lost_members, outcome_members, outcomes_json, pair_members, pairs_member, reasons_members, report_json, row_json, rows_members, sentence_json, shown_members, silence_member, silence_members, span_members, spanned_members, telling_value, tokens_of, tokens_of_member, until_members, verdict_members};
 
+use crate::fields::AdviceText;
 use crate::json_members::{
     Clock, push_asked, push_claim, push_count, push_delivery, push_evidence, push_flag, push_guid,
     push_name, push_number, push_numbers, push_optional, push_sent, push_teller, push_text,
@@ -19,11 +18,8 @@ use crate::json_members::{
 use crate::silent_participants::silence_lines;
 use json::Writer;
 use rtps_audit::{Counts, Verdict};
-use rtps_discovery::Pair;
-use rtps_evidence::{Evidence, Explanation, Grounds, InSpan, Outcomes};
-use rtps_report::{
-    FullReport, Reasons, Scope, Silences, Talk, advice_of, is_clean, is_unread, row_from,
-};
+use rtps_evidence::{Evidence, Explained, Explanation, Grounds, InSpan, Outcomes};
+use rtps_report::{Reasons, Recording, Scope, Talk, advice_of, is_clean, row_from};
 use std::alloc::{AllocError, Global};
 
 /// The line of the value that was written, and nothing before it.
@@ -37,78 +33,76 @@ pub fn json_line(writer: Writer) -> Result<String, AllocError>
     Ok(text)
 }
 
-/// By what the objects of rows are told.
+/// By what the objects of the rows of a report are told.
 #[derive(Clone, Copy)]
-pub struct Telling<'t, 'a> {
-    pub scope: Scope,
-    /// Who does not talk, where it is told of all rows what to do. None where that is told of rows in spans alone.
-    pub talk: Option<&'t Talk<'a>>,
+pub(crate) struct Telling<'t, 'a> {
+    pub(crate) scope: Scope,
+    pub(crate) talk: &'t Talk<'a>,
     /// Whether there is another recording, against which rows are held.
-    pub has_other: bool,
+    pub(crate) has_other: bool,
 }
 
 /// By what the members of a row are made.
 #[derive(Clone, Copy)]
 struct RowForm<'t, 'a> {
-    telling: Telling<'t, 'a>,
+    /// None of a row of an audit, of which nothing is told beside its evidence.
+    telling: Option<Telling<'t, 'a>>,
     clock: Clock<'t>,
 }
 
-fn audit_telling(counts: &Counts, reasons: Option<Reasons>) -> Telling<'static, 'static>
-    ensures { telling_value result ≡ audit_telling_lem counts.now reasons }
-{
-    Telling {
-        scope: Scope {
-            from: 1,
-            tail: 0,
-            unread: is_unread(counts, reasons),
-        },
-        talk: None,
-        has_other: false,
-    }
+/// Rows and counts of a recording, and by what they are told.
+#[derive(Clone, Copy)]
+pub(crate) struct ToldRows<'t, 'a> {
+    pub(crate) explained: &'t Explained<'a>,
+    pub(crate) recording: &'t Recording,
+    pub(crate) telling: Option<Telling<'t, 'a>>,
 }
 
-/// Appends the object of a report. After an `Err` what was written is of no use.
-pub fn push_report(
+/// Appends the object of an audit of a recording. After an `Err` what was written is of no use.
+pub fn push_report<'r>(
     alloc: Global,
     writer: &mut Writer,
-    report: &FullReport<'_>,
+    explained: &'r Explained<'_>,
+    recording: &'r Recording,
 ) -> Result<(), AllocError>
     ensures tokens { OnOk result (writer.new.tokens
-        ≡ writer.old.tokens ++ json_tokens (report_json (rows_of (report_value report.now)) report.now.explained.counts report.now.recording.now)) }
+        ≡ writer.old.tokens ++ json_tokens (report_json (map explanation_value explained.now.rows.items) explained.now.counts recording.now)) }
     ensures before { writer.new.before ≡ writer.old.before }
 {
     writer.begin_object()?;
-    let telling = audit_telling(&report.explained.counts, report.recording.reasons());
-    push_report_members(alloc, writer, report, telling)?;
+    let told = ToldRows {
+        explained,
+        recording,
+        telling: None,
+    };
+    push_report_members(alloc, writer, &told)?;
     writer.end_object()
 }
 
 /// Appends the members of a report's object, with spans and advice where these are told. After an `Err` what was written is of no use.
-pub fn push_report_members(
+pub(crate) fn push_report_members(
     alloc: Global,
     writer: &mut Writer,
-    report: &FullReport<'_>,
-    telling: Telling<'_, '_>,
+    told: &ToldRows<'_, '_>,
 ) -> Result<(), AllocError>
     ensures tokens { OnOk result (writer.new.tokens
-        ≡ writer.old.tokens ++ tokens_of (rows_members (telling_value telling.entry) (rows_of (report_value report.now)) report.now.explained.counts report.now.recording.now)) }
+        ≡ writer.old.tokens ++ tokens_of (rows_members (option_map telling_value told.now.telling) (map explanation_value told.now.explained.now.rows.items) told.now.explained.now.counts told.now.recording.now)) }
     ensures before { writer.new.before ≡ writer.old.before }
 {
+    let recording = told.recording;
     let mut text = String::new(alloc);
     let clock = Clock {
-        times: report.recording.times(),
+        times: recording.times(),
         alloc,
     };
-    push_pairs(
-        writer,
-        &mut text,
-        &report.explained.rows,
-        RowForm { telling, clock },
-    )?;
-    push_counts(writer, report.explained.counts)?;
-    push_ignored(writer, report.recording.ignored())?;
-    push_reasons(writer, report.recording.reasons())
+    let form = RowForm {
+        telling: told.telling,
+        clock,
+    };
+    push_pairs(writer, &mut text, &told.explained.rows, form)?;
+    push_counts(writer, told.explained.counts)?;
+    push_ignored(writer, recording.ignored())?;
+    push_reasons(writer, recording.reasons())
 }
 
 /// Appends the array of rows. Names are written to `text` first.
@@ -119,7 +113,7 @@ fn push_pairs(
     form: RowForm<'_, '_>,
 ) -> Result<(), AllocError>
     ensures tokens { OnOk result (writer.new.tokens
-        ≡ writer.old.tokens ++ tokens_of_member (pairs_member (telling_value form.entry.telling) form.entry.clock.times.now (map explanation_value rows.now))) }
+        ≡ writer.old.tokens ++ tokens_of_member (pairs_member (option_map telling_value form.entry.telling) form.entry.clock.times.now (map explanation_value rows.now))) }
     ensures before { writer.new.before ≡ writer.old.before }
 {
     writer.key("pairs")?;
@@ -137,7 +131,7 @@ fn push_row(
     form: RowForm<'_, '_>,
 ) -> Result<(), AllocError>
     ensures tokens { OnOk result (writer.new.tokens
-        ≡ writer.old.tokens ++ json_tokens (row_json (telling_value form.entry.telling) form.entry.clock.times.now (explanation_value row.now))) }
+        ≡ writer.old.tokens ++ json_tokens (row_json (option_map telling_value form.entry.telling) form.entry.clock.times.now (explanation_value row.now))) }
     ensures before { writer.new.before ≡ writer.old.before }
 {
     writer.begin_object()?;
@@ -146,32 +140,50 @@ fn push_row(
     push_evidence(writer, &row.evidence, form.clock)?;
     push_delivery(writer, &row.evidence, form.clock)?;
     push_shown(writer, &row.evidence.grounds, form.clock)?;
-    push_spanned(writer, row, form)?;
+    push_further(writer, row, form)?;
     writer.end_object()
 }
 
-fn push_spanned(
+/// Appends what is told of a row of a report beside its evidence; nothing of a row of an audit.
+fn push_further(
     writer: &mut Writer,
     row: &Explanation<'_>,
     form: RowForm<'_, '_>,
 ) -> Result<(), AllocError>
     ensures tokens { OnOk result (writer.new.tokens
-        ≡ writer.old.tokens ++ tokens_of (spanned_members (telling_value form.entry.telling) form.entry.clock.times.now (explanation_value row.now))) }
+        ≡ writer.old.tokens ++ tokens_of (further_members (option_map telling_value form.entry.telling) form.entry.clock.times.now (explanation_value row.now))) }
     ensures before { writer.new.before ≡ writer.old.before }
 {
-    push_span(writer, &row.evidence, form)?;
-    push_silence(writer, row, form)?;
-    push_advice(writer, row, form.telling)
+    match form.telling {
+        Some(telling) => push_spanned(writer, row, telling, form.clock),
+        None => Ok(()),
+    }
+}
+
+fn push_spanned(
+    writer: &mut Writer,
+    row: &Explanation<'_>,
+    telling: Telling<'_, '_>,
+    clock: Clock<'_>,
+) -> Result<(), AllocError>
+    ensures tokens { OnOk result (writer.new.tokens
+        ≡ writer.old.tokens ++ tokens_of (spanned_members (telling_value telling.entry) clock.entry.times.now (explanation_value row.now))) }
+    ensures before { writer.new.before ≡ writer.old.before }
+{
+    push_span(writer, &row.evidence, telling, clock)?;
+    push_silence(writer, row, telling, clock)?;
+    push_advice(writer, row, telling, clock)
 }
 
 /// Appends the span of a row, what became of its numbers, whether it is clean, and its longest wait; nothing where it is in no span.
 fn push_span(
     writer: &mut Writer,
     evidence: &Evidence<'_>,
-    form: RowForm<'_, '_>,
+    telling: Telling<'_, '_>,
+    clock: Clock<'_>,
 ) -> Result<(), AllocError>
     ensures tokens { OnOk result (writer.new.tokens
-        ≡ writer.old.tokens ++ tokens_of (span_members (telling_value form.entry.telling) form.entry.clock.times.now (evidence_value evidence.now))) }
+        ≡ writer.old.tokens ++ tokens_of (span_members (telling_value telling.entry) clock.entry.times.now (evidence_value evidence.now))) }
     ensures before { writer.new.before ≡ writer.old.before }
 {
     let Some(in_span) = &evidence.in_span else {
@@ -181,13 +193,13 @@ fn push_span(
         scope,
         has_other,
         ..
-    } = form.telling;
+    } = telling;
     push_count(writer, "from", row_from(scope.from, evidence))?;
-    push_until(writer, in_span.until, form.clock)?;
+    push_until(writer, in_span.until, clock)?;
     push_outcomes(writer, in_span, has_other)?;
     push_lacking(writer, in_span, has_other)?;
     push_flag(writer, "clean", is_clean(scope.tail, evidence))?;
-    push_wait(writer, in_span.wait, form.clock)
+    push_wait(writer, in_span.wait, clock)
 }
 
 fn push_until(writer: &mut Writer, until: Option<u64>, clock: Clock<'_>) -> Result<(), AllocError>
@@ -283,84 +295,77 @@ fn push_lacking(writer: &mut Writer, in_span: &InSpan, has_other: bool) -> Resul
     }
 }
 
-/// Who is silent of the two of a pair, where it is told who does not talk.
-fn told_silences(talk: Option<&Talk<'_>>, pair: Pair) -> Silences
-    ensures { result ≡ told_silences_lem (option_map (λ talk. talk_value talk.now) talk.entry) pair }
-{
-    match talk {
-        Some(talk) => talk.silences(pair),
-        None => Silences::none(),
-    }
-}
-
-/// Whether it is told who is silent of the two of a row.
-fn tells_silence(evidence: &Evidence<'_>, form: RowForm<'_, '_>) -> bool
-    ensures { result ≡ tells_silence_lem (telling_value form.entry.telling).talk form.entry.clock.times.now evidence.now.in_span }
-{
-    form.telling.talk.is_some() && evidence.in_span.is_some() && form.clock.times.are_there()
-}
-
 /// Appends the sentences on who is silent of the two of a row.
 fn push_silence_lines(
     writer: &mut Writer,
     row: &Explanation<'_>,
-    form: RowForm<'_, '_>,
+    telling: Telling<'_, '_>,
+    clock: Clock<'_>,
 ) -> Result<(), AllocError>
     ensures tokens { OnOk result (writer.new.tokens
-        ≡ writer.old.tokens ++ tokens_of_member (silence_member (telling_value form.entry.telling).talk form.entry.clock.times.now (explanation_value row.now))) }
+        ≡ writer.old.tokens ++ tokens_of_member (silence_member (telling_value telling.entry).talk clock.entry.times.now (explanation_value row.now))) }
     ensures before { writer.new.before ≡ writer.old.before }
 {
-    let Clock { times, alloc } = form.clock;
-    let silences = told_silences(form.telling.talk, row.pair);
+    let Clock { times, alloc } = clock;
+    let silences = telling.talk.silences(row.pair);
     let lines = silence_lines(alloc, times, silences)?;
     push_texts(writer, "silence", &lines)
 }
 
-/// Appends these, where that is told.
+/// Appends these, where there are times.
 fn push_silence(
     writer: &mut Writer,
     row: &Explanation<'_>,
-    form: RowForm<'_, '_>,
+    telling: Telling<'_, '_>,
+    clock: Clock<'_>,
 ) -> Result<(), AllocError>
     ensures tokens { OnOk result (writer.new.tokens
-        ≡ writer.old.tokens ++ tokens_of (silence_members (telling_value form.entry.telling).talk form.entry.clock.times.now (explanation_value row.now))) }
+        ≡ writer.old.tokens ++ tokens_of (silence_members (telling_value telling.entry).talk clock.entry.times.now (explanation_value row.now))) }
     ensures before { writer.new.before ≡ writer.old.before }
 {
-    if tells_silence(&row.evidence, form) {
-        push_silence_lines(writer, row, form)
+    if clock.times.are_there() {
+        push_silence_lines(writer, row, telling, clock)
     } else {
         Ok(())
     }
 }
 
-fn is_advised(evidence: &Evidence<'_>, talk: Option<&Talk<'_>>) -> bool
-    ensures { result ≡ is_advised_lem (option_map (λ talk. talk_value talk.now) talk.entry) evidence.now.in_span }
+/// Appends what to do for a row that is not clean.
+fn push_sentence(
+    writer: &mut Writer,
+    row: &Explanation<'_>,
+    telling: Telling<'_, '_>,
+    clock: Clock<'_>,
+) -> Result<(), AllocError>
+    ensures tokens { OnOk result (writer.new.tokens
+        ≡ writer.old.tokens ++ json_tokens (sentence_json (telling_value telling.entry) clock.entry.times.now (explanation_value row.now))) }
+    ensures before { writer.new.before ≡ writer.old.before }
 {
-    match talk {
-        Some(_) => true,
-        None => evidence.in_span.is_some(),
-    }
+    let Clock { times, alloc } = clock;
+    let silences = telling.talk.silences(row.pair);
+    let advice = advice_of(telling.scope, &row.evidence, silences, times);
+    let mut sentence = String::new(alloc);
+    write!(sentence, "{}", AdviceText(times, advice))?;
+    writer.string(&sentence)
 }
 
-/// Appends what to do for a row, where that is told; null for a clean one.
+/// Appends what to do for a row; null for a clean one.
 fn push_advice(
     writer: &mut Writer,
     row: &Explanation<'_>,
     telling: Telling<'_, '_>,
+    clock: Clock<'_>,
 ) -> Result<(), AllocError>
-    ensures tokens { OnOk result (writer.new.tokens ≡ writer.old.tokens ++ tokens_of (advice_members (telling_value telling.entry) (explanation_value row.now))) }
+    ensures tokens { OnOk result (writer.new.tokens
+        ≡ writer.old.tokens ++ tokens_of_member (advice_member (telling_value telling.entry) clock.entry.times.now (explanation_value row.now))) }
     ensures before { writer.new.before ≡ writer.old.before }
 {
     let evidence = &row.evidence;
-    if !is_advised(evidence, telling.talk) {
-        return Ok(());
-    }
     writer.key("advice")?;
     if is_clean(telling.scope.tail, evidence) {
         return writer.null();
     }
-    let silences = told_silences(telling.talk, row.pair);
-    writer.string(advice_of(telling.scope, evidence, silences).sentence())
+    push_sentence(writer, row, telling, clock)
 }
 
 fn push_pair(
@@ -416,6 +421,7 @@ fn push_shown(
             teller,
             asked_since,
             last_asked,
+            ..
         } => {
             push_teller(writer, "told", teller, clock)?;
             push_asked(writer, asked_since, last_asked, clock)

@@ -12,22 +12,26 @@ mod notes;
 mod policy_values;
 mod side_notes;
 mod silent_participants;
+mod tail_names;
 mod talk_members;
+mod talk_notes;
 
 pub use causes::{Judged, causes_of, push_last, unmatched_words};
-pub use check_members::push_check_members;
+pub use check_members::{push_check_members, push_report_last};
 pub use evidence_lines::{
     AcknowledgedLine, AnnouncedLine, AskedLine, ClaimedLine, QuestionsLine, ToldLine, VerdictText,
     WaitText, push_sent,
 };
 pub use fields::{
-    HostedGuid, PlaceComma, PlaceText, SecondText, durability_name, kind_name, push_decimal,
-    push_field, push_payload, reliability_name, side_name,
+    AdviceText, HostedGuid, PlaceComma, PlaceText, SecondText, durability_name, kind_name,
+    push_decimal, push_field, push_payload, reliability_name, side_name,
 };
 pub use json_members::{
     Clock, push_count, push_guid, push_name, push_number, push_seconds, push_text, push_texts,
 };
-pub use json_object::{Telling, json_line, push_report, push_report_members};
+pub use json_object::{json_line, push_report};
 pub use notes::{NotedRows, names_of, notes_of, number_words, topic_name};
 pub use policy_values::{Naming, PolicyValue, words_of_policy};
 pub use silent_participants::silence_lines;
+pub use tail_names::longest_tail;
+pub use talk_notes::talking_names;

@@ -6,14 +6,15 @@ ghost use Rattle.rtps_parts.specs.Parts.{part_text, words_value};
 ghost use Rattle.rtps_report.specs.ByTopic.{topics_of as topics_of_lem};
 ghost use Rattle.rtps_report.specs.BestEfforts.{best_effort_value};
 ghost use Rattle.rtps_report.specs.Talk.{talk_value};
-ghost use Rattle.rtps_lines.specs.Notes.{back_by as back_by_lem, best_effort_note, best_effort_remedy as best_effort_remedy_lem, detail_of, host_note, is_silence, joined_names as joined_names_lem, late_by as late_by_lem, late_note, left_out_by as left_out_by_lem, left_out_notes, names_if as names_if_lem, note, noted_value, notes as notes_lem, number_words as number_words_lem, order_note, pair_words as pair_words_lem, remedy_of, share_text, shares_if as shares_if_lem, shares_text, silence_words as silence_words_lem, silent_in, silent_note, tail_note, topic_name as topic_name_lem, weaknesses as weaknesses_lem, words_of};
+ghost use Rattle.rtps_lines.specs.Notes.{back_by as back_by_lem, best_effort_note, best_effort_remedy as best_effort_remedy_lem, detail_of, host_note, joined_names as joined_names_lem, late_by as late_by_lem, late_note, names_if as names_if_lem, note, noted_value, notes as notes_lem, number_words as number_words_lem, order_note, pair_words as pair_words_lem, remedy_of, share_text, shares_if as shares_if_lem, shares_text, tail_names_if as tail_names_if_lem, tail_note, topic_name as topic_name_lem, weaknesses as weaknesses_lem, words_of};
 
 use crate::fields::SecondsText;
 use crate::side_notes::push_beside;
+use crate::tail_names::tail_names;
+use crate::talk_notes::{push_left_out, push_talking};
 use rtps_evidence::{Explanation, Seconds};
 use rtps_parts::{Part, Words, push_rendered, render, words_for};
-use rtps_policies::Silence;
-use rtps_report::{BestEffort, NoteFacts, SideFacts, Talk, are_on_one_host, topics_of};
+use rtps_report::{BestEffort, LeftOut, NoteFacts, SideFacts, Talk, are_on_one_host, topics_of};
 use std::alloc::{AllocError, Global};
 
 /// What weakens a report.
@@ -218,99 +219,6 @@ pub(crate) fn names_if(
     }
 }
 
-/// Why pairs are silent, and what that says of them.
-#[tactic(auto, unfolding(crate::specs::Notes::silence_words))]
-fn silence_words(silence: Silence) -> &'static str
-    ensures { result.now ≡ silence_words_lem silence }
-{
-    match silence {
-        Silence::OneParticipant => "of one participant (it needs no network)",
-        Silence::TwoDomains => "of two domains (they never meet)",
-        Silence::OneWay => "talking one way (the reader never answers)",
-        Silence::Silent => "silent here (shared memory, another host or interface)",
-    }
-}
-
-fn left_out_by(silence: Silence, pairs: usize, names: &str) -> [Part<'_>; 3]
-    ensures { flat_map part_text result ≡ left_out_by_lem silence pairs names.now }
-{
-    let words = Words {
-        one: "pair is left out, ",
-        many: "pairs are left out, ",
-    };
-    [
-        Part::Amount(pairs as u128, words),
-        Part::Text(silence_words(silence)),
-        Part::Text(names),
-    ]
-}
-
-/// Whether two reasons are the same.
-fn is_same(one: Silence, other: Silence) -> bool
-    ensures { result ≡ is_silence one other }
-{
-    one == other
-}
-
-/// Those of rows that are left out whose pairs are silent for this reason.
-fn silent_among<'a>(
-    alloc: Global,
-    rows: &[Explanation<'a>],
-    talk: &Talk<'_>,
-    silence: Silence,
-) -> Result<Vec<Explanation<'a>>, AllocError>
-    ensures { IfOk result (λ found. map explanation_value found.items
-        ≡ silent_in (talk_value talk.now).silence silence (map explanation_value rows.now)) }
-{
-    let mut found = Vec::new(alloc);
-    for row in rows {
-        if is_same(talk.silence(row.pair), silence) {
-            found.push(*row)?;
-        }
-    }
-    Ok(found)
-}
-
-/// Appends the note on pairs that are silent for this reason.
-fn push_silent(
-    alloc: Global,
-    notes: &mut Vec<String>,
-    told: NotedRows<'_, '_>,
-    silence: Silence,
-) -> Result<(), AllocError>
-    ensures { OnOk result (map string_bytes notes.new.items ≡ map string_bytes notes.old.items
-        ++ silent_note told.entry.named (talk_value told.entry.talk.now).silence (map explanation_value told.entry.left_out.now) silence) }
-{
-    let rows = silent_among(alloc, told.left_out, told.talk, silence)?;
-    if rows.is_empty() {
-        return Ok(());
-    }
-    let names = names_if(alloc, told.named, &rows)?;
-    push_rendered(alloc, notes, &left_out_by(silence, rows.len(), &names))
-}
-
-/// The reasons for which pairs are silent, in the order in which they are told.
-const SILENCES: [Silence; 4] = [
-    Silence::OneParticipant,
-    Silence::TwoDomains,
-    Silence::OneWay,
-    Silence::Silent,
-];
-
-fn push_left_out(
-    alloc: Global,
-    notes: &mut Vec<String>,
-    told: NotedRows<'_, '_>,
-) -> Result<(), AllocError>
-    ensures { OnOk result (map string_bytes notes.new.items ≡ map string_bytes notes.old.items
-        ++ left_out_notes told.entry.named (talk_value told.entry.talk.now).silence (map explanation_value told.entry.left_out.now)) }
-{
-    for silence in &SILENCES {
-        push_silent(alloc, notes, told, *silence)?;
-    }
-    Ok(())
-}
-
 fn back_by<'t>(seconds: &'t str, arrow: &'t str) -> [Part<'t>; 5]
     ensures { flat_map part_text result ≡ back_by_lem seconds.now arrow.now }
 {
@@ -497,8 +405,25 @@ fn push_late<'t>(
     push_rendered(alloc, notes, &late_by(pairs, names, arrow))
 }
 
-fn push_tails(alloc: Global, notes: &mut Vec<String>, facts: &NoteFacts) -> Result<(), AllocError>
-    ensures { OnOk result (map string_bytes notes.new.items ≡ map string_bytes notes.old.items ++ tail_note facts.now) }
+/// The topics of rows with tails, where topics are named; empty where they are not.
+fn tail_names_if(alloc: Global, named: bool, rows: &[Explanation<'_>]) -> Result<String, AllocError>
+    ensures { IfOk result (λ names. string_bytes names ≡ tail_names_if_lem named (map explanation_value rows.now)) }
+{
+    if named {
+        tail_names(alloc, rows)
+    } else {
+        Ok(String::new(alloc))
+    }
+}
+
+/// Appends how many rows are clean with a tail, how long the longest is, and behind that the text on their topics.
+fn push_tails(
+    alloc: Global,
+    notes: &mut Vec<String>,
+    facts: &NoteFacts,
+    names: &str,
+) -> Result<(), AllocError>
+    ensures { OnOk result (map string_bytes notes.new.items ≡ map string_bytes notes.old.items ++ tail_note facts.now names.now) }
 {
     if facts.tails == 0 {
         return Ok(());
@@ -511,19 +436,24 @@ fn push_tails(alloc: Global, notes: &mut Vec<String>, facts: &NoteFacts) -> Resu
         Part::Amount(u128::from(facts.tails), pairs),
         Part::Text(" clean with a tail, of at most "),
         Part::Amount(u128::from(facts.longest), number_words()),
+        Part::Text(names),
     ];
     push_rendered(alloc, notes, &parts)
 }
 
-/// Of what notes tell. Rows stand by topic.
+/// Of what notes tell. Rows and pairs stand by topic.
 #[derive(Clone, Copy)]
 pub struct NotedRows<'r, 'a> {
     /// Who does not talk.
     pub talk: &'r Talk<'a>,
-    /// The rows that are left out.
-    pub left_out: &'r [Explanation<'a>],
+    /// The names of those that talk though they do not match; empty where topics are not named.
+    pub talking: &'r str,
+    /// The pairs that are left out.
+    pub left_out: &'r [LeftOut<'a>],
     /// Those whose writer wrote nothing since their reader joined. They are only read where topics are named.
     pub late: &'r [Explanation<'a>],
+    /// Those that are clean with a tail. They are only read where topics are named.
+    pub tails: &'r [Explanation<'a>],
     /// All that are not left out. They are only read where topics are named.
     pub rows: &'r [Explanation<'a>],
     /// What another recording shows; None where there is none.
@@ -544,14 +474,16 @@ pub fn notes_of(
     let talk = rows.talk;
     let shares = shares_if(alloc, rows.named, &talk.best_effort)?;
     let late = names_if(alloc, rows.named, rows.late)?;
+    let tails = tail_names_if(alloc, rows.named, rows.tails)?;
     let mut notes = Vec::new(alloc);
     push_order(alloc, &mut notes, facts.back, arrow)?;
     push_hosts(alloc, &mut notes, talk, arrow)?;
+    push_talking(alloc, &mut notes, talk, rows.talking)?;
     push_left_out(alloc, &mut notes, rows)?;
     push_best_effort(alloc, &mut notes, (&talk.best_effort_total, &shares), arrow)?;
     push_beside(alloc, &mut notes, rows, arrow)?;
     push_late(alloc, &mut notes, (facts.late, &late), arrow)?;
-    push_tails(alloc, &mut notes, facts)?;
+    push_tails(alloc, &mut notes, facts, &tails)?;
     push_weaknesses(alloc, &mut notes, facts, arrow)?;
     Ok(notes)
 }

@@ -3,14 +3,13 @@ ghost use Rattle.std.specs.Option.{option_map};
 ghost use Rattle.json.specs.Json.{boolean};
 ghost use Rattle.json.specs.Token.{key};
 ghost use Rattle.json.specs.Tree.{json_tokens};
-ghost use Rattle.rtps_evidence.specs.Explanation.{explanation_value};
 ghost use Rattle.rtps_policies.specs.Fitting.{profile_value};
 ghost use Rattle.rtps_policies.specs.Unmatched.{unmatched_value};
 ghost use Rattle.rtps_report.specs.BestEfforts.{best_effort_value, held_value};
 ghost use Rattle.rtps_report.specs.FullReport.{report_value};
-ghost use Rattle.rtps_report.specs.Talk.{talk_value};
+ghost use Rattle.rtps_report.specs.Talk.{left_out_value, talk_value};
 ghost use Rattle.rtps_lines.specs.JsonText.{array_of, timed_members, tokens_of, tokens_of_member};
-ghost use Rattle.rtps_lines.specs.TalkMembers.{address_json, best_effort_json, best_effort_member, held_json, held_member, held_members, one_way_json, one_way_member, participant_json, participants_member, reasons_json, silence_name as silence_name_lem, stay_members, stay_times, talk_members, unmatched_json, unmatched_member, unobserved_json, unobserved_member, values_json};
+ghost use Rattle.rtps_lines.specs.TalkMembers.{address_json, best_effort_json, best_effort_member, held_json, held_member, held_members, one_way_json, one_way_member, participant_json, participants_member, reasons_json, silence_name as silence_name_lem, stay_members, stay_times, talk_members, talking_json, talking_member, unmatched_json, unmatched_member, unobserved_json, unobserved_member, values_json};
 
 use crate::json_members::{
     Clock, push_count, push_flag, push_guid, push_name, push_numbers, push_optional, push_text,
@@ -18,9 +17,9 @@ use crate::json_members::{
 };
 use crate::policy_values::{Naming, PolicyValue};
 use json::Writer;
-use rtps_evidence::{Explanation, Times};
+use rtps_evidence::Times;
 use rtps_policies::{Address, OneWay, Policy, Profile, Silence, Unmatched, participant_of};
-use rtps_report::{BestEffort, FullReport, HeldPair, Participant, Stay, Talk};
+use rtps_report::{BestEffort, FullReport, HeldPair, LeftOut, Participant, Stay, Talk};
 use std::alloc::{AllocError, Global};
 
 /// The endpoint of which it is told what it has of these policies.
@@ -117,6 +116,38 @@ fn push_all_unmatched(
     writer.end_array()
 }
 
+fn push_talking(
+    writer: &mut Writer,
+    text: &mut String,
+    one: &Unmatched<'_>,
+) -> Result<(), AllocError>
+    ensures tokens { OnOk result (writer.new.tokens ≡ writer.old.tokens ++ json_tokens (talking_json (unmatched_value one.now))) }
+    ensures before { writer.new.before ≡ writer.old.before }
+{
+    writer.begin_object()?;
+    push_name(writer, text, "topic", one.writer.endpoint.topic)?;
+    push_guid(writer, text, "writer", one.writer.endpoint.guid)?;
+    push_guid(writer, text, "reader", one.reader.endpoint.guid)?;
+    push_reasons(writer, text, &one.reasons)?;
+    writer.end_object()
+}
+
+fn push_all_talking(
+    writer: &mut Writer,
+    text: &mut String,
+    talking: &[Unmatched<'_>],
+) -> Result<(), AllocError>
+    ensures tokens { OnOk result (writer.new.tokens ≡ writer.old.tokens ++ tokens_of_member (talking_member (map unmatched_value talking.now))) }
+    ensures before { writer.new.before ≡ writer.old.before }
+{
+    writer.key("talking")?;
+    writer.begin_array()?;
+    for one in talking {
+        push_talking(writer, text, one)?;
+    }
+    writer.end_array()
+}
+
 /// Why a pair is silent, in a word.
 #[tactic(auto, unfolding(crate::specs::TalkMembers::silence_name))]
 fn silence_name(silence: Silence) -> &'static str
@@ -133,16 +164,16 @@ fn silence_name(silence: Silence) -> &'static str
 fn push_unobserved(
     writer: &mut Writer,
     text: &mut String,
-    row: &Explanation<'_>,
+    one: &LeftOut<'_>,
     silence: Silence,
 ) -> Result<(), AllocError>
-    ensures tokens { OnOk result (writer.new.tokens ≡ writer.old.tokens ++ json_tokens (unobserved_json silence (explanation_value row.now))) }
+    ensures tokens { OnOk result (writer.new.tokens ≡ writer.old.tokens ++ json_tokens (unobserved_json silence (left_out_value one.now))) }
     ensures before { writer.new.before ≡ writer.old.before }
 {
     writer.begin_object()?;
-    push_name(writer, text, "topic", row.topic)?;
-    push_guid(writer, text, "writer", row.pair.writer)?;
-    push_guid(writer, text, "reader", row.pair.reader)?;
+    push_name(writer, text, "topic", one.topic)?;
+    push_guid(writer, text, "writer", one.pair.writer)?;
+    push_guid(writer, text, "reader", one.pair.reader)?;
     push_text(writer, "because", silence_name(silence))?;
     writer.end_object()
 }
@@ -150,17 +181,16 @@ fn push_unobserved(
 fn push_all_unobserved(
     writer: &mut Writer,
     text: &mut String,
-    rows: &[Explanation<'_>],
     talk: &Talk<'_>,
 ) -> Result<(), AllocError>
     ensures tokens { OnOk result (writer.new.tokens ≡ writer.old.tokens
-        ++ tokens_of_member (unobserved_member (talk_value talk.now).silence (map explanation_value rows.now))) }
+        ++ tokens_of_member (unobserved_member (talk_value talk.now).silence (talk_value talk.now).left_out)) }
     ensures before { writer.new.before ≡ writer.old.before }
 {
     writer.key("unobserved")?;
     writer.begin_array()?;
-    for row in rows {
-        push_unobserved(writer, text, row, talk.silence(row.pair))?;
+    for one in &talk.left_out {
+        push_unobserved(writer, text, one, talk.silence(one.pair))?;
     }
     writer.end_array()
 }
@@ -421,7 +451,8 @@ pub(crate) fn push_talk_members(
         alloc,
     };
     push_all_unmatched(writer, &mut text, &talk.unmatched)?;
-    push_all_unobserved(writer, &mut text, &report.left_out, talk)?;
+    push_all_talking(writer, &mut text, &talk.talking)?;
+    push_all_unobserved(writer, &mut text, talk)?;
     push_all_one_way(writer, &mut text, &talk.one_way)?;
     push_all_best_effort(writer, &mut text, &talk.best_effort)?;
     push_arrived(writer, &mut text, &talk.held, has_other(report))?;

@@ -2,22 +2,28 @@
 #![tactic(auto)]
 
 mod inputs;
+mod packed;
 mod progress;
+mod shown;
 
+use clap::error::ErrorKind;
 use inputs::{Remembering, Seen};
+use packed::{Packed, packed_as};
 use progress::{Progress, Wiping};
 use rtps_tool::{
-    BesideFault, Captures, Choice, Ending, Inputs, Options, RecFault, RunFault, WordFault,
+    BesideFault, Captures, Choice, Ending, Form, Inputs, Options, RecFault, RunFault, WordFault,
     is_pcapng, link_type_numbered, read_words, run_choice, status, unread_link_type, write_fault,
-    write_findings, write_other_fault,
+    write_other_fault,
 };
+use shown::{Name, shown_words};
 use std::alloc::AllocError;
-use std::io::Write;
+use std::io::{IsTerminal, Write};
 use std::process::ExitCode;
 use std::{env, io};
 
-/// The octets that a file begins with that `gzip` made.
-const GZIP: &[u8] = b"\x1f\x8b";
+/// What is told where a page would be written to a terminal.
+const PAGE_TO_TERMINAL: &str =
+    "rtps-audit: page does not write to a terminal: rtps-audit page FILE > report.html";
 
 fn main(rt: HostRuntime) -> ExitCode {
     ExitCode::from(run(&rt))
@@ -60,13 +66,85 @@ fn run_args(rt: &HostRuntime, args: &[String]) -> Result<u8, AllocError> {
 /// Runs what these words ask for, and returns the status to end with.
 fn run_words(rt: &HostRuntime, words: &[&str]) -> u8 {
     match read_words(rt.alloc(), words) {
-        Ok(choice) => {
-            let outcome = run_on_inputs(rt, &choice);
-            tell_findings(rt, &choice, &outcome);
-            finish(rt, choice.arrived(), &outcome)
+        Ok(choice) => run_choice_here(rt, &choice),
+        Err(fault) => {
+            let status = refuse_shown(rt, words, &fault);
+            if asks_as_check_does(words, &fault) {
+                let _ = rt.eprintln("rtps-audit: check does that");
+            }
+            status
         }
-        Err(fault) => refuse_words(rt, &fault),
     }
+}
+
+/// Runs what was chosen, but for a page that would be written to a terminal. Returns the status to end with.
+fn run_choice_here(rt: &HostRuntime, choice: &Choice) -> u8 {
+    if is_page(choice) && rt.stdout().is_terminal() {
+        let _ = rt.eprintln(PAGE_TO_TERMINAL);
+        return 2;
+    }
+    let outcome = run_on_inputs(rt, choice);
+    finish(rt, choice.arrived(), &outcome)
+}
+
+fn is_page(choice: &Choice) -> bool {
+    matches!(
+        choice,
+        Choice::Report {
+            form: Form::Page,
+            ..
+        }
+    )
+}
+
+/// Whether words are refused for an option that `check` makes needless: it always does what the option asked for.
+fn asks_as_check_does(words: &[&str], fault: &WordFault) -> bool {
+    let WordFault::Refused(refusal) = fault else {
+        return false;
+    };
+    if refusal.kind() != ErrorKind::UnknownArgument {
+        return false;
+    }
+    let audits = matches!(words.get(1), Some(&"audit"));
+    words.iter().any(|word| {
+        let name = word.split('=').next().unwrap_or("");
+        matches!(name, "--spans" | "--observed" | "--strict")
+            || audits && matches!(name, "--topic" | "--expect")
+    })
+}
+
+/// Prints why nothing is run, as [`refuse_words`] does. Of an argument that `clap` refuses the text has the argument as it is printed:
+/// the words are read so again.
+fn refuse_shown(rt: &HostRuntime, words: &[&str], fault: &WordFault) -> u8 {
+    if !matches!(fault, WordFault::Refused(_)) {
+        return refuse_words(rt, fault);
+    }
+    let Ok(shown) = shown_words(rt.alloc(), words) else {
+        return out_of_memory(rt);
+    };
+    match refusal_of(rt, &shown) {
+        Ok(Some(again)) => refuse_words(rt, &again),
+        Ok(None) => refuse_unprinted(rt),
+        Err(AllocError) => out_of_memory(rt),
+    }
+}
+
+/// Why these words ask for nothing that can be run. None where they do.
+fn refusal_of(rt: &HostRuntime, shown: &[String]) -> Result<Option<WordFault>, AllocError> {
+    let mut words = Vec::new(rt.alloc());
+    for word in shown {
+        words.push(word.as_str())?;
+    }
+    match read_words(rt.alloc(), &words) {
+        Err(fault) => Ok(Some(fault)),
+        Ok(_) => Ok(None),
+    }
+}
+
+/// If only the octets of an argument that are not printed are refused.
+fn refuse_unprinted(rt: &HostRuntime) -> u8 {
+    let _ = rt.eprintln("error: an argument has an octet that cannot be printed");
+    2
 }
 
 /// Prints why nothing is run, or the help or the version. Returns the status to end with.
@@ -111,6 +189,7 @@ fn tell_ignored(rt: &HostRuntime, choice: &Choice, ignored: Option<u64>) {
     else {
         return;
     };
+    let file = Name(file);
     if options.captures == Captures::Classic {
         let _ = writeln!(
             rt.stderr(),
@@ -122,9 +201,10 @@ fn tell_ignored(rt: &HostRuntime, choice: &Choice, ignored: Option<u64>) {
 /// An input as it is told of: its name, what is known of it, how it is read, and the words that read it from standard input.
 #[derive(Clone, Copy)]
 struct Told<'a> {
-    name: &'a str,
+    name: Name<'a>,
     seen: &'a Seen,
     options: Options<'a>,
+    command: &'a str,
     words: &'a str,
 }
 
@@ -139,9 +219,10 @@ fn told_of<'a>(
         return None;
     };
     Some(Told {
-        name,
+        name: Name(name),
         seen,
         options,
+        command: command_of(choice),
         words,
     })
 }
@@ -169,22 +250,33 @@ fn tell_of_inputs<'a>(
     inputs: &'a Inputs<Remembering<'a>, Remembering<'a>>,
     outcome: &Result<Ending, BesideFault>,
 ) {
-    let file = told_of(choice, choice.file(), &inputs.file.seen, "audit -");
+    let file = told_of(choice, choice.file(), &inputs.file.seen, "-");
     if let Some(told) = &file {
         tell_of_input(rt, told, fault_of_file(outcome));
     }
-    let words = other_words(choice);
-    let other = told_of(choice, choice.arrived(), &inputs.other.seen, words);
+    let other = told_of(
+        choice,
+        choice.arrived(),
+        &inputs.other.seen,
+        "--arrived - FILE",
+    );
     if let Some(told) = &other {
         tell_of_input(rt, told, fault_of_other(outcome));
     }
 }
 
-/// The words that read the other recording from standard input.
-fn other_words(choice: &Choice) -> &'static str {
+/// The name of the command that was given.
+fn command_of(choice: &Choice) -> &'static str {
     match choice {
-        Choice::Page { .. } => "page --arrived - FILE",
-        _ => "check --arrived - FILE",
+        Choice::Report { form, .. } => match form {
+            Form::Check | Form::CheckJson => "check",
+            Form::Why => "why",
+            Form::Page => "page",
+        },
+        Choice::Show { .. } => "show",
+        Choice::List { .. } => "list",
+        Choice::Audit { .. } => "audit",
+        Choice::Sample => "sample",
     }
 }
 
@@ -211,7 +303,7 @@ fn tell_of_input(rt: &HostRuntime, told: &Told<'_>, fault: Option<RunFault>) {
 }
 
 /// Prints at which frame a capture is damaged, and what else may be so.
-fn tell_damage(rt: &HostRuntime, file: &str, frame: u64) {
+fn tell_damage(rt: &HostRuntime, file: Name<'_>, frame: u64) {
     let _ = writeln!(
         rt.stderr(),
         "rtps-audit: {file}: frame {frame} is damaged, or two captures are in one file (mergecap joins them)"
@@ -233,20 +325,28 @@ fn tell_limit(rt: &HostRuntime, told: &Told<'_>) {
     );
 }
 
-/// If an input is refused and begins as `gzip` begins a file, prints that, and a command that unpacks it.
+/// If an input is refused and has a form that is told, prints which, and a command that makes a recording of it.
 fn tell_packed(rt: &HostRuntime, told: &Told<'_>) {
-    if told.seen.front().starts_with(GZIP) {
-        let file = told.name;
-        let words = told.words;
-        let _ = writeln!(
-            rt.stderr(),
-            "rtps-audit: {file}: a gzip file; gunzip -c {file} | rtps-audit {words} reads what it holds"
-        );
-    }
+    let Some(form) = packed_as(told.seen.front()) else {
+        return;
+    };
+    let file = told.name;
+    let words = told.words;
+    let command = told.command;
+    let Packed {
+        what,
+        unpack,
+        read,
+        ..
+    } = form;
+    let _ = writeln!(
+        rt.stderr(),
+        "rtps-audit: {file}: {what}; {unpack} {file} | rtps-audit {command} {words} reads {read}"
+    );
 }
 
 /// Says of an input that is refused for its form what it is, and that any capture can be asked for, where that reads it.
-fn tell_any(rt: &HostRuntime, file: &str, start: &[u8], fault: RecFault) {
+fn tell_any(rt: &HostRuntime, file: Name<'_>, start: &[u8], fault: RecFault) {
     if is_pcapng(start) {
         let _ = writeln!(
             rt.stderr(),
@@ -271,7 +371,7 @@ fn tell_any(rt: &HostRuntime, file: &str, start: &[u8], fault: RecFault) {
 }
 
 /// Says of a capture that is refused what its frames are, where these are never read, and what makes a recording of it.
-fn tell_unread(rt: &HostRuntime, file: &str, start: &[u8]) {
+fn tell_unread(rt: &HostRuntime, file: Name<'_>, start: &[u8]) {
     match unread_link_type(start) {
         Some(number) if link_type_numbered(number).is_none() => {
             let _ = writeln!(
@@ -285,7 +385,7 @@ fn tell_unread(rt: &HostRuntime, file: &str, start: &[u8]) {
 
 /// Prints the name of a file that cannot be opened or read, and the reason, but not the system's number of it. It takes
 /// no memory: a reason has at most 256 octets, and 24 are room for the number.
-fn tell_reason(rt: &HostRuntime, file: &str, error: &io::Error) {
+fn tell_reason(rt: &HostRuntime, file: Name<'_>, error: &io::Error) {
     let mut room = [0u8; 280];
     let mut left = room.as_mut_slice();
     let _ = write!(left, "{error}");
@@ -294,16 +394,6 @@ fn tell_reason(rt: &HostRuntime, file: &str, error: &io::Error) {
     let text = str::from_utf8(written).unwrap_or("");
     let reason = text.split(" (os error ").next().unwrap_or("");
     let _ = writeln!(rt.stderr(), "rtps-audit: {file}: {reason}");
-}
-
-/// Prints what was found beside rows that are not complete. `check` says it in its text.
-fn tell_findings(rt: &HostRuntime, choice: &Choice, outcome: &Result<Ending, BesideFault>) {
-    if let Choice::Check { .. } = choice {
-        return;
-    }
-    if let Ok(Ending::Unmet(findings)) = outcome {
-        let _ = write_findings(findings, &mut rt.stderr());
-    }
 }
 
 /// Prints that there was no memory, and returns the status to end with.

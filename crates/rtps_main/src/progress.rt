@@ -1,6 +1,7 @@
 //! The progress of a run that takes long, on a terminal.
 
 use rtps_tool::{Follow, Watch};
+use std::env;
 use std::io::{self, IsTerminal, Write};
 use std::time::Instant;
 
@@ -17,7 +18,9 @@ const WIPE: &str = "\r\x1b[K";
 #[derive(Clone, Copy, Drop)]
 pub struct Progress<'a> {
     rt: &'a HostRuntime,
-    // When the run began. None if standard error is no terminal, or if the time is not known.
+    // Whether standard error is a terminal.
+    is_terminal: bool,
+    // When the run began. None if standard error is no terminal that clears a line, or if the time is not known.
     begin: Option<Instant>,
     // After how many milliseconds progress is shown next.
     next: u128,
@@ -28,13 +31,15 @@ pub struct Progress<'a> {
 impl<'a> Progress<'a> {
     /// For a run that begins now.
     pub fn new(rt: &'a HostRuntime) -> Progress<'a> {
-        let begin = if rt.stderr().is_terminal() {
+        let is_terminal = rt.stderr().is_terminal();
+        let begin = if is_terminal && clears_lines(rt) {
             Instant::now(rt).ok()
         } else {
             None
         };
         Progress {
             rt,
+            is_terminal,
             begin,
             next: SILENCE,
             ignored: 0,
@@ -70,17 +75,23 @@ impl<'a> Progress<'a> {
         }
     }
 
-    /// How many frames of a capture were ignored. None if nothing is shown.
+    /// How many frames of a capture were ignored. None if there are none, or if standard error is no terminal.
     pub fn ignored(&self) -> Option<u64> {
-        match self.begin {
-            Some(_) if self.ignored > 0 => Some(self.ignored),
-            _ => None,
+        if self.is_terminal && self.ignored > 0 {
+            Some(self.ignored)
+        } else {
+            None
         }
+    }
+
+    /// Whether the run has taken so long that progress may be shown.
+    fn is_long(&self) -> bool {
+        self.elapsed().is_some_and(|elapsed| elapsed >= SILENCE)
     }
 
     /// Clears what was shown.
     fn wipe(&self) {
-        if self.elapsed().is_some_and(|elapsed| elapsed >= SILENCE) {
+        if self.is_long() {
             let _ = write!(self.rt.stderr(), "{WIPE}");
         }
     }
@@ -95,11 +106,34 @@ impl Watch for Progress<'_> {
             );
         }
     }
+
+    fn explained(&mut self, done: usize, all: usize) {
+        if self.is_due() {
+            let _ = write!(
+                self.rt.stderr(),
+                "{WIPE}rtps-audit: explaining, {done} of {all} pairs"
+            );
+        }
+    }
 }
 
 impl Follow for Progress<'_> {
     fn recorded(&mut self, ignored: Option<u64>) {
         self.ignored = ignored.unwrap_or(0);
+    }
+
+    fn writing(&mut self) {
+        if self.is_long() {
+            let _ = write!(self.rt.stderr(), "{WIPE}rtps-audit: writing");
+        }
+    }
+}
+
+/// Whether a terminal clears a line by these escapes: all do but one that says that it does not.
+fn clears_lines(rt: &HostRuntime) -> bool {
+    match env::var(rt, "TERM") {
+        Ok(name) => name.as_str() != "dumb",
+        Err(_) => true,
     }
 }
 

@@ -7,7 +7,7 @@ const TOPIC_LINES = [8, 200];
 const NAMED_PAIRS = 3;
 
 function showOverview(report) {
-  const outcome = outcomeSentence(report.data);
+  const outcome = lastLine();
   const at = (id) => document.getElementById(id);
   document.title = `${outcome}: rtps-audit`;
   fill(at('asked'), 'rtps-audit, a report of ', askedText(report.data));
@@ -25,9 +25,10 @@ function showOverview(report) {
 function askedText({ options, arrived }) {
   const words = [
     options.from !== 1 && `--from ${options.from}`,
-    ...['any', 'fragments', 'observed', 'strict', 'spans'].map((name) => options[name] && `--${name}`),
     ...options.topics.map((pattern) => `--topic '${pattern}'`),
     options.expect !== null && `--expect ${options.expect}`,
+    options.tail !== 0 && `--tail ${options.tail}`,
+    options.certain && '--certain',
     arrived && '--arrived OTHER',
   ].filter(Boolean);
   const numbers = options.from === 1 ? 'all numbers' : `the numbers from ${options.from} on`;
@@ -64,7 +65,7 @@ function topicLine(report, rows) {
   const [first] = rows;
   const { topic, type, rows: all } = first.group;
   const links = rows.slice(0, NAMED_PAIRS).map((row) => make('li', null, pairLink(report, row)));
-  const sentence = verdictSentence(report, first);
+  const sentence = verdictSentence(first);
   return make('tr', { class: first.kind, tabindex: '-1' },
     make('th', { scope: 'row' }, make('div', null, ...topicName(topic)), make('div', { class: 'type' }, ...typeName(type))),
     make('td', null, make('p', null, badge(first.kind, KIND_WORDS[first.kind]), ` ${counted(rows.length)} of ${plural(all.length, 'pair')}`),

@@ -8,14 +8,14 @@ function pairDetail(report, row) {
   return make('div', { class: 'detail-body' },
     make('div', { class: 'detail-words' },
       make('h3', null, `Pair ${row.at + 1}: `, ...topicName(row.topic)),
-      make('p', { class: 'lead' }, verdictSentence(report, row)),
+      make('p', { class: 'lead' }, verdictSentence(row)),
       row.advice !== null && make('p', { class: 'advice' }, row.advice),
       make('h4', null, 'What it rests on'),
       make('ul', null, ...evidenceSentences(row).map((sentence) => make('li', null, sentence))),
       make('h4', null, 'Who they are'),
       make('dl', { class: 'ends-list' }, ...endParts(report, 'Writer', row.writer), ...endParts(report, 'Reader', row.reader),
         make('dt', null, 'Type'), make('dd', null, ...typeName(row.type))),
-      placeHelp(report, row)),
+      placeHelp(row)),
     make('div', null, chartOf(report, row)));
 }
 
@@ -26,14 +26,12 @@ function endParts(report, side, guid) {
     participant && make('div', { class: 'qos' }, `${participant.name} ${topicsText(participant)}`))];
 }
 
-// How a place is found: in the words of the first one that the row has. A datagram is a frame of its own where no frame was
-// ignored and no packet was put together.
-function placeHelp({ data }, row) {
+// How a place is found: in the words of the first one that the row has.
+function placeHelp(row) {
   const place = row.claimed || row.acknowledged || row.announced;
   if (!place) return null;
-  const frame = data.ignored === 0 && !data.options.any ? ` It is frame ${place.datagram} in Wireshark.` : '';
   return make('p', { class: 'hint' }, `An octet is counted from 0 in the UDP payload. “rtps-audit show” prints datagram ${place.datagram}, and `
-    + `a line for each submessage in it with its octet, such as ${place.at}.${frame}`);
+    + `a line for each submessage in it with its octet, such as ${place.at}.`);
 }
 
 function chartOf(report, row) {

@@ -16,7 +16,7 @@ function placeColumn(name, head, member) {
 }
 
 // Of a row that has no such count, too. A count above 0 is marked in the rows in which it is bad.
-function countColumn(name, head, isBad, numberOf = (row) => row[name]) {
+function countColumn(name, head, isBad, numberOf) {
   const cell = (report, row) => {
     const count = numberOf(row);
     if (count === null) return '–';
@@ -25,48 +25,39 @@ function countColumn(name, head, isBad, numberOf = (row) => row[name]) {
   return { name, head, class: 'count', compare: byCount((row) => numberOf(row) || 0), cell };
 }
 
-const always = () => true;
-const never = () => false;
+const OUTCOMES = ['received', 'arrived', 'likely', 'missed', 'unsent', 'unanswered', 'unconfirmed'];
+const LOST = ['missed', 'unsent', 'unanswered'];
+// Numbers of some outcomes are lost. A likely one did not arrive where the row is held against another recording.
+const isLost = (name, { outcomes: { arrived = null } }) => LOST.includes(name) || (name === 'likely' && arrived !== null);
 
-// The columns: name, head, order, and what stands in a cell. Rows in spans have others in the place of the last five.
+// The columns: name, head, order, and what stands in a cell.
 const COLUMNS = [
   { name: 'verdict', head: 'Verdict', compare: (a, b) => worse(a, b) || compareNumbers(a.number, b.number), cell: verdictCell },
   { name: 'writer', head: 'Writer', compare: byText('writer'), cell: (report, row) => endpointName(report, row.writer) },
   { name: 'reader', head: 'Reader', compare: byText('reader'), cell: (report, row) => endpointName(report, row.reader) },
   placeColumn('announced', 'Last announced', 'number'),
   placeColumn('acknowledged', 'Acknowledged below', 'below'),
-  countColumn('payloads', 'Payloads', never),
-  countColumn('gone', 'Gone', always),
-  countColumn('untold', 'Untold', always),
-  countColumn('received', 'Proved received', never),
-  countColumn('missed', 'Missed', always),
+  ...OUTCOMES.map((name) => countColumn(name, name[0].toUpperCase() + name.slice(1), (row) => isLost(name, row), ({ outcomes }) => outcomes[name])),
 ];
-const OUTCOMES = ['received', 'arrived', 'likely', 'missed', 'unsent', 'unanswered', 'unconfirmed'];
-const LOST = ['missed', 'unsent', 'unanswered'];
-// Numbers of some outcomes are lost. A likely one did not arrive where the row is held against another recording.
-const isLost = (name, { outcomes: { arrived = null } }) => LOST.includes(name) || (name === 'likely' && arrived !== null);
-const SPAN_COLUMNS = [...COLUMNS.slice(0, 5), ...OUTCOMES.map((name) => (
-  countColumn(name, name[0].toUpperCase() + name.slice(1), (row) => isLost(name, row), ({ outcomes }) => outcomes[name])))];
 
 const WORST_FIRST = { name: 'worst', head: 'Worst first', compare: worse };
 const BY_TOPIC = { name: 'topic', head: 'Topic', compare: (a, b) => byText('topic')(a, b) || worse(a, b) };
 const BY_TYPE = { name: 'type', head: 'Type', compare: (a, b) => byText('type')(a, b) || worse(a, b) };
 
 function verdictCell(report, row) {
-  const bad = row.outcomes ? OUTCOMES.filter((name) => isLost(name, row) && row.outcomes[name] > 0)
-    : ['missed', 'gone'].filter((name) => name === row.kind);
+  const bad = OUTCOMES.filter((name) => isLost(name, row) && row.outcomes[name] > 0);
   return make('a', { href: `#pair-${row.at + 1}`, 'aria-expanded': 'false' },
     badge(row.verdict, row.verdict), ' ', make('span', { class: 'number' }, String(row.number)),
     row.datagram !== undefined && make('span', { class: 'in-datagram' }, ` in datagram ${row.datagram}`),
-    bad.flatMap((name) => [' ', badge(name === 'gone' ? name : 'missed', `${name} ${counted((row.outcomes || row)[name])}`)]),
-    row.clean === true && [' ', badge('clean', 'clean')],
+    bad.flatMap((name) => [' ', badge('missed', `${name} ${counted(row.outcomes[name])}`)]),
+    row.clean && [' ', badge('clean', 'clean')],
     make('span', { class: 'hidden' }, `, pair ${row.at + 1}`));
 }
 
 class Pairs {
   constructor(report) {
     Object.assign(this, { report, words: [], kinds: new Set(), order: WORST_FIRST, isDown: false, most: FIRST_ROWS, chosen: null });
-    this.columns = (report.data.options.spans ? SPAN_COLUMNS : COLUMNS).filter(({ name }) => name !== 'arrived' || report.data.arrived);
+    this.columns = COLUMNS.filter(({ name }) => name !== 'arrived' || report.data.arrived);
     this.orders = [WORST_FIRST, BY_TOPIC, BY_TYPE, ...this.columns];
     this.sort();
     this.build();

@@ -1,11 +1,11 @@
 'use strict';
 // The recorded part of the page, put in order: rows by topic, endpoints by participant, and what the charts show by pair.
 
-// The verdicts, worst first, and those of rows that are complete although numbers were lost. Which rows in spans are clean stands there.
-const KINDS = ['unfounded', 'conflict', 'open', 'lost', 'missed', 'gone', 'complete', 'clean'];
+// What rows are, worst first: clean, complete although numbers were lost, or what their verdict is.
+const KINDS = ['unfounded', 'conflict', 'open', 'lost', 'clean'];
 
 // How a kind is called on the page. What is complete is said to be so first.
-const KIND_WORDS = Object.fromEntries(KINDS.map((kind) => [kind, ['lost', 'missed', 'gone'].includes(kind) ? `complete, ${kind}` : kind]));
+const KIND_WORDS = Object.fromEntries(KINDS.map((kind) => [kind, kind === 'lost' ? `complete, ${kind}` : kind]));
 
 // A string of JSON, or an integer that can pass what a number of JavaScript holds.
 const STRING_OR_LARGE = /"(?:[^"\\]|\\.)*"|\d{16,}/g;
@@ -13,7 +13,7 @@ const STRING_OR_LARGE = /"(?:[^"\\]|\\.)*"|\d{16,}/g;
 const isLarge = (n) => n > Number.MAX_SAFE_INTEGER;
 
 // Whether a number of a row was rounded when it was read. All others that are told as numbers are below one of these.
-function isRounded({ number, announced, acknowledged, from = 0 }) {
+function isRounded({ number, announced, acknowledged, from }) {
   return isLarge(number) || isLarge(from) || (announced !== null && isLarge(announced.number)) || (acknowledged !== null && isLarge(acknowledged.below));
 }
 
@@ -21,7 +21,7 @@ function isRounded({ number, announced, acknowledged, from = 0 }) {
 // stays as it is.
 function valueOf(text) {
   const value = JSON.parse(text);
-  const isShort = !isLarge(value.options.from) && !isLarge(value.options.expect) && !value.pairs.some(isRounded);
+  const isShort = !isLarge(value.options.from) && !isLarge(value.options.expect) && !isLarge(value.options.tail) && !value.pairs.some(isRounded);
   const largeOfBestEffort = [...value.best_effort, ...(value.arrived || [])].some(({ numbers, not_arrived: named = [] }) => [numbers, ...named].some(isLarge));
   if (isShort && !largeOfBestEffort) return value;
   return JSON.parse(text.replace(STRING_OR_LARGE, (found) => (found[0] === '"' ? found : `"${found}"`)));
@@ -52,16 +52,14 @@ const partOf = (n, all, noun) => (n === all ? plural(all, noun) : `${counted(n)}
 const askedAbout = ({ payloads, gone, untold }) => BigInt(payloads) + BigInt(gone) + BigInt(untold);
 
 // How many more numbers of a row arrived, by another recording.
-const arrivedOf = ({ outcomes }) => (outcomes && outcomes.arrived) || 0;
+const arrivedOf = ({ outcomes }) => outcomes.arrived || 0;
 
 const prefixOf = (guid) => guid.slice(0, 24);
 const entityOf = (guid) => guid.slice(24);
 
-function kindOf({ verdict, missed, gone, clean }) {
+function kindOf({ verdict, clean }) {
   if (clean) return 'clean';
-  if (verdict !== 'complete') return verdict;
-  if (clean === false) return 'lost';
-  return isAbove(missed, 0) ? 'missed' : isAbove(gone, 0) ? 'gone' : 'complete';
+  return verdict === 'complete' ? 'lost' : verdict;
 }
 
 // The value of a key in a map, which is made where the map has none.

@@ -19,9 +19,7 @@ const VERDICTS = {
   complete: completeSentence,
 };
 
-const verdictSentence = (report, row) => [
-  VERDICTS[row.verdict](row, row.from === undefined ? report.data.options.from : row.from), ...lackingSentences(row),
-].join(' ');
+const verdictSentence = (row) => [VERDICTS[row.verdict](row), ...lackingSentences(row)].join(' ');
 
 // All numbers from that of the verdict on are not acknowledged.
 function openSentence({ number, announced, not_arrived: lacking }) {
@@ -31,12 +29,9 @@ function openSentence({ number, announced, not_arrived: lacking }) {
   return `The reader may lack ${samples}: ${are} announced, and the reader never acknowledged ${them}.`;
 }
 
-function completeSentence({ kind, number, announced, missed, first_missed: first, gone }, from) {
+function completeSentence({ number, announced, from }) {
   if (announced === null) return from === 1 ? 'The writer announced no number.' : `The writer announced no number from ${from} on.`;
-  const all = `The reader acknowledged each sample from ${from} to ${number}`;
-  if (kind === 'missed') return `${all}, but it missed ${missed === 1 ? `sample ${first.number}` : `${counted(missed)} of them`}.`;
-  if (kind === 'gone') return `${all}, but ${counted(gone)} of them ${gone === 1 ? 'was' : 'were'} only said to be gone.`;
-  return `${all}.`;
+  return `The reader acknowledged each sample from ${from} to ${number}.`;
 }
 
 // Some numbers, and how many more there are of so many.
@@ -54,7 +49,6 @@ const evidenceSentences = (row) => [
 ];
 
 function spanSentences({ from, until, until_time: time, outcomes }) {
-  if (!outcomes) return [];
   const kinds = OUTCOMES.filter((name) => outcomes[name] > 0).map((name) => `${counted(outcomes[name])} ${name}`);
   const left = until === null ? '' : `, until datagram ${until}${secondText(time)}, in which the reader left`;
   return [`The row is about the numbers from ${from} on${left}: ${kinds.join(', ') || 'none is announced'}.`];
@@ -118,20 +112,15 @@ function askedSentence({ asked_since: count, last_asked: last }) {
 
 const payloadText = ({ payload, octets }) => (payload === 'absent' ? 'no payload' : `${payload === 'key' ? 'a key' : 'a sample'} of ${plural(octets, 'octet')}`);
 
-// The outcome of the report: why it is not clean.
-function outcomeSentence({ status, because, options, pairs }) {
-  if (status !== 'clean') return `Not clean: ${because.join('; ')}`;
-  if (pairs.length === 0) return 'No pair was audited';
-  return options.strict || options.spans ? 'Clean' : 'All pairs are complete';
-}
+// How the run ends: the last line of the text.
+const lastLine = () => document.querySelector('#text pre').textContent.trimEnd().split('\n').pop();
 
-// How many pairs are complete, or clean where they are in spans, how many numbers are surely received, and how many more arrived.
+// How many pairs are clean, how many numbers are surely received, and how many more arrived.
 function receivedSentence({ rows, data }) {
   if (rows.length === 0) return '';
-  const [word, isGood] = rows[0].outcomes ? ['clean', ({ clean }) => clean] : ['complete', ({ verdict }) => verdict === 'complete'];
-  const good = rows.filter(isGood).length;
+  const good = rows.filter(({ clean }) => clean).length;
   const [received, asked] = [sumOf(rows, (row) => row.received), sumOf(rows, askedAbout)];
   const more = data.arrived ? `, ${counted(sumOf(rows, arrivedOf))} more arrived` : '';
-  return `${counted(good)} of ${plural(rows.length, 'pair')} ${rows.length === 1 ? 'is' : 'are'} ${word}. The recording proves `
+  return `${counted(good)} of ${plural(rows.length, 'pair')} ${rows.length === 1 ? 'is' : 'are'} clean. The recording proves `
     + `${counted(received)} of ${plural(asked, 'number')} received${more}.`;
 }

@@ -86,9 +86,9 @@ expect_within : (expect : Option ℕ) → depth (expect_json expect) ≤ 0
 expect_within None = omega arith
 expect_within (Some rows) = omega arith
 
-options_within : (asked : AskedValue) (any : Bool) → depth (object_of (option_members asked any)) ≤ 2
-options_within asked any =
-    let topics = mapped_within 0 string (λ topic. omega arith) asked.rows.topics in
+options_within : (asked : AskedValue) → depth (object_of (option_members asked)) ≤ 2
+options_within asked =
+    let topics = mapped_within 0 string (λ topic. omega arith) asked.topics in
     omega (arith, topics, expect_within asked.expect)
 
 endpoints_within : (directory : DirectoryValue) → items_depth (items_of (map endpoint_json (settled_in directory.endpoints))) ≤ 1
@@ -115,8 +115,8 @@ chart_part times acts pairs =
 pub page_within : (asked : AskedValue) (recording : RecordingValue) (report : ReportValue) (directory : DirectoryValue)
     → depth (page_json asked recording report directory) ≤ max_depth
 page_within asked recording report directory =
-    let pairs = pairs_with_charts asked recording report in
+    let pairs = pairs_with_charts recording report in
     let own : members_depth (members_of (own_members asked recording directory pairs)) ≤ 5 =
-    omega (arith, options_within asked (is_some recording.reasons), endpoints_within directory, chart_part recording.times (acts_judged asked recording) pairs) in
+    omega (arith, options_within asked, endpoints_within directory, chart_part recording.times (acts_judged recording) pairs) in
     let all = joined 5 (check_members asked recording report) (own_members asked recording directory pairs) (omega (arith, check_depth asked recording report)) own in
     omega (arith, all)

@@ -5,18 +5,18 @@
 -- data is the object of `check --json`; behind its members stand what was asked, what discovery announced as `list` prints it, and for
 -- the rows that have a chart what their writers say and their readers answer, and when the datagrams of that came, in the order
 -- given here.
-use Rattle.std.specs.Prelude.{ℕ, ◌≡◌, Bool, is_some, ◌++◌, List, [], ◌∷◌, codes, map, Option, None, Some, IsUtf8}
+use Rattle.std.specs.Prelude.{ℕ, ◌≡◌, ◌++◌, List, [], ◌∷◌, codes, map, Option, None, Some, IsUtf8}
 use Rattle.json.specs.Json.{Json, boolean, null, string, document}
 use Rattle.json.specs.Lex.{tokens}
 use Rattle.json.specs.Print.{print}
 use Rattle.json.specs.Tree.{json_tokens}
-use Rattle.rtps_report.specs.Vocabulary.{acts_together, Intake, intake_as, Pair}
+use Rattle.rtps_report.specs.Vocabulary.{acts_together, Intake, intake_as, Pair, Read}
 use Rattle.rtps_ids.specs.declared.identity.Guid.{Guid}
 use Rattle.rtps_discovery.specs.Directory.{DirectoryValue, settled_in, IsMapOf}
 use Rattle.rtps_discovery.specs.Endpoint.{EndpointValue}
 use Rattle.rtps_audit.specs.Placed.{PlacedValue, answers_among, placed_in}
 use Rattle.rtps_evidence.specs.Times.{TimesValue}
-use Rattle.rtps_report.specs.Asked.{AskedValue, are_read, asked_value}
+use Rattle.rtps_report.specs.Asked.{AskedValue, asked_value}
 use Rattle.rtps_report.specs.FullReport.{ReportValue, report_value, rows_of}
 use Rattle.rtps_report.specs.Recording.{RecordingValue}
 use Rattle.rtps_lines.specs.CheckMembers.{check_members}
@@ -35,11 +35,10 @@ abbrev pub expect_json : Option ℕ → Json
 expect_json None = null
 expect_json (Some rows) = count_json rows
 
--- what was asked, and whether any capture was read
-abbrev pub option_members : AskedValue → Bool → List Member
-option_members asked any = (codes "from", count_json asked.from) ∷ (codes "any", boolean any) ∷ (codes "fragments", boolean (are_read asked.fragments))
-    ∷ (codes "observed", boolean asked.rows.observed) ∷ (codes "strict", boolean asked.strict) ∷ (codes "spans", boolean asked.spans)
-    ∷ (codes "topics", array_of (map string asked.rows.topics)) ∷ (codes "expect", expect_json asked.expect) ∷ []
+-- what was asked
+abbrev pub option_members : AskedValue → List Member
+option_members asked = (codes "from", count_json asked.from) ∷ (codes "topics", array_of (map string asked.topics)) ∷ (codes "expect", expect_json asked.expect)
+    ∷ (codes "tail", count_json asked.tail) ∷ (codes "certain", boolean asked.certain) ∷ []
 
 -- a GUID as a string
 abbrev pub guid_json : Guid → Json
@@ -65,8 +64,8 @@ answers_json acts pair = object_of ((codes "writer", guid_json pair.writer) ∷ 
     ∷ (codes "bases", array_of (map base_json (answers_among pair acts))) ∷ [])
 
 -- what was asked, as a member
-abbrev pub options_member : AskedValue → RecordingValue → Member
-options_member asked recording = (codes "options", object_of (option_members asked (is_some recording.reasons)))
+abbrev pub options_member : AskedValue → Member
+options_member asked = (codes "options", object_of (option_members asked))
 
 -- which endpoints were announced
 abbrev pub directory_member : DirectoryValue → Member
@@ -82,26 +81,26 @@ chart_members times acts pairs = (codes "writers", array_of (map (writer_json ac
     ∷ (codes "answers", array_of (map (answers_json acts) pairs)) ∷ timed_members times (times_member times acts pairs ∷ [])
 
 -- the acts that the verdicts are by, with their places
-abbrev pub acts_judged : AskedValue → RecordingValue → List PlacedValue
-acts_judged asked recording = placed_in (intake_as asked.fragments recording.datagrams).acts
+abbrev pub acts_judged : RecordingValue → List PlacedValue
+acts_judged recording = placed_in (intake_as Read recording.datagrams).acts
 
 -- what a page has beside the object of `check --json`, for charts of these pairs
 abbrev pub own_members : AskedValue → RecordingValue → DirectoryValue → List Pair → List Member
 own_members asked recording directory pairs =
-    options_member asked recording ∷ directory_member directory ∷ chart_members recording.times (acts_judged asked recording) pairs
+    options_member asked ∷ directory_member directory ∷ chart_members recording.times (acts_judged recording) pairs
 
 -- which rows have a chart
-abbrev pub pairs_with_charts : AskedValue → RecordingValue → ReportValue → List Pair
-pairs_with_charts asked recording report = charted_pairs (acts_judged asked recording) (rows_of report)
+abbrev pub pairs_with_charts : RecordingValue → ReportValue → List Pair
+pairs_with_charts recording report = charted_pairs (acts_judged recording) (rows_of report)
 
 -- all of it
 abbrev pub page_json : AskedValue → RecordingValue → ReportValue → DirectoryValue → Json
 page_json asked recording report directory =
-    object_of (check_members asked recording report ++ own_members asked recording directory (pairs_with_charts asked recording report))
+    object_of (check_members asked recording report ++ own_members asked recording directory (pairs_with_charts recording report))
 
 -- what the report of a page is by
 abbrev pub intake_in : Shown → Intake
-intake_in shown = intake_as shown.report.now.asked.now.fragments shown.report.now.recording.now.datagrams
+intake_in shown = intake_as Read shown.report.now.recording.now.datagrams
 
 -- the members of what the code makes a page of, with charts of these pairs
 abbrev pub members_in : Shown → List Pair → List Member
@@ -141,5 +140,5 @@ pub record IsPageWith (plain : List ℕ) (value : Json) (page : List ℕ) : Type
 -- the page of a report, and of what discovery announced, with this text
 pub record IsPageOf (asked : AskedValue) (recording : RecordingValue) (report : ReportValue) (plain page : List ℕ) : Type 0 where
   pub directory : DirectoryValue
-  pub is_map : IsMapOf (acts_together (intake_as asked.fragments recording.datagrams).announcing) directory
+  pub is_map : IsMapOf (acts_together (intake_as Read recording.datagrams).announcing) directory
   pub is_page : IsPageWith plain (page_json asked recording report directory) page

@@ -1,6 +1,7 @@
 ghost use Rattle.std.specs.Prelude.{◌≡◌, ◌++◌, IfOk, IsUtf8, string_bytes};
 ghost use Rattle.rtps_audit.specs.Index.{IsIndexBy};
 ghost use Rattle.rtps_fragments.specs.RecordedSamples.{intake_as};
+ghost use Rattle.rtps_fragments.specs.declared.fragments.Fragments.TheVariants.{Read};
 ghost use Rattle.rtps_report.specs.Asked.{asked_value};
 ghost use Rattle.rtps_report.specs.FullReport.{report_value};
 ghost use Rattle.rtps_page.specs.Page.{IsPageOf};
@@ -17,7 +18,7 @@ use std::alloc::{AllocError, Global};
 /// What `page` writes of a report; `plain` is what `check` prints of it. `Memory` is answered where the page, or what is kept for it,
 /// cannot grow.
 pub fn page_text(alloc: Global, report: &FullReport<'_>, plain: &str) -> Result<String, Memory>
-    requires { IsIndexBy (intake_as report.now.asked.now.fragments report.now.recording.now.datagrams) report.now.index }
+    requires { IsIndexBy (intake_as Read report.now.recording.now.datagrams) report.now.index }
     ensures { IfOk result (λ page. IsPageOf (asked_value report.now.asked.now) report.now.recording.now (report_value report.now) plain.now (string_bytes page)) }
 {
     let directory = report.index.directory();

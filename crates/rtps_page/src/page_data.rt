@@ -18,7 +18,7 @@ use rtps_audit::Index;
 use rtps_discovery::{Directory, Pair};
 use rtps_ids::Memory;
 use rtps_lines::{Clock, push_check_members, push_count, push_texts};
-use rtps_report::{Asked, FullReport, Recording};
+use rtps_report::{Asked, FullReport};
 use std::alloc::{AllocError, Global};
 
 /// What a page shows: the report, and what discovery announced.
@@ -47,33 +47,24 @@ fn push_expect(writer: &mut Writer, expect: Option<u64>) -> Result<(), AllocErro
     }
 }
 
-fn push_option_members(writer: &mut Writer, asked: &Asked<'_>, any: bool) -> Result<(), AllocError>
-    ensures tokens { OnOk result (writer.new.tokens ≡ writer.old.tokens ++ tokens_of (option_members (asked_value asked.now) any)) }
+fn push_option_members(writer: &mut Writer, asked: &Asked<'_>) -> Result<(), AllocError>
+    ensures tokens { OnOk result (writer.new.tokens ≡ writer.old.tokens ++ tokens_of (option_members (asked_value asked.now))) }
     ensures before { writer.new.before ≡ writer.old.before }
 {
-    push_count(writer, "from", asked.from.get().cast_unsigned())?;
-    push_flag(writer, "any", any)?;
-    push_flag(writer, "fragments", asked.reads_fragments())?;
-    push_flag(writer, "observed", asked.rows.observed)?;
-    push_flag(writer, "strict", asked.strict)?;
-    push_flag(writer, "spans", asked.spans)?;
-    push_texts(writer, "topics", asked.rows.topics)?;
-    push_expect(writer, asked.expect)
+    push_count(writer, "from", asked.first_asked())?;
+    push_texts(writer, "topics", asked.topics)?;
+    push_expect(writer, asked.expect)?;
+    push_count(writer, "tail", asked.tail)?;
+    push_flag(writer, "certain", asked.certain)
 }
 
-fn push_options(
-    writer: &mut Writer,
-    asked: &Asked<'_>,
-    recording: &Recording,
-) -> Result<(), AllocError>
-    ensures tokens { OnOk result (writer.new.tokens
-        ≡ writer.old.tokens ++ tokens_of_member (options_member (asked_value asked.now) recording.now)) }
+fn push_options(writer: &mut Writer, asked: &Asked<'_>) -> Result<(), AllocError>
+    ensures tokens { OnOk result (writer.new.tokens ≡ writer.old.tokens ++ tokens_of_member (options_member (asked_value asked.now))) }
     ensures before { writer.new.before ≡ writer.old.before }
 {
-    let any = recording.reasons().is_some();
     writer.key("options")?;
     writer.begin_object()?;
-    push_option_members(writer, asked, any)?;
+    push_option_members(writer, asked)?;
     writer.end_object()
 }
 
@@ -109,7 +100,7 @@ fn push_members(
         alloc,
     };
     push_check_members(alloc, writer, report)?;
-    push_options(writer, report.asked, report.recording)?;
+    push_options(writer, report.asked)?;
     push_directory(writer, &mut text, shown.directory)?;
     push_charts(writer, clock, &report.index, pairs)?;
     Ok(())

@@ -6,7 +6,7 @@ pub(crate) const HEAD: &str = "\
 <html lang=\"en\">\n\
 <head>\n\
 <meta charset=\"utf-8\">\n\
-<meta http-equiv=\"Content-Security-Policy\" content=\"default-src 'none'; style-src 'sha256-7oMI/QMNLKelke18zD2yVkGFQJ1FWD7CLX1ECFtUq4A='; script-src 'sha256-hpmW3mDyoQhB9f0WRZW6RarG+nvTxqFH2yl+nJ5/Zek=' 'sha256-ntdKuq49JXDdCKtm7BsqPSXkKBf92YD0NGwnpfGVOLU=' 'sha256-gK9uXRMqayxEKG6mFjKwZcia0MvlKZKvzSq2+HcE4mY=' 'sha256-WLTqyeT3L3nniLdzBtrrReLocHGmE4uXvWBQCDtkvME=' 'sha256-JPTwWB7I1w9tp3wwiQ14dc5dSDaOeIVez/qpxdlW2Ow=' 'sha256-+z0lyT9TQ1chcCw5HsjiKLCjRvY11peGUhK/DVYDXOA=' 'sha256-qYVlcvDsrJla7cbqzS5xi5/MVZWOWKHBgZKG7flkdto=' 'sha256-7mX1/jJqBaTbsRrKZhqN0u+b0Wx2ckFhGtp5TJHu0EQ=' 'sha256-cUqF/qnuRSnKlRpelGl+H6dzACte1SiLcBB6oRAsukQ=' 'sha256-ncKhZ8LJHPHpxsbShdWaihXHet0HRxgWttYRDNL5HT4=' 'sha256-L5++YkTFEJl3kdO/H0jWJMkHnWI15lupByHpRLDl5VA='; base-uri 'none'; form-action 'none'\">\n\
+<meta http-equiv=\"Content-Security-Policy\" content=\"default-src 'none'; style-src 'sha256-Abe3C/WIz3ss57X61ogih5ojFMyspfGHl4Ypeg/rUdA='; script-src 'sha256-hpmW3mDyoQhB9f0WRZW6RarG+nvTxqFH2yl+nJ5/Zek=' 'sha256-DKRaOc6boPeID2Q1eigw1AR+4ov/GucHsnZYowMUgh0=' 'sha256-gK9uXRMqayxEKG6mFjKwZcia0MvlKZKvzSq2+HcE4mY=' 'sha256-9ljfUGhkwBGoy5M6b504OCV+yYlV3X6fME8nsw/ZnRk=' 'sha256-JPTwWB7I1w9tp3wwiQ14dc5dSDaOeIVez/qpxdlW2Ow=' 'sha256-9qXE01LSu2pyhSK/gx7hU21EubElYvQnl3lcwip1TZk=' 'sha256-qYVlcvDsrJla7cbqzS5xi5/MVZWOWKHBgZKG7flkdto=' 'sha256-bVfDlhd3UBLgvAho3xioCAA/Cq2WySbTS1H1TgIHA1o=' 'sha256-psDdiwMCniFLJoIYOjP3OeSKWuH/t8VTyIN0miyPSjg=' 'sha256-ncKhZ8LJHPHpxsbShdWaihXHet0HRxgWttYRDNL5HT4=' 'sha256-L5++YkTFEJl3kdO/H0jWJMkHnWI15lupByHpRLDl5VA='; base-uri 'none'; form-action 'none'\">\n\
 <meta name=\"viewport\" content=\"width=device-width, initial-scale=1\">\n\
 <meta name=\"color-scheme\" content=\"light dark\">\n\
 <meta name=\"referrer\" content=\"no-referrer\">\n\
@@ -23,7 +23,6 @@ pub(crate) const HEAD: &str = "\
 --conflict: #7a259c;\n\
 --open: #8a4700;\n\
 --missed: #9a3b00;\n\
---gone: #5a5100;\n\
 --complete: #17652f;\n\
 --data: #0a54a8;\n\
 --band: #d9dde2;\n\
@@ -45,7 +44,6 @@ pub(crate) const HEAD: &str = "\
 --conflict: #dba0f5;\n\
 --open: #ffb35c;\n\
 --missed: #ff9d6b;\n\
---gone: #d6cb5a;\n\
 --complete: #74d08f;\n\
 --data: #85b9ff;\n\
 --band: #343b43;\n\
@@ -95,12 +93,11 @@ white-space: nowrap;\n\
 .badge.conflict { background: var(--conflict); color: var(--sheet); }\n\
 .badge.open { background: var(--open); color: var(--sheet); }\n\
 .badge.missed { border: 1.5px dashed var(--missed); color: var(--missed); }\n\
-.badge.gone { border: 1.5px dashed var(--gone); color: var(--gone); }\n\
 .badge.lost { border: 1.5px dashed var(--missed); color: var(--missed); }\n\
 .badge.complete, .badge.clean { border-color: var(--complete); color: var(--complete); }\n\
 #verdicts { display: flex; flex-wrap: wrap; gap: 8px; margin: 10px 0 0; }\n\
 #verdicts .badge { cursor: pointer; font-family: inherit; font-size: 0.95rem; padding: 3px 12px; }\n\
-#verdicts .badge.lost, #verdicts .badge.missed, #verdicts .badge.gone, #verdicts .badge.complete, #verdicts .badge.clean { background: none; }\n\
+#verdicts .badge.lost, #verdicts .badge.clean { background: none; }\n\
 #verdicts .badge[aria-pressed='true'] { outline: 3px double var(--ink); outline-offset: 2px; }\n\
 #verdicts .badge[aria-pressed='true']::before { content: '✓ '; }\n\
 .dds, .type, .hint, .qos { color: var(--faint); font-size: 0.85rem; font-weight: 400; }\n\
@@ -297,8 +294,8 @@ number that is asked about and that the writer announced.</p>\n\
 <h2>What the report rests on</h2>\n\
 <p>A row always follows from the recording. It is true of your test if the recording has all datagrams that were sent, no\n\
 others, in the order of sending; if a reader acknowledges only what it received or what was said to be gone; and if it\n\
-learns of numbers only by DATA, GAP and HEARTBEAT, and with --fragments by DATA_FRAG. A recording at the writer’s side lacks only those answers that the\n\
-network lost, and that can only leave a row open.</p>\n\
+learns of numbers only by DATA, DATA_FRAG, GAP and HEARTBEAT. A recording at the writer’s side lacks only those answers that the\n\
+network lost: a row may be open for that, or have unanswered numbers.</p>\n\
 <p id=\"arrived\" hidden>A number arrived if another recording, made at the reader’s host, has a whole payload of it for the reader. That is counted, and is no premise\n\
 of a verdict.</p>\n\
 </footer>\n\
@@ -322,16 +319,16 @@ pub(crate) const MIDDLE: &str = "\
 pub(crate) const TAIL: &str = "\
 </script>\n\
 <script>'use strict';\n\
-const KINDS = ['unfounded', 'conflict', 'open', 'lost', 'missed', 'gone', 'complete', 'clean'];\n\
-const KIND_WORDS = Object.fromEntries(KINDS.map((kind) => [kind, ['lost', 'missed', 'gone'].includes(kind) ? `complete, ${kind}` : kind]));\n\
+const KINDS = ['unfounded', 'conflict', 'open', 'lost', 'clean'];\n\
+const KIND_WORDS = Object.fromEntries(KINDS.map((kind) => [kind, kind === 'lost' ? `complete, ${kind}` : kind]));\n\
 const STRING_OR_LARGE = /\"(?:[^\"\\\\]|\\\\.)*\"|\\d{16,}/g;\n\
 const isLarge = (n) => n > Number.MAX_SAFE_INTEGER;\n\
-function isRounded({ number, announced, acknowledged, from = 0 }) {\n\
+function isRounded({ number, announced, acknowledged, from }) {\n\
 return isLarge(number) || isLarge(from) || (announced !== null && isLarge(announced.number)) || (acknowledged !== null && isLarge(acknowledged.below));\n\
 }\n\
 function valueOf(text) {\n\
 const value = JSON.parse(text);\n\
-const isShort = !isLarge(value.options.from) && !isLarge(value.options.expect) && !value.pairs.some(isRounded);\n\
+const isShort = !isLarge(value.options.from) && !isLarge(value.options.expect) && !isLarge(value.options.tail) && !value.pairs.some(isRounded);\n\
 const largeOfBestEffort = [...value.best_effort, ...(value.arrived || [])].some(({ numbers, not_arrived: named = [] }) => [numbers, ...named].some(isLarge));\n\
 if (isShort && !largeOfBestEffort) return value;\n\
 return JSON.parse(text.replace(STRING_OR_LARGE, (found) => (found[0] === '\"' ? found : `\"${found}\"`)));\n\
@@ -347,14 +344,12 @@ const counted = (n) => String(n).replace(/\\B(?=(\\d{3})+$)/g, ',');\n\
 const plural = (n, noun, nouns = `${noun}s`) => `${counted(n)} ${String(n) === '1' ? noun : nouns}`;\n\
 const partOf = (n, all, noun) => (n === all ? plural(all, noun) : `${counted(n)} of ${plural(all, noun)}`);\n\
 const askedAbout = ({ payloads, gone, untold }) => BigInt(payloads) + BigInt(gone) + BigInt(untold);\n\
-const arrivedOf = ({ outcomes }) => (outcomes && outcomes.arrived) || 0;\n\
+const arrivedOf = ({ outcomes }) => outcomes.arrived || 0;\n\
 const prefixOf = (guid) => guid.slice(0, 24);\n\
 const entityOf = (guid) => guid.slice(24);\n\
-function kindOf({ verdict, missed, gone, clean }) {\n\
+function kindOf({ verdict, clean }) {\n\
 if (clean) return 'clean';\n\
-if (verdict !== 'complete') return verdict;\n\
-if (clean === false) return 'lost';\n\
-return isAbove(missed, 0) ? 'missed' : isAbove(gone, 0) ? 'gone' : 'complete';\n\
+return verdict === 'complete' ? 'lost' : verdict;\n\
 }\n\
 function entryOf(map, key, made) {\n\
 if (!map.has(key)) map.set(key, made());\n\
@@ -501,21 +496,16 @@ conflict: ({ number }) => `The writer sent two different payloads for sample ${n
 open: openSentence,\n\
 complete: completeSentence,\n\
 };\n\
-const verdictSentence = (report, row) => [\n\
-VERDICTS[row.verdict](row, row.from === undefined ? report.data.options.from : row.from), ...lackingSentences(row),\n\
-].join(' ');\n\
+const verdictSentence = (row) => [VERDICTS[row.verdict](row), ...lackingSentences(row)].join(' ');\n\
 function openSentence({ number, announced, not_arrived: lacking }) {\n\
 const [samples, are, them] = number === announced.number\n\
 ? [`sample ${number}`, 'it is', 'it'] : [`samples ${number} to ${announced.number}`, 'they are', 'them'];\n\
 if (lacking && lacking.length === 0) return `The reader never acknowledged ${samples}, but all numbers are received or arrived.`;\n\
 return `The reader may lack ${samples}: ${are} announced, and the reader never acknowledged ${them}.`;\n\
 }\n\
-function completeSentence({ kind, number, announced, missed, first_missed: first, gone }, from) {\n\
+function completeSentence({ number, announced, from }) {\n\
 if (announced === null) return from === 1 ? 'The writer announced no number.' : `The writer announced no number from ${from} on.`;\n\
-const all = `The reader acknowledged each sample from ${from} to ${number}`;\n\
-if (kind === 'missed') return `${all}, but it missed ${missed === 1 ? `sample ${first.number}` : `${counted(missed)} of them`}.`;\n\
-if (kind === 'gone') return `${all}, but ${counted(gone)} of them ${gone === 1 ? 'was' : 'were'} only said to be gone.`;\n\
-return `${all}.`;\n\
+return `The reader acknowledged each sample from ${from} to ${number}.`;\n\
 }\n\
 const listed = (numbers, count) => `${numbers.join(', ')}${isAbove(count, numbers.length) ? ` and ${counted(count - BigInt(numbers.length))} more` : ''}`;\n\
 function lackingSentences(row) {\n\
@@ -526,7 +516,6 @@ const evidenceSentences = (row) => [\n\
 ...spanSentences(row), ...commonSentences(row), ...receivedSentences(row), ...OWN_SENTENCES[row.verdict](row), ...waitSentences(row), ...silenceSentences(row),\n\
 ];\n\
 function spanSentences({ from, until, until_time: time, outcomes }) {\n\
-if (!outcomes) return [];\n\
 const kinds = OUTCOMES.filter((name) => outcomes[name] > 0).map((name) => `${counted(outcomes[name])} ${name}`);\n\
 const left = until === null ? '' : `, until datagram ${until}${secondText(time)}, in which the reader left`;\n\
 return [`The row is about the numbers from ${from} on${left}: ${kinds.join(', ') || 'none is announced'}.`];\n\
@@ -577,18 +566,13 @@ if (!last) return 'The writer did not ask for an answer since the reader’s las
 return `The writer asked ${plural(count, 'time')} for an answer since the reader’s last one, last in ${placeText(last)}.`;\n\
 }\n\
 const payloadText = ({ payload, octets }) => (payload === 'absent' ? 'no payload' : `${payload === 'key' ? 'a key' : 'a sample'} of ${plural(octets, 'octet')}`);\n\
-function outcomeSentence({ status, because, options, pairs }) {\n\
-if (status !== 'clean') return `Not clean: ${because.join('; ')}`;\n\
-if (pairs.length === 0) return 'No pair was audited';\n\
-return options.strict || options.spans ? 'Clean' : 'All pairs are complete';\n\
-}\n\
+const lastLine = () => document.querySelector('#text pre').textContent.trimEnd().split('\\n').pop();\n\
 function receivedSentence({ rows, data }) {\n\
 if (rows.length === 0) return '';\n\
-const [word, isGood] = rows[0].outcomes ? ['clean', ({ clean }) => clean] : ['complete', ({ verdict }) => verdict === 'complete'];\n\
-const good = rows.filter(isGood).length;\n\
+const good = rows.filter(({ clean }) => clean).length;\n\
 const [received, asked] = [sumOf(rows, (row) => row.received), sumOf(rows, askedAbout)];\n\
 const more = data.arrived ? `, ${counted(sumOf(rows, arrivedOf))} more arrived` : '';\n\
-return `${counted(good)} of ${plural(rows.length, 'pair')} ${rows.length === 1 ? 'is' : 'are'} ${word}. The recording proves `\n\
+return `${counted(good)} of ${plural(rows.length, 'pair')} ${rows.length === 1 ? 'is' : 'are'} clean. The recording proves `\n\
 + `${counted(received)} of ${plural(asked, 'number')} received${more}.`;\n\
 }\n\
 </script>\n\
@@ -636,7 +620,7 @@ return rows;\n\
 const TOPIC_LINES = [8, 200];\n\
 const NAMED_PAIRS = 3;\n\
 function showOverview(report) {\n\
-const outcome = outcomeSentence(report.data);\n\
+const outcome = lastLine();\n\
 const at = (id) => document.getElementById(id);\n\
 document.title = `${outcome}: rtps-audit`;\n\
 fill(at('asked'), 'rtps-audit, a report of ', askedText(report.data));\n\
@@ -652,9 +636,10 @@ showCounts(report, at('counts'));\n\
 function askedText({ options, arrived }) {\n\
 const words = [\n\
 options.from !== 1 && `--from ${options.from}`,\n\
-...['any', 'fragments', 'observed', 'strict', 'spans'].map((name) => options[name] && `--${name}`),\n\
 ...options.topics.map((pattern) => `--topic '${pattern}'`),\n\
 options.expect !== null && `--expect ${options.expect}`,\n\
+options.tail !== 0 && `--tail ${options.tail}`,\n\
+options.certain && '--certain',\n\
 arrived && '--arrived OTHER',\n\
 ].filter(Boolean);\n\
 const numbers = options.from === 1 ? 'all numbers' : `the numbers from ${options.from} on`;\n\
@@ -684,7 +669,7 @@ function topicLine(report, rows) {\n\
 const [first] = rows;\n\
 const { topic, type, rows: all } = first.group;\n\
 const links = rows.slice(0, NAMED_PAIRS).map((row) => make('li', null, pairLink(report, row)));\n\
-const sentence = verdictSentence(report, first);\n\
+const sentence = verdictSentence(first);\n\
 return make('tr', { class: first.kind, tabindex: '-1' },\n\
 make('th', { scope: 'row' }, make('div', null, ...topicName(topic)), make('div', { class: 'type' }, ...typeName(type))),\n\
 make('td', null, make('p', null, badge(first.kind, KIND_WORDS[first.kind]), ` ${counted(rows.length)} of ${plural(all.length, 'pair')}`),\n\
@@ -1135,14 +1120,14 @@ function pairDetail(report, row) {\n\
 return make('div', { class: 'detail-body' },\n\
 make('div', { class: 'detail-words' },\n\
 make('h3', null, `Pair ${row.at + 1}: `, ...topicName(row.topic)),\n\
-make('p', { class: 'lead' }, verdictSentence(report, row)),\n\
+make('p', { class: 'lead' }, verdictSentence(row)),\n\
 row.advice !== null && make('p', { class: 'advice' }, row.advice),\n\
 make('h4', null, 'What it rests on'),\n\
 make('ul', null, ...evidenceSentences(row).map((sentence) => make('li', null, sentence))),\n\
 make('h4', null, 'Who they are'),\n\
 make('dl', { class: 'ends-list' }, ...endParts(report, 'Writer', row.writer), ...endParts(report, 'Reader', row.reader),\n\
 make('dt', null, 'Type'), make('dd', null, ...typeName(row.type))),\n\
-placeHelp(report, row)),\n\
+placeHelp(row)),\n\
 make('div', null, chartOf(report, row)));\n\
 }\n\
 function endParts(report, side, guid) {\n\
@@ -1151,12 +1136,11 @@ return [make('dt', null, side), make('dd', null, ...endpointName(report, guid),\
 endpoint && make('div', { class: 'qos' }, `${endpoint.reliability}, ${endpoint.durability}`),\n\
 participant && make('div', { class: 'qos' }, `${participant.name} ${topicsText(participant)}`))];\n\
 }\n\
-function placeHelp({ data }, row) {\n\
+function placeHelp(row) {\n\
 const place = row.claimed || row.acknowledged || row.announced;\n\
 if (!place) return null;\n\
-const frame = data.ignored === 0 && !data.options.any ? ` It is frame ${place.datagram} in Wireshark.` : '';\n\
 return make('p', { class: 'hint' }, `An octet is counted from 0 in the UDP payload. “rtps-audit show” prints datagram ${place.datagram}, and `\n\
-+ `a line for each submessage in it with its octet, such as ${place.at}.${frame}`);\n\
++ `a line for each submessage in it with its octet, such as ${place.at}.`);\n\
 }\n\
 function chartOf(report, row) {\n\
 chartInSight = report.basesOf(row) ? new Chart(report, row) : null;\n\
@@ -1177,7 +1161,7 @@ function placeColumn(name, head, member) {\n\
 const numberOf = (row) => (row[name] ? row[name][member] : 0);\n\
 return { name, head, class: 'count', compare: byCount(numberOf), cell: (report, row) => (row[name] ? String(numberOf(row)) : '–') };\n\
 }\n\
-function countColumn(name, head, isBad, numberOf = (row) => row[name]) {\n\
+function countColumn(name, head, isBad, numberOf) {\n\
 const cell = (report, row) => {\n\
 const count = numberOf(row);\n\
 if (count === null) return '–';\n\
@@ -1185,42 +1169,33 @@ return isBad(row) && isAbove(count, 0) ? make('b', { class: 'bad' }, counted(cou
 };\n\
 return { name, head, class: 'count', compare: byCount((row) => numberOf(row) || 0), cell };\n\
 }\n\
-const always = () => true;\n\
-const never = () => false;\n\
+const OUTCOMES = ['received', 'arrived', 'likely', 'missed', 'unsent', 'unanswered', 'unconfirmed'];\n\
+const LOST = ['missed', 'unsent', 'unanswered'];\n\
+const isLost = (name, { outcomes: { arrived = null } }) => LOST.includes(name) || (name === 'likely' && arrived !== null);\n\
 const COLUMNS = [\n\
 { name: 'verdict', head: 'Verdict', compare: (a, b) => worse(a, b) || compareNumbers(a.number, b.number), cell: verdictCell },\n\
 { name: 'writer', head: 'Writer', compare: byText('writer'), cell: (report, row) => endpointName(report, row.writer) },\n\
 { name: 'reader', head: 'Reader', compare: byText('reader'), cell: (report, row) => endpointName(report, row.reader) },\n\
 placeColumn('announced', 'Last announced', 'number'),\n\
 placeColumn('acknowledged', 'Acknowledged below', 'below'),\n\
-countColumn('payloads', 'Payloads', never),\n\
-countColumn('gone', 'Gone', always),\n\
-countColumn('untold', 'Untold', always),\n\
-countColumn('received', 'Proved received', never),\n\
-countColumn('missed', 'Missed', always),\n\
+...OUTCOMES.map((name) => countColumn(name, name[0].toUpperCase() + name.slice(1), (row) => isLost(name, row), ({ outcomes }) => outcomes[name])),\n\
 ];\n\
-const OUTCOMES = ['received', 'arrived', 'likely', 'missed', 'unsent', 'unanswered', 'unconfirmed'];\n\
-const LOST = ['missed', 'unsent', 'unanswered'];\n\
-const isLost = (name, { outcomes: { arrived = null } }) => LOST.includes(name) || (name === 'likely' && arrived !== null);\n\
-const SPAN_COLUMNS = [...COLUMNS.slice(0, 5), ...OUTCOMES.map((name) => (\n\
-countColumn(name, name[0].toUpperCase() + name.slice(1), (row) => isLost(name, row), ({ outcomes }) => outcomes[name])))];\n\
 const WORST_FIRST = { name: 'worst', head: 'Worst first', compare: worse };\n\
 const BY_TOPIC = { name: 'topic', head: 'Topic', compare: (a, b) => byText('topic')(a, b) || worse(a, b) };\n\
 const BY_TYPE = { name: 'type', head: 'Type', compare: (a, b) => byText('type')(a, b) || worse(a, b) };\n\
 function verdictCell(report, row) {\n\
-const bad = row.outcomes ? OUTCOMES.filter((name) => isLost(name, row) && row.outcomes[name] > 0)\n\
-: ['missed', 'gone'].filter((name) => name === row.kind);\n\
+const bad = OUTCOMES.filter((name) => isLost(name, row) && row.outcomes[name] > 0);\n\
 return make('a', { href: `#pair-${row.at + 1}`, 'aria-expanded': 'false' },\n\
 badge(row.verdict, row.verdict), ' ', make('span', { class: 'number' }, String(row.number)),\n\
 row.datagram !== undefined && make('span', { class: 'in-datagram' }, ` in datagram ${row.datagram}`),\n\
-bad.flatMap((name) => [' ', badge(name === 'gone' ? name : 'missed', `${name} ${counted((row.outcomes || row)[name])}`)]),\n\
-row.clean === true && [' ', badge('clean', 'clean')],\n\
+bad.flatMap((name) => [' ', badge('missed', `${name} ${counted(row.outcomes[name])}`)]),\n\
+row.clean && [' ', badge('clean', 'clean')],\n\
 make('span', { class: 'hidden' }, `, pair ${row.at + 1}`));\n\
 }\n\
 class Pairs {\n\
 constructor(report) {\n\
 Object.assign(this, { report, words: [], kinds: new Set(), order: WORST_FIRST, isDown: false, most: FIRST_ROWS, chosen: null });\n\
-this.columns = (report.data.options.spans ? SPAN_COLUMNS : COLUMNS).filter(({ name }) => name !== 'arrived' || report.data.arrived);\n\
+this.columns = COLUMNS.filter(({ name }) => name !== 'arrived' || report.data.arrived);\n\
 this.orders = [WORST_FIRST, BY_TOPIC, BY_TYPE, ...this.columns];\n\
 this.sort();\n\
 this.build();\n\

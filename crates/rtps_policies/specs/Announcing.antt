@@ -21,6 +21,7 @@ use Rattle.rtps_policies.specs.Policies.{PoliciesValue, policies_in, policies_va
 use Rattle.rtps_policies.specs.declared.announced.Announced.{Announced}
 use Rattle.rtps_policies.specs.declared.host.Host.{Host}
 use Rattle.rtps_policies.specs.declared.layout.entity.TheConstants.{PARTICIPANT}
+use Rattle.rtps_policies.specs.declared.layout.lease.TheConstants.{DEFAULT}
 
 -- the payload of an act that has a whole one
 abbrev pub payload_of : ActBodyValue → List ℕ
@@ -34,7 +35,7 @@ policies_by (Some fields) = policies_in fields
 
 -- what is unknown of a host
 abbrev pub unknown_host : Host
-unknown_host = record { domain = None; address = None }
+unknown_host = record { domain = None; address = None; lease = DEFAULT }
 
 -- what the fields of a payload announce of a host
 abbrev pub host_by : Option Fields → Host

@@ -1,8 +1,9 @@
 -- How a duration is written. DDSI-RTPS 2.5, 9.3.2, for its parts. own: seconds with at most nine places, of which nothing is told that a
 -- person need not read: what is behind nine is cut off, and so are zeros at the end.
-use Rattle.std.specs.Prelude.{ℕ, ℤ, pos, negsuc, suc, zero, ◌*◌, ◌/◌, ◌%◌, ◌+◌, ◌^◌, ◌==◌, ◌&&◌, ◌++◌, Bool, if◌then◌else◌, List, [], ◌∷◌, codes, decimal}
+use Rattle.std.specs.Prelude.{ℕ, ℤ, pos, negsuc, suc, zero, ◌/◌, ◌%◌, ◌^◌, ◌==◌, ◌&&◌, ◌++◌, Bool, if◌then◌else◌, List, [], ◌∷◌, codes, decimal}
 use Rattle.std.specs.List.{concat}
 use Rattle.std.specs.Ordering.{int_eq}
+use Rattle.rtps_policies.specs.Durations.{nanoseconds_of}
 use Rattle.rtps_policies.specs.declared.duration.Duration.{Duration}
 
 -- the digits of so many places of a number, up to the last one that is not 0
@@ -13,10 +14,6 @@ places_of (suc count) number = if number == 0 then [] else decimal (number / 10 
 -- nanoseconds behind a point; nothing where there are none
 abbrev pub point_text : ℕ → List ℕ
 point_text nanoseconds = if nanoseconds == 0 then [] else codes "." ++ places_of 9 nanoseconds
-
--- how many nanoseconds a fraction of a second has, in 2^-32 seconds
-abbrev pub nanoseconds_of : ℕ → ℕ
-nanoseconds_of fraction = fraction * 1000000000 / 2 ^ 32
 
 -- seconds that are not below 0, and what is behind the point
 abbrev pub seconds_text : ℤ → ℕ → List ℕ

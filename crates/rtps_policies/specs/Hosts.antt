@@ -1,18 +1,20 @@
--- Where a participant is, by the parameters that announce it. DDSI-RTPS 2.5, 8.5.3.2 "SPDPdiscoveredParticipantData", 9.6.3, and
+-- Where a participant is, and its lease, by the parameters that announce it. DDSI-RTPS 2.5, 8.5.3.2 "SPDPdiscoveredParticipantData", 9.6.3, and
 -- 9.3.2 ("Locator_t": kind, port, and an address of sixteen octets, of which the last four are one of IPv4). own: the domain and the kind of a
 -- locator are read without a sign, since no domain, and no kind that is read, is below 0.
-use Rattle.std.specs.Prelude.{ℕ, ◌==◌, Bool, true, false, if◌then◌else◌, List, Option, Some, None, drop, find, length, nat_lt, not, option_and_then, take}
+use Rattle.std.specs.Prelude.{ℕ, ◌==◌, Bool, true, false, if◌then◌else◌, List, Option, Some, None, drop, find, length, nat_lt, not, option_and_then, take, unwrap_or}
 use Rattle.std.specs.List.{filter_map}
 use Rattle.std.specs.Option.{option_or}
 use Rattle.rtps_ids.specs.declared.order.Order.{Order}
 use Rattle.rtps_params.specs.Grammar.{Pairs}
 use Rattle.rtps_params.specs.Values.{u32_of}
 use Rattle.rtps_discovery.specs.Announcement.{Fields, field}
+use Rattle.rtps_policies.specs.Durations.{duration_at, nanoseconds_in}
 use Rattle.rtps_policies.specs.declared.host.Address.{Address}
 use Rattle.rtps_policies.specs.declared.host.Address.TheVariants.{V4, V6}
 use Rattle.rtps_policies.specs.declared.host.Host.{Host}
+use Rattle.rtps_policies.specs.declared.layout.lease.TheConstants as lease
 use Rattle.rtps_policies.specs.declared.layout.locator.TheConstants as locator
-use Rattle.rtps_policies.specs.declared.layout.pid.TheConstants.{DEFAULT_UNICAST_LOCATOR, DOMAIN_ID}
+use Rattle.rtps_policies.specs.declared.layout.pid.TheConstants.{DEFAULT_UNICAST_LOCATOR, DOMAIN_ID, PARTICIPANT_LEASE_DURATION}
 
 -- the address of a kind of locator
 abbrev pub address_of_kind : ℕ → List ℕ → Option Address
@@ -51,6 +53,11 @@ address_in fields = best_of (addresses_in fields.order fields.pairs)
 abbrev pub domain_in : Fields → Option ℕ
 domain_in fields = option_and_then (u32_of fields.order) (field DOMAIN_ID fields)
 
--- what a participant announces of where it is
+-- the lease that a participant announces (8.5.3.2 "leaseDuration"), in nanoseconds. own: one below 0 is as if none is announced
+abbrev pub lease_in : Fields → ℕ
+lease_in fields =
+    unwrap_or (option_and_then nanoseconds_in (option_and_then (λ value. duration_at fields.order value 0) (field PARTICIPANT_LEASE_DURATION fields))) lease.DEFAULT
+
+-- what a participant announces of where it is, and of its lease
 abbrev pub host_in : Fields → Host
-host_in fields = record { domain = domain_in fields; address = address_in fields }
+host_in fields = record { domain = domain_in fields; address = address_in fields; lease = lease_in fields }

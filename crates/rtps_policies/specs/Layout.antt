@@ -1,9 +1,10 @@
 -- The ids and kinds of what is read of announcements, as the tables of the standards have them. Each value is written only
 -- here and in `layout`. DDSI-RTPS 2.5, 9.6.3; XTypes 1.3, 7.6.3.1.1; DDS 1.4, 2.2.3.
-use Rattle.std.specs.Prelude.{◌≡◌, [], ◌∷◌}
+use Rattle.std.specs.Prelude.{◌≡◌, ◌*◌, ◌^◌, [], ◌∷◌}
 use Rattle.rtps_policies.specs.declared.layout.destination_order.TheConstants as destination_order
 use Rattle.rtps_policies.specs.declared.layout.entity.TheConstants as entity
 use Rattle.rtps_policies.specs.declared.layout.header.TheConstants as header
+use Rattle.rtps_policies.specs.declared.layout.lease.TheConstants as lease
 use Rattle.rtps_policies.specs.declared.layout.liveliness.TheConstants as liveliness
 use Rattle.rtps_policies.specs.declared.layout.locator.TheConstants as locator
 use Rattle.rtps_policies.specs.declared.layout.ownership.TheConstants as ownership
@@ -16,7 +17,7 @@ use Rattle.rtps_policies.specs.declared.layout.sequence.TheConstants as sequence
 -- the ids of the parameters that are read (DDSI-RTPS 2.5, 9.6.3; XTypes 1.3, 7.6.3.1.1)
 abbrev pub pid_is : Type 0
 pid_is =
-    (pid.DOMAIN_ID ≡ 0x000f) × (pid.LIVELINESS ≡ 0x001b) × (pid.OWNERSHIP ≡ 0x001f) × (pid.PRESENTATION ≡ 0x0021)
+    (pid.PARTICIPANT_LEASE_DURATION ≡ 0x0002) × (pid.DOMAIN_ID ≡ 0x000f) × (pid.LIVELINESS ≡ 0x001b) × (pid.OWNERSHIP ≡ 0x001f) × (pid.PRESENTATION ≡ 0x0021)
     × (pid.DEADLINE ≡ 0x0023) × (pid.DESTINATION_ORDER ≡ 0x0025) × (pid.LATENCY_BUDGET ≡ 0x0027) × (pid.PARTITION ≡ 0x0029)
     × (pid.DEFAULT_UNICAST_LOCATOR ≡ 0x0031) × (pid.DATA_REPRESENTATION ≡ 0x0073)
 
@@ -60,6 +61,10 @@ header_is =
 -- entity ids (DDSI-RTPS 2.5, 9.3.1.3)
 abbrev pub entity_is : Type 0
 entity_is = (entity.PARTICIPANT.0 ≡ 0x00 ∷ 0x00 ∷ 0x01 ∷ 0xc1 ∷ []) × (entity.PARTICIPANTS.0 ≡ 0x00 ∷ 0x01 ∷ 0x00 ∷ 0xc2 ∷ [])
+
+-- the lease of a participant that announces none: 100 s (DDSI-RTPS 2.5, 9.6.3)
+abbrev pub lease_is : Type 0
+lease_is = lease.DEFAULT ≡ 100 * 10 ^ 9
 
 -- locators (DDSI-RTPS 2.5, 9.3.2)
 abbrev pub locator_is : Type 0

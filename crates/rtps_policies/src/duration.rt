@@ -1,7 +1,7 @@
 ghost use Rattle.std.specs.Prelude.{◌≡◌, ◌<◌, ◌≤◌, ◌^◌, Some};
 ghost use Rattle.std.specs.Fmt.{WritesOnOk};
-ghost use Rattle.rtps_policies.specs.DurationText.{duration_text, nanoseconds_of as nanoseconds_of_lem, places_of, point_text};
-ghost use Rattle.rtps_policies.specs.Durations.{duration_at as duration_at_lem, is_within};
+ghost use Rattle.rtps_policies.specs.DurationText.{duration_text, places_of, point_text};
+ghost use Rattle.rtps_policies.specs.Durations.{duration_at as duration_at_lem, is_within, nanoseconds_in, nanoseconds_of as nanoseconds_of_lem};
 
 use rtps_ids::{Order, u32_at};
 use std::fmt;
@@ -32,6 +32,17 @@ impl Duration {
     {
         self.seconds < other.seconds
             || (self.seconds == other.seconds && self.fraction <= other.fraction)
+    }
+
+    /// In nanoseconds. None if it is below 0.
+    pub(crate) fn nanoseconds(self) -> Option<u64>
+        ensures { result ≡ nanoseconds_in self }
+    {
+        if self.seconds < 0 {
+            return None;
+        }
+        let seconds = u64::from(self.seconds.cast_unsigned());
+        Some(seconds * 1_000_000_000 + u64::from(nanoseconds_of(self.fraction)))
     }
 }
 

@@ -2,9 +2,10 @@ ghost use Rattle.std.specs.Prelude.{◌≡◌, Some};
 ghost use Rattle.std.specs.Fmt.{WritesOnOk};
 ghost use Rattle.rtps_discovery.specs.Fields.{fields_value};
 ghost use Rattle.rtps_policies.specs.AddressText.{address_text, groups_of, groups_text};
-ghost use Rattle.rtps_policies.specs.Hosts.{address_by, address_in as address_in_lem, address_of, domain_in as domain_in_lem, host_in, is_v4};
+ghost use Rattle.rtps_policies.specs.Hosts.{address_by, address_in as address_in_lem, address_of, domain_in as domain_in_lem, host_in, is_v4, lease_in as lease_in_lem};
 
-use crate::layout::{locator, pid};
+use crate::duration::duration_at;
+use crate::layout::{lease, locator, pid};
 use rtps_ids::Order;
 use rtps_params::{ParamList, read_u32};
 use std::fmt;
@@ -53,13 +54,15 @@ fn write_groups<W: fmt::Write>(octets: &[u8], f: &mut fmt::Formatter<W>) -> fmt:
     write_groups(behind, f)
 }
 
-/// What a participant announces of where it is (DDSI-RTPS 2.5, 8.5.3.2 "SPDPdiscoveredParticipantData").
+/// What a participant announces of where it is, and of its lease (DDSI-RTPS 2.5, 8.5.3.2 "SPDPdiscoveredParticipantData").
 #[derive(Clone, Copy)]
 pub struct Host {
     /// Its domain.
     pub domain: Option<u32>,
     /// Its first default unicast locator of IPv4, or else its first one of IPv6.
     pub address: Option<Address>,
+    /// Its lease, in nanoseconds; 100 s where it announces none. It is taken to be there for so long when nothing of it comes.
+    pub lease: u64,
 }
 
 impl Host {
@@ -67,6 +70,7 @@ impl Host {
     pub const UNKNOWN: Host = Host {
         domain: None,
         address: None,
+        lease: lease::DEFAULT,
     };
 
     /// What a parameter list announces.
@@ -76,6 +80,7 @@ impl Host {
         Host {
             domain: domain_in(list),
             address: address_in(list),
+            lease: lease_in(list),
         }
     }
 }
@@ -86,6 +91,19 @@ fn domain_in(list: &ParamList<'_>) -> Option<u32>
 {
     let value = list.first(pid::DOMAIN_ID)?;
     read_u32(value, list.order())
+}
+
+/// The lease in a list, in nanoseconds.
+fn lease_in(list: &ParamList<'_>) -> u64
+    ensures { result ≡ lease_in_lem (fields_value list.now) }
+{
+    let Some(value) = list.first(pid::PARTICIPANT_LEASE_DURATION) else {
+        return lease::DEFAULT;
+    };
+    match duration_at(list.order(), value, 0) {
+        Some(duration) => duration.nanoseconds().unwrap_or(lease::DEFAULT),
+        None => lease::DEFAULT,
+    }
 }
 
 /// The address in a locator, or None if it is cut or of another kind.

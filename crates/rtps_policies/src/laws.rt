@@ -1,7 +1,7 @@
 //! Laws of the definitions. Each is the contract of a function that does nothing.
 
 ghost use Rattle.rtps_policies.specs.Laws.{FitsWhereNoReason, NamesFitAsTested, PatternsFitAsTested, ReasonsDoNotSuit, SuitsAsTested, UnmatchedAreInOrder, UnmatchedAreListed};
-ghost use Rattle.rtps_policies.specs.Layout.{destination_order_is, entity_is, header_is, liveliness_is, locator_is, ownership_is, pattern_is, pid_is, presentation_is, representation_is, sequence_is};
+ghost use Rattle.rtps_policies.specs.Layout.{destination_order_is, entity_is, header_is, lease_is, liveliness_is, locator_is, ownership_is, pattern_is, pid_is, presentation_is, representation_is, sequence_is};
 
 use rtps_discovery::laws::{in_order, settled_and_unsettled};
 
@@ -50,5 +50,6 @@ pub fn layout_is_that_of_the_standard()
     ensures representation { representation_is }
     ensures header { header_is }
     ensures entity { entity_is }
+    ensures lease { lease_is }
     ensures locator { locator_is }
 {}

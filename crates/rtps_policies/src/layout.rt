@@ -2,6 +2,8 @@
 
 /// The ids of the parameters that are read (DDSI-RTPS 2.5, 9.6.3; XTypes 1.3, 7.6.3.1.1 "DataRepresentationQosPolicy").
 pub(crate) mod pid {
+    pub(crate) const PARTICIPANT_LEASE_DURATION: u16 = 0x0002;
+
     pub(crate) const DOMAIN_ID: u16 = 0x000f;
 
     pub(crate) const LIVELINESS: u16 = 0x001b;
@@ -118,6 +120,12 @@ pub(crate) mod entity {
     pub(crate) const PARTICIPANT: EntityId = EntityId([0x00, 0x00, 0x01, 0xc1]);
     /// The built-in writer that announces participants.
     pub(crate) const PARTICIPANTS: EntityId = EntityId([0x00, 0x01, 0x00, 0xc2]);
+}
+
+/// The lease of a participant (DDSI-RTPS 2.5, 9.6.3).
+pub(crate) mod lease {
+    /// What it is where none is announced: 100 s, in nanoseconds.
+    pub(crate) const DEFAULT: u64 = 100_000_000_000;
 }
 
 /// A locator: its kind, its port and its address (DDSI-RTPS 2.5, 9.3.2 "Mapping of the Types that Appear Within Submessages or

@@ -1,19 +1,20 @@
 mod AskedLemmas
 mod BestEffortLemmas
 mod BestEffortSums
-mod FittingLemmas
 mod FollowedLemmas
+mod KeptLemmas
 mod MatchLemmas
 mod NamingLemmas
-mod NobodyLemmas
+mod NamingWalkLemmas
 pub mod Offered
 mod OneReportLemmas
 mod OneTalkLemmas
 mod ParticipantLemmas
 mod PatternLemmas
 mod PiecesLemmas
+mod PresenceLemmas
+mod RowPairLemmas
 mod SameLists
 mod StayLemmas
 mod TalkLemmas
 mod TopicLemmas
-mod TrafficLemmas

@@ -1,8 +1,7 @@
 -- What becomes of each match that discovery finds.
-use Rattle.std.proofs.Common.{◌≡◌, ◌↔◌, ◌∙◌, ◌&&◌, ◌||◌, ℕ, Bool, true, false, inl, inr, List, Contains, Option, ap, ap₂, map, not, refl, subst, sym}
+use Rattle.std.proofs.Common.{◌≡◌, ◌↔◌, ◌⊎◌, ◌∙◌, ◌&&◌, Bool, true, false, cond, inl, inr, List, Contains, Option, ap, ap₂, filter, map, not, refl, subst, sym}
 use Rattle.std.proofs.lemmas.Bool.{false≢true}
-use Rattle.std.proofs.lemmas.List.Elements.{All-contains}
-use Rattle.rtps_discovery.specs.Directory.{DirectoryValue, IsMapOf, settled_at, settled_in}
+use Rattle.rtps_discovery.specs.Directory.{DirectoryValue, Entries, IsMapOf, settled_at, settled_in}
 use Rattle.rtps_discovery.specs.Endpoint.{EndpointValue}
 use Rattle.rtps_discovery.specs.Listings.{IsMatchAmong, IsReliablePair}
 use Rattle.rtps_discovery.specs.Matching.{is_reliable, matches_among, reliable_pairs}
@@ -10,16 +9,18 @@ use Rattle.rtps_discovery.specs.Notice.{endpoints_among}
 use Rattle.rtps_discovery.specs.declared.endpoint.Reliability.{Reliability}
 use Rattle.rtps_discovery.specs.declared.endpoint.Reliability.TheVariants.{BestEffort, Reliable}
 use Rattle.rtps_discovery.specs.declared.matching.Match.{Match}
-use Rattle.rtps_discovery.proofs.Offered.{from_filter, from_map, into_filter, into_map}
+use Rattle.rtps_discovery.proofs.Offered.{from_map, into_map}
 use Rattle.rtps_evidence.proofs.Offered.{HasOneMap}
-use Rattle.rtps_policies.specs.Unmatched.{UnmatchedValue}
-use Rattle.rtps_report.specs.Vocabulary.{ActValue, AllClean, AllComplete, Explanation, ExplanationValue, IsNamed, Pair, Standard, explanation_value, topic_of}
-use Rattle.rtps_report.specs.Asked.{AskedValue, is_of_complete}
-use Rattle.rtps_report.specs.FullReport.{IsFullReport, RecordingValue, ReportValue, is_dropped, rows_of}
-use Rattle.rtps_report.specs.Laws.{AsksWhoTalks, EachMatchIsTold, IsOneOf, IsRowOf}
-use Rattle.rtps_report.specs.Rows.{acts_read, fits_one, is_kept, is_observed}
-use Rattle.rtps_report.specs.Talk.{is_named, is_unfit, traffic_of}
-use Rattle.rtps_report.proofs.NamingLemmas.{answer_of, named_among}
+use Rattle.rtps_policies.specs.Silence.{Traffic}
+use Rattle.rtps_policies.specs.Unmatched.{UnmatchedValue, pair_of}
+use Rattle.rtps_report.specs.Vocabulary.{ActValue, Explanation, ExplanationValue, Intake, Pair, Read, explanation_value, intake_as, topic_of}
+use Rattle.rtps_report.specs.Asked.{AskedValue}
+use Rattle.rtps_report.specs.FullReport.{IsFullReport, RecordingValue, ReportValue, rows_of}
+use Rattle.rtps_report.specs.Laws.{EachMatchIsTold, IsFoundIn, IsOneOf, IsRowOf}
+use Rattle.rtps_report.specs.RowPairs.{AreRowPairs, IsJudged, IsRowPair}
+use Rattle.rtps_report.specs.Rows.{fits_one}
+use Rattle.rtps_report.specs.Talk.{is_named, is_unfit, talks, traffic_of, unfit_in}
+use Rattle.rtps_report.proofs.RowPairLemmas.{unfit_tested}
 
 -- ---- a match is reliable where its pair is one of reliable ones
 
@@ -58,133 +59,165 @@ reliable_back announced found is pair =
     let second : is.reader.reliability ≡ Reliable = ap (λ (one : EndpointValue). one.reliability) reader ∙ pair.reader_reliable in
     ap (λ (one : Match). one.reliable) is.is_theirs ∙ ap₂ (λ (one other : Reliability). is_reliable one && is_reliable other) first second
 
--- ---- which pairs are rows
+-- ---- which matches are rows
 
-clean_dropped : (standard : Standard) (unmatched : List UnmatchedValue) (pair : Pair) → is_of_complete standard ≡ false → is_dropped standard unmatched pair ≡ is_unfit unmatched pair
-clean_dropped AllComplete unmatched pair clean = absurd (false≢true (sym clean))
-clean_dropped (AllClean tail certain) unmatched pair clean = refl
+-- whether one is, by whether the two do not match by all policies, whether they talk, whether both are reliable, and whether the recording can
+-- speak of them
+abbrev judged : Bool → Bool → Bool → Bool → Bool
+judged unfit talking reliable named = cond unfit talking (reliable && named)
 
--- a row that is kept, and not dropped
-passes : (fits observed seen dropped unfit : Bool) → fits ≡ true → observed ≡ true → seen ≡ true → dropped ≡ unfit → unfit ≡ false → ((fits && (not observed || seen)) ≡ true) × (not dropped ≡ true)
-passes true true true false false f o s d u = (refl, refl)
-passes false observed seen dropped unfit f o s d u = absurd (false≢true f)
-passes true false seen dropped unfit f o s d u = absurd (false≢true o)
-passes true true false dropped unfit f o s d u = absurd (false≢true s)
-passes true true true true unfit f o s d u = absurd (false≢true (sym u ∙ sym d))
-passes true true true false true f o s d u = absurd (false≢true (sym u))
+both : (reliable named : Bool) → reliable ≡ true → named ≡ true → (reliable && named) ≡ true
+both true true r n = refl
+both false named r n = absurd (false≢true r)
+both true false r n = absurd (false≢true n)
 
-passed : (fits observed seen dropped unfit : Bool) → observed ≡ true → dropped ≡ unfit → (fits && (not observed || seen)) ≡ true → not dropped ≡ true → (seen ≡ true) × (unfit ≡ false)
-passed true true true false unfit o d k n = (refl, sym d)
-passed false observed seen dropped unfit o d k n = absurd (false≢true k)
-passed true false seen dropped unfit o d k n = absurd (false≢true o)
-passed true true false dropped unfit o d k n = absurd (false≢true k)
-passed true true true true unfit o d k n = absurd (false≢true n)
+both_parts : (reliable named : Bool) → (reliable && named) ≡ true → (reliable ≡ true) × (named ≡ true)
+both_parts true true is = (refl, refl)
+both_parts false named is = absurd (false≢true is)
+both_parts true false is = absurd (false≢true is)
 
--- what a pair is, of which there is a row
-abbrev IsFitRow : AskedValue → List (List ℕ) → List UnmatchedValue → Match → Type 0
-IsFitRow asked recording unmatched found =
-    (found.reliable ≡ true) × (is_observed (acts_read asked.fragments recording) found.pair ≡ true) × (is_unfit unmatched found.pair ≡ false)
+judged_there : (intake : Intake) (traffic : Traffic) (entries : Entries) (pair : Pair) (reliable unfit : Bool) → (Contains (reliable_pairs (matches_among (settled_in entries))) pair → reliable ≡ true)
+    → IsJudged unfit intake traffic entries pair → judged unfit (talks intake pair) reliable (is_named traffic pair) ≡ true
+judged_there intake traffic entries pair reliable true listed said = said
+judged_there intake traffic entries pair reliable false listed said = both reliable (is_named traffic pair) (listed said.0) said.1
 
-module _ (listed : AreListed) (unique : HasOneMap) (asked : AskedValue) (asks : AsksWhoTalks asked) (other : Option RecordingValue) (recording : RecordingValue) (report : ReportValue)
-    (is : IsFullReport asked other recording report) where
-  acts : List ActValue
-  acts = acts_read asked.fragments recording.datagrams
+judged_back : (intake : Intake) (traffic : Traffic) (entries : Entries) (pair : Pair) (reliable unfit : Bool) → (reliable ≡ true → Contains (reliable_pairs (matches_among (settled_in entries))) pair)
+    → judged unfit (talks intake pair) reliable (is_named traffic pair) ≡ true → IsJudged unfit intake traffic entries pair
+judged_back intake traffic entries pair reliable true listed said = said
+judged_back intake traffic entries pair reliable false listed said = let parts = both_parts reliable (is_named traffic pair) said in (listed parts.0, parts.1)
 
-  row_there : (directory : DirectoryValue) (found : Match) → IsMapOf (traffic_of asked recording.datagrams).announcing directory → Contains (matches_among (settled_in directory.endpoints)) found
-      → IsRowOf report found.pair → IsFitRow asked recording.datagrams report.talk.unmatched found
-  unfolding acts
-  row_there directory found is_map among has =
-      let explains = is.parts.explains in
-      let whole = explains.explains in
-      let said = (traffic_of asked recording.datagrams).announcing in
+module _ (listed : AreListed) (unique : HasOneMap) (asked : AskedValue) (other : Option RecordingValue) (recording : RecordingValue) (report : ReportValue) (directory : DirectoryValue) (found : Match)
+    (is : IsFullReport asked other recording report) (there : IsFoundIn asked recording directory found) where
+  abbrev traffic : Traffic
+  traffic = traffic_of recording.datagrams
+
+  abbrev intake : Intake
+  intake = intake_as Read recording.datagrams
+
+  abbrev unfit : List UnmatchedValue
+  unfit = unfit_in asked traffic directory.endpoints
+
+  same : is.talks.directory ≡ directory
+  same = unique traffic.announcing is.talks.directory directory is.talks.is_map there.is_map
+
+  pairs : AreRowPairs asked intake traffic directory.endpoints is.rows.pairs
+  pairs = subst (λ (of : DirectoryValue). AreRowPairs asked intake traffic of.endpoints is.rows.pairs) (unique traffic.announcing is.rows.directory directory is.rows.is_map there.is_map) is.rows.are_pairs
+
+  is_reliable_there : Contains (reliable_pairs (matches_among (settled_in directory.endpoints))) found.pair → found.reliable ≡ true
+  is_reliable_there has =
+      reliable_back (endpoints_among traffic.announcing) found ((listed.matches traffic.announcing directory found there.is_map).0 there.among)
+      ((listed.pairs traffic.announcing directory found.pair there.is_map).0 has)
+
+  is_listed : found.reliable ≡ true → Contains (reliable_pairs (matches_among (settled_in directory.endpoints))) found.pair
+  is_listed reliable =
+      (listed.pairs traffic.announcing directory found.pair there.is_map).1
+      (reliable_there (endpoints_among traffic.announcing) found ((listed.matches traffic.announcing directory found there.is_map).0 there.among) reliable)
+
+  row_there : IsRowOf report found.pair → judged (is_unfit unfit found.pair) (talks intake found.pair) found.reliable (is_named traffic found.pair) ≡ true
+  row_there has =
       let value = from_map (λ (row : ExplanationValue). row.pair) (rows_of report) found.pair has in
       let made = from_map explanation_value report.explained.rows.items value.0 value.1 in
-      let row : Explanation = made.0 in
-      let pair : row.pair ≡ found.pair = ap (λ (one : ExplanationValue). one.pair) made.2 ∙ value.2 in
-      let fits = from_filter (λ (one : Explanation). not (is_dropped asked.standard report.talk.unmatched one.pair)) is.explained.rows.items row (subst (λ (rows : List Explanation). Contains rows row) is.rows made.1) in
-      let kept = from_filter (λ (one : Explanation). is_kept asked.rows acts one.topic.now one.pair) explains.whole.rows.items row (subst (λ (rows : List Explanation). Contains rows row) explains.rows fits.0) in
-      let listed_pair = subst (λ (pairs : List Pair). Contains pairs row.pair) (whole.pairs ∙ whole.reports.pairs) (into_map (λ (one : Explanation). one.pair) explains.whole.rows.items row kept.0) in
-      let reliable = (listed.pairs said whole.reports.directory row.pair whole.reports.is_map).0 listed_pair in
-      let seen = passed (fits_one asked.rows.topics row.topic.now) asked.rows.observed (is_observed acts row.pair) (is_dropped asked.standard report.talk.unmatched row.pair) (is_unfit report.talk.unmatched row.pair)
-      asks.observed (clean_dropped asked.standard report.talk.unmatched row.pair asks.clean) kept.1 fits.1 in (
-        reliable_back (endpoints_among said) found ((listed.matches said directory found is_map).0 among) (subst (IsReliablePair (endpoints_among said)) pair reliable),
-        sym (ap (is_observed acts) pair) ∙ seen.0,
-        sym (ap (is_unfit report.talk.unmatched) pair) ∙ seen.1,
-      )
+      let pair : made.0.pair ≡ found.pair = ap (λ (one : ExplanationValue). one.pair) made.2 ∙ value.2 in
+      let among = subst (Contains (map (λ (row : Explanation). row.pair) report.explained.rows.items)) pair (into_map (λ (row : Explanation). row.pair) report.explained.rows.items made.0 made.1) in
+      let row = (pairs.each found.pair).0 (subst (λ (pairs : List Pair). Contains pairs found.pair) is.rows.rows.of_pairs among) in
+      judged_there intake traffic directory.endpoints found.pair found.reliable (is_unfit unfit found.pair) is_reliable_there row.judged
 
-  row_back : (directory : DirectoryValue) (found : Match) → IsMapOf (traffic_of asked recording.datagrams).announcing directory → Contains (matches_among (settled_in directory.endpoints)) found
-      → fits_one asked.rows.topics (topic_of (settled_at directory.endpoints found.pair.writer)) ≡ true → IsFitRow asked recording.datagrams report.talk.unmatched found → IsRowOf report found.pair
-  unfolding acts
-  row_back directory found is_map among topic fit =
-      let explains = is.parts.explains in
-      let whole = explains.explains in
-      let said = (traffic_of asked recording.datagrams).announcing in
-      let reliable = reliable_there (endpoints_among said) found ((listed.matches said directory found is_map).0 among) fit.0 in
-      let listed_pair = (listed.pairs said whole.reports.directory found.pair whole.reports.is_map).1 reliable in
-      let made = from_map (λ (one : Explanation). one.pair) explains.whole.rows.items found.pair (subst (λ (pairs : List Pair). Contains pairs found.pair) (sym (whole.pairs ∙ whole.reports.pairs)) listed_pair) in
-      let row : Explanation = made.0 in
-      let pair : row.pair ≡ found.pair = made.2 in
-      let named = All-contains (IsNamed whole.directory.endpoints) explains.whole.rows.items row whole.named made.1 in
-      let same : whole.directory ≡ directory = unique said whole.directory directory whole.is_map is_map in
-      let of_topic : row.topic.now ≡ topic_of (settled_at directory.endpoints found.pair.writer) =
-      named.topic ∙ ap (λ (one : Pair). topic_of (settled_at whole.directory.endpoints one.writer)) pair ∙ ap (λ (by : DirectoryValue). topic_of (settled_at by.endpoints found.pair.writer)) same in
-      let pass = passes (fits_one asked.rows.topics row.topic.now) asked.rows.observed (is_observed acts row.pair) (is_dropped asked.standard report.talk.unmatched row.pair) (is_unfit report.talk.unmatched row.pair)
-      (ap (fits_one asked.rows.topics) of_topic ∙ topic) asks.observed (ap (is_observed acts) pair ∙ fit.1) (clean_dropped asked.standard report.talk.unmatched row.pair asks.clean) (ap (is_unfit report.talk.unmatched) pair ∙ fit.2) in
-      let kept = into_filter (λ (one : Explanation). is_kept asked.rows acts one.topic.now one.pair) explains.whole.rows.items row made.1 pass.0 in
-      let fits = into_filter (λ (one : Explanation). not (is_dropped asked.standard report.talk.unmatched one.pair)) is.explained.rows.items row (subst (λ (rows : List Explanation). Contains rows row) (sym explains.rows) kept) pass.1 in
-      let there = into_map explanation_value report.explained.rows.items row (subst (λ (rows : List Explanation). Contains rows row) (sym is.rows) fits) in
-      subst (Contains (map (λ (one : ExplanationValue). one.pair) (rows_of report))) pair (into_map (λ (one : ExplanationValue). one.pair) (rows_of report) (explanation_value row) there)
+  row_back : judged (is_unfit unfit found.pair) (talks intake found.pair) found.reliable (is_named traffic found.pair) ≡ true → IsRowOf report found.pair
+  row_back said =
+      let row : IsRowPair asked intake traffic directory.endpoints found.pair = record { topic = there.topic; judged = judged_back intake traffic directory.endpoints found.pair found.reliable (is_unfit unfit found.pair) is_listed said } in
+      let among = subst (λ (pairs : List Pair). Contains pairs found.pair) (sym is.rows.rows.of_pairs) ((pairs.each found.pair).1 row) in
+      let made = from_map (λ (row : Explanation). row.pair) report.explained.rows.items found.pair among in
+      subst (Contains (map (λ (row : ExplanationValue). row.pair) (rows_of report))) made.2
+      (into_map (λ (row : ExplanationValue). row.pair) (rows_of report) (explanation_value made.0) (into_map explanation_value report.explained.rows.items made.0 made.1))
+
+  -- those that are told as not matching do not talk
+  told_unfit : (is_unfit report.talk.unmatched found.pair ≡ true) ↔ ((is_unfit unfit found.pair ≡ true) × (not (talks intake found.pair) ≡ true))
+  told_unfit =
+      subst (λ (those : List UnmatchedValue). (is_unfit those found.pair ≡ true) ↔ ((is_unfit unfit found.pair ≡ true) × (not (talks intake found.pair) ≡ true)))
+      (sym (is.talks.unmatched ∙ ap (λ (of : DirectoryValue). filter (λ (one : UnmatchedValue). not (talks intake (pair_of one))) (unfit_in asked traffic of.endpoints)) same))
+      (unfit_tested (λ pair. not (talks intake pair)) unfit found.pair)
 
 -- ---- exactly one
 
-on : true ≡ false → ⊥
-on is = false≢true (sym is)
+clash : (b : Bool) → b ≡ true → b ≡ false → ⊥
+clash b is other = false≢true (sym other ∙ is)
 
-exactly : (reliable unfit named fits : Bool) (Told : Type 0) → fits ≡ true → Told ↔ ((reliable ≡ true) × (named ≡ true) × (unfit ≡ false))
-    → IsOneOf Told (unfit ≡ true) ((unfit ≡ false) × (named ≡ false)) ((not reliable && (not unfit && (fits && named))) ≡ true)
-exactly reliable unfit named false Told asked row = absurd (false≢true asked)
-exactly true false true true Told fits row = record {
-  some = inl (row.1 (refl, refl, refl));
-  first_alone = λ is. (false≢true, λ third. on third.1, false≢true);
-  second_alone = λ second. absurd (false≢true second);
-  third_alone = λ third. absurd (on third.1);
-}
-exactly true false false true Told fits row = record {
-  some = inr (inr (inl (refl, refl)));
-  first_alone = λ is. absurd (false≢true (row.0 is).1);
-  second_alone = λ second. absurd (false≢true second);
-  third_alone = λ third fourth. false≢true fourth;
-}
-exactly true true named true Told fits row = record {
-  some = inr (inl refl);
-  first_alone = λ is. absurd (on (row.0 is).2);
-  second_alone = λ second. (λ third. on third.0, false≢true);
-  third_alone = λ third. absurd (on third.0);
-}
-exactly false true named true Told fits row = record {
-  some = inr (inl refl);
-  first_alone = λ is. absurd (on (row.0 is).2);
-  second_alone = λ second. (λ third. on third.0, false≢true);
-  third_alone = λ third. absurd (on third.0);
-}
-exactly false false true true Told fits row = record {
-  some = inr (inr (inr refl));
-  first_alone = λ is. absurd (false≢true (row.0 is).0);
-  second_alone = λ second. absurd (false≢true second);
-  third_alone = λ third. absurd (on third.1);
-}
-exactly false false false true Told fits row = record {
-  some = inr (inr (inl (refl, refl)));
-  first_alone = λ is. absurd (false≢true (row.0 is).0);
-  second_alone = λ second. absurd (false≢true second);
-  third_alone = λ third fourth. false≢true fourth;
-}
+is_on : (b : Bool) → not b ≡ true → b ≡ false
+is_on false is = refl
+is_on true is = absurd (false≢true is)
+
+left_parts : (unfit fits named : Bool) → (not unfit && (fits && not named)) ≡ true → (unfit ≡ false) × (named ≡ false)
+left_parts false true false is = (refl, refl)
+left_parts true fits named is = absurd (false≢true is)
+left_parts false false named is = absurd (false≢true is)
+left_parts false true true is = absurd (false≢true is)
+
+counted_parts : (reliable unfit fits named : Bool) → (not reliable && (not unfit && (fits && named))) ≡ true → (reliable ≡ false) × (unfit ≡ false) × (named ≡ true)
+counted_parts false false true true is = (refl, refl, refl)
+counted_parts true unfit fits named is = absurd (false≢true is)
+counted_parts false true fits named is = absurd (false≢true is)
+counted_parts false false false named is = absurd (false≢true is)
+counted_parts false false true false is = absurd (false≢true is)
+
+judged_parts : (unfit talking reliable named : Bool) → judged unfit talking reliable named ≡ true
+    → ((unfit ≡ true) × (talking ≡ true)) ⊎ ((unfit ≡ false) × (reliable ≡ true) × (named ≡ true))
+judged_parts true talking reliable named is = inl (refl, is)
+judged_parts false talking reliable named is = let parts = both_parts reliable named is in inr (refl, parts.0, parts.1)
+
+module _ (reliable unfit talking named fits : Bool) (Row Told : Type 0) (asked : fits ≡ true) (row : Row ↔ (judged unfit talking reliable named ≡ true)) (told : Told ↔ ((unfit ≡ true) × (not talking ≡ true))) where
+  abbrev Left : Type 0
+  Left = (not unfit && (fits && not named)) ≡ true
+
+  abbrev Counted : Type 0
+  Counted = (not reliable && (not unfit && (fits && named))) ≡ true
+
+  row_alone : ((unfit ≡ true) × (talking ≡ true)) ⊎ ((unfit ≡ false) × (reliable ≡ true) × (named ≡ true)) → (¬ Told) × (¬ Left) × (¬ Counted)
+  row_alone (inl is) = (
+    λ second. clash talking is.1 (is_on talking (told.0 second).1),
+    λ third. clash unfit is.0 (left_parts unfit fits named third).0,
+    λ fourth. clash unfit is.0 (counted_parts reliable unfit fits named fourth).1,
+  )
+  row_alone (inr is) = (
+    λ second. clash unfit (told.0 second).0 is.0,
+    λ third. clash named is.2 (left_parts unfit fits named third).1,
+    λ fourth. clash reliable is.1 (counted_parts reliable unfit fits named fourth).0,
+  )
+
+some : (reliable unfit talking named fits : Bool) → fits ≡ true
+    → (judged unfit talking reliable named ≡ true)
+    ⊎ (((unfit ≡ true) × (not talking ≡ true)) ⊎ (((not unfit && (fits && not named)) ≡ true) ⊎ ((not reliable && (not unfit && (fits && named))) ≡ true)))
+some reliable unfit talking named false asked = absurd (false≢true asked)
+some reliable true true named true asked = inl refl
+some reliable true false named true asked = inr (inl (refl, refl))
+some reliable false talking false true asked = inr (inr (inl refl))
+some true false talking true true asked = inl refl
+some false false talking true true asked = inr (inr (inr refl))
+
+exactly : (reliable unfit talking named fits : Bool) (Row Told : Type 0) → fits ≡ true → Row ↔ (judged unfit talking reliable named ≡ true) → Told ↔ ((unfit ≡ true) × (not talking ≡ true))
+    → IsOneOf Row Told ((not unfit && (fits && not named)) ≡ true) ((not reliable && (not unfit && (fits && named))) ≡ true)
+exactly reliable unfit talking named fits Row Told asked row told =
+    record {
+      some = by (some reliable unfit talking named fits asked);
+      first_alone = λ first. row_alone reliable unfit talking named fits Row Told asked row told (judged_parts unfit talking reliable named (row.0 first));
+      second_alone = λ second. (
+        λ third. clash unfit (told.0 second).0 (left_parts unfit fits named third).0,
+        λ fourth. clash unfit (told.0 second).0 (counted_parts reliable unfit fits named fourth).1,
+      );
+      third_alone = λ third fourth. clash named (counted_parts reliable unfit fits named fourth).2 (left_parts unfit fits named third).1;
+    }
+  where
+    by : (judged unfit talking reliable named ≡ true)
+        ⊎ (((unfit ≡ true) × (not talking ≡ true)) ⊎ (((not unfit && (fits && not named)) ≡ true) ⊎ ((not reliable && (not unfit && (fits && named))) ≡ true)))
+        → Row ⊎ (Told ⊎ (((not unfit && (fits && not named)) ≡ true) ⊎ ((not reliable && (not unfit && (fits && named))) ≡ true)))
+    by (inl first) = inl (row.1 first)
+    by (inr (inl second)) = inr (inl (told.1 second))
+    by (inr (inr rest)) = inr (inr rest)
 
 pub each_match : AreListed → HasOneMap → EachMatchIsTold
-each_match listed unique asked other recording report directory found asks is is_map among topic =
-    let observed = named_among asked.fragments recording.datagrams (answer_of found.pair) in
-    exactly found.reliable (is_unfit report.talk.unmatched found.pair) (is_named (traffic_of asked recording.datagrams) found.pair) (fits_one asked.rows.topics (topic_of (settled_at directory.endpoints found.pair.writer)))
-    (IsRowOf report found.pair) topic (
-      λ row. let fit = row_there listed unique asked asks other recording report is directory found is_map among row in (fit.0, observed ∙ fit.1, fit.2),
-      λ fit. row_back listed unique asked asks other recording report is directory found is_map among topic (fit.0, sym observed ∙ fit.1, fit.2),
-    )
+each_match listed unique asked other recording report directory found is there =
+    let traffic = traffic_of recording.datagrams in
+    exactly found.reliable (is_unfit (unfit_in asked traffic directory.endpoints) found.pair) (talks (intake_as Read recording.datagrams) found.pair) (is_named traffic found.pair)
+    (fits_one asked.topics (topic_of (settled_at directory.endpoints found.pair.writer)))
+    (IsRowOf report found.pair) (is_unfit report.talk.unmatched found.pair ≡ true) there.topic
+    (row_there listed unique asked other recording report directory found is there, row_back listed unique asked other recording report directory found is there)
+    (told_unfit listed unique asked other recording report directory found is there)

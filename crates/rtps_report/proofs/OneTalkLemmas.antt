@@ -1,5 +1,5 @@
 -- Of a recording it is told in one way who does not talk.
-use Rattle.std.proofs.Common.{◌≡◌, ◌∙◌, ℕ, ◌+◌, Bool, Option, Some, None, List, [], ◌∷◌, All, Contains, ap, ap₂, filter, if◌then◌else◌, map, refl, subst, sym}
+use Rattle.std.proofs.Common.{◌≡◌, ◌∙◌, ℕ, ◌+◌, Bool, Option, Some, None, List, [], ◌∷◌, All, Contains, ap, ap₂, filter, map, not, refl, subst, sym, true}
 use Rattle.std.proofs.lemmas.Bool.{false≢true}
 use Rattle.std.specs.Cmp.{IsTotalOrder}
 use Rattle.std.specs.Cmp.Lexicographic.{slice_cmp}
@@ -22,19 +22,26 @@ use Rattle.rtps_evidence.specs.declared.recorded.ArrivedNumbers.{ArrivedNumbers}
 use Rattle.rtps_evidence.specs.declared.recorded.Recorded.{Recorded}
 use Rattle.rtps_evidence.specs.declared.span.Span.{Span}
 use Rattle.rtps_evidence.proofs.Offered.{HasOneMap, one_extent}
+use Rattle.rtps_evidence.specs.Times.{TimesValue}
 use Rattle.rtps_fragments.specs.RecordedSamples.{intake_as}
+use Rattle.rtps_fragments.specs.declared.fragments.Fragments.TheVariants.{Read}
 use Rattle.rtps_policies.specs.Namings.{named_in, naming_cmp}
 use Rattle.rtps_policies.specs.OneWays.{AreOneWayIn}
 use Rattle.rtps_policies.specs.Silence.{Traffic}
-use Rattle.rtps_policies.specs.Unmatched.{UnmatchedValue, unmatched_among}
+use Rattle.rtps_policies.specs.Unmatched.{UnmatchedValue, pair_of}
 use Rattle.rtps_policies.specs.declared.naming.Naming.{Naming}
 use Rattle.rtps_policies.specs.declared.one_way.OneWay.{OneWay}
 use Rattle.rtps_report.specs.Asked.{AskedValue}
-use Rattle.rtps_report.specs.BestEfforts.{AreSumsOf, BestEffortValue, CountedValue, arrived_among, held_among, sum_of, total_of}
+use Rattle.rtps_report.specs.BestEfforts.{AreSumsOf, BestEffortValue, CountedValue, HeldValue, arrived_among, held_among, sum_of, total_of}
 use Rattle.rtps_report.specs.Laws.{TellSame}
 use Rattle.rtps_report.specs.Participants.{participant_told}
 use Rattle.rtps_report.specs.Recording.{RecordingValue}
-use Rattle.rtps_report.specs.Talk.{AreCounted, IsTalkAs, IsTalkOf, TalkValue, is_asked, is_counted, traffic_of}
+use Rattle.rtps_report.specs.Talk.{AreCounted, IsTalkAs, IsTalkOf, LeftOutValue, TalkValue, is_counted, is_left_out, left_out_of, talks, traffic_of, unfit_in}
+use Rattle.std.proofs.Math.Path.{fun_ext}
+use Rattle.rtps_ids.specs.declared.identity.GuidPrefix.{GuidPrefix}
+use Rattle.rtps_policies.specs.declared.host.Host.{Host}
+use Rattle.rtps_policies.specs.declared.silence.Silence.{Silence}
+use Rattle.rtps_report.specs.declared.participant.Participant.{Participant}
 use Rattle.rtps_report.proofs.SameLists.{same_keys, same_members}
 
 -- ---- pairs of best effort
@@ -70,8 +77,8 @@ one_counted unique asked theirs intake entries (found ∷ matches) (first ∷ on
     let made : List ℕ → Pair → Recorded → Option ArrivedNumbers → CountedValue = λ topic pair recorded arrived. record { topic = topic; pair = pair; recorded = recorded; arrived = arrived } in
     let topic = is.0 ∙ sym also.0 in
     let pair = is.1.of_pair ∙ sym also.1.of_pair in
-    let recorded = one_recorded unique asked.spans asked.from found.pair intake first.recorded next.recorded is.1.recorded also.1.recorded in
-    let arrived = one_arrived unique asked.spans asked.from theirs found.pair intake first.arrived next.arrived is.1.arrived also.1.arrived in
+    let recorded = one_recorded unique true asked.from found.pair intake first.recorded next.recorded is.1.recorded also.1.recorded in
+    let arrived = one_arrived unique true asked.from theirs found.pair intake first.arrived next.arrived is.1.arrived also.1.arrived in
     let same : first ≡ next = λ i. made (topic i) (pair i) (recorded i) (arrived i) in
     ap (λ front. front ∷ one) same ∙ ap (λ rest. next ∷ rest) (one_counted unique asked theirs intake entries matches one other is.2 also.2)
 
@@ -117,24 +124,25 @@ one_way_once traffic one other is also =
 
 -- ---- all of it
 
-talk_once : HasOneMap → (asked : AskedValue) (theirs : Option OtherRecording) (recording : List (List ℕ)) (times : List (Option ℕ)) (one other : TalkValue)
+talk_once : HasOneMap → (asked : AskedValue) (theirs : Option OtherRecording) (recording : List (List ℕ)) (times : TimesValue) (one other : TalkValue)
     → IsTalkOf asked theirs recording times one → IsTalkOf asked theirs recording times other → TellSame one other
 talk_once unique asked theirs recording times one other is also =
-    let traffic = traffic_of asked recording in
-    let intake = intake_as asked.fragments recording in
+    let traffic = traffic_of recording in
+    let intake = intake_as Read recording in
     let same : is.directory ≡ also.directory = unique traffic.announcing is.directory also.directory is.is_map also.is_map in
-    let unmatched : one.unmatched ≡ other.unmatched =
-    is.unmatched ∙ ap (λ (d : DirectoryValue). filter (is_asked asked) (unmatched_among traffic.announcing (settled_in d.endpoints))) same ∙ sym also.unmatched in
     let entries = also.directory.endpoints in
-    let test = λ (those : List UnmatchedValue) (of : Entries). filter (is_counted asked traffic those of) (matches_among (settled_in of)) in
-    let moved = subst (λ (d : DirectoryValue). AreCounted asked theirs intake d.endpoints (test other.unmatched d.endpoints) is.best_effort.counted) same
-    (subst (λ (those : List UnmatchedValue). AreCounted asked theirs intake is.directory.endpoints (test those is.directory.endpoints) is.best_effort.counted) unmatched is.best_effort.are_counted) in
+    let unfit = λ (of : DirectoryValue). unfit_in asked traffic of.endpoints in
+    let count = λ (of : DirectoryValue). filter (is_counted asked traffic (unfit of) of.endpoints) (matches_among (settled_in of.endpoints)) in
+    let leave = λ (of : DirectoryValue). map (left_out_of of.endpoints) (filter (is_left_out asked traffic (unfit of) of.endpoints) (matches_among (settled_in of.endpoints))) in
+    let moved = subst (λ (of : DirectoryValue). AreCounted asked theirs intake of.endpoints (count of) is.best_effort.counted) same is.best_effort.are_counted in
     let counted : is.best_effort.counted ≡ also.best_effort.counted =
-    one_counted unique asked theirs intake entries (test other.unmatched entries) is.best_effort.counted also.best_effort.counted moved also.best_effort.are_counted in
+    one_counted unique asked theirs intake entries (count also.directory) is.best_effort.counted also.best_effort.counted moved also.best_effort.are_counted in
     record {
       hosts = λ prefix. is.hosts prefix ∙ sym (also.hosts prefix);
       silence = λ pair. is.silence pair ∙ sym (also.silence pair);
-      unmatched = unmatched;
+      unmatched = is.unmatched ∙ ap (λ (of : DirectoryValue). filter (λ (one : UnmatchedValue). not (talks intake (pair_of one))) (unfit of)) same ∙ sym also.unmatched;
+      talking = is.talking ∙ ap (λ (of : DirectoryValue). filter (λ (one : UnmatchedValue). talks intake (pair_of one)) (unfit of)) same ∙ sym also.talking;
+      left_out = is.left_out ∙ ap leave same ∙ sym also.left_out;
       one_way = one_way_once traffic one.one_way other.one_way is.one_way also.one_way;
       best_effort = one_sums also.best_effort.counted one.best_effort other.best_effort
           (subst (λ (those : List CountedValue). AreSumsOf those one.best_effort) counted is.best_effort.are_sums) also.best_effort.are_sums;
@@ -143,10 +151,38 @@ talk_once unique asked theirs recording times one other is also =
       held_sums = one_sums (arrived_among also.best_effort.counted) one.held_sums other.held_sums
           (subst (λ (those : List CountedValue). AreSumsOf (arrived_among those) one.held_sums) counted is.best_effort.are_held_sums) also.best_effort.are_held_sums;
       held_total = is.best_effort.is_held_total ∙ ap (λ those. total_of (arrived_among those)) counted ∙ sym also.best_effort.is_held_total;
-      participants = is.participants ∙ ap (λ (d : DirectoryValue). map (participant_told intake traffic.datagrams times) d.participants) same ∙ sym also.participants;
+      participants = is.participants ∙ ap (λ (d : DirectoryValue). map (participant_told intake recording times) d.participants) same ∙ sym also.participants;
     }
 
 pub one_talk : HasOneMap → (asked : AskedValue) (theirs : Option OtherRecording) (recording : RecordingValue) (one other : TalkValue) → IsTalkAs asked theirs recording one
     → IsTalkAs asked theirs recording other → TellSame one other
 one_talk unique asked theirs recording one other is also =
-    talk_once unique asked theirs (if asked.talk then recording.datagrams else []) recording.times.of_datagrams one other is also
+    talk_once unique asked theirs recording.datagrams recording.times one other is also
+
+-- what is told of who does not talk, by its parts
+abbrev talk_of : (GuidPrefix → Host) → (Pair → Silence) → List UnmatchedValue → List UnmatchedValue → List LeftOutValue → List OneWay → List BestEffortValue → BestEffortValue
+    → List HeldValue → List BestEffortValue → BestEffortValue → List Participant → TalkValue
+talk_of hosts silence unmatched talking left_out one_way best_effort total held held_sums held_total participants =
+    record {
+      hosts = hosts;
+      silence = silence;
+      unmatched = unmatched;
+      talking = talking;
+      left_out = left_out;
+      one_way = one_way;
+      best_effort = best_effort;
+      best_effort_total = total;
+      held = held;
+      held_sums = held_sums;
+      held_total = held_total;
+      participants = participants;
+    }
+
+-- what tells the same is the same
+pub same_talk : (one other : TalkValue) → TellSame one other → one ≡ other
+same_talk one other same =
+    let hosts : one.hosts ≡ other.hosts = fun_ext same.hosts in
+    let silence : one.silence ≡ other.silence = fun_ext same.silence in
+    λ i.
+    talk_of (hosts i) (silence i) (same.unmatched i) (same.talking i) (same.left_out i) (same.one_way i) (same.best_effort i) (same.best_effort_total i) (same.held i) (same.held_sums i)
+    (same.held_total i) (same.participants i)

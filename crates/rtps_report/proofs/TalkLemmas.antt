@@ -5,12 +5,12 @@ use Rattle.std.specs.BTreeSet.{BTreeSet}
 use Rattle.std.specs.Cmp.{both_tied}
 use Rattle.std.specs.Cmp.Lexicographic.{slice_cmp, texts_ties}
 use Rattle.std.specs.List.{cons_option, list_any}
-use Rattle.std.specs.List.Sorted.{IsStrictlySortedBy}
 use Rattle.std.specs.Ordering.{is_eq, nat_cmp}
-use Rattle.std.proofs.lemmas.Bool.{false≢true, leb-false}
+use Rattle.std.proofs.lemmas.Bool.{leb-false}
 use Rattle.std.proofs.lemmas.List.{map-append, map_more, map_push}
 use Rattle.std.proofs.lemmas.List.Elements.{filter_agree, filter_more}
 use Rattle.std.proofs.lemmas.List.Folds.{list_any-append}
+use Rattle.std.proofs.lemmas.List.{append_assoc}
 use Rattle.rtps_ids.specs.declared.identity.EntityId.{EntityId}
 use Rattle.rtps_ids.specs.declared.identity.Guid.{Guid}
 use Rattle.rtps_ids.specs.declared.identity.GuidPrefix.{GuidPrefix}
@@ -24,25 +24,24 @@ use Rattle.rtps_discovery.specs.Matching.{matches_among}
 use Rattle.rtps_discovery.specs.Notice.{announced_by, announcement_of, notice_in, notice_with, participant_in, whole_payload}
 use Rattle.rtps_discovery.specs.declared.matching.Match.{Match}
 use Rattle.rtps_discovery.specs.declared.matching.Pair.{Pair}
-use Rattle.rtps_discovery.proofs.Offered.{no_acts, of_another_kind}
+use Rattle.rtps_discovery.proofs.Offered.{of_another_kind}
 use Rattle.rtps_audit.specs.Intake.{Intake, acts_together}
 use Rattle.rtps_audit.specs.Placed.{PlacedValue, is_guid, placed_at, placed_behind, placed_in, placed_value}
 use Rattle.rtps_audit.specs.declared.placed.Placed.{Placed}
-use Rattle.rtps_audit.proofs.Offered.{contains_none}
 use Rattle.rtps_evidence.specs.Explanation.{topic_of}
 use Rattle.rtps_evidence.specs.Locations.{location_of}
 use Rattle.rtps_evidence.specs.OtherSide.{OtherRecording}
 use Rattle.rtps_evidence.specs.Spans.{left_in}
-use Rattle.rtps_evidence.specs.Times.{end_of}
+use Rattle.rtps_evidence.specs.Times.{TimesValue}
 use Rattle.rtps_evidence.specs.declared.location.Location.{Location}
 use Rattle.rtps_fragments.specs.Announcements.{announcements_in, is_announcement, is_of_built_in}
 use Rattle.rtps_fragments.specs.Announcing.{is_built_in}
 use Rattle.rtps_fragments.specs.RecordedSamples.{intake_as}
-use Rattle.rtps_policies.specs.Announcing.{IsAnnouncedBy, first_of, host_among, host_of, host_told, hosts_in, participant_of, policies_told, unknown_host}
+use Rattle.rtps_policies.specs.Announcing.{IsAnnouncedBy, first_of, host_of, host_told, hosts_in, participant_of, policies_told, unknown_host}
 use Rattle.rtps_policies.specs.Namings.{AreNamingsOf}
 use Rattle.rtps_policies.specs.OneWays.{AreOneWayIn}
 use Rattle.rtps_policies.specs.Silence.{Traffic, first_reason, one_way_by, reversed, silence_by, silence_of, towards_reader, two_domains}
-use Rattle.rtps_policies.specs.Unmatched.{UnmatchedValue, pair_of, unmatched_among, unmatched_value}
+use Rattle.rtps_policies.specs.Unmatched.{UnmatchedValue, pair_of, unmatched_value}
 use Rattle.rtps_policies.specs.declared.announced.Announced.{Announced}
 use Rattle.rtps_policies.specs.declared.host.Host.{Host}
 use Rattle.rtps_policies.specs.declared.naming.Naming.{Naming}
@@ -50,18 +49,17 @@ use Rattle.rtps_policies.specs.declared.naming.Namings.{Namings}
 use Rattle.rtps_policies.specs.declared.unmatched.Unmatched.{Unmatched}
 use Rattle.rtps_report.specs.Asked.{AskedValue}
 use Rattle.rtps_report.specs.BestEfforts.{AreSumsOf, CountedValue, arrived_among, best_effort_value, counted_value, held_among, held_value, total_of}
-use Rattle.rtps_report.specs.Participants.{AreJoined, announces, is_silent, is_that, left_of, participant_told, place_of}
+use Rattle.rtps_report.specs.Participants.{AreJoined, announces, host_known, is_silent, is_that, left_of, participant_told, place_of}
 use Rattle.rtps_report.specs.Rows.{fits_one}
 use Rattle.rtps_report.specs.Stays.{latest_of, stay_of}
-use Rattle.rtps_report.specs.Talk.{AreCounted, AreUnfit, IsPairCounted, IsTalkOf, is_asked, is_counted, is_counted_by, is_counted_of, is_pair, is_unfit, talk_value, traffic_of}
-use Rattle.rtps_report.specs.Vocabulary.{Fragments, Read, Skipped}
-use Rattle.rtps_report.specs.declared.best_effort.BestEffort.{BestEffort}
+use Rattle.rtps_report.specs.Talk.{AreCounted, AreUnfit, IsKeptOf, IsPairCounted, IsTalkOf, LeftOutValue, is_asked, is_counted, is_counted_by, is_counted_of, is_left_out, is_left_out_by, is_left_out_of, is_pair, is_unfit, left_out_of, left_out_value, talk_value, talks, traffic_of, unfit_in}
+use Rattle.rtps_report.specs.Vocabulary.{Read}
 use Rattle.rtps_report.specs.declared.best_effort.Counted.{Counted}
 use Rattle.rtps_report.specs.declared.participant.Participant.{Participant}
+use Rattle.rtps_report.specs.declared.talk.LeftOut.{LeftOut}
 use Rattle.rtps_report.specs.declared.talk.Talk.{Talk}
-use Rattle.rtps_report.specs.declared.traffic.Stay.{Stay}
+use Rattle.rtps_report.specs.declared.presence.Stay.{Stay}
 use Rattle.rtps_report.proofs.AskedLemmas.{map_filter}
-use Rattle.rtps_report.proofs.BestEffortSums.{gathered_are}
 
 -- ---- an act that is no DATA of a built-in writer announces nothing
 
@@ -76,7 +74,7 @@ nothing_of (Gap value) other = refl
 nothing_of (DataFrag value) other = refl
 nothing_of (NackFrag value) other = refl
 
-says_nothing : (act : ActValue) → is_of_built_in act.body ≡ false → announcement_of act ≡ None
+pub says_nothing : (act : ActValue) → is_of_built_in act.body ≡ false → announcement_of act ≡ None
 says_nothing act other = ap (option_map (λ notice. announced_by notice.0 notice.1)) (nothing_of act.body other)
 
 no_policies : (act : ActValue) → is_of_built_in act.body ≡ false → policies_told act ≡ None
@@ -87,7 +85,7 @@ no_host act other = rw (says_nothing act other) refl
 
 -- ---- so what is announced is announced by those few acts
 
-told_alone : {X : Type 0} (told : ActValue → Option X) → ((act : ActValue) → is_of_built_in act.body ≡ false → told act ≡ None) → (placed : List PlacedValue)
+pub told_alone : {X : Type 0} (told : ActValue → Option X) → ((act : ActValue) → is_of_built_in act.body ≡ false → told act ≡ None) → (placed : List PlacedValue)
     → filter_map told (map (λ (p : PlacedValue). p.act) (filter is_announcement placed)) ≡ filter_map told (map (λ (p : PlacedValue). p.act) placed)
 told_alone told none [] = refl
 told_alone told none (one ∷ placed) = by (is_of_built_in one.act.body) refl (told_alone told none placed)
@@ -103,7 +101,7 @@ acts_at : (datagram : ℕ) (acts : List ActValue) → map (λ (p : PlacedValue).
 acts_at datagram [] = refl
 acts_at datagram (act ∷ acts) = ap (λ rest. act ∷ rest) (acts_at datagram acts)
 
-acts_behind : (before : ℕ) (datagrams : List (List ActValue)) → map (λ (p : PlacedValue). p.act) (placed_behind before datagrams) ≡ acts_together datagrams
+pub acts_behind : (before : ℕ) (datagrams : List (List ActValue)) → map (λ (p : PlacedValue). p.act) (placed_behind before datagrams) ≡ acts_together datagrams
 acts_behind before [] = refl
 acts_behind before (acts ∷ datagrams) =
     map-append (λ (p : PlacedValue). p.act) (placed_at (before + 1) acts) (placed_behind (before + 1) datagrams)
@@ -155,7 +153,7 @@ guid_alike : (one other : Guid) → is_guid one other ≡ is_eq (guid_cmp one ot
 guid_alike one other =
     both_tied _ _ (slice_cmp nat_cmp one.prefix.0 other.prefix.0) (slice_cmp nat_cmp one.entity.0 other.entity.0) (texts_ties one.prefix.0 other.prefix.0) (texts_ties one.entity.0 other.entity.0)
 
-pair_alike : (one other : Pair) → is_pair one other ≡ is_eq (pair_cmp one other)
+pub pair_alike : (one other : Pair) → is_pair one other ≡ is_eq (pair_cmp one other)
 pair_alike one other =
     both_tied _ _ (guid_cmp one.writer other.writer) (guid_cmp one.reader other.reader) (guid_alike one.writer other.writer) (guid_alike one.reader other.reader)
 
@@ -188,12 +186,61 @@ counted_alike asked traffic unmatched entries unfit namings are counts matches =
     let naming : Naming = record { source = found.pair.reader.prefix; dest = found.pair.writer.prefix } in
     let fit = are found.pair in
     let named = counts naming in
-    λ i. not found.reliable && (not (fit i) && (fits_one asked.rows.topics (topic_of (settled_at entries found.pair.writer)) && nat_lt 0 (named i)))) matches
+    λ i. not found.reliable && (not (fit i) && (fits_one asked.topics (topic_of (settled_at entries found.pair.writer)) && nat_lt 0 (named i)))) matches
 
 -- a match is counted by the topic that is looked up for it
 pub counted_by_topic : (unfit : BTreeSet Pair) (namings : Namings) (asked : AskedValue) (found : Match) (topic own : List ℕ) (is : Bool) → topic ≡ own
     → is ≡ is_counted_by unfit namings asked topic found → is_counted_by unfit namings asked own found ≡ is
 counted_by_topic unfit namings asked found topic own is same by = ap (λ t. is_counted_by unfit namings asked t found) (sym same) ∙ sym by
+
+-- the same matches are left out by what is kept
+pub left_alike : (asked : AskedValue) (traffic : Traffic) (unmatched : List UnmatchedValue) (entries : Entries) (unfit : BTreeSet Pair) (namings : Namings)
+    → AreUnfit unmatched unfit → AreNamingsOf traffic.datagrams namings → (matches : List Match)
+    → filter (is_left_out_of unfit namings asked entries) matches ≡ filter (is_left_out asked traffic unmatched entries) matches
+left_alike asked traffic unmatched entries unfit namings are counts matches =
+    filter_agree (is_left_out_of unfit namings asked entries) (is_left_out asked traffic unmatched entries)
+    (λ (found : Match).
+    let naming : Naming = record { source = found.pair.reader.prefix; dest = found.pair.writer.prefix } in
+    let fit = are found.pair in
+    let named = counts naming in
+    λ i. not (fit i) && (fits_one asked.topics (topic_of (settled_at entries found.pair.writer)) && not (nat_lt 0 (named i)))) matches
+
+-- a match is left out by the topic that is looked up for it
+pub left_by_topic : (unfit : BTreeSet Pair) (namings : Namings) (asked : AskedValue) (found : Match) (topic own : List ℕ) (is : Bool) → topic ≡ own
+    → is ≡ is_left_out_by unfit namings asked topic found → is_left_out_by unfit namings asked own found ≡ is
+left_by_topic unfit namings asked found topic own is same by = ap (λ t. is_left_out_by unfit namings asked t found) (sym same) ∙ sym by
+
+-- what is told of a match that is left out
+pub left_is : (entries : Entries) (found : Match) (one : LeftOut) → one.topic.now ≡ topic_of (settled_at entries found.pair.writer) → one.pair ≡ found.pair
+    → left_out_value one ≡ left_out_of entries found
+left_is entries found one topic pair = let made : List ℕ → Pair → LeftOutValue = λ name of. record { topic = name; pair = of } in ap₂ made topic pair
+
+-- a step of a loop over elements, of which those are made something of that pass a test
+pub made_more : {X Y Z : Type 0} (value : Z → Y) (made : X → Y) (test : X → Bool) (xs : List X) (so_far items : List Z) (i : ℕ) (d : X) (one : Z)
+    → i < length xs → test (get_or xs i d) ≡ true → items ≡ so_far ++ one ∷ [] → value one ≡ made (get_or xs i d)
+    → map value so_far ≡ map made (filter test (take i xs)) → map value items ≡ map made (filter test (take (i + 1) xs))
+made_more value made test xs so_far items i d one within passes is same are =
+    let x = get_or xs i d in
+    let more : filter test (take (i + 1) xs) ≡ filter test (take i xs) ++ x ∷ [] = filter_more test xs i d within ∙ ap (λ b. filter test (take i xs) ++ cond b (x ∷ []) []) passes in
+    ap (map value) is ∙ map_push value so_far one ∙ ap₂ (λ front last. front ++ last ∷ []) are same ∙ sym (map_push made (filter test (take i xs)) x) ∙ ap (map made) (sym more)
+
+pub made_skip : {X Y : Type 0} (made : X → Y) (test : X → Bool) (xs : List X) (values : List Y) (i : ℕ) (d : X)
+    → i < length xs → test (get_or xs i d) ≡ false → values ≡ map made (filter test (take i xs)) → values ≡ map made (filter test (take (i + 1) xs))
+made_skip made test xs values i d within fails are =
+    let more : filter test (take (i + 1) xs) ≡ filter test (take i xs) =
+    filter_more test xs i d within ∙ ap (λ b. filter test (take i xs) ++ cond b (get_or xs i d ∷ []) []) fails ∙ append-nil (filter test (take i xs)) in
+    are ∙ ap (map made) (sym more)
+
+-- a step of a loop that takes elements out of a list, and keeps those that pass a test
+pub parted_more : {X Y : Type 0} (value : X → Y) (test : Y → Bool) (kept items rest : List X) (one : X) (all : List Y) (passes : Bool) → test (value one) ≡ passes
+    → items ≡ kept ++ cond passes (one ∷ []) [] → map value kept ++ filter test (map value (one ∷ rest)) ≡ all → map value items ++ filter test (map value rest) ≡ all
+parted_more value test kept items rest one all true passes is so_far =
+    let behind = filter test (map value rest) in
+    ap (λ xs. map value xs ++ behind) is ∙ ap (λ front. front ++ behind) (map_push value kept one) ∙ append_assoc (map value kept) (value one ∷ []) behind
+    ∙ ap (λ b. map value kept ++ cond b (value one ∷ behind) behind) (sym passes) ∙ so_far
+parted_more value test kept items rest one all false passes is so_far =
+    let behind = filter test (map value rest) in
+    ap (λ xs. map value xs ++ behind) (is ∙ append-nil kept) ∙ ap (λ b. map value kept ++ cond b (value one ∷ behind) behind) (sym passes) ∙ so_far
 
 -- one more that is counted
 counted_push : (asked : AskedValue) (other : Option OtherRecording) (intake : Intake) (entries : Entries) (matches : List Match) (counted : List CountedValue) (found : Match) (one : CountedValue)
@@ -241,75 +288,19 @@ leaves_then intake announcements joined guid place left are same p l =
     l ∙ ap (λ (place : Option Location). left_in place guid (placed_in intake.acts)) first
 
 -- what is told of a participant, by what is known of it
-pub participant_is : (intake : Intake) (datagrams : List (List ActValue)) (times : List (Option ℕ)) (guid : Guid) (host : Host) (stay : Option Stay) (left latest end : Option ℕ)
-    (silent : Bool) → host ≡ unwrap_or (host_among (acts_together intake.announcing) guid) unknown_host → stay ≡ stay_of datagrams guid.prefix → left ≡ left_of intake guid
-    → latest ≡ latest_of datagrams times guid.prefix → end ≡ end_of times → silent ≡ is_silent left latest end
-    → participant_of_parts guid host stay left silent ≡ participant_told intake datagrams times guid
-participant_is intake datagrams times guid host stay left latest end silent h s l t e q =
-    let quiet : silent ≡ is_silent (left_of intake guid) (latest_of datagrams times guid.prefix) (end_of times) = q ∙ (λ i. is_silent (l i) (t i) (e i)) in
+pub participant_is : (intake : Intake) (recording : List (List ℕ)) (times : TimesValue) (guid : Guid) (host : Host) (stay : Option Stay) (left latest end : Option ℕ)
+    (silent : Bool) → host ≡ host_known intake guid → stay ≡ stay_of recording guid.prefix → left ≡ left_of intake guid
+    → latest ≡ latest_of recording times.of_datagrams guid.prefix → end ≡ times.end → silent ≡ is_silent host.lease left latest end
+    → participant_of_parts guid host stay left silent ≡ participant_told intake recording times guid
+participant_is intake recording times guid host stay left latest end silent h s l t e q =
+    let quiet : silent ≡ is_silent (host_known intake guid).lease (left_of intake guid) (latest_of recording times.of_datagrams guid.prefix) times.end =
+    q ∙ (λ i. is_silent (h i).lease (l i) (t i) (e i)) in
     λ i. participant_of_parts guid (h i) (s i) (l i) (quiet i)
 
 pub participants_more : (told : Guid → Participant) (guids : List Guid) (participants items : List Participant) (i : ℕ) (d : Guid) (one : Participant)
     → i < length guids → items ≡ participants ++ one ∷ [] → one ≡ told (get_or guids i d) → participants ≡ map told (take i guids) → items ≡ map told (take (i + 1) guids)
 participants_more told guids participants items i d one within is same so_far =
     is ∙ ap₂ (λ (front : List Participant) (last : Participant). front ++ last ∷ []) so_far same ∙ sym (map_more told guids i d within)
-
--- ---- no datagrams
-
-abbrev no_traffic : Traffic
-no_traffic = record { announcing = []; datagrams = [] }
-
-none_one_way : AreOneWayIn no_traffic []
-unfolding IsStrictlySortedBy
-none_one_way = record { in_order = tt; each = λ one. (λ among. absurd (contains_none one among), λ said. absurd (false≢true said.0)) }
-
--- nobody talks in no datagrams, and nobody fails to
-pub none_talk : (asked : AskedValue) (other : Option OtherRecording) (times : List (Option ℕ)) (talk : Talk) → IsAnnouncedBy [] talk.announced → AreNamingsOf [] talk.namings
-    → talk.unmatched.items ≡ [] → talk.one_way.items ≡ [] → talk.best_effort.items ≡ [] → best_effort_value talk.best_effort_total ≡ total_of [] → talk.held.items ≡ []
-    → talk.held_sums.items ≡ [] → best_effort_value talk.held_total ≡ total_of []
-    → talk.participants.items ≡ [] → IsTalkOf asked other [] times (talk_value talk)
-none_talk asked other times talk is are unmatched one_way best_effort total held held_sums held_total participants = by asked.fragments
-  where
-    none_summed : (sums : List BestEffort) → sums ≡ [] → AreSumsOf [] (map best_effort_value sums)
-    none_summed sums none = subst (AreSumsOf []) (sym (ap (map best_effort_value) none)) (gathered_are [] tt)
-
-    by : (fragments : Fragments) → IsTalkOf (record asked { fragments = fragments }) other [] times (talk_value talk)
-    by Skipped = record {
-      directory = record { participants = []; endpoints = [] };
-      is_map = no_acts;
-      hosts = hosts_are [] talk.announced is;
-      silence = silence_is no_traffic talk.announced talk.namings is are;
-      unmatched = ap (map unmatched_value) unmatched;
-      one_way = subst (AreOneWayIn no_traffic) (sym one_way) none_one_way;
-      best_effort = record {
-        counted = [];
-        are_counted = tt;
-        are_sums = none_summed talk.best_effort.items best_effort;
-        is_total = total;
-        are_held = ap (map held_value) held;
-        are_held_sums = none_summed talk.held_sums.items held_sums;
-        is_held_total = held_total;
-      };
-      participants = participants;
-    }
-    by Read = record {
-      directory = record { participants = []; endpoints = [] };
-      is_map = no_acts;
-      hosts = hosts_are [] talk.announced is;
-      silence = silence_is no_traffic talk.announced talk.namings is are;
-      unmatched = ap (map unmatched_value) unmatched;
-      one_way = subst (AreOneWayIn no_traffic) (sym one_way) none_one_way;
-      best_effort = record {
-        counted = [];
-        are_counted = tt;
-        are_sums = none_summed talk.best_effort.items best_effort;
-        is_total = total;
-        are_held = ap (map held_value) held;
-        are_held_sums = none_summed talk.held_sums.items held_sums;
-        is_held_total = held_total;
-      };
-      participants = participants;
-    }
 
 -- ---- announcements, one after another
 
@@ -336,32 +327,48 @@ pub kept_unmatched : (asked : AskedValue) (found kept : List Unmatched) (all : L
 kept_unmatched asked found kept all is same =
     ap (map unmatched_value) is ∙ map_filter unmatched_value (is_asked asked) found ∙ ap (filter (is_asked asked)) same
 
-pub talk_is : (asked : AskedValue) (other : Option OtherRecording) (recording : List (List ℕ)) (times : List (Option ℕ)) (directory : DirectoryValue) (talk : Talk) (counted : List CountedValue)
-    → IsMapOf (traffic_of asked recording).announcing directory → IsAnnouncedBy (traffic_of asked recording).announcing talk.announced
-    → AreNamingsOf (traffic_of asked recording).datagrams talk.namings
-    → map unmatched_value talk.unmatched.items ≡ filter (is_asked asked) (unmatched_among (traffic_of asked recording).announcing (settled_in directory.endpoints))
-    → AreUnfit (map unmatched_value talk.unmatched.items) talk.unfit → AreOneWayIn (traffic_of asked recording) talk.one_way.items
-    → AreCounted asked other (intake_as asked.fragments recording) directory.endpoints
+-- what is kept, by those that were found not to match
+pub kept_is : (asked : AskedValue) (intake : Intake) (traffic : Traffic) (entries : Entries) (talk : Talk) (found : List UnmatchedValue) → found ≡ unfit_in asked traffic entries
+    → AreUnfit found talk.unfit → AreNamingsOf traffic.datagrams talk.namings → map unmatched_value talk.talking.items ≡ filter (λ one. talks intake (pair_of one)) found
+    → IsKeptOf asked intake traffic entries talk
+kept_is asked intake traffic entries talk found same unfit namings talking =
+    record {
+      unfit = subst (λ those. AreUnfit those talk.unfit) same unfit;
+      namings = namings;
+      talking = talking ∙ ap (filter (λ (one : UnmatchedValue). talks intake (pair_of one))) same;
+    }
+
+pub talk_is : (asked : AskedValue) (other : Option OtherRecording) (recording : List (List ℕ)) (times : TimesValue) (directory : DirectoryValue) (talk : Talk) (counted : List CountedValue)
+    → IsMapOf (traffic_of recording).announcing directory → IsAnnouncedBy (traffic_of recording).announcing talk.announced
+    → IsKeptOf asked (intake_as Read recording) (traffic_of recording) directory.endpoints talk
+    → map unmatched_value talk.unmatched.items ≡ filter (λ one. not (talks (intake_as Read recording) (pair_of one))) (unfit_in asked (traffic_of recording) directory.endpoints)
+    → map left_out_value talk.left_out.items
+    ≡ map (left_out_of directory.endpoints) (filter (is_left_out_of talk.unfit talk.namings asked directory.endpoints) (matches_among (settled_in directory.endpoints)))
+    → AreOneWayIn (traffic_of recording) talk.one_way.items
+    → AreCounted asked other (intake_as Read recording) directory.endpoints
     (filter (is_counted_of talk.unfit talk.namings asked directory.endpoints) (matches_among (settled_in directory.endpoints))) counted
     → AreSumsOf counted (map best_effort_value talk.best_effort.items) → best_effort_value talk.best_effort_total ≡ total_of counted
     → map held_value talk.held.items ≡ held_among counted
     → AreSumsOf (arrived_among counted) (map best_effort_value talk.held_sums.items) → best_effort_value talk.held_total ≡ total_of (arrived_among counted)
-    → talk.participants.items ≡ map (participant_told (intake_as asked.fragments recording) (traffic_of asked recording).datagrams times) directory.participants
+    → talk.participants.items ≡ map (participant_told (intake_as Read recording) recording times) directory.participants
     → IsTalkOf asked other recording times (talk_value talk)
-talk_is asked other recording times directory talk counted map_of announced namings unmatched unfit one_way are sums total held held_sums held_total participants =
-    let traffic = traffic_of asked recording in
-    let values = map unmatched_value talk.unmatched.items in
-    let alike = counted_alike asked traffic values directory.endpoints talk.unfit talk.namings unfit namings (matches_among (settled_in directory.endpoints)) in
+talk_is asked other recording times directory talk counted map_of announced kept unmatched left one_way are sums total held held_sums held_total participants =
+    let traffic = traffic_of recording in
+    let unfit = unfit_in asked traffic directory.endpoints in
+    let matches = matches_among (settled_in directory.endpoints) in
+    let alike = counted_alike asked traffic unfit directory.endpoints talk.unfit talk.namings kept.unfit kept.namings matches in
     record {
       directory = directory;
       is_map = map_of;
       hosts = hosts_are traffic.announcing talk.announced announced;
-      silence = silence_is traffic talk.announced talk.namings announced namings;
+      silence = silence_is traffic talk.announced talk.namings announced kept.namings;
       unmatched = unmatched;
+      talking = kept.talking;
+      left_out = left ∙ ap (map (left_out_of directory.endpoints)) (left_alike asked traffic unfit directory.endpoints talk.unfit talk.namings kept.unfit kept.namings matches);
       one_way = one_way;
       best_effort = record {
         counted = counted;
-        are_counted = subst (λ matches. AreCounted asked other (intake_as asked.fragments recording) directory.endpoints matches counted) alike are;
+        are_counted = subst (λ matches. AreCounted asked other (intake_as Read recording) directory.endpoints matches counted) alike are;
         are_sums = sums;
         is_total = total;
         are_held = held;

@@ -1,13 +1,26 @@
--- What to do for a pair that is not clean. own: it is chosen by what the recording shows of the
--- pair, by what was not read of it, and by the first number asked for, so that one case has one advice. The guide prints the cases and their sentences.
-use Rattle.std.specs.Prelude.{ℕ, ℤ, ◌==◌, ◌&&◌, ◌||◌, not, nat_lt, int_lt, Bool, true, false, if◌then◌else◌, List, codes, length, Option, Some, None, is_none, is_some, unwrap_or}
+-- What to do for a pair that is not clean. own: it is chosen by what the recording shows of the pair and its participants, by what was not
+-- read of it, and by the first number asked for, so that one case has one advice. Who was killed or cut off comes first, since nothing else
+-- of the pair needs a reason; then what was told nowhere, since no answer can be owed for it; then what was asked. The guide prints the
+-- cases and their sentences.
+use Rattle.std.specs.Prelude.{ℕ, ℤ, ◌-◌, ◌^◌, ◌==◌, ◌&&◌, ◌||◌, not, nat_le, nat_lt, int_lt, Bool, true, false, if◌then◌else◌, List, codes, length, Option, Some, None, is_none, is_some, unwrap_or}
 use Rattle.rtps_receiver.specs.Said.{natural}
-use Rattle.rtps_report.specs.Vocabulary.{Absent, Announcement, Claim, CompleteGrounds, ConflictGrounds, EvidenceValue, FirstMissed, GroundsValue, Key, OpenGrounds, PayloadValue, Scope, SentValue, Teller, UnfoundedGrounds, Whole}
+use Rattle.rtps_report.specs.Vocabulary.{Absent, Announcement, Claim, CompleteGrounds, ConflictGrounds, EvidenceValue, FirstMissed, GroundsValue, Key, Location, OpenGrounds, PayloadValue, Scope, SentValue, Teller, UnfoundedGrounds, Whole}
+use Rattle.rtps_evidence.specs.Times.{TimesValue, time_of}
 use Rattle.rtps_report.specs.Reported.{number_of}
 use Rattle.rtps_report.specs.RowFacts.{is_held_in, is_joined_in, is_tail, left_in, outcomes_of, row_from}
 use Rattle.rtps_report.specs.declared.advice.Advice.{Advice}
-use Rattle.rtps_report.specs.declared.advice.Advice.TheVariants.{Lost, MissedUnsent, MissedAgain, MissedOnce, Unsent, Unanswered, Tail, Left, OpenUnread, OpenUntold, NotAsked, NeverAnswered, Silent, Alike, Unlike, Relayed, UnfoundedUnread, Late, Unannounced, BeganLate, Lacking}
+use Rattle.rtps_report.specs.declared.advice.Advice.TheVariants.{ReaderEnded, WriterEnded, Lost, MissedUnsent, MissedAgain, MissedOnce, Unsent, Unanswered, Tail, OpenUnread, OpenUntold, Left, NotAsked, JustAsked, NeverAnswered, Silent, Alike, Unlike, Relayed, UnfoundedUnread, Late, Unannounced, BeganLate, Lacking}
 use Rattle.rtps_report.specs.declared.silences.Silences.{Silences}
+
+-- of a pair whose participants are silent since these datagrams: first of its reader, then of its writer
+abbrev pub ended_by : Option ℕ → Option ℕ → Option Advice
+ended_by (Some last) writer = Some (ReaderEnded last)
+ended_by None (Some last) = Some (WriterEnded last)
+ended_by None None = None
+
+-- the same of both participants of a pair
+abbrev pub ended_advice : Silences → Option Advice
+ended_advice silences = ended_by silences.reader silences.writer
 
 -- of a pair with missed numbers, by the least of them
 abbrev pub missed_advice : FirstMissed → Advice
@@ -43,16 +56,29 @@ complete_advice evidence = unwrap_or (loss_advice evidence) (if nat_lt 0 (outcom
 abbrev pub untold_open_advice : Scope → Advice
 untold_open_advice scope = if scope.unread then OpenUnread else OpenUntold
 
--- only a tail is lacking, of a reader that did not leave and whose participant is not silent
-abbrev pub is_tail_of_reader : EvidenceValue → Silences → Bool
-is_tail_of_reader evidence silences = is_tail evidence && (is_none (left_in evidence.in_span) && is_none silences.reader)
+-- a time is in the last second before the end, where there are both
+abbrev pub is_last_second : Option ℕ → Option ℕ → Bool
+is_last_second None end = false
+is_last_second (Some time) None = false
+is_last_second (Some time) (Some end) = nat_le (end - time) (10 ^ 9)
 
--- of an open pair that lacks more, by what told its number, and by how often its reader was asked since its last answer
-abbrev pub open_advice : Scope → EvidenceValue → Option Teller → ℕ → Advice
-open_advice scope evidence teller count =
-    if is_none evidence.acknowledgement && is_some (left_in evidence.in_span) then Left
-    else (if is_none teller then untold_open_advice scope
-    else (if count == 0 then NotAsked else (if is_none evidence.acknowledgement then NeverAnswered else Silent)))
+-- a datagram came in the last second of the recording
+abbrev pub came_last : TimesValue → ℕ → Bool
+came_last times datagram = is_last_second (time_of times.of_datagrams datagram) times.end
+
+-- of an open pair whose reader acknowledged nothing, and of another one, by whether the reader left: it was not asked since its last answer
+abbrev pub unasked_advice : Bool → Bool → Advice
+unasked_advice acknowledged left = if not acknowledged && left then Left else NotAsked
+
+-- the same of one that was asked, at first in this datagram
+abbrev pub unanswered_advice : TimesValue → Bool → ℕ → Advice
+unanswered_advice times acknowledged datagram =
+    if came_last times datagram then JustAsked else (if acknowledged then Silent else NeverAnswered)
+
+-- of an open pair whose number is told, by where its reader was asked first since its last answer
+abbrev pub asked_advice : TimesValue → EvidenceValue → Option Location → Advice
+asked_advice times evidence None = unasked_advice (is_some evidence.acknowledgement) (is_some (left_in evidence.in_span))
+asked_advice times evidence (Some first) = unanswered_advice times (is_some evidence.acknowledgement) first.datagram
 
 -- two payloads are of one kind and have as many octets
 abbrev pub are_alike : PayloadValue → PayloadValue → Bool
@@ -93,20 +119,32 @@ unfounded_advice scope evidence teller claim =
     else (if is_none teller then (if is_above evidence.announcement (number_of evidence.verdict) then Unannounced
     else (if (natural (number_of evidence.verdict) == row_from scope.from evidence.in_span) && not (is_joined_in evidence.in_span) then BeganLate else Lacking)) else Late))
 
--- what to do for a pair whose verdict rests on this
-abbrev pub advice_by : Silences → Scope → EvidenceValue → GroundsValue → Advice
-advice_by silences scope evidence CompleteGrounds = complete_advice evidence
-advice_by silences scope evidence (OpenGrounds teller count last) =
-    unwrap_or (loss_advice evidence) (if is_tail_of_reader evidence silences then Tail else open_advice scope evidence teller count)
-advice_by silences scope evidence (ConflictGrounds first other) = conflict_advice first other
-advice_by silences scope evidence (UnfoundedGrounds teller claim) = unfounded_advice scope evidence teller claim
+-- of an open pair, by what told its number, and where its reader was asked first since its last answer
+abbrev pub open_advice : TimesValue → Scope → EvidenceValue → Option Teller → Option Location → Advice
+open_advice times scope evidence teller first =
+    unwrap_or (loss_advice evidence) (if is_tail evidence then Tail else (if is_none teller then untold_open_advice scope else asked_advice times evidence first))
+
+-- what to do for a pair whose verdict rests on this, where nobody is silent
+abbrev pub advice_by : TimesValue → Scope → EvidenceValue → GroundsValue → Advice
+advice_by times scope evidence CompleteGrounds = complete_advice evidence
+advice_by times scope evidence (OpenGrounds teller count first last) = open_advice times scope evidence teller first
+advice_by times scope evidence (ConflictGrounds first other) = conflict_advice first other
+advice_by times scope evidence (UnfoundedGrounds teller claim) = unfounded_advice scope evidence teller claim
 
 -- what to do for a pair, of which this participant or that one is silent
-abbrev pub advice_of : Silences → Scope → EvidenceValue → Advice
-advice_of silences scope evidence = advice_by silences scope evidence evidence.grounds
+abbrev pub advice_of : TimesValue → Silences → Scope → EvidenceValue → Advice
+advice_of times silences scope evidence = unwrap_or (ended_advice silences) (advice_by times scope evidence evidence.grounds)
 
--- in one sentence
+-- the last datagram of the participant that ended, where the advice is of one
+abbrev pub ended_in : Advice → Option ℕ
+ended_in (ReaderEnded last) = Some last
+ended_in (WriterEnded last) = Some last
+ended_in advice = None
+
+-- in one sentence; of a participant that ended, without the time of its last datagram
 unfoldable pub sentence_of : Advice → List ℕ
+sentence_of (ReaderEnded last) = codes "the reader's process ended without leaving, or was cut off: see what it did"
+sentence_of (WriterEnded last) = codes "the writer's process ended without leaving, or was cut off: see what it did"
 sentence_of Lost = codes "it was sent and did not reach the reader's host: look at the network; raise the history depth, so that the writer still has what is asked for again"
 sentence_of MissedUnsent = codes "the reader asked for it and the recording has none: it was lost before this recording, or record at the writer's side"
 sentence_of MissedAgain = codes "it was sent again, and nothing shows that it arrived: look at the network; a recording at the reader's side tells"
@@ -114,10 +152,11 @@ sentence_of MissedOnce = codes "the reader asked for it and the writer did not s
 sentence_of Unsent = codes "the recording has none for this reader: at the reader's side it was lost on the way; at the writer's side a content filter or a short history kept it back"
 sentence_of Unanswered = codes "it was asked about and gave no answer until the writer had dropped them: an outage of the network or of the reader; raise the history depth if these must not be lost"
 sentence_of Tail = codes "stop publishing some seconds before the recording ends, or allow a tail (--tail)"
-sentence_of Left = codes "it was never asked, or its answers are not in the recording: see that it took anything"
 sentence_of OpenUnread = codes "it may be in a fragment or frame that was not read: see below what to do for these"
 sentence_of OpenUntold = codes "the recording does not have it: record at the writer's side, on the interface that it uses"
+sentence_of Left = codes "it was never asked, or its answers are not in the recording: see that it took anything"
 sentence_of NotAsked = codes "the reader may have all: stop publishing, wait some seconds, and only then end the recording"
+sentence_of JustAsked = codes "record longer"
 sentence_of NeverAnswered = codes "the reader was asked and acknowledged nothing: see that it runs, and record both directions"
 sentence_of Silent = codes "the reader was asked and did not answer: it ended, nothing reaches it, or its answers take another way"
 sentence_of Alike = codes "compare their octets: the writer makes a new payload to resend it, or two processes use one GUID"

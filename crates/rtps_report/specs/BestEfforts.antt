@@ -9,6 +9,7 @@ use Rattle.rtps_evidence.specs.FirstNumbers.{kept}
 use Rattle.rtps_evidence.specs.declared.recorded.ArrivedNumbers.{ArrivedNumbers}
 use Rattle.rtps_evidence.specs.declared.recorded.Recorded.{Recorded}
 use Rattle.rtps_report.specs.declared.best_effort.BestEffort.{BestEffort}
+use Rattle.rtps_report.specs.declared.best_effort.BestEffortNumbers.{BestEffortNumbers}
 use Rattle.rtps_report.specs.declared.best_effort.Counted.{Counted}
 use Rattle.rtps_report.specs.declared.best_effort.HeldPair.{HeldPair}
 
@@ -33,6 +34,10 @@ pub record BestEffortValue : Type 0 where
 -- those of the code, as a value
 abbrev pub best_effort_value : BestEffort → BestEffortValue
 best_effort_value sum = record { topic = sum.topic.now; pairs = sum.pairs; numbers = sum.numbers; recorded = sum.recorded }
+
+-- how many pairs they are, how many numbers they have, and how many of these are recorded
+abbrev pub numbers_told : BestEffortValue → BestEffortNumbers
+numbers_told sum = record { pairs = sum.pairs; numbers = sum.numbers; recorded = sum.recorded }
 
 -- a pair is of this topic
 abbrev pub is_of : List ℕ → CountedValue → Bool

@@ -14,6 +14,7 @@ pub mod ReaderSide
 pub mod Recording
 pub mod Reported
 pub mod RowFacts
+pub mod RowPairs
 pub mod Rows
 pub mod SideFacts
 pub mod Silences

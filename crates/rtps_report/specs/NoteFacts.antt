@@ -2,7 +2,6 @@
 use Rattle.std.specs.Prelude.{ℕ, ◌-◌, ◌^◌, ◌||◌, if◌then◌else◌, max, nat_le, nat_lt, Bool, List, count_by, fold, length, Option}
 use Rattle.rtps_evidence.specs.Times.{step_back}
 use Rattle.rtps_report.specs.Vocabulary.{Counts, EvidenceValue, ExplanationValue, Reasons, Scope}
-use Rattle.rtps_report.specs.Asked.{tail_of}
 use Rattle.rtps_report.specs.RowFacts.{is_clean_tail, outcomes_of}
 use Rattle.rtps_report.specs.FullReport.{AskedValue, ReportValue, rows_of}
 use Rattle.rtps_report.specs.Recording.{RecordingValue, known}
@@ -24,7 +23,7 @@ is_unread counts reasons = nat_lt 0 counts.fragments || (nat_lt 0 (known reasons
 -- what a row is told by beside its pair
 abbrev pub scope_of : AskedValue → RecordingValue → ReportValue → Scope
 scope_of asked recording report =
-    record { from = asked.from; tail = tail_of asked.standard; unread = is_unread report.explained.counts recording.reasons }
+    record { from = asked.from; tail = asked.tail; unread = is_unread report.explained.counts recording.reasons }
 
 -- how many numbers the tail of a row has, if it is clean with one
 abbrev pub clean_tail_of : ℕ → EvidenceValue → ℕ

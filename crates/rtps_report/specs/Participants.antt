@@ -1,21 +1,21 @@
 -- What a recording says of each participant that it announces. DDSI-RTPS 2.5, 8.5.3 "The Simple Participant Discovery Protocol".
-use Rattle.std.specs.Prelude.{ℕ, ◌≡◌, ◌-◌, ◌^◌, Bool, false, nat_lt, List, [], ◌∷◌, Option, Some, None, unwrap_or}
+use Rattle.std.specs.Prelude.{ℕ, ◌≡◌, ◌-◌, ◌^◌, Bool, false, min, nat_lt, List, [], ◌∷◌, Option, Some, None, unwrap_or}
 use Rattle.std.specs.BTreeMap.{BTreeMap, get}
 use Rattle.std.specs.List.{find, list_all}
 use Rattle.std.specs.Option.{option_map}
 use Rattle.rtps_ids.specs.declared.identity.Guid.{Guid}
-use Rattle.rtps_receiver.specs.Values.{ActValue}
 use Rattle.rtps_discovery.specs.GuidOrder.{guid_cmp}
 use Rattle.rtps_discovery.specs.Notice.{announcement_of, participant_in}
 use Rattle.rtps_audit.specs.Placed.{PlacedValue, is_guid, placed_in}
 use Rattle.rtps_audit.specs.Intake.{Intake, acts_together}
 use Rattle.rtps_evidence.specs.Locations.{location_of}
 use Rattle.rtps_evidence.specs.Spans.{left_in}
-use Rattle.rtps_evidence.specs.Times.{end_of}
+use Rattle.rtps_evidence.specs.Times.{TimesValue}
 use Rattle.rtps_evidence.specs.declared.location.Location.{Location}
 use Rattle.rtps_policies.specs.Announcing.{host_among, unknown_host}
 use Rattle.rtps_policies.specs.Silence.{is_same_address}
 use Rattle.rtps_policies.specs.declared.host.Address.{Address}
+use Rattle.rtps_policies.specs.declared.host.Host.{Host}
 use Rattle.rtps_report.specs.Stays.{latest_of, stay_of}
 use Rattle.rtps_report.specs.declared.participant.Participant.{Participant}
 
@@ -40,24 +40,27 @@ AreJoined acts joined = (guid : Guid) → get guid_cmp joined guid ≡ place_of 
 abbrev pub left_of : Intake → Guid → Option ℕ
 left_of intake guid = left_in (place_of guid (placed_in intake.announcing)) guid (placed_in intake.acts)
 
--- a participant is silent, by the datagram in which it leaves, the time of its last datagram and the end of the recording: it does not
--- leave, and the last datagram came more than ten seconds before the end
-abbrev pub is_silent : Option ℕ → Option ℕ → Option ℕ → Bool
-is_silent (Some left) latest end = false
-is_silent None None end = false
-is_silent None (Some latest) None = false
-is_silent None (Some latest) (Some end) = nat_lt (10 ^ 10) (end - latest)
+-- a participant is silent, by its lease, the datagram in which it leaves, the time of its last datagram and the end of the recording: it
+-- does not leave, and the last datagram came more than ten seconds before the end, or more than the lease where that is shorter
+abbrev pub is_silent : ℕ → Option ℕ → Option ℕ → Option ℕ → Bool
+is_silent lease (Some left) latest end = false
+is_silent lease None None end = false
+is_silent lease None (Some latest) None = false
+is_silent lease None (Some latest) (Some end) = nat_lt (min (10 ^ 10) lease) (end - latest)
 
--- what a recording says of a participant: of what is announced, of the acts of each datagram and when it came, and of the acts that
--- rows are by
-abbrev pub participant_told : Intake → List (List ActValue) → List (Option ℕ) → Guid → Participant
-participant_told intake datagrams times guid =
+-- what is announced of where a participant is, and of its lease
+abbrev pub host_known : Intake → Guid → Host
+host_known intake guid = unwrap_or (host_among (acts_together intake.announcing) guid) unknown_host
+
+-- what a recording says of a participant: of what is announced, of its datagrams and when they came, and of the acts that rows are by
+abbrev pub participant_told : Intake → List (List ℕ) → TimesValue → Guid → Participant
+participant_told intake recording times guid =
     record {
       guid = guid;
-      host = unwrap_or (host_among (acts_together intake.announcing) guid) unknown_host;
-      stay = stay_of datagrams guid.prefix;
+      host = host_known intake guid;
+      stay = stay_of recording guid.prefix;
       left = left_of intake guid;
-      silent = is_silent (left_of intake guid) (latest_of datagrams times guid.prefix) (end_of times);
+      silent = is_silent (host_known intake guid).lease (left_of intake guid) (latest_of recording times.of_datagrams guid.prefix) times.end;
     }
 
 -- ---- hosts

@@ -5,24 +5,24 @@ use Rattle.std.specs.Borrow.{Bor}
 use Rattle.rtps_audit.specs.Index.{IsIndexBy}
 use Rattle.rtps_evidence.specs.OtherSide.{Beside, OtherRecording}
 use Rattle.rtps_fragments.specs.RecordedSamples.{intake_as}
-use Rattle.rtps_fragments.specs.declared.fragments.Fragments.{Fragments}
+use Rattle.rtps_fragments.specs.declared.fragments.Fragments.TheVariants.{Read}
 use Rattle.rtps_policies.specs.Namings.{AreNamingsOf}
 use Rattle.rtps_report.specs.ActsRead.{datagrams_read}
 use Rattle.rtps_report.specs.Recording.{RecordingValue}
 use Rattle.rtps_report.specs.declared.reader_side.ReaderSide.{ReaderSide}
 
 -- what is taken in of it, and all acts that are read of each of its datagrams
-abbrev pub other_of : Fragments → RecordingValue → OtherRecording
-other_of fragments recording = record { intake = intake_as fragments recording.datagrams; named = datagrams_read fragments recording.datagrams }
+abbrev pub other_of : RecordingValue → OtherRecording
+other_of recording = record { intake = intake_as Read recording.datagrams; named = datagrams_read recording.datagrams }
 
 -- the same where there is one
-abbrev pub other_by : Fragments → Option RecordingValue → Option OtherRecording
-other_by fragments None = None
-other_by fragments (Some recording) = Some (other_of fragments recording)
+abbrev pub other_by : Option RecordingValue → Option OtherRecording
+other_by None = None
+other_by (Some recording) = Some (other_of recording)
 
 -- what stands beside a recording: the other one, where there is one, and when its own datagrams came
-abbrev pub beside_of : Fragments → Option RecordingValue → RecordingValue → Beside
-beside_of fragments other recording = record { other = other_by fragments other; times = recording.times.of_datagrams }
+abbrev pub beside_of : Option RecordingValue → RecordingValue → Beside
+beside_of other recording = record { other = other_by other; times = recording.times.of_datagrams }
 
 -- the recording that the code borrows, where there is one
 abbrev pub arrived_value : Option (Bor RecordingValue) → Option RecordingValue

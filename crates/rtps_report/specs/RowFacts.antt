@@ -1,6 +1,6 @@
 -- What a row says of its numbers, in a span or by the whole recording.
 -- own: what is not asked for is not told: of a row that is in no span, what is received and what is missed, and no more.
-use Rattle.std.specs.Prelude.{ℕ, ◌+◌, ◌-◌, Bool, false, ◌&&◌, ◌==◌, is_none, is_some, nat_le, nat_lt, not, Option, None, Some}
+use Rattle.std.specs.Prelude.{ℕ, ◌+◌, ◌-◌, Bool, false, ◌&&◌, ◌==◌, is_some, nat_le, nat_lt, not, Option, None, Some}
 use Rattle.rtps_evidence.specs.Clean.{is_clean as is_clean_in, is_tail as is_tail_in}
 use Rattle.rtps_receiver.specs.Said.{natural}
 use Rattle.rtps_report.specs.Reported.{is_complete}
@@ -51,7 +51,7 @@ outcomes_of evidence = outcomes_by evidence.received evidence.missed evidence.in
 -- it is clean, where a tail may have so many numbers; in no span, where it is complete and nothing is missed
 abbrev pub is_clean_by : ℕ → Verdict → ℕ → Option InSpan → Bool
 is_clean_by tail verdict missed None = is_complete verdict && (missed == 0)
-is_clean_by tail verdict missed (Some in_span) = is_clean_in tail (is_some in_span.until) in_span.is_held verdict in_span.outcomes in_span.base
+is_clean_by tail verdict missed (Some in_span) = is_clean_in tail (is_some in_span.until) in_span.is_held verdict in_span.outcomes in_span.from in_span.base
 
 -- the same of a row
 abbrev pub is_clean : ℕ → EvidenceValue → Bool
@@ -60,7 +60,7 @@ is_clean tail evidence = is_clean_by tail evidence.verdict evidence.missed evide
 -- what it lacks is a tail alone
 abbrev pub is_tail_by : Verdict → Option InSpan → Bool
 is_tail_by verdict None = false
-is_tail_by verdict (Some in_span) = is_tail_in in_span.is_held verdict in_span.outcomes in_span.base
+is_tail_by verdict (Some in_span) = is_tail_in in_span.is_held verdict in_span.outcomes in_span.from in_span.base
 
 -- the same of a row
 abbrev pub is_tail : EvidenceValue → Bool
@@ -78,9 +78,14 @@ is_clean_tail tail evidence = is_clean tail evidence && (is_tail evidence && nat
 abbrev pub is_noted : Silences → ℕ → EvidenceValue → Bool
 is_noted silences tail evidence = not (is_clean tail evidence) && not (is_tail_alone silences tail evidence)
 
--- all numbers that the writer of a complete row announced stand before it
+-- the writer of a row announced numbers, and all of them stand before it
+abbrev pub wrote_before_in : Option InSpan → Bool
+wrote_before_in None = false
+wrote_before_in (Some in_span) = in_span.wrote_before
+
+-- the same of a complete row that does not begin with the first number that is asked for
 abbrev pub is_late : ℕ → EvidenceValue → Bool
-is_late from evidence = is_complete evidence.verdict && (is_none evidence.announcement && nat_lt from (row_from from evidence.in_span))
+is_late from evidence = is_complete evidence.verdict && (wrote_before_in evidence.in_span && nat_lt from (row_from from evidence.in_span))
 
 -- each of its numbers is received for certain
 abbrev pub is_certain : ℕ → EvidenceValue → Bool

@@ -9,11 +9,7 @@ use Rattle.rtps_policies.specs.Announcing.{participant_of}
 use Rattle.rtps_report.specs.Talk.{TalkValue}
 use Rattle.rtps_report.specs.declared.participant.Participant.{Participant}
 use Rattle.rtps_report.specs.declared.silences.Silences.{Silences}
-use Rattle.rtps_report.specs.declared.traffic.Stay.{Stay}
-
--- nobody is silent
-abbrev pub no_silences : Silences
-no_silences = record { writer = None; reader = None }
+use Rattle.rtps_report.specs.declared.presence.Stay.{Stay}
 
 -- the last datagram of a stay, where there is one
 abbrev pub last_in : Option Stay → Option ℕ

@@ -1,31 +1,42 @@
--- When a recording has something of a participant. own: by all acts that are read, since each shows that it is there.
+-- When a recording has something of a participant. DDSI-RTPS 2.5, 8.3.6 "The RTPS Header": the prefix in the header of a message says who sent
+-- it. own: by the header alone. A datagram shows that its sender is there, whatever it says; a participant that an INFO_SRC names has not
+-- sent it.
 use Rattle.std.specs.Prelude.{ℕ, ◌≡◌, Bool, true, false, if◌then◌else◌, is_some, List, [], ◌∷◌, filter, map, max, Option, Some, None}
 use Rattle.std.specs.BTreeMap.{get}
 use Rattle.std.specs.Cmp.Lexicographic.{slice_cmp}
-use Rattle.std.specs.List.{enumerate_from, list_all, list_any}
+use Rattle.std.specs.List.{enumerate_from, list_all}
 use Rattle.std.specs.Option.{option_map}
 use Rattle.std.specs.Ordering.{nat_cmp}
 use Rattle.std.specs.declared.cmp.Ordering.{Ordering}
 use Rattle.rtps_ids.specs.declared.identity.GuidPrefix.{GuidPrefix}
+use Rattle.rtps_wire.specs.Reading.{reading_of}
+use Rattle.rtps_wire.specs.declared.header.Header.{Header}
 use Rattle.rtps_receiver.specs.Speech.{is_prefix}
-use Rattle.rtps_receiver.specs.Values.{ActValue}
 use Rattle.rtps_evidence.specs.Times.{end_of, time_of}
-use Rattle.rtps_policies.specs.Namings.{AreNamingsOf}
-use Rattle.rtps_report.specs.declared.traffic.Presence.{Presence}
-use Rattle.rtps_report.specs.declared.traffic.Stay.{Stay}
-use Rattle.rtps_report.specs.declared.traffic.Traffic.{Traffic}
+use Rattle.rtps_report.specs.declared.presence.Presence.{Presence}
+use Rattle.rtps_report.specs.declared.presence.Presences.{Presences}
+use Rattle.rtps_report.specs.declared.presence.Stay.{Stay}
 
 -- octet by octet
 abbrev pub prefix_cmp : GuidPrefix → GuidPrefix → Ordering
 prefix_cmp one other = slice_cmp nat_cmp one.0 other.0
 
--- some of these acts is from the participant
-abbrev pub has_source : GuidPrefix → List ActValue → Bool
-has_source prefix acts = list_any (λ act. is_prefix act.source prefix) acts
+-- who sent a datagram with this header, where it can be read
+abbrev pub sender_by : Option Header → Option GuidPrefix
+sender_by header = option_map (λ one. one.prefix) header
 
--- the numbers of the datagrams that have such an act, in order, counted from 1
-abbrev pub numbers_of : GuidPrefix → List (List ActValue) → List ℕ
-numbers_of prefix datagrams = map (λ row. row.0) (filter (λ row. has_source prefix row.1) (enumerate_from 1 datagrams))
+-- who sent a datagram
+abbrev pub sender_of : List ℕ → Option GuidPrefix
+sender_of datagram = sender_by (reading_of datagram).header
+
+-- a sender is this participant
+abbrev pub is_sender : GuidPrefix → Option GuidPrefix → Bool
+is_sender prefix None = false
+is_sender prefix (Some sender) = is_prefix sender prefix
+
+-- the numbers of the datagrams that a participant sent, in order, counted from 1
+abbrev pub numbers_of : GuidPrefix → List (List ℕ) → List ℕ
+numbers_of prefix recording = map (λ row. row.0) (filter (λ row. is_sender prefix (sender_of row.1)) (enumerate_from 1 recording))
 
 -- the last of a number and those behind it
 abbrev pub last_of : ℕ → List ℕ → ℕ
@@ -38,8 +49,8 @@ ends_of [] = None
 ends_of (number ∷ numbers) = Some (record { first = number; last = last_of number numbers })
 
 -- from when to when there is something of a participant
-abbrev pub stay_of : List (List ActValue) → GuidPrefix → Option Stay
-stay_of datagrams prefix = ends_of (numbers_of prefix datagrams)
+abbrev pub stay_of : List (List ℕ) → GuidPrefix → Option Stay
+stay_of recording prefix = ends_of (numbers_of prefix recording)
 
 -- ---- when its last datagram came
 
@@ -47,9 +58,9 @@ stay_of datagrams prefix = ends_of (numbers_of prefix datagrams)
 abbrev pub greatest_known : List (Option ℕ) → Option ℕ
 greatest_known times = if list_all is_some times then end_of times else None
 
--- the greatest time of the datagrams that have something of a participant; None where there is none, or one of them has no time
-abbrev pub latest_of : List (List ActValue) → List (Option ℕ) → GuidPrefix → Option ℕ
-latest_of datagrams times prefix = greatest_known (map (time_of times) (numbers_of prefix datagrams))
+-- the greatest time of the datagrams that a participant sent; None where there is none, or one of them has no time
+abbrev pub latest_of : List (List ℕ) → List (Option ℕ) → GuidPrefix → Option ℕ
+latest_of recording times prefix = greatest_known (map (time_of times) (numbers_of prefix recording))
 
 -- ---- the same of the code
 
@@ -64,17 +75,16 @@ abbrev pub present : Option ℕ → Stay → Presence
 present latest stay = record { stay = stay; latest = latest }
 
 -- when there is something of a participant
-abbrev pub presence_of : List (List ActValue) → List (Option ℕ) → GuidPrefix → Option Presence
-presence_of datagrams times prefix = option_map (present (latest_of datagrams times prefix)) (stay_of datagrams prefix)
+abbrev pub presence_of : List (List ℕ) → List (Option ℕ) → GuidPrefix → Option Presence
+presence_of recording times prefix = option_map (present (latest_of recording times prefix)) (stay_of recording prefix)
 
--- the same with one datagram more, which came at this time, if it has something of it
+-- the same with one datagram more, which came at this time, if the participant sent it
 abbrev pub presence_with : ℕ → Option ℕ → Bool → Option Presence → Option Presence
 presence_with datagram time false presence = presence
 presence_with datagram time true None = Some (present time (record { first = datagram; last = datagram }))
 presence_with datagram time true (Some presence) =
     Some (present (both_later presence.latest time) (record { first = presence.stay.first; last = datagram }))
 
--- what is kept is that of datagrams of these acts, which came then
-pub record IsTrafficOf (datagrams : List (List ActValue)) (times : List (Option ℕ)) (traffic : Traffic) : Type 0 where
-  pub namings : AreNamingsOf datagrams traffic.namings
-  pub presences : (prefix : GuidPrefix) → get prefix_cmp traffic.presences prefix ≡ presence_of datagrams times prefix
+-- what is kept is that of a recording, of which the datagrams came then
+abbrev pub ArePresencesOf : List (List ℕ) → List (Option ℕ) → Presences → Type 0
+ArePresencesOf recording times presences = (prefix : GuidPrefix) → get prefix_cmp presences.of_senders prefix ≡ presence_of recording times prefix

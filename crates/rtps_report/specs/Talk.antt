@@ -1,7 +1,7 @@
 -- Who does not talk. DDS 1.4, 2.2.3 "Supported QoS"; DDSI-RTPS 2.5, 8.5 "Discovery Module" and 8.3.8.8 "InfoDestination".
 -- own: rows tell what a reader got of a writer. If the two do not match, one never answers, or neither is heard here, no participant says
 -- so: it is told beside the rows. So is how much a recording has of pairs of best effort, which no row is about.
-use Rattle.std.specs.Prelude.{ℕ, ◌≡◌, ◌&&◌, Bool, not, nat_lt, if◌then◌else◌, List, [], ◌∷◌, Option, filter, map}
+use Rattle.std.specs.Prelude.{ℕ, ◌≡◌, ◌&&◌, Bool, true, not, nat_lt, List, [], ◌∷◌, Option, filter, map}
 use Rattle.std.specs.BTreeSet.{BTreeSet, contains}
 use Rattle.std.specs.List.{list_any}
 use Rattle.rtps_ids.specs.declared.identity.GuidPrefix.{GuidPrefix}
@@ -12,14 +12,17 @@ use Rattle.rtps_discovery.specs.declared.matching.Match.{Match}
 use Rattle.rtps_discovery.specs.declared.matching.Pair.{Pair}
 use Rattle.rtps_audit.specs.Index.{IsIndexBy}
 use Rattle.rtps_audit.specs.Intake.{Intake, acts_together}
-use Rattle.rtps_audit.specs.Placed.{is_guid, placed_value}
+use Rattle.rtps_audit.specs.Placed.{is_guid, placed_in, placed_value}
 use Rattle.rtps_evidence.specs.Explanation.{topic_of}
+use Rattle.rtps_evidence.specs.Locations.{acknowledges}
 use Rattle.rtps_evidence.specs.OtherSide.{IsOtherSide, OtherRecording}
+use Rattle.rtps_evidence.specs.Times.{TimesValue}
 use Rattle.rtps_evidence.specs.Recorded.{IsArrivedBy, IsRecordedBy}
 use Rattle.rtps_fragments.specs.Announcements.{announcements_in}
 use Rattle.rtps_fragments.specs.RecordedSamples.{intake_as}
+use Rattle.rtps_fragments.specs.declared.fragments.Fragments.TheVariants.{Read}
 use Rattle.rtps_policies.specs.Announcing.{host_of, hosts_in}
-use Rattle.rtps_policies.specs.Namings.{named_in}
+use Rattle.rtps_policies.specs.Namings.{AreNamingsOf, named_in}
 use Rattle.rtps_policies.specs.OneWays.{AreOneWayIn}
 use Rattle.rtps_policies.specs.Silence.{Traffic, silence_by, silence_of}
 use Rattle.rtps_policies.specs.Unmatched.{UnmatchedValue, pair_of, unmatched_among, unmatched_value}
@@ -35,14 +38,27 @@ use Rattle.rtps_report.specs.Recording.{RecordingValue}
 use Rattle.rtps_report.specs.Rows.{fits_one, is_named_by}
 use Rattle.rtps_report.specs.declared.participant.Participant.{Participant}
 use Rattle.rtps_report.specs.declared.talk.Heard.{Heard}
+use Rattle.rtps_report.specs.declared.talk.LeftOut.{LeftOut}
 use Rattle.rtps_report.specs.declared.talk.Talk.{Talk}
 
--- who does not talk: the host of each participant, why pairs are silent, which writers and readers do not match, who talks one way, the
--- pairs of best effort by topic, those of them that are held against another recording, what arrived of these by topic, and the participants
+-- a match that is left out, and its topic
+pub record LeftOutValue : Type 0 where
+  pub topic : List ℕ
+  pub pair : Pair
+
+-- that of the code, as a value
+abbrev pub left_out_value : LeftOut → LeftOutValue
+left_out_value one = record { topic = one.topic.now; pair = one.pair }
+
+-- who does not talk: the host of each participant, why pairs are silent, which writers and readers do not match, which of them talk all the
+-- same, which matches are left out, who talks one way, the pairs of best effort by topic, those of them that are held against another
+-- recording, what arrived of these by topic, and the participants
 pub record TalkValue : Type 0 where
   pub hosts : GuidPrefix → Host
   pub silence : Pair → Silence
   pub unmatched : List UnmatchedValue
+  pub talking : List UnmatchedValue
+  pub left_out : List LeftOutValue
   pub one_way : List OneWay
   pub best_effort : List BestEffortValue
   pub best_effort_total : BestEffortValue
@@ -58,6 +74,8 @@ talk_value talk =
       hosts = hosts_in talk.announced;
       silence = silence_by talk.announced talk.namings;
       unmatched = map unmatched_value talk.unmatched.items;
+      talking = map unmatched_value talk.talking.items;
+      left_out = map left_out_value talk.left_out.items;
       one_way = talk.one_way.items;
       best_effort = map best_effort_value talk.best_effort.items;
       best_effort_total = best_effort_value talk.best_effort_total;
@@ -69,17 +87,29 @@ talk_value talk =
 
 -- ---- pairs that do not match
 
+-- The reader of a pair acknowledges numbers of the writer, so the two matched each other, whatever the standard says of their policies
+abbrev pub talks : Intake → Pair → Bool
+talks intake pair = acknowledges pair.writer pair.reader (placed_in intake.acts)
+
 -- two pairs are the same
 abbrev pub is_pair : Pair → Pair → Bool
 is_pair one other = is_guid one.writer other.writer && is_guid one.reader other.reader
 
--- the two of a pair do not match
+-- the two of a pair are among those that do not match
 abbrev pub is_unfit : List UnmatchedValue → Pair → Bool
 is_unfit unmatched pair = list_any (λ one. is_pair (pair_of one) pair) unmatched
 
 -- these are the pairs of those
 abbrev pub AreUnfit : List UnmatchedValue → BTreeSet Pair → Type 0
 AreUnfit unmatched pairs = (pair : Pair) → contains pair_cmp pairs pair ≡ is_unfit unmatched pair
+
+-- the topic is asked for
+abbrev pub is_asked : AskedValue → UnmatchedValue → Bool
+is_asked asked one = fits_one asked.topics one.writer.endpoint.topic
+
+-- those of topics that are asked for, whether they talk or not
+abbrev pub unfit_in : AskedValue → Traffic → Entries → List UnmatchedValue
+unfit_in asked traffic entries = filter (is_asked asked) (unmatched_among traffic.announcing (settled_in entries))
 
 -- ---- pairs of best effort
 
@@ -89,25 +119,38 @@ is_named traffic pair = nat_lt 0 (named_in traffic.datagrams (record { source = 
 
 -- a match is counted: not both are reliable, all policies fit, its topic is asked for, and the recording can speak of it
 abbrev pub is_counted : AskedValue → Traffic → List UnmatchedValue → Entries → Match → Bool
-is_counted asked traffic unmatched entries found =
-    not found.reliable && (not (is_unfit unmatched found.pair)
-    && (fits_one asked.rows.topics (topic_of (settled_at entries found.pair.writer)) && is_named traffic found.pair))
+is_counted asked traffic unfit entries found =
+    not found.reliable && (not (is_unfit unfit found.pair)
+    && (fits_one asked.topics (topic_of (settled_at entries found.pair.writer)) && is_named traffic found.pair))
 
 -- the same by what is kept
 abbrev pub is_counted_by : BTreeSet Pair → Namings → AskedValue → List ℕ → Match → Bool
 is_counted_by unfit namings asked topic found =
     not found.reliable && (not (contains pair_cmp unfit found.pair)
-    && (fits_one asked.rows.topics topic && is_named_by namings found.pair))
+    && (fits_one asked.topics topic && is_named_by namings found.pair))
 
 -- the same, with the topic of the match looked up
 abbrev pub is_counted_of : BTreeSet Pair → Namings → AskedValue → Entries → Match → Bool
 is_counted_of unfit namings asked entries found = is_counted_by unfit namings asked (topic_of (settled_at entries found.pair.writer)) found
 
+-- ---- matches that are left out
+
+-- all policies of a match fit, its topic is asked for, and the recording cannot speak of it
+abbrev pub is_left_out : AskedValue → Traffic → List UnmatchedValue → Entries → Match → Bool
+is_left_out asked traffic unfit entries found =
+    not (is_unfit unfit found.pair) && (fits_one asked.topics (topic_of (settled_at entries found.pair.writer)) && not (is_named traffic found.pair))
+
+-- it with its topic
+abbrev pub left_out_of : Entries → Match → LeftOutValue
+left_out_of entries found = record { topic = topic_of (settled_at entries found.pair.writer); pair = found.pair }
+
+-- ---- what is counted
+
 -- what is counted of a pair, which may be held against another recording
 pub record IsPairCounted (asked : AskedValue) (other : Option OtherRecording) (intake : Intake) (pair : Pair) (one : CountedValue) : Type 0 where
   pub of_pair : one.pair ≡ pair
-  pub recorded : IsRecordedBy asked.spans asked.from pair intake one.recorded
-  pub arrived : IsArrivedBy asked.spans asked.from other pair intake one.arrived
+  pub recorded : IsRecordedBy true asked.from pair intake one.recorded
+  pub arrived : IsArrivedBy true asked.from other pair intake one.arrived
 
 -- what is counted of these matches, one by one
 abbrev pub AreCounted : AskedValue → Option OtherRecording → Intake → Entries → List Match → List CountedValue → Type 0
@@ -121,7 +164,7 @@ AreCounted asked other intake entries (found ∷ matches) (one ∷ counted) =
 -- the sums of those that are counted, those of them that are held, and the sums of these by what arrived
 pub record AreBestEffortIn (asked : AskedValue) (other : Option OtherRecording) (intake : Intake) (traffic : Traffic) (entries : Entries) (talk : TalkValue) : Type 0 where
   pub counted : List CountedValue
-  pub are_counted : AreCounted asked other intake entries (filter (is_counted asked traffic talk.unmatched entries) (matches_among (settled_in entries))) counted
+  pub are_counted : AreCounted asked other intake entries (filter (is_counted asked traffic (unfit_in asked traffic entries) entries) (matches_among (settled_in entries))) counted
   pub are_sums : AreSumsOf counted talk.best_effort
   pub is_total : talk.best_effort_total ≡ total_of counted
   pub are_held : talk.held ≡ held_among counted
@@ -131,29 +174,28 @@ pub record AreBestEffortIn (asked : AskedValue) (other : Option OtherRecording) 
 -- ---- all of it
 
 -- what is said of participants: by what announces, and by all acts that are read
-abbrev pub traffic_of : AskedValue → List (List ℕ) → Traffic
-traffic_of asked recording =
-    record { announcing = acts_together (intake_as asked.fragments recording).announcing; datagrams = datagrams_read asked.fragments recording }
-
--- the topic is asked for
-abbrev pub is_asked : AskedValue → UnmatchedValue → Bool
-is_asked asked one = fits_one asked.rows.topics one.writer.endpoint.topic
+abbrev pub traffic_of : List (List ℕ) → Traffic
+traffic_of recording = record { announcing = acts_together (intake_as Read recording).announcing; datagrams = datagrams_read recording }
 
 -- who does not talk in a recording, of which the datagrams came then, of the topics that are asked for. There may be another recording
-pub record IsTalkOf (asked : AskedValue) (other : Option OtherRecording) (recording : List (List ℕ)) (times : List (Option ℕ)) (talk : TalkValue) : Type 0 where
+pub record IsTalkOf (asked : AskedValue) (other : Option OtherRecording) (recording : List (List ℕ)) (times : TimesValue) (talk : TalkValue) : Type 0 where
   pub directory : DirectoryValue
-  pub is_map : IsMapOf (traffic_of asked recording).announcing directory
-  pub hosts : (prefix : GuidPrefix) → talk.hosts prefix ≡ host_of (traffic_of asked recording).announcing prefix
-  pub silence : (pair : Pair) → talk.silence pair ≡ silence_of (traffic_of asked recording) pair
-  pub unmatched : talk.unmatched ≡ filter (is_asked asked) (unmatched_among (traffic_of asked recording).announcing (settled_in directory.endpoints))
-  pub one_way : AreOneWayIn (traffic_of asked recording) talk.one_way
-  pub best_effort : AreBestEffortIn asked other (intake_as asked.fragments recording) (traffic_of asked recording) directory.endpoints talk
+  pub is_map : IsMapOf (traffic_of recording).announcing directory
+  pub hosts : (prefix : GuidPrefix) → talk.hosts prefix ≡ host_of (traffic_of recording).announcing prefix
+  pub silence : (pair : Pair) → talk.silence pair ≡ silence_of (traffic_of recording) pair
+  pub unmatched : talk.unmatched ≡ filter (λ one. not (talks (intake_as Read recording) (pair_of one))) (unfit_in asked (traffic_of recording) directory.endpoints)
+  pub talking : talk.talking ≡ filter (λ one. talks (intake_as Read recording) (pair_of one)) (unfit_in asked (traffic_of recording) directory.endpoints)
+  pub left_out : talk.left_out
+      ≡ map (left_out_of directory.endpoints) (filter (is_left_out asked (traffic_of recording) (unfit_in asked (traffic_of recording) directory.endpoints) directory.endpoints)
+      (matches_among (settled_in directory.endpoints)))
+  pub one_way : AreOneWayIn (traffic_of recording) talk.one_way
+  pub best_effort : AreBestEffortIn asked other (intake_as Read recording) (traffic_of recording) directory.endpoints talk
   pub participants : talk.participants
-      ≡ map (participant_told (intake_as asked.fragments recording) (traffic_of asked recording).datagrams times) directory.participants
+      ≡ map (participant_told (intake_as Read recording) recording times) directory.participants
 
--- where it is asked; where it is not, that of no datagrams
+-- the same of a recording with its times
 abbrev pub IsTalkAs : AskedValue → Option OtherRecording → RecordingValue → TalkValue → Type 0
-IsTalkAs asked other recording talk = IsTalkOf asked other (if asked.talk then recording.datagrams else []) recording.times.of_datagrams talk
+IsTalkAs asked other recording talk = IsTalkOf asked other recording.datagrams recording.times talk
 
 -- what is known of a recording to say so: its index, the other recording, if there is one, what it announces, and the DATA of built-in
 -- writers, which announce it
@@ -162,3 +204,18 @@ pub record IsHeardIn (intake : Intake) (other : Option OtherRecording) (heard : 
   pub beside : IsOtherSide other heard.other
   pub directory : IsMapOf (acts_together intake.announcing) heard.directory.now
   pub announcements : map placed_value heard.announcements.now ≡ announcements_in intake.announcing
+
+-- what is kept of those that do not match, and of who names whom
+pub record IsKeptOf (asked : AskedValue) (intake : Intake) (traffic : Traffic) (entries : Entries) (talk : Talk) : Type 0 where
+  pub unfit : AreUnfit (unfit_in asked traffic entries) talk.unfit
+  pub namings : AreNamingsOf traffic.datagrams talk.namings
+  pub talking : map unmatched_value talk.talking.items ≡ filter (λ one. talks intake (pair_of one)) (unfit_in asked traffic entries)
+
+-- all policies of a match fit, its topic is asked for, and the recording cannot speak of it, by what is kept
+abbrev pub is_left_out_by : BTreeSet Pair → Namings → AskedValue → List ℕ → Match → Bool
+is_left_out_by unfit namings asked topic found =
+    not (contains pair_cmp unfit found.pair) && (fits_one asked.topics topic && not (is_named_by namings found.pair))
+
+-- the same, with the topic of the match looked up
+abbrev pub is_left_out_of : BTreeSet Pair → Namings → AskedValue → Entries → Match → Bool
+is_left_out_of unfit namings asked entries found = is_left_out_by unfit namings asked (topic_of (settled_at entries found.pair.writer)) found

@@ -30,8 +30,6 @@ pub use Rattle.rtps_fragments.specs.RecordedSamples.{intake_as}
 pub use Rattle.rtps_fragments.specs.declared.fragments.Fragments.{Fragments}
 pub use Rattle.rtps_fragments.specs.declared.fragments.Fragments.TheVariants.{Skipped, Read}
 pub use Rattle.rtps_report.specs.declared.advice.Scope.{Scope}
-pub use Rattle.rtps_report.specs.declared.asked.Standard.{Standard}
-pub use Rattle.rtps_report.specs.declared.asked.Standard.TheVariants.{AllComplete, AllClean}
 pub use Rattle.rtps_report.specs.declared.findings.Ending.{Ending}
 pub use Rattle.rtps_report.specs.declared.findings.Ending.TheVariants.{Clean, Unclean, Unmet}
 pub use Rattle.rtps_report.specs.declared.findings.Facts.{Facts}

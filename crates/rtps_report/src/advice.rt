@@ -3,14 +3,19 @@ ghost use Rattle.std.specs.Option.{option_map};
 ghost use Rattle.rtps_evidence.specs.Explanation.{evidence_value};
 ghost use Rattle.rtps_evidence.specs.Locations.{sent_value};
 ghost use Rattle.rtps_wire.specs.Values.{payload_value};
-ghost use Rattle.rtps_report.specs.Advice.{advice_of as advice_of_lem, are_alike as are_alike_lem, complete_advice as complete_advice_lem, conflict_advice as conflict_advice_lem, is_above as is_above_lem, is_first_sent as is_first_sent_lem, is_lost as is_lost_lem, is_tail_of_reader as is_tail_of_reader_lem, loss_advice as loss_advice_lem, missed_advice as missed_advice_lem, open_advice as open_advice_lem, sentence_of, stand_together as stand_together_lem, unfounded_advice as unfounded_advice_lem, untold_open_advice as untold_open_advice_lem};
+ghost use Rattle.rtps_report.specs.Advice.{advice_by, advice_of as advice_of_lem, are_alike as are_alike_lem, asked_advice as asked_advice_lem, came_last as came_last_lem, complete_advice as complete_advice_lem, conflict_advice as conflict_advice_lem, is_above as is_above_lem, ended_advice, ended_in as ended_in_lem, is_first_sent as is_first_sent_lem, is_last_second as is_last_second_lem, is_lost as is_lost_lem, loss_advice as loss_advice_lem, missed_advice as missed_advice_lem, sentence_of, stand_together as stand_together_lem, unanswered_advice as unanswered_advice_lem, unasked_advice as unasked_advice_lem, unfounded_advice as unfounded_advice_lem, untold_open_advice as untold_open_advice_lem};
 
 use crate::row_facts::{
     is_held, is_joined, is_tail, left_at, natural, number_of, outcomes_of, row_from,
 };
 use crate::silences::Silences;
-use rtps_evidence::{Announcement, Claim, Evidence, FirstMissed, Grounds, Sent, Teller};
+use rtps_evidence::{
+    Announcement, Claim, Evidence, FirstMissed, Grounds, Location, Sent, Teller, Times,
+};
 use rtps_wire::Payload;
+
+/// How many nanoseconds a second has.
+const SECOND: u64 = 1_000_000_000;
 
 /// What a row is told by beside its pair.
 #[derive(Clone, Copy)]
@@ -26,6 +31,10 @@ pub struct Scope {
 /// What to do for a pair.
 #[derive(Clone, Copy)]
 pub enum Advice {
+    /// The reader's participant is silent since this datagram.
+    ReaderEnded(u64),
+    /// The writer's participant is.
+    WriterEnded(u64),
     /// Of a pair that is held: numbers that were sent did not arrive, and not only a tail.
     Lost,
     /// Missed: nothing of the first number is sent to the reader.
@@ -38,16 +47,18 @@ pub enum Advice {
     Unsent,
     /// Complete: numbers are unanswered.
     Unanswered,
-    /// Open: only a tail, of a reader that did not leave and whose participant is not silent.
+    /// Open: only a tail.
     Tail,
-    /// Open: nothing is acknowledged, and the reader left.
-    Left,
     /// Open: nothing tells the number, and not all was read.
     OpenUnread,
     /// Open: nothing tells the number.
     OpenUntold,
+    /// Open: the reader was not asked since its last answer, acknowledged nothing, and left.
+    Left,
     /// Open: the reader was not asked since its last answer.
     NotAsked,
+    /// Open: it was asked, at first in the last second of the recording.
+    JustAsked,
     /// Open: it was asked, and acknowledged nothing.
     NeverAnswered,
     /// Open: it was asked since its last answer.
@@ -130,31 +141,55 @@ fn complete_advice(evidence: &Evidence<'_>) -> Advice
     }
 }
 
-/// Whether only a tail is lacking, of a reader that did not leave and whose participant is not silent.
-fn is_tail_of_reader(evidence: &Evidence<'_>, silences: Silences) -> bool
-    ensures { result ≡ is_tail_of_reader_lem (evidence_value evidence.now) silences }
+/// Whether a time is in the last second before the end, where there are both.
+fn is_last_second(time: Option<u64>, end: Option<u64>) -> bool
+    ensures { result ≡ is_last_second_lem time end }
 {
-    is_tail(evidence) && left_at(evidence).is_none() && silences.reader.is_none()
+    match (time, end) {
+        (Some(time), Some(end)) => end.saturating_sub(time) <= SECOND,
+        _ => false,
+    }
 }
 
-fn open_advice(
-    scope: Scope,
-    evidence: &Evidence<'_>,
-    teller: Option<Teller>,
-    asked_since: u64,
-) -> Advice
-    ensures { result ≡ open_advice_lem scope (evidence_value evidence.now) teller asked_since }
+/// Whether a datagram came in the last second of the recording.
+fn came_last(times: &Times, datagram: u64) -> bool
+    ensures { result ≡ came_last_lem times.now datagram }
 {
-    if evidence.acknowledgement.is_none() && left_at(evidence).is_some() {
+    is_last_second(times.of_datagram(datagram), times.of_last_frame())
+}
+
+/// What to do where the reader was not asked since its last answer.
+fn unasked_advice(acknowledged: bool, left: bool) -> Advice
+    ensures { result ≡ unasked_advice_lem acknowledged left }
+{
+    if !acknowledged && left {
         Advice::Left
-    } else if teller.is_none() {
-        untold_open_advice(scope)
-    } else if asked_since == 0 {
-        Advice::NotAsked
-    } else if evidence.acknowledgement.is_none() {
-        Advice::NeverAnswered
     } else {
+        Advice::NotAsked
+    }
+}
+
+/// What to do where it was asked, at first in this datagram.
+fn unanswered_advice(times: &Times, acknowledged: bool, datagram: u64) -> Advice
+    ensures { result ≡ unanswered_advice_lem times.now acknowledged datagram }
+{
+    if came_last(times, datagram) {
+        Advice::JustAsked
+    } else if acknowledged {
         Advice::Silent
+    } else {
+        Advice::NeverAnswered
+    }
+}
+
+/// What to do for an open pair whose number is told, by where its reader was asked first since its last answer.
+fn asked_advice(times: &Times, evidence: &Evidence<'_>, first: Option<Location>) -> Advice
+    ensures { result ≡ asked_advice_lem times.now (evidence_value evidence.now) first }
+{
+    let acknowledged = evidence.acknowledgement.is_some();
+    match first {
+        Some(first) => unanswered_advice(times, acknowledged, first.datagram),
+        None => unasked_advice(acknowledged, left_at(evidence).is_some()),
     }
 }
 
@@ -232,33 +267,71 @@ fn unfounded_advice(
     }
 }
 
-/// What to do for a pair, of which one of the two participants may be silent.
-pub fn advice_of(scope: Scope, evidence: &Evidence<'_>, silences: Silences) -> Advice
-    ensures { result ≡ advice_of_lem silences scope (evidence_value evidence.now) }
+/// What to do for a pair, where nobody is silent.
+fn heard_advice(scope: Scope, evidence: &Evidence<'_>, times: &Times) -> Advice
+    ensures { result ≡ advice_by times.now scope (evidence_value evidence.now) (evidence_value evidence.now).grounds }
 {
     match evidence.grounds {
         Grounds::Complete => complete_advice(evidence),
         Grounds::Open {
             teller,
-            asked_since,
+            first_asked,
             ..
         } => match loss_advice(evidence) {
             Some(advice) => advice,
-            None if is_tail_of_reader(evidence, silences) => Advice::Tail,
-            None => open_advice(scope, evidence, teller, asked_since),
+            None if is_tail(evidence) => Advice::Tail,
+            None if teller.is_none() => untold_open_advice(scope),
+            None => asked_advice(times, evidence, first_asked),
         },
         Grounds::Conflict { first, other } => conflict_advice(first, other),
         Grounds::Unfounded { teller, claim } => unfounded_advice(scope, evidence, teller, claim),
     }
 }
 
+impl Silences {
+    /// What to do for a pair of which one of the two participants is silent.
+    fn advice(self) -> Option<Advice>
+        ensures { result ≡ ended_advice self }
+    {
+        match (self.reader, self.writer) {
+            (Some(last), _) => Some(Advice::ReaderEnded(last)),
+            (None, Some(last)) => Some(Advice::WriterEnded(last)),
+            (None, None) => None,
+        }
+    }
+}
+
+/// What to do for a pair, of which one of the two participants may be silent.
+pub fn advice_of(scope: Scope, evidence: &Evidence<'_>, silences: Silences, times: &Times) -> Advice
+    ensures { result ≡ advice_of_lem times.now silences scope (evidence_value evidence.now) }
+{
+    match silences.advice() {
+        Some(advice) => advice,
+        None => heard_advice(scope, evidence, times),
+    }
+}
+
 impl Advice {
-    /// In one sentence.
+    /// The last datagram of the participant that ended, where the advice is of one.
+    pub fn ended_in(self) -> Option<u64>
+        ensures { result ≡ ended_in_lem self }
+    {
+        match self {
+            Advice::ReaderEnded(last) | Advice::WriterEnded(last) => Some(last),
+            _ => None,
+        }
+    }
+
+    /// In one sentence; of a participant that ended, without the time of its last datagram.
     #[tactic(auto, unfolding(crate::specs::Advice::sentence_of))]
     pub fn sentence(self) -> &'static str
         ensures { result.now ≡ sentence_of self }
     {
         match self {
+            Advice::ReaderEnded(_) =>
+                "the reader's process ended without leaving, or was cut off: see what it did",
+            Advice::WriterEnded(_) =>
+                "the writer's process ended without leaving, or was cut off: see what it did",
             Advice::Lost =>
                 "it was sent and did not reach the reader's host: look at the network; raise the history depth, so that the writer still has what is asked for again",
             Advice::MissedUnsent =>
@@ -273,14 +346,15 @@ impl Advice {
                 "it was asked about and gave no answer until the writer had dropped them: an outage of the network or of the reader; raise the history depth if these must not be lost",
             Advice::Tail =>
                 "stop publishing some seconds before the recording ends, or allow a tail (--tail)",
-            Advice::Left =>
-                "it was never asked, or its answers are not in the recording: see that it took anything",
             Advice::OpenUnread =>
                 "it may be in a fragment or frame that was not read: see below what to do for these",
             Advice::OpenUntold =>
                 "the recording does not have it: record at the writer's side, on the interface that it uses",
+            Advice::Left =>
+                "it was never asked, or its answers are not in the recording: see that it took anything",
             Advice::NotAsked =>
                 "the reader may have all: stop publishing, wait some seconds, and only then end the recording",
+            Advice::JustAsked => "record longer",
             Advice::NeverAnswered =>
                 "the reader was asked and acknowledged nothing: see that it runs, and record both directions",
             Advice::Silent =>

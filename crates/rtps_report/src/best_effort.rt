@@ -37,6 +37,29 @@ pub struct BestEffort<'a> {
     pub recorded: u128,
 }
 
+/// The same without their topic.
+#[derive(Clone, Copy)]
+pub struct BestEffortNumbers {
+    pub pairs: u64,
+    pub numbers: u128,
+    pub recorded: u128,
+}
+
+impl BestEffort<'_> {
+    ghost use Rattle.rtps_report.specs.BestEfforts.{numbers_told};
+
+    /// How many pairs there are, how many numbers they have, and how many of these are recorded.
+    pub fn told(&self) -> BestEffortNumbers
+        ensures { result ≡ numbers_told (best_effort_value self.now) }
+    {
+        BestEffortNumbers {
+            pairs: self.pairs,
+            numbers: self.numbers,
+            recorded: self.recorded,
+        }
+    }
+}
+
 /// One pair more.
 fn with_counted<'a>(sum: BestEffort<'a>, one: &Counted<'a>) -> BestEffort<'a>
     requires { IsWithin (best_effort_value sum) }

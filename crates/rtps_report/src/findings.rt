@@ -1,8 +1,9 @@
 ghost use Rattle.std.specs.Prelude.{◌≡◌, Option};
-ghost use Rattle.rtps_report.specs.Asked.{asked_value, is_of_complete as is_of_complete_lem};
-ghost use Rattle.rtps_report.specs.Findings.{are_none, ending_by, few_of as few_of_lem, findings_of as findings_of_lem, no_findings};
+ghost use Rattle.rtps_report.specs.Asked.{asked_value};
+ghost use Rattle.rtps_report.specs.Findings.{are_none, ending_by, few_of as few_of_lem, findings_of as findings_of_lem, lossy_of as lossy_of_lem, no_findings};
 
-use crate::asked::{Asked, Standard};
+use crate::asked::Asked;
+use crate::best_effort::BestEffortNumbers;
 use crate::recording::{Links, Reasons, known, no_links};
 use rtps_audit::Counts;
 
@@ -24,18 +25,15 @@ pub struct FewRows {
     pub expected: u64,
 }
 
-/// What a report has, or lacks, against what was asked of it. A number is 0 where nothing of its kind was found, and where it
-/// was not asked for.
+/// What a report has, or lacks, against what was asked of it. A number is 0 where nothing of its kind was found.
 #[derive(Clone, Copy)]
 pub struct Findings {
     /// It has fewer rows than were expected.
     pub few: Option<FewRows>,
-    /// It has no row.
+    /// It has no row, and pairs of best effort have no number.
     pub empty: bool,
-    /// How many of its rows have missed numbers.
-    pub missed: u64,
-    /// The fragments that were not read, or whose samples never came whole.
-    pub fragments: u128,
+    /// It has no row, and not all numbers of pairs of best effort are recorded.
+    pub lossy: Option<BestEffortNumbers>,
     /// GUIDs whose announcements disagree, which are in no row.
     pub unsettled: u64,
     // Frames of a capture, by the reasons that it knows.
@@ -50,14 +48,14 @@ pub struct Findings {
 #[derive(Clone, Copy)]
 pub struct Facts {
     pub rows: u64,
-    /// How many of them have missed numbers.
-    pub missed: u64,
     /// Whether each is what it has to be.
     pub met: bool,
     pub counts: Counts,
     pub reasons: Option<Reasons>,
-    /// How many writers and readers of one topic do not match, where that is told.
+    /// How many writers and readers of one topic do not match.
     pub unmatched: u64,
+    /// Its pairs of best effort.
+    pub best_effort: BestEffortNumbers,
 }
 
 impl Findings {
@@ -68,8 +66,7 @@ impl Findings {
         Findings {
             few: None,
             empty: false,
-            missed: 0,
-            fragments: 0,
+            lossy: None,
             unsettled: 0,
             pieces: 0,
             cut: 0,
@@ -84,8 +81,7 @@ impl Findings {
     {
         self.few.is_none()
             && !self.empty
-            && self.missed == 0
-            && self.fragments == 0
+            && self.lossy.is_none()
             && self.unsettled == 0
             && self.pieces == 0
             && self.cut == 0
@@ -103,40 +99,29 @@ fn few_of(expect: Option<u64>, rows: u64) -> Option<FewRows>
     }
 }
 
-fn is_of_complete(standard: Standard) -> bool
-    ensures { result ≡ is_of_complete_lem standard }
+fn lossy_of(rows: u64, best_effort: BestEffortNumbers) -> Option<BestEffortNumbers>
+    ensures { result ≡ lossy_of_lem rows best_effort }
 {
-    matches!(standard, Standard::AllComplete)
+    if rows == 0 && best_effort.recorded < best_effort.numbers {
+        Some(best_effort)
+    } else {
+        None
+    }
 }
 
 fn findings_of(asked: &Asked<'_>, facts: &Facts) -> Findings
     ensures { result ≡ findings_of_lem (asked_value asked.now) facts.now }
 {
-    let few = few_of(asked.expect, facts.rows);
-    let of_complete = is_of_complete(asked.standard);
-    let unmatched = if of_complete { 0 } else { facts.unmatched };
-    if !asked.strict {
-        return Findings {
-            few,
-            unmatched,
-            ..Findings::none()
-        };
-    }
     let reasons = known(facts.reasons);
     Findings {
-        few,
-        empty: facts.rows == 0,
-        missed: if of_complete { facts.missed } else { 0 },
-        fragments: if of_complete {
-            facts.counts.fragments
-        } else {
-            0
-        },
+        few: few_of(asked.expect, facts.rows),
+        empty: facts.rows == 0 && facts.best_effort.numbers == 0,
+        lossy: lossy_of(facts.rows, facts.best_effort),
         unsettled: facts.counts.unsettled,
         pieces: reasons.pieces,
         cut: reasons.cut,
         links: reasons.links,
-        unmatched,
+        unmatched: facts.unmatched,
     }
 }
 

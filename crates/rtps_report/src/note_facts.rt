@@ -1,11 +1,10 @@
 ghost use Rattle.std.specs.Prelude.{◌≡◌, map};
 ghost use Rattle.rtps_evidence.specs.Explanation.{evidence_value, explanation_value};
-ghost use Rattle.rtps_report.specs.Asked.{asked_value, tail_of as tail_of_lem};
+ghost use Rattle.rtps_report.specs.Asked.{asked_value};
 ghost use Rattle.rtps_report.specs.FullReport.{report_value};
 ghost use Rattle.rtps_report.specs.NoteFacts.{back_in as back_in_lem, clean_tail_of as clean_tail_of_lem, facts_by as facts_by_lem, is_unread as is_unread_lem, longest_clean_tail as longest_clean_tail_lem, note_facts as note_facts_lem, scope_of as scope_of_lem, short_in as short_in_lem};
 
 use crate::advice::Scope;
-use crate::asked::Standard;
 use crate::full_report::FullReport;
 use crate::recording::{Links, Reasons, Recording, known};
 use crate::row_facts::{is_clean_tail, outcomes_of};
@@ -39,7 +38,7 @@ pub struct NoteFacts {
 }
 
 /// Whether parts of the recording were not read that may have samples.
-pub fn is_unread(counts: &Counts, reasons: Option<Reasons>) -> bool
+fn is_unread(counts: &Counts, reasons: Option<Reasons>) -> bool
     ensures { result ≡ is_unread_lem counts.now reasons }
 {
     let reasons = known(reasons);
@@ -63,22 +62,13 @@ fn short_in(recording: &Recording) -> u64
     datagrams.filter(|octets| octets.len() <= 1).count() as u64
 }
 
-fn tail_of(standard: Standard) -> u64
-    ensures { result ≡ tail_of_lem standard }
-{
-    match standard {
-        Standard::AllComplete => 0,
-        Standard::AllClean { tail, .. } => tail,
-    }
-}
-
 /// What a row of a report is told by beside its pair.
 pub fn scope_of(report: &FullReport<'_>) -> Scope
     ensures { result ≡ scope_of_lem (asked_value report.now.asked.now) report.now.recording.now (report_value report.now) }
 {
     Scope {
         from: report.asked.first_asked(),
-        tail: tail_of(report.asked.standard),
+        tail: report.asked.tail,
         unread: is_unread(&report.explained.counts, report.recording.reasons()),
     }
 }

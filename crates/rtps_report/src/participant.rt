@@ -6,7 +6,7 @@ ghost use Rattle.rtps_discovery.specs.GuidOrder.{guid_cmp};
 ghost use Rattle.rtps_policies.specs.Told.{KeepsFirst};
 ghost use Rattle.rtps_report.specs.Participants.{AreJoined, are_on_one_host as are_on_one_host_lem, has_address as has_address_lem, is_silent as is_silent_lem};
 
-use crate::traffic::Stay;
+use crate::presence::Stay;
 use rtps_audit::Placed;
 use rtps_evidence::Location;
 use rtps_ids::{Guid, Memory};
@@ -19,24 +19,31 @@ use std::collections::BTreeMap;
 pub struct Participant {
     pub guid: Guid,
     pub host: Host,
-    /// From when to when the recording has something of it; None where it has nothing.
+    /// From when to when the recording has datagrams that it sent; None where it has none.
     pub stay: Option<Stay>,
     /// The datagram in which it leaves; None where it does not.
     pub left: Option<u64>,
-    /// Whether it is silent: it does not leave, and each datagram that has something of it has a time, which is more than ten
-    /// seconds before the end of the recording.
+    /// Whether it is silent: it does not leave, and each datagram that it sent has a time, which is more than ten seconds before
+    /// the end of the recording, or more than its lease where that is shorter.
     pub silent: bool,
 }
 
-/// A participant is silent of which nothing comes for longer, up to the end: ten seconds, in nanoseconds.
+/// A participant is silent of which nothing comes for longer, up to the end: ten seconds, in nanoseconds. So it is where its lease
+/// is shorter, and nothing comes for longer than that.
 const SILENCE: u64 = 10_000_000_000;
 
-/// Whether a participant is silent, by the datagram in which it leaves, the time of its last datagram and the end of the recording.
-pub(crate) fn is_silent(left: Option<u64>, latest: Option<u64>, end: Option<u64>) -> bool
-    ensures { result ≡ is_silent_lem left latest end }
+/// Whether a participant is silent, by its lease, the datagram in which it leaves, the time of its last datagram and the end of the
+/// recording.
+pub(crate) fn is_silent(
+    lease: u64,
+    left: Option<u64>,
+    latest: Option<u64>,
+    end: Option<u64>,
+) -> bool
+    ensures { result ≡ is_silent_lem lease left latest end }
 {
     match (left, latest, end) {
-        (None, Some(latest), Some(end)) => end.saturating_sub(latest) > SILENCE,
+        (None, Some(latest), Some(end)) => end.saturating_sub(latest) > SILENCE.min(lease),
         _ => false,
     }
 }

@@ -2,10 +2,10 @@ ghost use Rattle.std.specs.Prelude.{IfOk, Option};
 ghost use Rattle.rtps_evidence.specs.OtherSide.{IsOtherSide, OtherRecording};
 ghost use Rattle.rtps_report.specs.ReaderSide.{IsReaderSide, IsReaderSideBy, arrived_value, other_by, other_of};
 
+use crate::naming_walk::namings_of;
 use crate::recording::{Recording, datagrams_of};
-use crate::traffic::Traffic;
 use rtps_audit::Index;
-use rtps_evidence::{OtherSide, Times};
+use rtps_evidence::OtherSide;
 use rtps_fragments::{Fragments, Indexed, Samples, index_as};
 use rtps_ids::Memory;
 use rtps_policies::Namings;
@@ -22,17 +22,16 @@ pub(crate) struct ReaderSide<'b> {
 fn side_of<'b>(
     alloc: Global,
     recording: &'b Recording,
-    fragments: Fragments,
     samples: &'b mut Samples,
 ) -> Result<ReaderSide<'b>, Memory>
-    ensures { IfOk result (IsReaderSide (other_of fragments recording.now)) }
+    ensures { IfOk result (IsReaderSide (other_of recording.now)) }
 {
     let datagrams = datagrams_of(alloc, recording)?;
-    let traffic = Traffic::of(alloc, &datagrams, &Times::none(alloc), fragments)?;
-    let indexed = index_as(alloc, &datagrams, fragments, samples)?;
+    let namings = namings_of(alloc, &datagrams)?;
+    let indexed = index_as(alloc, &datagrams, Fragments::Read, samples)?;
     Ok(ReaderSide {
         index: indexed.index,
-        namings: traffic.namings,
+        namings,
     })
 }
 
@@ -40,15 +39,14 @@ fn side_of<'b>(
 pub(crate) fn side_by<'b>(
     alloc: Global,
     arrived: Option<&'b Recording>,
-    fragments: Fragments,
     samples: &'b mut Samples,
 ) -> Result<Option<ReaderSide<'b>>, Memory>
-    ensures { IfOk result (IsReaderSideBy (other_by fragments (arrived_value arrived.entry))) }
+    ensures { IfOk result (IsReaderSideBy (other_by (arrived_value arrived.entry))) }
 {
     let Some(recording) = arrived else {
         return Ok(None);
     };
-    let side = side_of(alloc, recording, fragments, samples)?;
+    let side = side_of(alloc, recording, samples)?;
     Ok(Some(side))
 }
 

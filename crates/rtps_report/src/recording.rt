@@ -151,7 +151,8 @@ impl Recording {
     }
 }
 
-pub(crate) fn datagrams_of(alloc: Global, recording: &Recording) -> Result<Vec<&[u8]>, AllocError>
+/// The datagrams of a recording, as parts of it.
+pub fn datagrams_of(alloc: Global, recording: &Recording) -> Result<Vec<&[u8]>, AllocError>
     ensures { IfOk result (λ datagrams. map (λ datagram. datagram.now) datagrams.items ≡ recording.now.datagrams) }
 {
     let mut datagrams = Vec::with_capacity(alloc, recording.list.len())?;

@@ -3,11 +3,12 @@ ghost use Rattle.std.specs.List.{list_all};
 ghost use Rattle.rtps_receiver.specs.Said.{natural as natural_lem};
 ghost use Rattle.rtps_evidence.specs.Explanation.{evidence_value, explanation_value};
 ghost use Rattle.rtps_report.specs.Asked.{asked_value};
-ghost use Rattle.rtps_report.specs.FullReport.{facts_with, is_met as is_met_lem, missed_in};
+ghost use Rattle.rtps_report.specs.FullReport.{facts_with, is_met as is_met_lem};
 ghost use Rattle.rtps_report.specs.Reported.{is_complete as completes, number_of as number_of_lem};
-ghost use Rattle.rtps_report.specs.RowFacts.{absent_in, asked_about as asked_about_lem, is_certain as is_certain_lem, is_clean as is_clean_lem, is_clean_tail as is_clean_tail_lem, is_held_in, is_joined_in, is_late as is_late_lem, is_noted as is_noted_lem, is_tail as is_tail_lem, is_tail_alone as is_tail_alone_lem, left_in, outcomes_of as outcomes_of_lem, row_from as row_from_lem};
+ghost use Rattle.rtps_report.specs.RowFacts.{absent_in, asked_about as asked_about_lem, is_certain as is_certain_lem, is_clean as is_clean_lem, is_clean_tail as is_clean_tail_lem, is_held_in, is_joined_in, is_late as is_late_lem, is_noted as is_noted_lem, is_tail as is_tail_lem, is_tail_alone as is_tail_alone_lem, left_in, outcomes_of as outcomes_of_lem, row_from as row_from_lem, wrote_before_in};
 
-use crate::asked::{Asked, Standard};
+use crate::asked::Asked;
+use crate::best_effort::BestEffortNumbers;
 use crate::findings::Facts;
 use crate::recording::Recording;
 use crate::silences::Silences;
@@ -152,19 +153,27 @@ pub fn is_noted(tail: u64, evidence: &Evidence<'_>, silences: Silences) -> bool
 }
 
 /// Whether a row is clean with a tail, which has numbers: where all of them arrived, nothing is lacking.
-pub(crate) fn is_clean_tail(tail: u64, evidence: &Evidence<'_>) -> bool
+pub fn is_clean_tail(tail: u64, evidence: &Evidence<'_>) -> bool
     ensures { result ≡ is_clean_tail_lem tail (evidence_value evidence.now) }
 {
     is_clean(tail, evidence) && is_tail(evidence) && outcomes_of(evidence).unconfirmed > 0
 }
 
-/// Whether all numbers that the writer of a complete row announced stand before it.
+/// Whether the writer of a row announced numbers, and all of them stand before it.
+fn wrote_before(evidence: &Evidence<'_>) -> bool
+    ensures { result ≡ wrote_before_in evidence.now.in_span }
+{
+    match &evidence.in_span {
+        Some(in_span) => in_span.wrote_before,
+        None => false,
+    }
+}
+
+/// Whether a row is complete, and its writer announced numbers, all of which stand before it.
 pub fn is_late(from: u64, evidence: &Evidence<'_>) -> bool
     ensures { result ≡ is_late_lem from (evidence_value evidence.now) }
 {
-    is_complete(&evidence.verdict)
-        && evidence.announcement.is_none()
-        && from < row_from(from, evidence)
+    is_complete(&evidence.verdict) && wrote_before(evidence) && from < row_from(from, evidence)
 }
 
 pub(crate) fn is_certain(from: u64, evidence: &Evidence<'_>) -> bool
@@ -173,27 +182,10 @@ pub(crate) fn is_certain(from: u64, evidence: &Evidence<'_>) -> bool
     asked_about(row_from(from, evidence), evidence.announcement) <= outcomes_of(evidence).received
 }
 
-pub(crate) fn missed_among(rows: &[Explanation<'_>]) -> u64
-    ensures { result ≡ missed_in (map explanation_value rows.now) }
-{
-    let mut missed = 0;
-    for row in rows {
-        if row.evidence.missed > 0 {
-            missed += 1;
-        }
-    }
-    missed
-}
-
 fn is_met(asked: &Asked<'_>, evidence: &Evidence<'_>) -> bool
     ensures { result ≡ is_met_lem (asked_value asked.now) (evidence_value evidence.now) }
 {
-    match asked.standard {
-        Standard::AllComplete => is_complete(&evidence.verdict),
-        Standard::AllClean { tail, certain } => {
-            is_clean(tail, evidence) && (!certain || is_certain(asked.first_asked(), evidence))
-        }
-    }
+    is_clean(asked.tail, evidence) && (!asked.certain || is_certain(asked.first_asked(), evidence))
 }
 
 fn are_met(asked: &Asked<'_>, rows: &[Explanation<'_>]) -> bool
@@ -207,21 +199,22 @@ fn are_met(asked: &Asked<'_>, rows: &[Explanation<'_>]) -> bool
     true
 }
 
-/// What is known of a report, and that so many writers and readers do not match.
+/// What is known of a report, and that so many writers and readers do not match, and pairs of best effort have so many numbers.
 pub(crate) fn facts_of(
     asked: &Asked<'_>,
     explained: &Explained<'_>,
     recording: &Recording,
-    unmatched: usize,
+    told: (usize, BestEffortNumbers),
 ) -> Facts
-    ensures { result ≡ facts_with unmatched (asked_value asked.now) (map explanation_value explained.now.rows.items) explained.now.counts recording.now }
+    ensures { result ≡ facts_with told.0 told.1 (asked_value asked.now) (map explanation_value explained.now.rows.items) explained.now.counts recording.now }
 {
+    let (unmatched, best_effort) = told;
     Facts {
         rows: explained.rows.len() as u64,
-        missed: missed_among(&explained.rows),
         met: are_met(asked, &explained.rows),
         counts: explained.counts,
         reasons: recording.reasons(),
         unmatched: unmatched as u64,
+        best_effort,
     }
 }

@@ -8,56 +8,6 @@ use rtps_discovery::Pair;
 use rtps_parts::ros_topic;
 use rtps_policies::{Naming, Namings};
 
-/// Which rows of a report are asked for.
-#[derive(Clone, Copy)]
-pub struct Rows<'a> {
-    /// Patterns, in which `*` stands for any octets: the name of the topic fits one of them, or the name that ROS 2 gives it. All
-    /// topics where there is none.
-    pub topics: &'a [String],
-    /// Only rows of pairs that the recording can speak of: the reader's participant names the writer's as a destination.
-    pub observed: bool,
-}
-
-/// What tells the rows that are asked for from others, of one recording.
-#[derive(Clone, Copy)]
-pub(crate) struct RowFilter<'a> {
-    pub(crate) topics: &'a [String],
-    /// Which participants name which, where rows are asked for by that.
-    pub(crate) namings: Option<&'a Namings>,
-}
-
-impl<'a> RowFilter<'a> {
-    ghost use Rattle.std.specs.Prelude.{◌||◌, not, true};
-    ghost use Rattle.rtps_report.specs.Rows.{IsFilterOf, RowsValue, is_kept, rows_value};
-
-    /// The filter of a recording in which participants name others so.
-    pub(crate) fn new(rows: Rows<'a>, namings: &'a Namings) -> Self
-        ensures { (acts : List ActValue) → (rows.entry.observed ≡ true → AreNamedIn acts namings.now) → IsFilterOf (rows_value rows.entry) acts result }
-    {
-        RowFilter {
-            topics: rows.topics,
-            namings: if rows.observed { Some(namings) } else { None },
-        }
-    }
-
-    /// Whether the row of a pair with this topic is asked for.
-    pub(crate) fn keeps(&self, topic: &[u8], pair: Pair) -> bool
-        ensures { (rows : RowsValue) (acts : List ActValue) → IsFilterOf rows acts self.now → result ≡ is_kept rows acts topic.now pair }
-    {
-        fits_one(self.topics, topic) && self.observes(pair)
-    }
-
-    /// Whether the recording can speak of a pair, or that is not asked.
-    fn observes(&self, pair: Pair) -> bool
-        ensures { (rows : RowsValue) (acts : List ActValue) → IsFilterOf rows acts self.now → result ≡ (not rows.observed || is_observed acts pair) }
-    {
-        match self.namings {
-            Some(namings) => are_observed(namings, pair),
-            None => true,
-        }
-    }
-}
-
 /// Whether the recording can speak of a pair: an act of the reader's participant names the writer's as its destination.
 pub(crate) fn are_observed(namings: &Namings, pair: Pair) -> bool
     ensures named { result ≡ is_named_by namings.now pair }

@@ -1,6 +1,6 @@
 ghost use Rattle.std.specs.Prelude.{◌≡◌};
 ghost use Rattle.std.specs.List.{find};
-ghost use Rattle.rtps_report.specs.Silences.{are_heard as are_heard_lem, has_guid, no_silences, silence_among as silence_among_lem, silent_since as silent_since_lem, silences_of};
+ghost use Rattle.rtps_report.specs.Silences.{are_heard as are_heard_lem, has_guid, silence_among as silence_among_lem, silent_since as silent_since_lem, silences_of};
 ghost use Rattle.rtps_report.specs.Talk.{talk_value};
 
 use crate::participant::Participant;
@@ -17,16 +17,6 @@ pub struct Silences {
 }
 
 impl Silences {
-    /// Neither is silent.
-    pub fn none() -> Silences
-        ensures { result ≡ no_silences }
-    {
-        Silences {
-            writer: None,
-            reader: None,
-        }
-    }
-
     /// Whether neither is silent.
     pub(crate) fn are_heard(self) -> bool
         ensures { result ≡ are_heard_lem self }

@@ -1,38 +1,37 @@
-ghost use Rattle.std.specs.Prelude.{ℕ, ◌≡◌, [], filter, IfOk, List, Option, map};
+ghost use Rattle.std.specs.Prelude.{◌≡◌, filter, IfOk, List, Option, map, not};
 ghost use Rattle.std.specs.BTreeSet.{contains};
 ghost use Rattle.rtps_audit.specs.Index.{IsIndexBy};
 ghost use Rattle.rtps_audit.specs.Intake.{Intake, acts_together};
 ghost use Rattle.rtps_audit.specs.Placed.{placed_in, placed_value};
-ghost use Rattle.rtps_discovery.specs.Directory.{settled_in};
 ghost use Rattle.rtps_discovery.specs.Listings.{pair_cmp};
-ghost use Rattle.rtps_discovery.specs.Matching.{matches_among};
 ghost use Rattle.rtps_evidence.specs.OtherSide.{IsOtherSide, OtherRecording};
 ghost use Rattle.rtps_evidence.specs.Spans.{left_in as left_in_lem};
 ghost use Rattle.rtps_fragments.specs.Announcements.{announcements_in};
 ghost use Rattle.rtps_fragments.specs.RecordedSamples.{intake_as};
+ghost use Rattle.rtps_fragments.specs.declared.fragments.Fragments.TheVariants.{Read};
 ghost use Rattle.rtps_policies.specs.Announcing.{IsAnnouncedBy, hosts_in};
-ghost use Rattle.rtps_policies.specs.Namings.{AreNamingsOf};
-ghost use Rattle.rtps_policies.specs.Silence.{silence_by};
-ghost use Rattle.rtps_policies.specs.Unmatched.{unmatched_value};
+ghost use Rattle.rtps_policies.specs.Silence.{Traffic as TrafficOf, silence_by};
+ghost use Rattle.rtps_policies.specs.Unmatched.{pair_of as pair_of_lem, unmatched_value};
 ghost use Rattle.rtps_receiver.specs.Values.{ActValue};
-ghost use Rattle.rtps_report.specs.ActsRead.{datagrams_read};
-ghost use Rattle.rtps_report.specs.Asked.{AskedValue, asked_value};
+ghost use Rattle.rtps_report.specs.Asked.{asked_value};
 ghost use Rattle.rtps_report.specs.BestEfforts.{counted_value};
 ghost use Rattle.rtps_report.specs.Participants.{participant_told};
-ghost use Rattle.rtps_report.specs.Stays.{IsTrafficOf};
-ghost use Rattle.rtps_report.specs.Talk.{AreCounted, AreUnfit, IsHeardIn, IsTalkOf, is_counted_by, is_counted_of, talk_value};
+ghost use Rattle.rtps_report.specs.Talk.{AreCounted, AreUnfit, IsHeardIn, IsKeptOf, IsTalkOf, is_counted_by, is_counted_of, is_left_out_by, is_left_out_of, left_out_of as left_out_of_lem, left_out_value, talk_value, talks as talks_lem, traffic_of, unfit_in as unfit_in_lem};
 
 use crate::asked::Asked;
 use crate::best_effort::{
     BestEffort, Counted, HeldPair, arrived_among, held_among, sums_of, total_of,
 };
+use crate::naming_walk::namings_of;
 use crate::participant::{Participant, is_silent, joined_of};
+use crate::presence::Presences;
 use crate::rows::{are_observed, fits_one};
 use crate::topics::topic_of;
-use crate::traffic::Traffic;
 use rtps_audit::{Index, Placed};
 use rtps_discovery::{Directory, Match, Pair};
-use rtps_evidence::{Location, OtherSide, Sides, Times, arrived_of, left_in, recorded_of};
+use rtps_evidence::{
+    Location, OtherSide, Sides, Times, acknowledges, arrived_of, left_in, recorded_of,
+};
 use rtps_ids::{Guid, GuidPrefix, Memory};
 use rtps_policies::{
     Address, Announced, Namings, OneWay, Silence, Unmatched, one_way_namings, reason_of_silence,
@@ -46,9 +45,15 @@ use std::collections::BTreeSet;
 pub struct Talk<'a> {
     pub(crate) announced: Announced<'a>,
     pub(crate) namings: Namings,
+    /// All that do not match, of the topics that are asked for.
     pub(crate) unfit: BTreeSet<Pair>,
-    /// Writers and readers of one topic that do not match, of the topics that are asked for, by writer and then by reader.
+    /// Writers and readers of one topic that do not match, of the topics that are asked for, by writer and then by reader: those that
+    /// do not talk either.
     pub unmatched: Vec<Unmatched<'a>>,
+    /// Those that talk all the same, since the reader acknowledges numbers of the writer: they have a row.
+    pub talking: Vec<Unmatched<'a>>,
+    /// Matches of topics that are asked for, reliable or not, of which the recording cannot speak, by writer and then by reader.
+    pub left_out: Vec<LeftOut<'a>>,
     /// Who names another that never answers, by the one that names and then by the other.
     pub one_way: Vec<OneWay>,
     /// The pairs of best effort that are observed, by topic.
@@ -65,6 +70,13 @@ pub struct Talk<'a> {
     pub participants: Vec<Participant>,
 }
 
+/// A match of which the recording cannot speak: the reader's participant never names the writer's.
+#[derive(Clone, Copy)]
+pub struct LeftOut<'a> {
+    pub topic: &'a [u8],
+    pub pair: Pair,
+}
+
 /// What is known of a recording, to say who does not talk.
 #[derive(Clone, Copy)]
 pub(crate) struct Heard<'r, 'a, 'o, 'b> {
@@ -77,27 +89,7 @@ pub(crate) struct Heard<'r, 'a, 'o, 'b> {
     pub(crate) announcements: &'r [Placed<'a>],
 }
 
-impl<'a> Talk<'a> {
-    /// That of no datagrams. It takes no memory.
-    pub(crate) fn none(alloc: Global) -> Talk<'a>
-        ensures talks { (asked : AskedValue) (other : Option OtherRecording) (times : List (Option ℕ)) → IsTalkOf asked other [] times (talk_value result) }
-        ensures unfit { AreUnfit (map unmatched_value result.unmatched.items) result.unfit }
-    {
-        Talk {
-            announced: Announced::new(alloc),
-            namings: Namings::new(alloc),
-            unfit: BTreeSet::new(alloc),
-            unmatched: Vec::new(alloc),
-            one_way: Vec::new(alloc),
-            best_effort: Vec::new(alloc),
-            best_effort_total: total_of(&[]),
-            held: Vec::new(alloc),
-            held_sums: Vec::new(alloc),
-            held_total: total_of(&[]),
-            participants: Vec::new(alloc),
-        }
-    }
-
+impl Talk<'_> {
     /// The address of a participant; None where it announces none.
     pub fn address_of(&self, prefix: GuidPrefix) -> Option<Address>
         ensures { result ≡ (hosts_in self.now.announced prefix).address }
@@ -131,17 +123,102 @@ fn announced_in<'a>(alloc: Global, announcements: &[Placed<'a>]) -> Result<Annou
     Ok(announced)
 }
 
+/// The writer and the reader of two that do not match.
+pub(crate) fn pair_of(one: &Unmatched<'_>) -> Pair
+    ensures { result ≡ pair_of_lem (unmatched_value one.now) }
+{
+    Pair {
+        writer: one.writer.endpoint.guid,
+        reader: one.reader.endpoint.guid,
+    }
+}
+
 /// The pairs that do not match.
 fn unfit_of(alloc: Global, unmatched: &[Unmatched<'_>]) -> Result<BTreeSet<Pair>, Memory>
     ensures { IfOk result (AreUnfit (map unmatched_value unmatched.now)) }
 {
     let mut unfit = BTreeSet::new(alloc);
     for one in unmatched {
-        let writer = one.writer.endpoint.guid;
-        let reader = one.reader.endpoint.guid;
-        unfit.insert(Pair { writer, reader })?;
+        unfit.insert(pair_of(one))?;
     }
     Ok(unfit)
+}
+
+/// Two that do not match, parted by whether they talk.
+#[derive(Drop)]
+struct PartedUnfit<'a> {
+    silent: Vec<Unmatched<'a>>,
+    talking: Vec<Unmatched<'a>>,
+}
+
+impl<'a> PartedUnfit<'a> {
+    ghost use Rattle.std.specs.Prelude.{◌++◌, ◌∷◌, [], if◌then◌else◌, OnOk, not};
+
+    /// One more, which talks or does not.
+    fn push(&mut self, one: Unmatched<'a>, talks: bool) -> Result<(), Memory>
+        ensures silent { OnOk result (self.new.silent.items ≡ self.old.silent.items ++ (if not talks then one.entry ∷ [] else [])) }
+        ensures talking { OnOk result (self.new.talking.items ≡ self.old.talking.items ++ (if talks then one.entry ∷ [] else [])) }
+    {
+        if talks {
+            self.talking.push(one)?;
+        } else {
+            self.silent.push(one)?;
+        }
+        Ok(())
+    }
+}
+
+/// Those of a recording, parted.
+fn parted_unfit<'a>(
+    alloc: Global,
+    index: &Index<'_>,
+    unfit: Vec<Unmatched<'a>>,
+) -> Result<PartedUnfit<'a>, Memory>
+    ensures { IfOk result (λ parted. (intake : Intake) → IsIndexBy intake index.now
+        → (map unmatched_value parted.silent.items ≡ filter (λ one. not (talks_lem intake (pair_of_lem one))) (map unmatched_value unfit.entry.items))
+        × (map unmatched_value parted.talking.items ≡ filter (λ one. talks_lem intake (pair_of_lem one)) (map unmatched_value unfit.entry.items))) }
+{
+    let mut parted = PartedUnfit {
+        silent: Vec::new(alloc),
+        talking: Vec::new(alloc),
+    };
+    for one in unfit {
+        let talks = acknowledges(index, pair_of(&one));
+        parted.push(one, talks)?;
+    }
+    Ok(parted)
+}
+
+/// Whether a match of this topic is left out.
+fn is_left_out(talk: &Talk<'_>, asked: &Asked<'_>, found: Match, topic: &[u8]) -> bool
+    ensures { result ≡ is_left_out_by talk.now.unfit talk.now.namings (asked_value asked.now) topic.now found }
+{
+    !talk.is_unfit(found.pair)
+        && fits_one(asked.topics, topic)
+        && !are_observed(&talk.namings, found.pair)
+}
+
+/// The matches that are left out.
+fn left_out_of<'a>(
+    alloc: Global,
+    talk: &Talk<'a>,
+    heard: &Heard<'_, 'a, '_, '_>,
+    matched: &[Match],
+) -> Result<Vec<LeftOut<'a>>, Memory>
+    ensures { IfOk result (λ left. map left_out_value left.items ≡ map (left_out_of_lem heard.now.directory.now.endpoints)
+        (filter (is_left_out_of talk.now.unfit talk.now.namings (asked_value heard.now.asked.now) heard.now.directory.now.endpoints) matched.now)) }
+{
+    let mut left = Vec::new(alloc);
+    for found in matched {
+        let topic = topic_of(heard.directory, found.pair.writer);
+        if is_left_out(talk, heard.asked, *found, topic) {
+            left.push(LeftOut {
+                topic,
+                pair: found.pair,
+            })?;
+        }
+    }
+    Ok(left)
 }
 
 /// Whether a match of this topic is counted as one of best effort.
@@ -150,20 +227,20 @@ fn is_counted(talk: &Talk<'_>, asked: &Asked<'_>, found: Match, topic: &[u8]) ->
 {
     !found.reliable
         && !talk.is_unfit(found.pair)
-        && fits_one(asked.rows.topics, topic)
+        && fits_one(asked.topics, topic)
         && are_observed(&talk.namings, found.pair)
 }
 
-/// The pairs of best effort that are counted.
+/// The pairs of best effort that are counted, of these matches.
 fn counted_of<'a>(
     alloc: Global,
     talk: &Talk<'a>,
     heard: &Heard<'_, 'a, '_, '_>,
+    matched: &[Match],
 ) -> Result<Vec<Counted<'a>>, Memory>
     ensures { IfOk result (λ counted. (intake : Intake) (other : Option OtherRecording) → IsIndexBy intake heard.now.index.now
         → IsOtherSide other heard.now.other → AreCounted (asked_value heard.now.asked.now) other intake heard.now.directory.now.endpoints
-        (filter (is_counted_of talk.now.unfit talk.now.namings (asked_value heard.now.asked.now) heard.now.directory.now.endpoints)
-        (matches_among (settled_in heard.now.directory.now.endpoints)))
+        (filter (is_counted_of talk.now.unfit talk.now.namings (asked_value heard.now.asked.now) heard.now.directory.now.endpoints) matched.now)
         (map counted_value counted.items)) }
 {
     let sides = Sides {
@@ -172,7 +249,7 @@ fn counted_of<'a>(
         times: heard.times,
     };
     let mut counted = Vec::new(alloc);
-    for found in &heard.directory.matched()? {
+    for found in matched {
         let topic = topic_of(heard.directory, found.pair.writer);
         if is_counted(talk, heard.asked, *found, topic) {
             let pair = found.pair;
@@ -203,49 +280,67 @@ fn left_of(index: &Index<'_>, guid: Guid, place: Option<Location>) -> Option<u64
 fn participants_of(
     alloc: Global,
     announced: &Announced<'_>,
-    traffic: &Traffic,
     heard: &Heard<'_, '_, '_, '_>,
 ) -> Result<Vec<Participant>, Memory>
-    ensures { IfOk result (λ participants. (intake : Intake) (datagrams : List (List ActValue)) → IsIndexBy intake heard.now.index.now
+    ensures { IfOk result (λ participants. (intake : Intake) → IsIndexBy intake heard.now.index.now
         → map placed_value heard.now.announcements.now ≡ announcements_in intake.announcing
         → IsAnnouncedBy (acts_together intake.announcing) announced.now
-        → IsTrafficOf datagrams heard.now.times.now.of_datagrams traffic.now
-        → participants.items ≡ map (participant_told intake datagrams heard.now.times.now.of_datagrams) heard.now.directory.now.participants) }
+        → participants.items
+        ≡ map (participant_told intake (map (λ datagram. datagram.now) heard.now.datagrams.now) heard.now.times.now) heard.now.directory.now.participants) }
 {
     let joined = joined_of(alloc, heard.announcements)?;
-    let end = heard.times.end_until(None);
+    let presences = Presences::of(alloc, heard.datagrams, heard.times)?;
+    let end = heard.times.of_last_frame();
     let mut participants = Vec::new(alloc);
     for guid in &heard.directory.participants()? {
+        let host = announced.host(*guid);
         let left = left_of(heard.index, *guid, joined.get(guid).copied());
+        let latest = presences.latest(guid.prefix);
         participants.push(Participant {
             guid: *guid,
-            host: announced.host(*guid),
-            stay: traffic.stay(guid.prefix),
+            host,
+            stay: presences.stay(guid.prefix),
             left,
-            silent: is_silent(left, traffic.latest(guid.prefix), end),
+            silent: is_silent(host.lease, left, latest, end),
         })?;
     }
     Ok(participants)
 }
 
+/// Those that do not match, of the topics that are asked for.
+fn unfit_in<'a>(
+    announced: &Announced<'a>,
+    heard: &Heard<'_, 'a, '_, '_>,
+) -> Result<Vec<Unmatched<'a>>, Memory>
+    ensures { IfOk result (λ unfit. (traffic : TrafficOf) → IsAnnouncedBy traffic.announcing announced.now
+        → map unmatched_value unfit.items ≡ unfit_in_lem (asked_value heard.now.asked.now) traffic heard.now.directory.now.endpoints) }
+{
+    let topics = heard.asked.topics;
+    let mut unfit = unmatched_pairs(announced, heard.directory)?;
+    unfit.retain(|one| fits_one(topics, one.writer.endpoint.topic));
+    Ok(unfit)
+}
+
 /// Who does not talk in a recording, of the topics that are asked for. `Memory` is answered where what is kept cannot grow.
 pub(crate) fn talk_in<'a>(alloc: Global, heard: &Heard<'_, 'a, '_, '_>) -> Result<Talk<'a>, Memory>
     ensures talks { IfOk result (λ talk. (other : Option OtherRecording)
-        → IsHeardIn (intake_as heard.now.asked.now.fragments (map (λ datagram. datagram.now) heard.now.datagrams.now)) other heard.now
+        → IsHeardIn (intake_as Read (map (λ datagram. datagram.now) heard.now.datagrams.now)) other heard.now
         → IsTalkOf (asked_value heard.now.asked.now) other (map (λ datagram. datagram.now) heard.now.datagrams.now)
-        heard.now.times.now.of_datagrams (talk_value talk)) }
-    ensures unfit { IfOk result (λ talk. AreUnfit (map unmatched_value talk.unmatched.items) talk.unfit) }
-    ensures namings { IfOk result (λ talk. AreNamingsOf (datagrams_read heard.now.asked.now.fragments (map (λ datagram. datagram.now) heard.now.datagrams.now)) talk.namings) }
+        heard.now.times.now (talk_value talk)) }
+    ensures kept { IfOk result (λ talk. (other : Option OtherRecording)
+        → IsHeardIn (intake_as Read (map (λ datagram. datagram.now) heard.now.datagrams.now)) other heard.now
+        → IsKeptOf (asked_value heard.now.asked.now) (intake_as Read (map (λ datagram. datagram.now) heard.now.datagrams.now))
+        (traffic_of (map (λ datagram. datagram.now) heard.now.datagrams.now)) heard.now.directory.now.endpoints talk) }
 {
-    let asked = heard.asked;
-    let traffic = Traffic::of(alloc, heard.datagrams, heard.times, asked.fragments)?;
+    let namings = namings_of(alloc, heard.datagrams)?;
     let announced = announced_in(alloc, heard.announcements)?;
-    let mut unmatched = unmatched_pairs(&announced, heard.directory)?;
-    unmatched.retain(|one| fits_one(asked.rows.topics, one.writer.endpoint.topic));
-    let participants = participants_of(alloc, &announced, &traffic, heard)?;
-    let namings = traffic.namings;
+    let participants = participants_of(alloc, &announced, heard)?;
+    let unfit = unfit_in(&announced, heard)?;
     let mut talk = Talk {
-        unfit: unfit_of(alloc, &unmatched)?,
+        unfit: unfit_of(alloc, &unfit)?,
+        unmatched: Vec::new(alloc),
+        talking: Vec::new(alloc),
+        left_out: Vec::new(alloc),
         one_way: one_way_namings(alloc, &announced, &namings)?,
         best_effort: Vec::new(alloc),
         best_effort_total: total_of(&[]),
@@ -254,10 +349,14 @@ pub(crate) fn talk_in<'a>(alloc: Global, heard: &Heard<'_, 'a, '_, '_>) -> Resul
         held_total: total_of(&[]),
         announced,
         namings,
-        unmatched,
         participants,
     };
-    let mut counted = counted_of(alloc, &talk, heard)?;
+    let parted = parted_unfit(alloc, heard.index, unfit)?;
+    talk.unmatched = parted.silent;
+    talk.talking = parted.talking;
+    let matched = heard.directory.matched()?;
+    talk.left_out = left_out_of(alloc, &talk, heard, &matched)?;
+    let mut counted = counted_of(alloc, &talk, heard, &matched)?;
     talk.best_effort_total = total_of(&counted);
     talk.held = held_among(alloc, &counted)?;
     let mut arrived = arrived_among(alloc, &counted)?;

@@ -1,3 +1,3 @@
 mod DigitLemmas
-pub mod Offered
+mod ListLemmas
 mod ShowLemmas

@@ -2,3 +2,4 @@ pub mod ListText
 pub mod ReportText
 pub mod SampleText
 pub mod ShowText
+pub mod WhyText

@@ -1,7 +1,8 @@
 -- What `list` prints of a recording.
 -- own: one line for each participant, endpoint and pair, of fields with one space between them, and counts at the end.
 use Rattle.std.specs.Prelude.{ℕ, ◌≡◌, ◌++◌, Bool, true, false, List, [], ◌∷◌, codes, length, decimal, flat_map}
-use Rattle.rtps_report.specs.Vocabulary.{acts_in}
+use Rattle.rtps_report.specs.Vocabulary.{Fragments, Read, Skipped, acts_in, acts_together, intake_as}
+use Rattle.rtps_receiver.specs.Values.{ActValue}
 use Rattle.rtps_report.specs.declared.findings.Ending.{Ending}
 use Rattle.rtps_report.specs.declared.findings.Ending.TheVariants.{Clean}
 use Rattle.rtps_ids.specs.declared.identity.Guid.{Guid}
@@ -47,8 +48,19 @@ directory_text directory faults =
     ++ (flat_map match_line (matches_among (settled_in directory.endpoints))
     ++ counts_line (length directory.participants) (length (settled_in directory.endpoints)) (length (unsettled_in directory.endpoints)) faults))
 
--- what `list` answers: the text of the map of all acts, and it is clean
+-- the acts that may announce something: where fragments are read, those of the samples that come in fragments are among them
+abbrev pub announcing_in : Fragments → List (List ℕ) → List ActValue
+announcing_in Skipped recording = acts_in recording
+announcing_in Read recording = acts_together (intake_as Read recording).announcing
+
+-- what `list` answers where these are the acts: the text of their map, and it is clean
+abbrev pub IsListOf : List ActValue → List ℕ → Ending → Type 0
+IsListOf acts text ending = ((directory : DirectoryValue) × IsMapOf acts directory × (text ≡ directory_text directory (faults_in acts))) × (ending ≡ Clean)
+
+-- what it answers of a recording
+abbrev pub IsListedWith : Fragments → RecordingValue → List ℕ → Ending → Type 0
+IsListedWith fragments recording text ending = IsListOf (announcing_in fragments recording.datagrams) text ending
+
+-- the same where fragments are skipped
 abbrev pub IsListed : RecordingValue → List ℕ → Ending → Type 0
-IsListed recording text ending =
-    ((directory : DirectoryValue) × IsMapOf (acts_in recording.datagrams) directory × (text ≡ directory_text directory (faults_in (acts_in recording.datagrams))))
-    × (ending ≡ Clean)
+IsListed recording text ending = IsListedWith Skipped recording text ending

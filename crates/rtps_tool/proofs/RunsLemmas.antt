@@ -1,5 +1,5 @@
 -- Runs over one input.
-use Rattle.std.proofs.Common.{◌≡◌, ℕ, List, ◌++◌, Option, Some, None, Ok, Err, Result, sym, ◌∙◌, ap, subst, append-nil, arith}
+use Rattle.std.proofs.Common.{◌≡◌, ℕ, List, ◌++◌, Option, Some, None, Ok, Result, sym, ◌∙◌, ap, subst, append-nil, arith}
 use Rattle.std.specs.Prelude.{max}
 use Rattle.std.specs.Io.KnownBytes.{Appends, Consumes, IsAtEnd}
 use Rattle.rtps_report.specs.Laws.{HasOneText}
@@ -17,7 +17,6 @@ use Rattle.rtps_tool.specs.declared.faults.BesideFault.{BesideFault}
 use Rattle.rtps_capture.specs.declared.captures.Captures.{Captures}
 use Rattle.rtps_capture.specs.declared.captures.Captures.TheVariants.{Classic}
 use Rattle.rtps_tool.specs.declared.faults.RunFault.{RunFault}
-use Rattle.rtps_tool.specs.declared.faults.RunFault.TheVariants.{Recording, Input, Output, Memory}
 use Rattle.rtps_tool.specs.declared.runs.Limits.{Limits}
 use Rattle.rtps_tool.proofs.LimitsLemmas.{stays_within}
 
@@ -60,28 +59,10 @@ runs_agree_within Answers one_text limits limits' captures input left held holds
 pub runs_agree : (Answers : RecordingValue → List ℕ → Ending → Type 0) → HasOneText Answers → RunsAgree Answers
 runs_agree Answers one_text = runs_agree_within Answers one_text usual usual Classic
 
--- a run that writes a text that is one way writes one that is another way, where the one says the other
-pub runs_weaker : (IsOne IsOther : RecordingValue → List ℕ → Ending → Type 0)
-    → ((recording : RecordingValue) (text : List ℕ) (ending : Ending) → IsOne recording text ending → IsOther recording text ending)
-    → (limits : Limits) (captures : Captures) (unread left held holds : Option (List ℕ)) (result : Result Ending RunFault)
-    → RunsWithin limits captures IsOne unread left held holds result → RunsWithin limits captures IsOther unread left held holds result
-runs_weaker IsOne IsOther weaker limits captures unread left held holds (Ok ending) (recording, text, reads, is, wrote) = (recording, text, reads, weaker recording text ending is, wrote)
-runs_weaker IsOne IsOther weaker limits captures unread left held holds (Err (Recording fault)) is = is
-runs_weaker IsOne IsOther weaker limits captures unread left held holds (Err Input) is = is
-runs_weaker IsOne IsOther weaker limits captures unread left held holds (Err (Output written)) (recording, text, ending, reads, is, failed) = (recording, text, ending, reads, weaker recording text ending is, failed)
-runs_weaker IsOne IsOther weaker limits captures unread left held holds (Err Memory) is = is
-
--- a run with these options is one with those, which are the same
-pub runs_with : (options other : OptionsValue) (unread left held holds : Option (List ℕ)) (result : Result Ending RunFault) → options ≡ other
-    → RunsWithin options.limits options.captures (IsTextOf options.command options.asked None) unread left held holds result
-    → RunsWithin other.limits other.captures (IsTextOf other.command other.asked None) unread left held holds result
-runs_with options other unread left held holds result same =
-    subst (λ (o : OptionsValue). RunsWithin o.limits o.captures (IsTextOf o.command o.asked None) unread left held holds result) same
-
 -- a run of FILE alone, as the words chose it
 pub runs_by : (options : OptionsValue) (chosen : Option OptionsValue) (name : Option Text) (unread left theirs rest held holds : Option (List ℕ)) (result : Result Ending BesideFault)
     → Some options ≡ chosen → None ≡ name
-    → RunsAlone (RunsWithin options.limits options.captures (IsTextOf options.command options.asked None) unread left held holds) theirs rest result
+    → RunsAlone (RunsWithin options.limits options.captures (IsTextOf options.command None) unread left held holds) theirs rest result
     → RunsBy chosen name unread left theirs rest held holds result
 runs_by options chosen name unread left theirs rest held holds result same none run =
     subst (λ found. RunsBy found name unread left theirs rest held holds result) same
@@ -90,7 +71,7 @@ runs_by options chosen name unread left theirs rest held holds result same none 
 -- and one beside another recording
 pub runs_beside_by : (options : OptionsValue) (chosen : Option OptionsValue) (given : Text) (name : Option Text) (unread left theirs rest held holds : Option (List ℕ)) (result : Result Ending BesideFault)
     → Some options ≡ chosen → Some given ≡ name
-    → RunsBeside options.limits options.captures (IsTextOf options.command options.asked) unread left theirs rest held holds result
+    → RunsBeside options.limits options.captures (IsTextOf options.command) unread left theirs rest held holds result
     → RunsBy chosen name unread left theirs rest held holds result
 runs_beside_by options chosen given name unread left theirs rest held holds result same named run =
     subst (λ found. RunsBy found name unread left theirs rest held holds result) same

@@ -2,6 +2,8 @@
 -- reports and programs name faults by them.
 use Rattle.std.specs.Prelude.{ℕ, List, [], ◌∷◌, ◌++◌, codes, Option, None, Some}
 use Rattle.std.specs.Fmt.{decimal}
+use Rattle.std.specs.List.{flat_map}
+use Rattle.rtps_parts.specs.Names.{octet_text}
 use Rattle.rtps_tool.specs.declared.command.WordFault.{WordFault}
 use Rattle.rtps_tool.specs.declared.command.WordFault.TheVariants.{Refused, Help, Version, BothInput, Memory as WordMemory}
 use Rattle.rtps_tool.specs.declared.faults.RecFault.{RecFault}
@@ -47,9 +49,9 @@ run_fault_number RunMemory = 4
 abbrev pub fault_line : RunFault → List ℕ
 fault_line fault = codes "rtps-audit: " ++ (run_fault_text fault ++ 10 ∷ [])
 
--- the line of a fault of the other recording, which has its name
+-- the line of a fault of the other recording, which has its name, as `list` writes one between quotes
 abbrev pub other_fault_line : (name : List ℕ) → RunFault → List ℕ
-other_fault_line name fault = codes "rtps-audit: " ++ (name ++ (codes ": " ++ (run_fault_text fault ++ 10 ∷ [])))
+other_fault_line name fault = codes "rtps-audit: " ++ (flat_map octet_text name ++ (codes ": " ++ (run_fault_text fault ++ 10 ∷ [])))
 
 -- Where there was no memory for the words, or both recordings are standard input, this is told. What `clap` answers has the text that
 -- `clap` gives it, of which no clause of `clap` speaks; the other text is as those are.

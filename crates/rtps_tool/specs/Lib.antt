@@ -2,7 +2,6 @@ pub mod Options
 pub mod Outcomes
 pub mod Choices
 pub mod FaultText
-pub mod FindingsText
 pub mod Forms
 pub mod Laws
 pub mod Limits

@@ -1,10 +1,10 @@
 -- The words of the command line, as `clap` reads them.
--- own: a subcommand and one FILE; `sample` reads none. Two options say how large a recording may be, and a flag asks for any capture
--- to be read. A flag of `show` and of what judges asks for samples in fragments to be read. What judges has options that say from
--- which number on verdicts ask, which rows are asked for, and what else has to be so. A flag of `check` and of `audit` asks for
--- JSON. Of `audit`, `why` and `page` a flag asks for rows in spans; options of `check` say when a row is clean. An option of `check` and
--- of `page` names another recording, made at the host of readers. Of it and FILE one at most is standard input, which can be read once.
-use Rattle.std.specs.Prelude.{ℕ, ◌≡◌, ◌≢◌, ◌-◌, ◌^◌, ◌||◌, codes, Bool, true, false, List, [], ◌∷◌, IfSome, Option, None, Some, map, unwrap_or}
+-- own: a subcommand and one FILE; `sample` reads none. Two options say how large a recording may be. Of `show`, `list` and `audit` a flag
+-- asks for any capture to be read, and another for samples in fragments. `check`, `why` and `page` read both; their options, which are the
+-- same, say from which number on is asked, which rows are asked for, when a row is clean, and how many rows there have to be. One names
+-- another recording, made at the host of readers: of it and FILE one at most is standard input, which can be read once. A flag of `check`
+-- and of `audit` asks for JSON, and an option of `audit` says from which number on it asks.
+use Rattle.std.specs.Prelude.{ℕ, ◌≡◌, ◌≢◌, ◌-◌, ◌^◌, codes, Bool, true, false, List, [], ◌∷◌, IfSome, Option, None, Some, map, unwrap_or}
 use Rattle.std.specs.Option.{option_and_then, option_map}
 use Rattle.std.specs.Str.Parse.{digits_value, without_leading_plus}
 use Rattle.clap.specs.Words.{App, IsAmong, IsUnsignedIn, Kinds, Row, Rule, Text, all_of, fault_of, first_of, kind_of, one_of, new_app, new_rule, subcommand_of, with_rule, with_subcommand}
@@ -15,20 +15,20 @@ use Rattle.clap.specs.declared.error.kind.ErrorKind.{ErrorKind}
 use Rattle.clap.specs.declared.error.kind.ErrorKind.TheVariants.{DisplayHelp, DisplayVersion, MissingRequiredArgument, MissingSubcommand, OutOfMemory, UnknownArgument, ValueValidation}
 use Rattle.std.specs.String.{string_bytes}
 use Rattle.rtps_fragments.specs.declared.fragments.Fragments.{Fragments}
-use Rattle.rtps_fragments.specs.declared.fragments.Fragments.TheVariants.{Read}
 use Rattle.rtps_report.specs.Asked.{are_read}
-use Rattle.rtps_report.specs.declared.asked.Standard.{Standard}
-use Rattle.rtps_report.specs.declared.asked.Standard.TheVariants.{AllComplete, AllClean}
+use Rattle.rtps_report.specs.declared.audited.AskedAudit.{AskedAudit}
 use Rattle.rtps_tool.specs.Limits.{usual}
 use Rattle.rtps_capture.specs.declared.captures.Captures.{Captures}
 use Rattle.rtps_capture.specs.declared.captures.Captures.TheVariants.{Classic, Any}
 use Rattle.rtps_tool.specs.declared.command.Choice.{Choice}
-use Rattle.rtps_tool.specs.declared.command.ReportForm.{ReportForm}
-use Rattle.rtps_tool.specs.declared.command.ReportForm.TheVariants.{Lines, Json}
-use Rattle.rtps_tool.specs.declared.command.Choice.TheVariants.{Check, Show, List as ListChoice, Audit, Why, Page, Sample}
+use Rattle.rtps_tool.specs.declared.command.AuditForm.{AuditForm}
+use Rattle.rtps_tool.specs.declared.command.AuditForm.TheVariants.{Lines, Json}
+use Rattle.rtps_tool.specs.declared.command.Choice.TheVariants.{Report, Show, List as ListChoice, Audit, Sample}
 use Rattle.rtps_tool.specs.declared.command.WordFault.{WordFault}
 use Rattle.rtps_tool.specs.declared.command.WordFault.TheVariants.{Refused, Help, Version, BothInput, Memory}
 use Rattle.rtps_tool.specs.declared.demands.Demands.{Demands}
+use Rattle.rtps_tool.specs.declared.runs.Form.{Form}
+use Rattle.rtps_tool.specs.declared.runs.Form.TheVariants.{Check, CheckJson, Why, Page}
 use Rattle.rtps_tool.specs.declared.runs.Limits.{Limits}
 
 -- a file's name, or `-` for standard input, must be given
@@ -77,34 +77,20 @@ tail_rule = record (new_rule (codes "TAIL")) { long = Some (codes "tail"); actio
 abbrev pub arrived_rule : Rule
 arrived_rule = record (new_rule (codes "OTHER")) { long = Some (codes "arrived"); action = Some Set }
 
--- a subcommand with the options that ask more of a report
-abbrev pub demanding : App → App
-demanding app =
-    with_rule
-    (with_rule (with_rule (with_rule (with_rule app pattern_rule) (flag_rule (codes "observed"))) expect_rule) (flag_rule (codes "strict")))
-    (flag_rule (codes "spans"))
-
--- a subcommand that judges
+-- a subcommand that tells a report: it reads any capture and samples in fragments
 abbrev pub report_app : Text → App
-report_app name = demanding (with_rule (fragments_app name) from_rule)
-
--- the subcommand `audit`, which has a flag that asks for JSON
-abbrev pub audit_app : App
-audit_app = with_rule (report_app (codes "audit")) (flag_rule (codes "json"))
-
--- the subcommand `check`: it reads any capture and samples in fragments, and what else `audit` may ask of its report is asked
--- always
-abbrev pub check_app : App
-check_app =
+report_app name =
     with_rule
-    (with_rule
-    (with_rule (with_rule (with_rule (with_rule (with_rule (limited_app (codes "check")) from_rule) pattern_rule) expect_rule) tail_rule) (flag_rule (codes "certain")))
-    arrived_rule)
-    (flag_rule (codes "json"))
+    (with_rule (with_rule (with_rule (with_rule (with_rule (limited_app name) from_rule) pattern_rule) expect_rule) tail_rule) (flag_rule (codes "certain")))
+    arrived_rule
 
--- the subcommand `page`, of which rows can be held against another recording
-abbrev pub page_app : App
-page_app = with_rule (report_app (codes "page")) arrived_rule
+-- the subcommand `check`, which has a flag that asks for JSON
+abbrev pub check_app : App
+check_app = with_rule (report_app (codes "check")) (flag_rule (codes "json"))
+
+-- the subcommand `audit`, which asks for numbers from some number on, and has such a flag too
+abbrev pub audit_app : App
+audit_app = with_rule (with_rule (fragments_app (codes "audit")) from_rule) (flag_rule (codes "json"))
 
 -- a program that has a version and wants a subcommand
 abbrev pub bare_program : App
@@ -117,54 +103,53 @@ program =
     (with_subcommand
     (with_subcommand
     (with_subcommand
-    (with_subcommand (with_subcommand (with_subcommand bare_program check_app.top) (fragments_app (codes "show")).top) (reading_app (codes "list")).top)
+    (with_subcommand (with_subcommand (with_subcommand bare_program check_app.top) (fragments_app (codes "show")).top) (fragments_app (codes "list")).top)
     audit_app.top)
     (report_app (codes "why")).top)
-    page_app.top)
+    (report_app (codes "page")).top)
     (new_app (codes "sample")).top
+
+-- the subcommand of a form of the report
+abbrev pub form_name : Form → Text
+form_name Check = codes "check"
+form_name CheckJson = codes "check"
+form_name Why = codes "why"
+form_name Page = codes "page"
 
 -- the subcommand that was chosen
 abbrev pub subcommand_name : Choice → Text
-subcommand_name (Check file arrived from limits form demands) = codes "check"
+subcommand_name (Report file arrived limits form demands) = form_name form
 subcommand_name (Show file limits captures fragments) = codes "show"
-subcommand_name (ListChoice file limits captures) = codes "list"
-subcommand_name (Audit file from limits captures form demands) = codes "audit"
-subcommand_name (Why file from limits captures demands) = codes "why"
-subcommand_name (Page file arrived from limits captures demands) = codes "page"
+subcommand_name (ListChoice file limits captures fragments) = codes "list"
+subcommand_name (Audit file limits captures form asked) = codes "audit"
 subcommand_name Sample = codes "sample"
 
 -- the file that was chosen; `sample` has none
 abbrev pub file_name : Choice → Option Text
-file_name (Check file arrived from limits form demands) = Some (string_bytes file)
+file_name (Report file arrived limits form demands) = Some (string_bytes file)
 file_name (Show file limits captures fragments) = Some (string_bytes file)
-file_name (ListChoice file limits captures) = Some (string_bytes file)
-file_name (Audit file from limits captures form demands) = Some (string_bytes file)
-file_name (Why file from limits captures demands) = Some (string_bytes file)
-file_name (Page file arrived from limits captures demands) = Some (string_bytes file)
+file_name (ListChoice file limits captures fragments) = Some (string_bytes file)
+file_name (Audit file limits captures form asked) = Some (string_bytes file)
 file_name Sample = None
 
 -- its FILE is the one that was given, and empty where none was
 abbrev pub HasItsFile : Choice → List Row → Type 0
 HasItsFile choice rows = IfSome (file_name choice) (λ name. name ≡ unwrap_or (first_of (codes "FILE") rows) [])
 
--- the other recording that was chosen; only `check` and `page` have one
+-- the other recording that was chosen; only a report has one
 abbrev pub arrived_name : Choice → Option Text
-arrived_name (Check file arrived from limits form demands) = option_map string_bytes arrived
+arrived_name (Report file arrived limits form demands) = option_map string_bytes arrived
 arrived_name (Show file limits captures fragments) = None
-arrived_name (ListChoice file limits captures) = None
-arrived_name (Audit file from limits captures form demands) = None
-arrived_name (Why file from limits captures demands) = None
-arrived_name (Page file arrived from limits captures demands) = option_map string_bytes arrived
+arrived_name (ListChoice file limits captures fragments) = None
+arrived_name (Audit file limits captures form asked) = None
 arrived_name Sample = None
 
 -- its other recording is the one that was given, and none where none was
 abbrev pub HasItsOther : Choice → List Row → Type 0
-HasItsOther (Check file arrived from limits form demands) rows = option_map string_bytes arrived ≡ first_of (codes "OTHER") rows
+HasItsOther (Report file arrived limits form demands) rows = option_map string_bytes arrived ≡ first_of (codes "OTHER") rows
 HasItsOther (Show file limits captures fragments) rows = Unit {0}
-HasItsOther (ListChoice file limits captures) rows = Unit {0}
-HasItsOther (Audit file from limits captures form demands) rows = Unit {0}
-HasItsOther (Why file from limits captures demands) rows = Unit {0}
-HasItsOther (Page file arrived from limits captures demands) rows = option_map string_bytes arrived ≡ first_of (codes "OTHER") rows
+HasItsOther (ListChoice file limits captures fragments) rows = Unit {0}
+HasItsOther (Audit file limits captures form asked) rows = Unit {0}
 HasItsOther Sample rows = Unit {0}
 
 -- FILE and the other recording are both standard input
@@ -182,65 +167,42 @@ IsGivenOr usually (Some text) n =
 abbrev pub IsNumberGiven : Option Text → ℕ → Type 0
 IsNumberGiven text n = IsGivenOr 1 text n
 
--- its number is the one that was given; only `check`, `audit`, `why` and `page` have one
-abbrev pub HasItsNumber : Choice → List Row → Type 0
-HasItsNumber (Check file arrived from limits form demands) rows = IsNumberGiven (first_of (codes "N") rows) from
-HasItsNumber (Show file limits captures fragments) rows = Unit {0}
-HasItsNumber (ListChoice file limits captures) rows = Unit {0}
-HasItsNumber (Audit file from limits captures form demands) rows = IsNumberGiven (first_of (codes "N") rows) from
-HasItsNumber (Why file from limits captures demands) rows = IsNumberGiven (first_of (codes "N") rows) from
-HasItsNumber (Page file arrived from limits captures demands) rows = IsNumberGiven (first_of (codes "N") rows) from
-HasItsNumber Sample rows = Unit {0}
-
 -- The flag was given, or not: `clap` gives it the text `true` where it was, and `false` where not.
 abbrev pub IsFlagGiven : Option Text → Bool → Type 0
 IsFlagGiven None given = given ≡ false
 IsFlagGiven (Some text) given = (text ≡ codes "true" → given ≡ true) × (text ≡ codes "false" → given ≡ false)
 
--- the form that is asked for by the flag
-abbrev pub is_json : ReportForm → Bool
+-- the form of an audit that is asked for by the flag
+abbrev pub is_json : AuditForm → Bool
 is_json Lines = false
 is_json Json = true
+
+-- the form of a report that is asked for by the flag; only `check` has it
+abbrev pub IsFormGiven : List Row → Form → Type 0
+IsFormGiven rows Check = IsFlagGiven (one_of (codes "json") rows) false
+IsFormGiven rows CheckJson = IsFlagGiven (one_of (codes "json") rows) true
+IsFormGiven rows Why = Unit {0}
+IsFormGiven rows Page = Unit {0}
 
 -- the captures that are asked for by the flag
 abbrev pub is_any : Captures → Bool
 is_any Classic = false
 is_any Any = true
 
--- JSON is asked for by one flag of two: spans are told in JSON alone
-pub record IsFormGiven (rows : List Row) (form : ReportForm) : Type 0 where
-  pub json : Bool
-  pub spans : Bool
-  pub json_given : IsFlagGiven (one_of (codes "json") rows) json
-  pub spans_given : IsFlagGiven (one_of (codes "spans") rows) spans
-  pub either : is_json form ≡ (json || spans)
-
--- its form is the one that was asked for; only `check` and `audit` have one
+-- its form is the one that was asked for; only a report and `audit` have one
 abbrev pub HasItsFlag : Choice → List Row → Type 0
-HasItsFlag (Check file arrived from limits form demands) rows = IsFlagGiven (one_of (codes "json") rows) (is_json form)
+HasItsFlag (Report file arrived limits form demands) rows = IsFormGiven rows form
 HasItsFlag (Show file limits captures fragments) rows = Unit {0}
-HasItsFlag (ListChoice file limits captures) rows = Unit {0}
-HasItsFlag (Audit file from limits captures form demands) rows = IsFormGiven rows form
-HasItsFlag (Why file from limits captures demands) rows = Unit {0}
-HasItsFlag (Page file arrived from limits captures demands) rows = Unit {0}
+HasItsFlag (ListChoice file limits captures fragments) rows = Unit {0}
+HasItsFlag (Audit file limits captures form asked) rows = IsFlagGiven (one_of (codes "json") rows) (is_json form)
 HasItsFlag Sample rows = Unit {0}
 
--- any captures are asked for by one flag of two
-pub record AreCapturesGiven (rows : List Row) (captures : Captures) : Type 0 where
-  pub any : Bool
-  pub strict : Bool
-  pub any_given : IsFlagGiven (one_of (codes "any") rows) any
-  pub strict_given : IsFlagGiven (one_of (codes "strict") rows) strict
-  pub either : is_any captures ≡ (any || strict)
-
--- it reads the captures that were asked for
+-- it reads the captures that were asked for; a report reads any
 abbrev pub HasItsCaptures : Choice → List Row → Type 0
-HasItsCaptures (Check file arrived from limits form demands) rows = Unit {0}
+HasItsCaptures (Report file arrived limits form demands) rows = Unit {0}
 HasItsCaptures (Show file limits captures fragments) rows = IsFlagGiven (one_of (codes "any") rows) (is_any captures)
-HasItsCaptures (ListChoice file limits captures) rows = IsFlagGiven (one_of (codes "any") rows) (is_any captures)
-HasItsCaptures (Audit file from limits captures form demands) rows = AreCapturesGiven rows captures
-HasItsCaptures (Why file from limits captures demands) rows = AreCapturesGiven rows captures
-HasItsCaptures (Page file arrived from limits captures demands) rows = AreCapturesGiven rows captures
+HasItsCaptures (ListChoice file limits captures fragments) rows = IsFlagGiven (one_of (codes "any") rows) (is_any captures)
+HasItsCaptures (Audit file limits captures form asked) rows = IsFlagGiven (one_of (codes "any") rows) (is_any captures)
 HasItsCaptures Sample rows = Unit {0}
 
 -- the number of rows that was given, and none where none was. `clap` takes no text that is none from 0 to 2^63 - 1; such a text
@@ -254,72 +216,29 @@ IsExpectGiven (Some text) expect =
 abbrev pub IsTailGiven : Option Text → ℕ → Type 0
 IsTailGiven text tail = (expect : Option ℕ) × IsExpectGiven text expect × (tail ≡ unwrap_or expect 0)
 
--- a row is clean with such a tail, and each number has to be certain where that was given
-pub record IsCleanGiven (rows : List Row) (standard : Standard) : Type 0 where
-  pub tail : ℕ
-  pub certain : Bool
-  pub tail_given : IsTailGiven (first_of (codes "TAIL") rows) tail
-  pub certain_given : IsFlagGiven (one_of (codes "certain") rows) certain
-  pub is : standard ≡ AllClean tail certain
-
--- what was given that asks more of a report: all patterns, in their order, flags, and a number
+-- what was given that is asked of a report: the first number, all patterns, in their order, two numbers, and a flag
 pub record AreDemandsGiven (rows : List Row) (demands : Demands) : Type 0 where
+  pub from : IsNumberGiven (first_of (codes "N") rows) demands.from
   pub topics : map string_bytes demands.topics.items ≡ unwrap_or (all_of (codes "PATTERN") rows) []
-  pub observed : IsFlagGiven (one_of (codes "observed") rows) demands.observed
   pub expect : IsExpectGiven (first_of (codes "PAIRS") rows) demands.expect
-  pub strict : IsFlagGiven (one_of (codes "strict") rows) demands.strict
-  pub fragments : IsFlagGiven (one_of (codes "fragments") rows) (are_read demands.fragments)
+  pub tail : IsTailGiven (first_of (codes "TAIL") rows) demands.tail
+  pub certain : IsFlagGiven (one_of (codes "certain") rows) demands.certain
 
--- of `audit` and `why`: each row has to be complete
-pub record AreReportDemandsGiven (rows : List Row) (demands : Demands) : Type 0 where
-  pub given : AreDemandsGiven rows demands
-  pub spans : IsFlagGiven (one_of (codes "spans") rows) demands.spans
-  pub standard : demands.standard ≡ AllComplete
-  pub talk : demands.talk ≡ false
+-- fragments are read where that was asked for
+abbrev pub AreFragmentsGiven : List Row → Fragments → Type 0
+AreFragmentsGiven rows fragments = IsFlagGiven (one_of (codes "fragments") rows) (are_read fragments)
 
--- what rows of a page have to be: clean where they are in spans, since the page then says of each whether it is
-abbrev pub page_standard : Bool → Standard
-page_standard true = AllClean 0 false
-page_standard false = AllComplete
+-- what was given that is asked of an audit
+pub record IsAuditGiven (rows : List Row) (asked : AskedAudit) : Type 0 where
+  pub from : IsNumberGiven (first_of (codes "N") rows) asked.from
+  pub fragments : AreFragmentsGiven rows asked.fragments
 
--- rows are in spans where there is another recording, and else where that is asked
-abbrev pub spans_beside : (name : Option Text) → Bool → Bool
-spans_beside None asked = asked
-spans_beside (Some name) asked = true
-
--- so of `page`
-pub record ArePageSpansGiven (rows : List Row) (spans : Bool) : Type 0 where
-  pub asked : Bool
-  pub given : IsFlagGiven (one_of (codes "spans") rows) asked
-  pub beside : spans ≡ spans_beside (first_of (codes "OTHER") rows) asked
-
--- of `page`
-pub record ArePageDemandsGiven (rows : List Row) (demands : Demands) : Type 0 where
-  pub given : AreDemandsGiven rows demands
-  pub spans : ArePageSpansGiven rows demands.spans
-  pub standard : demands.standard ≡ page_standard demands.spans
-  pub talk : demands.talk ≡ true
-
--- what `check` asks: the patterns and the number that were given, and all that the flags ask for
-pub record AreChecksGiven (rows : List Row) (demands : Demands) : Type 0 where
-  pub topics : map string_bytes demands.topics.items ≡ unwrap_or (all_of (codes "PATTERN") rows) []
-  pub observed : demands.observed ≡ true
-  pub expect : IsExpectGiven (first_of (codes "PAIRS") rows) demands.expect
-  pub strict : demands.strict ≡ true
-  pub fragments : demands.fragments ≡ Read
-  pub spans : demands.spans ≡ true
-  pub standard : IsCleanGiven rows demands.standard
-  pub talk : demands.talk ≡ true
-
--- it asks of its report what was given; only `check`, `audit`, `why` and `page` have one. `show` asks alone whether fragments are
--- read
+-- it asks what was given
 abbrev pub HasItsDemands : Choice → List Row → Type 0
-HasItsDemands (Check file arrived from limits form demands) rows = AreChecksGiven rows demands
-HasItsDemands (Show file limits captures fragments) rows = IsFlagGiven (one_of (codes "fragments") rows) (are_read fragments)
-HasItsDemands (ListChoice file limits captures) rows = Unit {0}
-HasItsDemands (Audit file from limits captures form demands) rows = AreReportDemandsGiven rows demands
-HasItsDemands (Why file from limits captures demands) rows = AreReportDemandsGiven rows demands
-HasItsDemands (Page file arrived from limits captures demands) rows = ArePageDemandsGiven rows demands
+HasItsDemands (Report file arrived limits form demands) rows = AreDemandsGiven rows demands
+HasItsDemands (Show file limits captures fragments) rows = AreFragmentsGiven rows fragments
+HasItsDemands (ListChoice file limits captures fragments) rows = AreFragmentsGiven rows fragments
+HasItsDemands (Audit file limits captures form asked) rows = IsAuditGiven rows asked
 HasItsDemands Sample rows = Unit {0}
 
 -- the limits are those that were given, each the usual one where it was not
@@ -329,19 +248,17 @@ pub record AreLimitsGiven (rows : List Row) (limits : Limits) : Type 0 where
 
 -- its limits are those that were given
 abbrev pub HasItsLimits : Choice → List Row → Type 0
-HasItsLimits (Check file arrived from limits form demands) rows = AreLimitsGiven rows limits
+HasItsLimits (Report file arrived limits form demands) rows = AreLimitsGiven rows limits
 HasItsLimits (Show file limits captures fragments) rows = AreLimitsGiven rows limits
-HasItsLimits (ListChoice file limits captures) rows = AreLimitsGiven rows limits
-HasItsLimits (Audit file from limits captures form demands) rows = AreLimitsGiven rows limits
-HasItsLimits (Why file from limits captures demands) rows = AreLimitsGiven rows limits
-HasItsLimits (Page file arrived from limits captures demands) rows = AreLimitsGiven rows limits
+HasItsLimits (ListChoice file limits captures fragments) rows = AreLimitsGiven rows limits
+HasItsLimits (Audit file limits captures form asked) rows = AreLimitsGiven rows limits
 HasItsLimits Sample rows = Unit {0}
 
--- the choice has the name of the subcommand that was found, its FILE, its other recording, its number, its flags, its limits, and what
--- it asks of its report
+-- the choice has the name of the subcommand that was found, its FILE, its other recording, its flag, its limits, its captures, and what it
+-- asks
 abbrev pub IsChoice : Option (Text × List Row) → Choice → Type 0
 IsChoice found choice =
-    (rows : List Row) × (found ≡ Some (subcommand_name choice, rows)) × HasItsFile choice rows × HasItsOther choice rows × HasItsNumber choice rows × HasItsFlag choice rows × HasItsLimits choice rows × HasItsCaptures choice rows × HasItsDemands choice rows
+    (rows : List Row) × (found ≡ Some (subcommand_name choice, rows)) × HasItsFile choice rows × HasItsOther choice rows × HasItsFlag choice rows × HasItsLimits choice rows × HasItsCaptures choice rows × HasItsDemands choice rows
 
 -- help and the version are answers, want of memory has no text, and any other error of `clap` refuses the words
 abbrev pub word_fault_by : ErrorKind → Error → WordFault
@@ -393,13 +310,12 @@ pub record WordsAreWanted : Type 0 where
   pub topic_of_check : faults_of_words (codes "check" ∷ codes "--topic" ∷ codes "rt/*" ∷ codes "--expect" ∷ codes "3" ∷ codes "--from" ∷ codes "2" ∷ codes "a.rec" ∷ []) ≡ []
   pub json_of_check : faults_of_words (codes "check" ∷ codes "--json" ∷ codes "a.rec" ∷ []) ≡ []
   pub fragments_of_check : faults_of_words (codes "check" ∷ codes "--fragments" ∷ codes "a.rec" ∷ []) ≡ UnknownArgument ∷ []
-  pub strict_of_check : faults_of_words (codes "check" ∷ codes "--strict" ∷ codes "a.rec" ∷ []) ≡ UnknownArgument ∷ []
   pub no_file_to_show : faults_of_words (codes "show" ∷ []) ≡ MissingRequiredArgument ∷ []
   pub no_file_to_list : faults_of_words (codes "list" ∷ []) ≡ MissingRequiredArgument ∷ []
   pub no_file_to_audit : faults_of_words (codes "audit" ∷ []) ≡ MissingRequiredArgument ∷ []
   pub no_file_to_explain : faults_of_words (codes "why" ∷ []) ≡ MissingRequiredArgument ∷ []
   pub no_file_to_page : faults_of_words (codes "page" ∷ []) ≡ MissingRequiredArgument ∷ []
-  pub page : faults_of_words (codes "page" ∷ codes "--any" ∷ codes "--from" ∷ codes "3" ∷ codes "--topic" ∷ codes "rt/*" ∷ codes "a.pcapng" ∷ []) ≡ []
+  pub page : faults_of_words (codes "page" ∷ codes "--from" ∷ codes "3" ∷ codes "--topic" ∷ codes "rt/*" ∷ codes "a.pcapng" ∷ []) ≡ []
   pub json_of_page : faults_of_words (codes "page" ∷ codes "--json" ∷ codes "a.rec" ∷ []) ≡ UnknownArgument ∷ []
   pub help : faults_of_words (codes "--help" ∷ []) ≡ DisplayHelp ∷ []
   pub version : faults_of_words (codes "--version" ∷ []) ≡ DisplayVersion ∷ []
@@ -432,37 +348,33 @@ pub record WordsAreWanted : Type 0 where
   pub any_to_show : faults_of_words (codes "show" ∷ codes "--any" ∷ codes "a.pcapng" ∷ []) ≡ []
   pub any_to_list : faults_of_words (codes "list" ∷ codes "--any" ∷ codes "a.pcapng" ∷ []) ≡ []
   pub any_to_audit : faults_of_words (codes "audit" ∷ codes "--any" ∷ codes "--json" ∷ codes "a.pcapng" ∷ []) ≡ []
-  pub any_to_explain : faults_of_words (codes "why" ∷ codes "a.pcapng" ∷ codes "--any" ∷ []) ≡ []
-  pub any_is_asked : flag_of_words (codes "any") (codes "why" ∷ codes "--any" ∷ codes "a.pcapng" ∷ []) ≡ Some (codes "true")
+  pub any_of_why : faults_of_words (codes "why" ∷ codes "a.pcapng" ∷ codes "--any" ∷ []) ≡ UnknownArgument ∷ []
+  pub any_is_asked : flag_of_words (codes "any") (codes "audit" ∷ codes "--any" ∷ codes "a.pcapng" ∷ []) ≡ Some (codes "true")
   pub no_any_is_asked : flag_of_words (codes "any") (codes "audit" ∷ codes "--json" ∷ codes "a.rec" ∷ []) ≡ Some (codes "false")
   pub fragments_to_show : faults_of_words (codes "show" ∷ codes "--fragments" ∷ codes "a.rec" ∷ []) ≡ []
   pub fragments_to_audit : faults_of_words (codes "audit" ∷ codes "--any" ∷ codes "--fragments" ∷ codes "--json" ∷ codes "a.pcapng" ∷ []) ≡ []
-  pub fragments_to_list : faults_of_words (codes "list" ∷ codes "--fragments" ∷ codes "a.rec" ∷ []) ≡ UnknownArgument ∷ []
-  pub fragments_are_asked : flag_of_words (codes "fragments") (codes "why" ∷ codes "--fragments" ∷ codes "a.rec" ∷ []) ≡ Some (codes "true")
-  pub no_fragments_are_asked : flag_of_words (codes "fragments") (codes "page" ∷ codes "--any" ∷ codes "a.pcapng" ∷ []) ≡ Some (codes "false")
-  pub topic : faults_of_words (codes "audit" ∷ codes "--topic" ∷ codes "rt/*" ∷ codes "--topic" ∷ codes "" ∷ codes "a.rec" ∷ []) ≡ []
+  pub fragments_to_list : faults_of_words (codes "list" ∷ codes "--fragments" ∷ codes "a.rec" ∷ []) ≡ []
+  pub fragments_are_asked : flag_of_words (codes "fragments") (codes "list" ∷ codes "--fragments" ∷ codes "a.rec" ∷ []) ≡ Some (codes "true")
+  pub no_fragments_are_asked : flag_of_words (codes "fragments") (codes "audit" ∷ codes "--any" ∷ codes "a.pcapng" ∷ []) ≡ Some (codes "false")
+  pub topic_of_audit : faults_of_words (codes "audit" ∷ codes "--topic" ∷ codes "rt/*" ∷ codes "a.rec" ∷ []) ≡ UnknownArgument ∷ []
   pub topics : rows_of_words (codes "PATTERN") (codes "why" ∷ codes "--topic" ∷ codes "rt/*" ∷ codes "a.rec" ∷ codes "--topic" ∷ codes "" ∷ []) ≡ Some (codes "rt/*" ∷ codes "" ∷ [])
   pub topic_of_show : faults_of_words (codes "show" ∷ codes "--topic" ∷ codes "rt/*" ∷ codes "a.rec" ∷ []) ≡ UnknownArgument ∷ []
-  pub observed : faults_of_words (codes "why" ∷ codes "--observed" ∷ codes "--strict" ∷ codes "a.rec" ∷ []) ≡ []
-  pub observed_of_list : faults_of_words (codes "list" ∷ codes "--observed" ∷ codes "a.rec" ∷ []) ≡ UnknownArgument ∷ []
-  pub least_expected : faults_of_words (codes "audit" ∷ codes "--json" ∷ codes "--expect" ∷ codes "0" ∷ codes "a.rec" ∷ []) ≡ []
+  pub observed_of_why : faults_of_words (codes "why" ∷ codes "--observed" ∷ codes "a.rec" ∷ []) ≡ UnknownArgument ∷ []
+  pub least_expected : faults_of_words (codes "check" ∷ codes "--json" ∷ codes "--expect" ∷ codes "0" ∷ codes "a.rec" ∷ []) ≡ []
   pub too_many_expected : faults_of_words (codes "why" ∷ codes "--expect" ∷ codes "9223372036854775808" ∷ codes "a.rec" ∷ []) ≡ ValueValidation ∷ []
-  pub no_number_expected : faults_of_words (codes "audit" ∷ codes "--expect" ∷ codes "x" ∷ codes "a.rec" ∷ []) ≡ ValueValidation ∷ []
-  pub expect_of_list : faults_of_words (codes "list" ∷ codes "--expect" ∷ codes "1" ∷ codes "a.rec" ∷ []) ≡ UnknownArgument ∷ []
-  pub strict_of_show : faults_of_words (codes "show" ∷ codes "--strict" ∷ codes "a.rec" ∷ []) ≡ UnknownArgument ∷ []
-  pub strict_of_sample : faults_of_words (codes "sample" ∷ codes "--strict" ∷ []) ≡ UnknownArgument ∷ []
+  pub no_number_expected : faults_of_words (codes "page" ∷ codes "--expect" ∷ codes "x" ∷ codes "a.rec" ∷ []) ≡ ValueValidation ∷ []
+  pub expect_of_audit : faults_of_words (codes "audit" ∷ codes "--expect" ∷ codes "1" ∷ codes "a.rec" ∷ []) ≡ UnknownArgument ∷ []
+  pub strict_of_audit : faults_of_words (codes "audit" ∷ codes "--strict" ∷ codes "a.rec" ∷ []) ≡ UnknownArgument ∷ []
   pub any_of_sample : faults_of_words (codes "sample" ∷ codes "--any" ∷ []) ≡ UnknownArgument ∷ []
   pub limit_of_sample : faults_of_words (codes "sample" ∷ codes "--max-octets" ∷ codes "1" ∷ []) ≡ UnknownArgument ∷ []
-  pub spans_to_audit : faults_of_words (codes "audit" ∷ codes "--spans" ∷ codes "--json" ∷ codes "a.rec" ∷ []) ≡ []
-  pub spans_are_asked : flag_of_words (codes "spans") (codes "why" ∷ codes "--spans" ∷ codes "a.rec" ∷ []) ≡ Some (codes "true")
-  pub spans_of_check : faults_of_words (codes "check" ∷ codes "--spans" ∷ codes "a.rec" ∷ []) ≡ UnknownArgument ∷ []
-  pub spans_of_list : faults_of_words (codes "list" ∷ codes "--spans" ∷ codes "a.rec" ∷ []) ≡ UnknownArgument ∷ []
+  pub spans_of_audit : faults_of_words (codes "audit" ∷ codes "--spans" ∷ codes "--json" ∷ codes "a.rec" ∷ []) ≡ UnknownArgument ∷ []
+  pub spans_of_page : faults_of_words (codes "page" ∷ codes "--spans" ∷ codes "a.rec" ∷ []) ≡ UnknownArgument ∷ []
   pub tail : faults_of_words (codes "check" ∷ codes "--tail" ∷ codes "0" ∷ codes "--certain" ∷ codes "a.rec" ∷ []) ≡ []
   pub no_number_of_a_tail : faults_of_words (codes "check" ∷ codes "--tail" ∷ codes "x" ∷ codes "a.rec" ∷ []) ≡ ValueValidation ∷ []
   pub arrived : faults_of_words (codes "check" ∷ codes "--arrived" ∷ codes "b.pcap" ∷ codes "a.pcap" ∷ []) ≡ []
   pub arrived_is_named : rows_of_words (codes "OTHER") (codes "check" ∷ codes "--arrived" ∷ codes "b.pcap" ∷ codes "a.pcap" ∷ []) ≡ Some (codes "b.pcap" ∷ [])
-  pub arrived_of_page : faults_of_words (codes "page" ∷ codes "--spans" ∷ codes "--arrived" ∷ codes "-" ∷ codes "a.pcap" ∷ []) ≡ []
+  pub arrived_of_page : faults_of_words (codes "page" ∷ codes "--arrived" ∷ codes "-" ∷ codes "a.pcap" ∷ []) ≡ []
   pub arrived_of_audit : faults_of_words (codes "audit" ∷ codes "--arrived" ∷ codes "b.pcap" ∷ codes "a.pcap" ∷ []) ≡ UnknownArgument ∷ []
-  pub arrived_of_why : faults_of_words (codes "why" ∷ codes "--arrived" ∷ codes "b.pcap" ∷ codes "a.pcap" ∷ []) ≡ UnknownArgument ∷ []
+  pub arrived_of_why : faults_of_words (codes "why" ∷ codes "--arrived" ∷ codes "b.pcap" ∷ codes "a.pcap" ∷ []) ≡ []
   pub tail_of_audit : faults_of_words (codes "audit" ∷ codes "--tail" ∷ codes "1" ∷ codes "a.rec" ∷ []) ≡ UnknownArgument ∷ []
-  pub certain_of_why : faults_of_words (codes "why" ∷ codes "--certain" ∷ codes "a.rec" ∷ []) ≡ UnknownArgument ∷ []
+  pub certain_of_why : faults_of_words (codes "why" ∷ codes "--certain" ∷ codes "--tail" ∷ codes "3" ∷ codes "a.rec" ∷ []) ≡ []

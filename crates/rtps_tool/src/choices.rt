@@ -1,18 +1,17 @@
 ghost use Rattle.std.specs.Prelude.{◌≡◌};
 ghost use Rattle.std.specs.Option.{option_map};
 ghost use Rattle.std.specs.String.{string_bytes};
-ghost use Rattle.rtps_report.specs.Asked.{asked_value};
-ghost use Rattle.rtps_tool.specs.Choices.{RunsBy, audit_command as audit_command_lem, check_command as check_command_lem, options_of, shown_with as shown_with_lem};
+ghost use Rattle.rtps_tool.specs.Choices.{RunsBy, audit_command as audit_command_lem, options_of};
+ghost use Rattle.rtps_tool.specs.Commands.{command_value};
 ghost use Rattle.rtps_tool.specs.Options.{options_value};
 ghost use Rattle.rtps_tool.specs.Words.{arrived_name, file_name};
 
-use crate::command::{Choice, ReportForm};
+use crate::command::{AuditForm, Choice};
 use crate::faults::BesideFault;
 use crate::follow::Follow;
 use crate::runs::{Command, Inputs, Options, run, run_beside, run_sample};
 use rtps_capture::Captures;
-use rtps_ids::SeqNum;
-use rtps_report::{Asked, Ending, Fragments, Watch};
+use rtps_report::{AskedAudit, Ending, Watch};
 use std::alloc::Global;
 use std::io::{Read, Write};
 
@@ -22,12 +21,10 @@ impl Choice {
         ensures { option_map (λ name. name.now) result ≡ file_name self.now }
     {
         match self {
-            Choice::Check { file, .. }
+            Choice::Report { file, .. }
             | Choice::Show { file, .. }
             | Choice::List { file, .. }
-            | Choice::Audit { file, .. }
-            | Choice::Why { file, .. }
-            | Choice::Page { file, .. } => Some(file.as_str()),
+            | Choice::Audit { file, .. } => Some(file.as_str()),
             Choice::Sample => None,
         }
     }
@@ -37,12 +34,10 @@ impl Choice {
         ensures { option_map (λ name. name.now) result ≡ arrived_name self.now }
     {
         match self {
-            Choice::Check { arrived, .. } | Choice::Page { arrived, .. } => text_of(arrived),
-            Choice::Show { .. }
-            | Choice::List { .. }
-            | Choice::Audit { .. }
-            | Choice::Why { .. }
-            | Choice::Sample => None,
+            Choice::Report { arrived, .. } => text_of(arrived),
+            Choice::Show { .. } | Choice::List { .. } | Choice::Audit { .. } | Choice::Sample => {
+                None
+            }
         }
     }
 
@@ -51,15 +46,13 @@ impl Choice {
         ensures { option_map options_value result ≡ options_of self.now }
     {
         match self {
-            Choice::Check {
-                from,
+            Choice::Report {
                 limits,
                 form,
                 demands,
                 ..
             } => Some(Options {
-                command: check_command(*form),
-                asked: demands.asked_from(*from),
+                command: Command::Report(*form, demands.asked()),
                 limits: *limits,
                 captures: Captures::Any,
             }),
@@ -69,55 +62,28 @@ impl Choice {
                 fragments,
                 ..
             } => Some(Options {
-                command: Command::Show,
-                asked: shown_with(*fragments),
+                command: Command::Show(*fragments),
                 limits: *limits,
                 captures: *captures,
             }),
             Choice::List {
                 limits,
                 captures,
+                fragments,
                 ..
             } => Some(Options {
-                command: Command::List,
-                asked: Asked::plainly(SeqNum::first()),
+                command: Command::List(*fragments),
                 limits: *limits,
                 captures: *captures,
             }),
             Choice::Audit {
-                from,
                 limits,
                 captures,
                 form,
-                demands,
+                asked,
                 ..
             } => Some(Options {
-                command: audit_command(*form),
-                asked: demands.asked_from(*from),
-                limits: *limits,
-                captures: *captures,
-            }),
-            Choice::Why {
-                from,
-                limits,
-                captures,
-                demands,
-                ..
-            } => Some(Options {
-                command: Command::Why,
-                asked: demands.asked_from(*from),
-                limits: *limits,
-                captures: *captures,
-            }),
-            Choice::Page {
-                from,
-                limits,
-                captures,
-                demands,
-                ..
-            } => Some(Options {
-                command: Command::Page,
-                asked: demands.asked_from(*from),
+                command: audit_command(*form, *asked),
                 limits: *limits,
                 captures: *captures,
             }),
@@ -136,33 +102,13 @@ fn text_of(name: &Option<String>) -> Option<&str>
     }
 }
 
-/// What `show` asks: that samples in fragments are read, or not.
-fn shown_with(fragments: Fragments) -> Asked<'static>
-    ensures { asked_value result ≡ shown_with_lem fragments }
-{
-    Asked {
-        fragments,
-        ..Asked::plainly(SeqNum::first())
-    }
-}
-
-/// What prints a check in this form.
-fn check_command(form: ReportForm) -> Command
-    ensures { result ≡ check_command_lem form }
-{
-    match form {
-        ReportForm::Lines => Command::Check,
-        ReportForm::Json => Command::CheckJson,
-    }
-}
-
 /// What prints an audit in this form.
-fn audit_command(form: ReportForm) -> Command
-    ensures { result ≡ audit_command_lem form }
+fn audit_command<'a>(form: AuditForm, asked: AskedAudit) -> Command<'a>
+    ensures { command_value result ≡ audit_command_lem form asked }
 {
     match form {
-        ReportForm::Lines => Command::Audit,
-        ReportForm::Json => Command::Json,
+        AuditForm::Lines => Command::Audit(asked),
+        AuditForm::Json => Command::Json(asked),
     }
 }
 

@@ -1,28 +1,26 @@
-ghost use Rattle.std.specs.Prelude.{◌≡◌, ◌≢◌, ◌⊎◌, ◌↔◌, ◌||◌, true, false, codes, Some, IfOk, IfErr, IsTrue, OnOk, [], MatchOption, map, unwrap_or};
+ghost use Rattle.std.specs.Prelude.{◌≡◌, ◌≢◌, ◌⊎◌, ◌↔◌, true, false, codes, Some, IfOk, IfErr, IsTrue, OnOk, [], MatchOption, map, unwrap_or};
 ghost use Rattle.std.specs.Option.{option_map};
 ghost use Rattle.std.specs.String.{string_bytes};
 ghost use Rattle.clap.specs.Words.{app_of, fault_of, first_of, found_of, new_app, one_of, rows_of, rule_of, subcommand_of, subcommand_rows_of, takes};
 ghost use Rattle.clap.specs.declared.builder.command.Command.TheViews.{out-Command};
 ghost use Rattle.rtps_report.specs.Asked.{are_read};
-ghost use Rattle.rtps_tool.specs.Words.{bare_program as bare_app, audit_app, check_app, fragments_app, limited_app, flag_rule, is_any, is_json, number_rule, program as program_app, reading_app, page_app, report_app, arrived_rule, AreCapturesGiven, IsReadTwice, AreLimitsGiven, IsChoice, IsFlagGiven, IsGivenOr, IsNumberGiven, IsOneOf, HasItsKind, IsFormGiven};
+ghost use Rattle.rtps_tool.specs.Words.{bare_program as bare_app, audit_app, check_app, form_name, fragments_app, limited_app, flag_rule, is_any, is_json, number_rule, program as program_app, reading_app, report_app, arrived_rule, IsReadTwice, AreLimitsGiven, IsChoice, IsFlagGiven, IsGivenOr, IsNumberGiven, IsOneOf, HasItsKind, IsFormGiven};
 
-use crate::demands::{
-    Demands, checks_of, demands_of, page_demands_of, with_demands, with_rows, with_standard,
-};
-use crate::runs::Limits;
+use crate::demands::{Demands, demands_of, with_rows, with_standard};
+use crate::runs::{Form, Limits};
 use clap::builder::ValueParser;
 use clap::error::ErrorKind;
 use clap::{Arg, ArgAction, ArgMatches, Command};
 use rtps_capture::Captures;
 use rtps_ids::SeqNum;
-use rtps_report::Fragments;
+use rtps_report::{AskedAudit, Fragments};
 use std::alloc::{AllocError, Global};
 use std::fmt;
 use thiserror::Error;
 
-/// How a report is printed.
+/// How an audit is printed.
 #[derive(Clone, Copy)]
-pub enum ReportForm {
+pub enum AuditForm {
     /// As lines of text.
     Lines,
     /// As one JSON object, with what each verdict rests on.
@@ -33,14 +31,13 @@ pub enum ReportForm {
 /// are read.
 #[derive(Drop)]
 pub enum Choice {
-    /// Say which topics lost data, of the writers' numbers from `from` on, and what to do. Any capture is read. What arrived is what
-    /// the recording `arrived` has, which was made at the host of readers, if there is one.
-    Check {
+    /// Tell a report in a form. Any capture is read. What arrived is what the recording `arrived` has, which was made at the host of
+    /// readers, if there is one.
+    Report {
         file: String,
         arrived: Option<String>,
-        from: SeqNum,
         limits: Limits,
-        form: ReportForm,
+        form: Form,
         demands: Demands,
     },
     /// Show each datagram and its submessages.
@@ -55,33 +52,15 @@ pub enum Choice {
         file: String,
         limits: Limits,
         captures: Captures,
+        fragments: Fragments,
     },
-    /// Judge for each reliable writer and reader that match whether the reader got all data, of the writer's numbers from
-    /// `from` on.
+    /// Judge for each reliable writer and reader that match whether the reader got all data.
     Audit {
         file: String,
-        from: SeqNum,
         limits: Limits,
         captures: Captures,
-        form: ReportForm,
-        demands: Demands,
-    },
-    /// Say for each verdict of such an audit what it rests on, place by place.
-    Why {
-        file: String,
-        from: SeqNum,
-        limits: Limits,
-        captures: Captures,
-        demands: Demands,
-    },
-    /// Make a page of such an audit, to look at. What arrived is what the recording `arrived` has, if there is one.
-    Page {
-        file: String,
-        arrived: Option<String>,
-        from: SeqNum,
-        limits: Limits,
-        captures: Captures,
-        demands: Demands,
+        form: AuditForm,
+        asked: AskedAudit,
     },
     /// Write a recording to try.
     Sample,
@@ -149,7 +128,7 @@ impl From<clap::Error> for WordFault {
 pub(crate) const GREATEST: u64 = 9_223_372_036_854_775_807;
 
 /// The version of the program.
-const VERSION: &str = "0.1.0";
+const VERSION: &str = "0.2.0";
 
 const FILE_HELP: &str =
     "A capture, or a text with one datagram a line in hexadecimal digits; - is standard input";
@@ -175,10 +154,6 @@ const ARRIVED_HELP: &str =
     "A second recording of the same time, made at the host of readers: its samples reached that host; \
     - is standard input";
 
-const PAGE_ARRIVED_HELP: &str =
-    "A second recording of the same time, made at the host of readers: its samples reached that host; \
-    - is standard input. Sets --spans";
-
 /// What is told where both recordings are standard input. Its form is that of what `clap` tells.
 const BOTH_INPUT: &str =
     "error: the argument '--arrived <OTHER>' cannot be standard input: FILE is\n\n\
@@ -186,8 +161,7 @@ const BOTH_INPUT: &str =
 
 const JSON_HELP: &str = "Print one JSON object, with what each verdict rests on";
 
-const STATUSES: &str = "Status: 0 all is well, also if there is no pair; 1 a pair is not complete \
-    (page --spans: a pair is not clean, or does not match), or what an option asks for is not so; \
+const STATUSES: &str = "Status: 0 all is well, also if there is no pair; 1 a pair is not complete; \
     2 the arguments or the recording are refused; 3 input, output or memory failed";
 
 const PLAIN_STATUSES: &str = "Status: 0 all is printed; \
@@ -198,20 +172,23 @@ const NEWCOMERS: &str = "A FILE is what was sent in a test: a capture, as tcpdum
 
   tcpdump -i eth0 -w test.pcap udp          records a test, until it is interrupted
   rtps-audit check test.pcap                says which topics lost data, and what to do
+  rtps-audit why test.pcap                  says which datagrams each verdict rests on
+  rtps-audit page test.pcap > test.html     makes a page of this, to look at in a browser
   rtps-audit audit test.pcap                says whether each reader acknowledged all samples
-  rtps-audit why test.pcap                  says which datagrams each of these verdicts rests on
-  rtps-audit page test.pcap > test.html     makes a page of them, to look at in a browser
-  rtps-audit sample | rtps-audit audit -    tries this program
+  rtps-audit sample | rtps-audit check -    tries this program
 
-check reads any capture, and samples in DATA_FRAG. What one usually wants of audit, why and page is
-the same: rtps-audit audit --any --fragments test.pcapng
+check, why and page tell one report: they read any capture, and samples in DATA_FRAG. The others do so
+where they are asked to: rtps-audit audit --any --fragments test.pcapng
 
-Status: 0 all is well, also if there is no pair, but for check; 1 a pair is not complete, or check or page --spans is not clean; \
+Status: 0 all is well; 1 not clean, or of audit a pair is not complete; \
     2 the arguments or the recording are refused; 3 input, output or memory failed";
 
 const CHECKS: &str = "Says which topics lost data, and what to do: for a person and for a test job";
 
-const CHECK_STATUSES: &str = "Status: 0 clean; 1 not clean: the last line says why; \
+const REPORT_STATUSES: &str = "Status: 0 clean; 1 not clean: the last line says why; \
+    2 the arguments or the recording are refused; 3 input, output or memory failed";
+
+const PAGE_STATUSES: &str = "Status: 0 clean; 1 not clean: the page says why; \
     2 the arguments or the recording are refused; 3 input, output or memory failed";
 
 const SHOWS: &str = "Shows each datagram of a recording and its submessages";
@@ -221,9 +198,10 @@ const LISTS: &str = "Lists participants, endpoints and pairs of writers and read
 const AUDITS: &str =
     "Says for each reliable writer and reader that match whether the reader acknowledged all samples";
 
-const EXPLAINS: &str = "Prints the report of audit, with the datagrams that each row rests on";
+const EXPLAINS: &str =
+    "Prints each pair of the report of check, with the datagrams that its verdict rests on";
 
-const PAGES: &str = "Writes the report of audit as a page to look at in a browser, with charts";
+const PAGES: &str = "Writes the report of check as a page to look at in a browser, with charts";
 
 const SAMPLES: &str = "Writes an example recording, which audit finds complete";
 
@@ -251,14 +229,14 @@ pub(crate) fn flag<'a>(alloc: Global, name: &'a str, help: &'a str) -> Arg<'a>
 }
 
 /// The option that names another recording.
-fn arrived_option<'a>(alloc: Global, help: &'a str) -> Arg<'a>
+fn arrived_option<'a>(alloc: Global) -> Arg<'a>
     ensures rule { rule_of result ≡ arrived_rule }
     ensures local { result.global ≡ false }
 {
     Arg::new(alloc, "OTHER")
         .long("arrived")
         .action(ArgAction::Set)
-        .help(help)
+        .help(ARRIVED_HELP)
 }
 
 /// A subcommand that reads a FILE within two limits, and ends with one of these statuses.
@@ -310,52 +288,43 @@ fn fragments_subcommand<'a>(
     reading.arg(flag(alloc, "fragments", FRAGMENTS_HELP))
 }
 
-/// The subcommand `check`: it reads a FILE, asks for numbers from some number on, chooses rows, and prints JSON where it is
-/// asked to.
-fn check_subcommand<'a>(alloc: Global) -> Result<Command<'a>, AllocError>
-    ensures app { IfOk result (λ command. app_of command ≡ check_app) }
-    ensures local { IfOk result (λ command. (out-Command command).has_globals ≡ false) }
-{
-    let from = number_option(alloc, "N", "from", FROM_HELP);
-    let limited = limited_subcommand(alloc, "check", CHECKS, CHECK_STATUSES)?;
-    let numbered = limited.arg(from)?;
-    let chosen = with_rows(alloc, numbered)?;
-    let held = with_standard(alloc, chosen)?;
-    let beside = held.arg(arrived_option(alloc, ARRIVED_HELP))?;
-    beside.arg(flag(alloc, "json", JSON_HELP))
-}
-
-/// A subcommand that judges: it reads a FILE, asks for numbers from some number on, and may ask more of its report.
+/// A subcommand that tells a report: it reads a FILE, asks for numbers from some number on, chooses rows, says when one is clean, and may
+/// have another recording.
 fn report_subcommand<'a>(
     alloc: Global,
     name: &'a str,
     about: &'a str,
+    statuses: &'a str,
 ) -> Result<Command<'a>, AllocError>
     ensures app { IfOk result (λ command. app_of command ≡ report_app name.now) }
     ensures local { IfOk result (λ command. (out-Command command).has_globals ≡ false) }
 {
     let from = number_option(alloc, "N", "from", FROM_HELP);
-    let reading = fragments_subcommand(alloc, name, about, STATUSES)?;
-    let numbered = reading.arg(from)?;
-    with_demands(alloc, numbered)
+    let limited = limited_subcommand(alloc, name, about, statuses)?;
+    let numbered = limited.arg(from)?;
+    let chosen = with_rows(alloc, numbered)?;
+    let held = with_standard(alloc, chosen)?;
+    held.arg(arrived_option(alloc))
 }
 
-/// The subcommand `audit`, which judges, and prints JSON where it is asked to.
+/// The subcommand `check`, which tells a report, and prints JSON where it is asked to.
+fn check_subcommand<'a>(alloc: Global) -> Result<Command<'a>, AllocError>
+    ensures app { IfOk result (λ command. app_of command ≡ check_app) }
+    ensures local { IfOk result (λ command. (out-Command command).has_globals ≡ false) }
+{
+    let report = report_subcommand(alloc, "check", CHECKS, REPORT_STATUSES)?;
+    report.arg(flag(alloc, "json", JSON_HELP))
+}
+
+/// The subcommand `audit`, which judges by the numbers from some number on, and prints JSON where it is asked to.
 fn audit_subcommand<'a>(alloc: Global) -> Result<Command<'a>, AllocError>
     ensures app { IfOk result (λ command. app_of command ≡ audit_app) }
     ensures local { IfOk result (λ command. (out-Command command).has_globals ≡ false) }
 {
-    let report = report_subcommand(alloc, "audit", AUDITS)?;
-    report.arg(flag(alloc, "json", JSON_HELP))
-}
-
-/// The subcommand `page`, which judges, and may have another recording.
-fn page_subcommand<'a>(alloc: Global) -> Result<Command<'a>, AllocError>
-    ensures app { IfOk result (λ command. app_of command ≡ page_app) }
-    ensures local { IfOk result (λ command. (out-Command command).has_globals ≡ false) }
-{
-    let report = report_subcommand(alloc, "page", PAGES)?;
-    report.arg(arrived_option(alloc, PAGE_ARRIVED_HELP))
+    let from = number_option(alloc, "N", "from", FROM_HELP);
+    let reading = fragments_subcommand(alloc, "audit", AUDITS, STATUSES)?;
+    let numbered = reading.arg(from)?;
+    numbered.arg(flag(alloc, "json", JSON_HELP))
 }
 
 /// A subcommand that reads nothing.
@@ -387,13 +356,13 @@ fn program<'a>(alloc: Global) -> Result<Command<'a>, AllocError>
     let zero = bare_program(alloc).subcommand(check)?;
     let show = fragments_subcommand(alloc, "show", SHOWS, PLAIN_STATUSES)?;
     let one = zero.subcommand(show)?;
-    let list = reading_subcommand(alloc, "list", LISTS, PLAIN_STATUSES)?;
+    let list = fragments_subcommand(alloc, "list", LISTS, PLAIN_STATUSES)?;
     let two = one.subcommand(list)?;
     let audit = audit_subcommand(alloc)?;
     let three = two.subcommand(audit)?;
-    let why = report_subcommand(alloc, "why", EXPLAINS)?;
+    let why = report_subcommand(alloc, "why", EXPLAINS, REPORT_STATUSES)?;
     let four = three.subcommand(why)?;
-    let page = page_subcommand(alloc)?;
+    let page = report_subcommand(alloc, "page", PAGES, PAGE_STATUSES)?;
     let five = four.subcommand(page)?;
     five.subcommand(plain_subcommand(alloc, "sample", SAMPLES))
 }
@@ -418,7 +387,7 @@ fn number_in(text: &str) -> SeqNum
 }
 
 /// The number from which on is asked; 1 where none is given.
-fn number_of(found: &ArgMatches) -> SeqNum
+pub(crate) fn number_of(found: &ArgMatches) -> SeqNum
     ensures { IsNumberGiven (first_of (codes "N") (rows_of (found_of found.now))) result }
 {
     match found.get_str("N") {
@@ -465,35 +434,27 @@ pub(crate) fn is_given(found: &ArgMatches, name: &str) -> bool
     found.get_flag(name)
 }
 
-/// The form that is asked for.
-fn form_of(found: &ArgMatches) -> ReportForm
+/// The form of an audit that is asked for.
+fn audit_form_of(found: &ArgMatches) -> AuditForm
     ensures { IsFlagGiven (one_of (codes "json") (rows_of (found_of found.now))) (is_json result) }
 {
     if is_given(found, "json") {
-        ReportForm::Json
+        AuditForm::Json
     } else {
-        ReportForm::Lines
+        AuditForm::Lines
     }
 }
 
-/// The form that is asked for by one flag of two.
-fn form_by(json: bool, spans: bool) -> ReportForm
-    ensures { is_json result ≡ (json || spans) }
+/// The form of `check` that is asked for.
+fn check_form_of(found: &ArgMatches) -> Form
+    ensures given { IsFormGiven (rows_of (found_of found.now)) result }
+    ensures of_check { form_name result ≡ codes "check" }
 {
-    if json || spans {
-        ReportForm::Json
+    if is_given(found, "json") {
+        Form::CheckJson
     } else {
-        ReportForm::Lines
+        Form::Check
     }
-}
-
-/// The form that is asked for, also by `--spans`.
-fn audit_form_of(found: &ArgMatches) -> ReportForm
-    ensures { IsFormGiven (rows_of (found_of found.now)) result }
-{
-    let json = is_given(found, "json");
-    let spans = is_given(found, "spans");
-    form_by(json, spans)
 }
 
 /// What is asked to become of samples in fragments.
@@ -518,26 +479,6 @@ fn captures_of(found: &ArgMatches) -> Captures
     }
 }
 
-/// The captures that are asked for by one flag of two.
-fn captures_by(any: bool, strict: bool) -> Captures
-    ensures { is_any result ≡ (any || strict) }
-{
-    if any || strict {
-        Captures::Any
-    } else {
-        Captures::Classic
-    }
-}
-
-/// The captures that are asked for, also by `--strict`.
-fn report_captures_of(found: &ArgMatches) -> Captures
-    ensures { AreCapturesGiven (rows_of (found_of found.now)) result }
-{
-    let any = is_given(found, "any");
-    let strict = is_given(found, "strict");
-    captures_by(any, strict)
-}
-
 /// The other recording that is given, if one is.
 fn arrived_of(alloc: Global, found: &ArgMatches) -> Result<Option<String>, AllocError>
     ensures { IfOk result (λ arrived. option_map string_bytes arrived ≡ first_of (codes "OTHER") (rows_of (found_of found.now))) }
@@ -551,18 +492,25 @@ fn arrived_of(alloc: Global, found: &ArgMatches) -> Result<Option<String>, Alloc
     }
 }
 
+/// What the matches of a subcommand that tells a report choose, in a form that is given.
+fn report_of(alloc: Global, found: &ArgMatches, form: Form) -> Result<Choice, AllocError>
+    requires { IsFormGiven (rows_of (found_of found.now)) form }
+    ensures { IfOk result (IsChoice (Some (form_name form, rows_of (found_of found.now)))) }
+{
+    Ok(Choice::Report {
+        file: file_of(alloc, found)?,
+        arrived: arrived_of(alloc, found)?,
+        limits: limits_of(found),
+        form,
+        demands: demands_of(alloc, found)?,
+    })
+}
+
 /// What the matches of `check` choose.
 fn check_of(alloc: Global, check: &ArgMatches) -> Result<Choice, AllocError>
     ensures { IfOk result (IsChoice (Some (codes "check", rows_of (found_of check.now)))) }
 {
-    Ok(Choice::Check {
-        file: file_of(alloc, check)?,
-        arrived: arrived_of(alloc, check)?,
-        from: number_of(check),
-        limits: limits_of(check),
-        form: form_of(check),
-        demands: checks_of(alloc, check)?,
-    })
+    report_of(alloc, check, check_form_of(check))
 }
 
 /// What the matches of `show` choose.
@@ -585,6 +533,7 @@ fn list_of(alloc: Global, list: &ArgMatches) -> Result<Choice, AllocError>
         file: file_of(alloc, list)?,
         limits: limits_of(list),
         captures: captures_of(list),
+        fragments: fragments_of(list),
     })
 }
 
@@ -592,41 +541,16 @@ fn list_of(alloc: Global, list: &ArgMatches) -> Result<Choice, AllocError>
 fn audit_of(alloc: Global, audit: &ArgMatches) -> Result<Choice, AllocError>
     ensures { IfOk result (IsChoice (Some (codes "audit", rows_of (found_of audit.now)))) }
 {
-    let from = number_of(audit);
+    let asked = AskedAudit {
+        from: number_of(audit),
+        fragments: fragments_of(audit),
+    };
     Ok(Choice::Audit {
         file: file_of(alloc, audit)?,
-        from,
         limits: limits_of(audit),
-        captures: report_captures_of(audit),
+        captures: captures_of(audit),
         form: audit_form_of(audit),
-        demands: demands_of(alloc, audit)?,
-    })
-}
-
-/// What the matches of `why` choose.
-fn why_of(alloc: Global, why: &ArgMatches) -> Result<Choice, AllocError>
-    ensures { IfOk result (IsChoice (Some (codes "why", rows_of (found_of why.now)))) }
-{
-    Ok(Choice::Why {
-        file: file_of(alloc, why)?,
-        from: number_of(why),
-        limits: limits_of(why),
-        captures: report_captures_of(why),
-        demands: demands_of(alloc, why)?,
-    })
-}
-
-/// What the matches of `page` choose.
-fn page_of(alloc: Global, page: &ArgMatches) -> Result<Choice, AllocError>
-    ensures { IfOk result (IsChoice (Some (codes "page", rows_of (found_of page.now)))) }
-{
-    Ok(Choice::Page {
-        file: file_of(alloc, page)?,
-        arrived: arrived_of(alloc, page)?,
-        from: number_of(page),
-        limits: limits_of(page),
-        captures: report_captures_of(page),
-        demands: page_demands_of(alloc, page)?,
+        asked,
     })
 }
 
@@ -649,10 +573,10 @@ fn choice_of(alloc: Global, matches: &ArgMatches) -> Result<Option<Choice>, Allo
         return Ok(Some(audit_of(alloc, audit)?));
     }
     if let Some(why) = matches.subcommand_matches("why") {
-        return Ok(Some(why_of(alloc, why)?));
+        return Ok(Some(report_of(alloc, why, Form::Why)?));
     }
     if let Some(page) = matches.subcommand_matches("page") {
-        return Ok(Some(page_of(alloc, page)?));
+        return Ok(Some(report_of(alloc, page, Form::Page)?));
     }
     if matches.subcommand_matches("sample").is_some() {
         return Ok(Some(Choice::Sample));
@@ -664,7 +588,7 @@ fn choice_of(alloc: Global, matches: &ArgMatches) -> Result<Option<Choice>, Allo
 /// can be run: they are refused, they ask for help or for the version, both recordings are standard input, or there was no memory to
 /// read them.
 pub fn read_words<'a>(alloc: Global, words: &'a [&'a str]) -> Result<Choice, WordFault>
-    // The subcommand, the FILE, the other recording, the number, the flags and the limits are those of the matches that `clap` defines for
+    // The subcommand, the FILE, the other recording, what is asked, the flags and the limits are those of the matches that `clap` defines for
     // the words.
     ensures chosen { IfOk result (IsChoice (subcommand_of program_app (map (λ word. word.now) words.now))) }
 

@@ -2,56 +2,44 @@ ghost use Rattle.std.specs.Prelude.{◌≡◌, [], IfOk, Some, codes, false, map
 ghost use Rattle.std.specs.String.{string_bytes};
 ghost use Rattle.clap.specs.Words.{all_of, app_of, first_of, found_of, rows_of, rule_of, with_rule};
 ghost use Rattle.clap.specs.declared.builder.command.Command.TheViews.{out-Command};
-ghost use Rattle.rtps_tool.specs.Words.{AreChecksGiven, ArePageDemandsGiven, ArePageSpansGiven, AreReportDemandsGiven, IsExpectGiven, IsTailGiven, demanding, expect_rule, flag_rule, page_standard as page_standard_lem, pattern_rule, tail_rule};
+ghost use Rattle.rtps_tool.specs.Words.{AreDemandsGiven, IsExpectGiven, IsTailGiven, expect_rule, flag_rule, pattern_rule, tail_rule};
 
-use crate::command::{GREATEST, flag, fragments_of, is_given};
+use crate::command::{GREATEST, flag, is_given, number_of};
 use clap::builder::ValueParser;
 use clap::{Arg, ArgAction, ArgMatches, Command};
 use rtps_ids::SeqNum;
-use rtps_report::{Asked, Fragments, Rows, Standard};
+use rtps_report::Asked;
 use std::alloc::{AllocError, Global};
 
-/// What the words ask of a report, beside the number from which on it asks.
+/// What the words ask of a report.
 #[derive(Drop)]
 pub struct Demands {
+    /// The number from which on is asked.
+    pub from: SeqNum,
     /// Patterns, one of which each topic fits by its name, of DDS or of ROS 2; all topics where there is none.
     pub topics: Vec<String>,
-    /// Only rows of pairs that the recording can speak of.
-    pub observed: bool,
     /// How many rows there have to be, or more.
     pub expect: Option<u64>,
-    /// That nothing weakens the report.
-    pub strict: bool,
-    /// What becomes of samples that come in fragments.
-    pub fragments: Fragments,
-    /// That each row is in the span of its pair.
-    pub spans: bool,
-    /// What each row has to be.
-    pub standard: Standard,
-    /// That it is told who does not talk.
-    pub talk: bool,
+    /// The most numbers that the tail of a clean row may have.
+    pub tail: u64,
+    /// Whether each number has to be received for certain.
+    pub certain: bool,
 }
 
 impl Demands {
     ghost use Rattle.rtps_report.specs.Asked.{asked_value};
     ghost use Rattle.rtps_tool.specs.Options.{asked_by};
 
-    /// What they ask, by the numbers from `from` on.
-    pub(crate) fn asked_from(&self, from: SeqNum) -> Asked<'_>
-        ensures { asked_value result ≡ asked_by self.now from }
+    /// What they ask.
+    pub(crate) fn asked(&self) -> Asked<'_>
+        ensures { asked_value result ≡ asked_by self.now }
     {
         Asked {
-            from,
-            rows: Rows {
-                topics: &self.topics,
-                observed: self.observed,
-            },
+            from: self.from,
+            topics: &self.topics,
             expect: self.expect,
-            strict: self.strict,
-            fragments: self.fragments,
-            spans: self.spans,
-            standard: self.standard,
-            talk: self.talk,
+            tail: self.tail,
+            certain: self.certain,
         }
     }
 }
@@ -60,21 +48,8 @@ const TOPIC_HELP: &str =
     "Only topics whose name, of DDS or of ROS 2, is PATTERN, in which * stands for any octets; \
     given again, any of them";
 
-const OBSERVED_HELP: &str =
-    "Only rows of pairs that the recording can speak of: the reader's participant sends \
-    to the writer's by name";
-
 const EXPECT_HELP: &str =
     "Status 1 also if the report has fewer rows than this, 0 to 9223372036854775807";
-
-const STRICT_HELP: &str =
-    "Status 1 also if there is no row, a row has missed numbers, or something of \
-    the recording is left out: fragments, unsettled endpoints, frames in pieces, cut, or of \
-    links that are not read. Sets --any";
-
-const SPANS_HELP: &str =
-    "Each row from the first number that was for the reader on, until the reader left, \
-    with what became of its numbers; audit prints it as JSON";
 
 const TAIL_HELP: &str =
     "A pair is clean though the last numbers, N at most, are not acknowledged and \
@@ -140,22 +115,6 @@ pub(crate) fn with_rows<'a>(alloc: Global, command: Command<'a>) -> Result<Comma
     one.arg(expect_option(alloc))
 }
 
-/// A subcommand with the options that ask more of a report.
-pub(crate) fn with_demands<'a>(
-    alloc: Global,
-    command: Command<'a>,
-) -> Result<Command<'a>, AllocError>
-    requires { (out-Command command).has_globals ≡ false }
-    ensures app { IfOk result (λ made. app_of made ≡ demanding (app_of command.entry)) }
-    ensures local { IfOk result (λ made. (out-Command made).has_globals ≡ false) }
-{
-    let one = command.arg(pattern_option(alloc))?;
-    let two = one.arg(flag(alloc, "observed", OBSERVED_HELP))?;
-    let three = two.arg(expect_option(alloc))?;
-    let four = three.arg(flag(alloc, "strict", STRICT_HELP))?;
-    four.arg(flag(alloc, "spans", SPANS_HELP))
-}
-
 /// The texts as texts of their own.
 fn owned(alloc: Global, texts: &[&str]) -> Result<Vec<String>, AllocError>
     ensures { IfOk result (λ made. map string_bytes made.items ≡ map (λ text. text.now) texts.now) }
@@ -210,74 +169,13 @@ fn tail_of(found: &ArgMatches) -> u64
 
 /// What the matches of a subcommand ask of a report.
 pub(crate) fn demands_of(alloc: Global, found: &ArgMatches) -> Result<Demands, AllocError>
-    ensures { IfOk result (AreReportDemandsGiven (rows_of (found_of found.now))) }
+    ensures { IfOk result (AreDemandsGiven (rows_of (found_of found.now))) }
 {
     Ok(Demands {
+        from: number_of(found),
         topics: topics_of(alloc, found)?,
-        observed: is_given(found, "observed"),
         expect: expect_of(found),
-        strict: is_given(found, "strict"),
-        fragments: fragments_of(found),
-        spans: is_given(found, "spans"),
-        standard: Standard::AllComplete,
-        talk: false,
-    })
-}
-
-/// What rows of a page have to be: clean where they are in spans, since the page then says of each whether it is.
-fn page_standard(spans: bool) -> Standard
-    ensures { result ≡ page_standard_lem spans }
-{
-    if spans {
-        Standard::AllClean {
-            tail: 0,
-            certain: false,
-        }
-    } else {
-        Standard::AllComplete
-    }
-}
-
-/// Whether rows of a page are in spans: where there is another recording, or that is asked.
-fn page_spans_of(found: &ArgMatches) -> bool
-    ensures { ArePageSpansGiven (rows_of (found_of found.now)) result }
-{
-    let asked = is_given(found, "spans");
-    match found.get_str("OTHER") {
-        Some(_) => true,
-        None => asked,
-    }
-}
-
-/// What the matches of `page` ask.
-pub(crate) fn page_demands_of(alloc: Global, found: &ArgMatches) -> Result<Demands, AllocError>
-    ensures { IfOk result (ArePageDemandsGiven (rows_of (found_of found.now))) }
-{
-    let demands = demands_of(alloc, found)?;
-    let spans = page_spans_of(found);
-    Ok(Demands {
-        spans,
-        standard: page_standard(spans),
-        talk: true,
-        ..demands
-    })
-}
-
-/// What the matches of `check` ask: all that a job may ask.
-pub(crate) fn checks_of(alloc: Global, found: &ArgMatches) -> Result<Demands, AllocError>
-    ensures { IfOk result (AreChecksGiven (rows_of (found_of found.now))) }
-{
-    Ok(Demands {
-        topics: topics_of(alloc, found)?,
-        observed: true,
-        expect: expect_of(found),
-        strict: true,
-        fragments: Fragments::Read,
-        spans: true,
-        standard: Standard::AllClean {
-            tail: tail_of(found),
-            certain: is_given(found, "certain"),
-        },
-        talk: true,
+        tail: tail_of(found),
+        certain: is_given(found, "certain"),
     })
 }

@@ -5,6 +5,7 @@ ghost use Rattle.rtps_tool.specs.Statuses.{fault_status_of, status_of};
 
 use rtps_capture::CaptureFault;
 use rtps_ids::Memory;
+use rtps_parts::NameOctets;
 use rtps_report::Ending;
 use std::alloc::{AllocError, AllocFailed};
 use std::fmt;
@@ -250,10 +251,12 @@ pub fn write_fault<W: Write>(fault: &RunFault, output: &mut W) -> bool
     writeln!(output, "rtps-audit: {fault}").is_ok()
 }
 
-/// Writes the line that tells of a fault of the other recording: `rtps-audit: `, its name, a colon and a space, the fault's text and LF.
+/// Writes the line that tells of a fault of the other recording: `rtps-audit: `, its name as `list` writes one between quotes, a colon
+/// and a space, the fault's text and LF.
 /// Where it answers true, the line was written. Where it answers false, nothing is promised, as of [`write_fault`].
 pub fn write_other_fault<W: Write>(name: &str, fault: &RunFault, output: &mut W) -> bool
     ensures { result ≡ true → Appends (W.contents output.old) (W.contents output.new) (other_fault_line name.now fault.now) }
 {
+    let name = NameOctets(name.as_bytes());
     writeln!(output, "rtps-audit: {name}: {fault}").is_ok()
 }

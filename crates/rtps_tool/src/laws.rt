@@ -1,9 +1,13 @@
 //! Laws of the definitions, as contracts of functions that do nothing.
 
-ghost use Rattle.std.specs.Prelude.{ℕ};
+ghost use Rattle.std.specs.Prelude.{Option};
+ghost use Rattle.rtps_fragments.specs.declared.fragments.Fragments.{Fragments};
 ghost use Rattle.rtps_report.specs.Asked.{AskedValue};
-ghost use Rattle.rtps_text.specs.ReportText.{IsAuditedAs, IsAuditedFrom, IsJsonTextAs, IsJsonTextFrom, IsExplainedTextAs, IsExplainedTextFrom};
-ghost use Rattle.rtps_text.specs.ListText.{IsListed};
+ghost use Rattle.rtps_report.specs.Recording.{RecordingValue};
+ghost use Rattle.rtps_report.specs.declared.audited.AskedAudit.{AskedAudit};
+ghost use Rattle.rtps_text.specs.ReportText.{IsAuditedAs, IsJsonTextAs};
+ghost use Rattle.rtps_text.specs.WhyText.{IsWhyAs};
+ghost use Rattle.rtps_text.specs.ListText.{IsListedWith};
 ghost use Rattle.rtps_text.specs.ShowText.{IsShown};
 ghost use Rattle.rtps_tool.specs.Laws.{NoTextBeginsAsACapture, RunsAgree, RunsAgreeWithin, StaysWithin, TextsStayTexts};
 ghost use Rattle.rtps_tool.specs.Words.{WordsAreWanted};
@@ -19,16 +23,13 @@ pub fn words_are_wanted()
 
 /// What a run prints, and how it ends, is decided by what it reads, and of `audit` and `why` also by what they
 /// ask, such as the number from which on: two runs of `show`, of `list`, of `audit`, of `audit --json` or of `why` over the same octets that both
-/// end well end in the same way and write the same text.
+/// end well end in the same way and write the same text. Of `why` that is so beside the same other recording, too.
 pub fn runs_agree()
     ensures show { RunsAgree IsShown }
-    ensures list { RunsAgree IsListed }
-    ensures audit { (from : ℕ) → RunsAgree (IsAuditedFrom from) }
-    ensures json { (from : ℕ) → RunsAgree (IsJsonTextFrom from) }
-    ensures why { (from : ℕ) → RunsAgree (IsExplainedTextFrom from) }
-    ensures audit_as { (asked : AskedValue) → RunsAgree (IsAuditedAs asked) }
-    ensures json_as { (asked : AskedValue) → RunsAgree (IsJsonTextAs asked) }
-    ensures why_as { (asked : AskedValue) → RunsAgree (IsExplainedTextAs asked) }
+    ensures list { (choice : Fragments) → RunsAgree (IsListedWith choice) }
+    ensures audit { (asked : AskedAudit) → RunsAgree (IsAuditedAs asked) }
+    ensures json { (asked : AskedAudit) → RunsAgree (IsJsonTextAs asked) }
+    ensures why { (asked : AskedValue) (other : Option RecordingValue) → RunsAgree (IsWhyAs asked other) }
 {
     one_text();
 }
@@ -39,13 +40,10 @@ pub fn runs_agree()
 pub fn limits_change_nothing()
     ensures stays { StaysWithin }
     ensures show { RunsAgreeWithin IsShown }
-    ensures list { RunsAgreeWithin IsListed }
-    ensures audit { (from : ℕ) → RunsAgreeWithin (IsAuditedFrom from) }
-    ensures json { (from : ℕ) → RunsAgreeWithin (IsJsonTextFrom from) }
-    ensures why { (from : ℕ) → RunsAgreeWithin (IsExplainedTextFrom from) }
-    ensures audit_as { (asked : AskedValue) → RunsAgreeWithin (IsAuditedAs asked) }
-    ensures json_as { (asked : AskedValue) → RunsAgreeWithin (IsJsonTextAs asked) }
-    ensures why_as { (asked : AskedValue) → RunsAgreeWithin (IsExplainedTextAs asked) }
+    ensures list { (choice : Fragments) → RunsAgreeWithin (IsListedWith choice) }
+    ensures audit { (asked : AskedAudit) → RunsAgreeWithin (IsAuditedAs asked) }
+    ensures json { (asked : AskedAudit) → RunsAgreeWithin (IsJsonTextAs asked) }
+    ensures why { (asked : AskedValue) (other : Option RecordingValue) → RunsAgreeWithin (IsWhyAs asked other) }
 {
     one_text();
 }

@@ -6,7 +6,6 @@ mod choices;
 mod command;
 mod demands;
 mod faults;
-mod findings_text;
 mod follow;
 mod form;
 pub mod laws;
@@ -14,20 +13,20 @@ mod runs;
 mod streams;
 
 pub use choices::run_choice;
-pub use command::{Choice, ReportForm, WordFault, read_words};
+pub use command::{AuditForm, Choice, WordFault, read_words};
 pub use demands::Demands;
 pub use faults::{BesideFault, RecFault, RunFault, status, write_fault, write_other_fault};
-pub use findings_text::write_findings;
 pub use follow::Follow;
 pub use form::either::{read_recording, read_recording_within};
 pub use rtps_capture::{
     CAPTURE_HEADER_SIZE, Captures, LinkType, is_pcapng, link_type_numbered, unread_link_type,
 };
+pub use rtps_parts::NameOctets;
 pub use rtps_report::{
-    Asked, Datagrams, Ending, FewRows, Findings, Recording, Rows, Standard, Unwatched, Watch,
+    Asked, AskedAudit, Datagrams, Ending, FewRows, Findings, Fragments, Recording, Unwatched, Watch,
 };
 pub use runs::{
-    Command, Inputs, Limits, Options, run, run_audit, run_audit_from, run_beside, run_list,
+    Command, Form, Inputs, Limits, Options, run, run_audit, run_audit_from, run_beside, run_list,
     run_sample, run_show,
 };
 pub use streams::read_input;

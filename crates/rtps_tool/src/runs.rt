@@ -7,9 +7,10 @@ ghost use Rattle.rtps_text.specs.SampleText.{sample};
 ghost use Rattle.rtps_text.specs.ShowText.{IsShown};
 ghost use Rattle.rtps_audit.specs.Index.{IsIndexBy};
 ghost use Rattle.rtps_fragments.specs.RecordedSamples.{intake_as};
+ghost use Rattle.rtps_fragments.specs.declared.fragments.Fragments.TheVariants.{Read};
 ghost use Rattle.rtps_report.specs.FullReport.{IsTold, report_value};
 ghost use Rattle.rtps_report.specs.ReaderSide.{arrived_value};
-ghost use Rattle.rtps_tool.specs.Commands.{IsFormOf, IsPageForm, IsTextOf};
+ghost use Rattle.rtps_tool.specs.Commands.{IsFormOf, IsPageForm, IsTextOf, command_value};
 ghost use Rattle.rtps_tool.specs.Limits.{usual as usual_lem};
 ghost use Rattle.rtps_tool.specs.Runs.{FailsReading, IsOtherFault, ReadsRecording, Runs, RunsBeside, RunsWithin, Writes};
 
@@ -21,7 +22,8 @@ use rtps_check::{check_json, check_text};
 use rtps_ids::{Memory, SeqNum};
 use rtps_page::page_text;
 use rtps_report::{
-    Asked, Ending, FullReport, Recording, Samples, Subject, Unwatched, Watch, report_on,
+    Asked, AskedAudit, Ending, Fragments, FullReport, Recording, Samples, Subject, Unwatched,
+    Watch, report_on,
 };
 use rtps_text::{audit_text, json_text, list_text, sample_text, show_text, why_text};
 use std::alloc::Global;
@@ -49,58 +51,47 @@ impl Limits {
     }
 }
 
-/// What is printed of a recording.
+/// In which form a report is told.
 #[derive(Clone, Copy)]
-pub enum Command {
+pub enum Form {
     /// Which topics lost data, what to do, and whether the recording is clean.
     Check,
-    /// Whether the recording is clean, and the report, as one JSON object on one line.
+    /// The same, with each pair and what its verdict rests on, as one JSON object on one line.
     CheckJson,
-    /// Each datagram and its submessages.
-    Show,
-    /// Participants, endpoints whose announcements agree, and matches.
-    List,
-    /// The verdict on each pair of a reliable writer and reader that match, and what was counted.
-    Audit,
-    /// The same, and what each verdict rests on, as one JSON object on one line.
-    Json,
-    /// Each verdict with what it rests on.
+    /// Each pair with what its verdict rests on.
     Why,
-    /// The same as a page of HTML, with charts of what the pairs said.
+    /// A page of HTML, with charts of what the pairs said.
     Page,
+}
+
+/// What is printed of a recording.
+#[derive(Clone, Copy)]
+pub enum Command<'a> {
+    /// The report that is asked for, in a form.
+    Report(Form, Asked<'a>),
+    /// Each datagram and its submessages.
+    Show(Fragments),
+    /// Participants, endpoints whose announcements agree, and matches.
+    List(Fragments),
+    /// The verdict on each pair of a reliable writer and reader that match, and what was counted.
+    Audit(AskedAudit),
+    /// The same, and what each verdict rests on, as one JSON object on one line.
+    Json(AskedAudit),
 }
 
 /// What a run prints, and of what.
 #[derive(Clone, Copy)]
 pub struct Options<'a> {
-    pub command: Command,
-    /// What is asked of an audit. Of it, `Show` asks alone what becomes of samples in fragments, and `List` nothing.
-    pub asked: Asked<'a>,
+    pub command: Command<'a>,
     /// Those of the recording.
     pub limits: Limits,
     /// Those that are read.
     pub captures: Captures,
 }
 
-impl Options<'_> {
-    ghost use Rattle.rtps_tool.specs.Options.{options_value, usually};
-
-    /// Of all rows by the numbers from `from` on, within the usual limits, of classic captures.
-    pub fn usual(command: Command, from: SeqNum) -> Self
-        ensures { options_value result ≡ usually command from }
-    {
-        Options {
-            command,
-            asked: Asked::plainly(from),
-            limits: Limits::usual(),
-            captures: Captures::Classic,
-        }
-    }
-}
-
 /// Reads a recording, to the end of the input or past the most octets that it may have, and writes what is printed of it.
-/// It tells what was read, and how far an audit is. It ends [`Ending::Clean`], but for an audit that
-/// has a pair that is not complete, or of whose report something else was asked that is not so.
+/// It tells what was read, and how far it is. It ends [`Ending::Clean`], but for an audit that has a pair that is not complete, and for a
+/// report that is not clean.
 ///
 /// The whole input is read and the whole text made before anything is written. An `Err` says what was written: nothing,
 /// but for [`RunFault::Output`]. How much was read is open after [`RunFault::Input`] and [`RunFault::Memory`].
@@ -111,7 +102,7 @@ pub fn run<R: Read, W: Write, P: Watch + Follow>(
     output: &mut W,
     watch: &mut P,
 ) -> Result<Ending, RunFault>
-    ensures { RunsWithin options.now.limits options.now.captures (IsTextOf options.now.command (asked_value options.now.asked) None)
+    ensures { RunsWithin options.now.limits options.now.captures (IsTextOf (command_value options.now.command) None)
         (R.remaining input.old) (R.remaining input.new) (W.contents output.old) (W.contents output.new) result }
 {
     let recording = read_input(alloc, options.limits, options.captures, input)?;
@@ -143,7 +134,7 @@ pub fn run_beside<R: Read, S: Read, W: Write, P: Watch + Follow>(
     output: &mut W,
     watch: &mut P,
 ) -> Result<Ending, BesideFault>
-    ensures { RunsBeside options.now.limits options.now.captures (IsTextOf options.now.command (asked_value options.now.asked))
+    ensures { RunsBeside options.now.limits options.now.captures (IsTextOf (command_value options.now.command))
         (R.remaining inputs.old.file) (R.remaining inputs.new.file) (S.remaining inputs.old.other) (S.remaining inputs.new.other)
         (W.contents output.old) (W.contents output.new) result }
 {
@@ -173,45 +164,33 @@ fn read_other<R: Read>(
 }
 
 /// What is printed of a recording, beside another one, if there is one, and how the run ends.
-fn text_of<'a, P: Watch>(
+fn text_of<'a, P: Watch + Follow>(
     alloc: Global,
     options: &'a Options<'a>,
     recording: &'a Recording,
     arrived: Option<&'a Recording>,
     watch: &mut P,
 ) -> Result<(String, Ending), Memory>
-    ensures { IfOk result (λ answer. IsTextOf options.now.command (asked_value options.now.asked) (arrived_value arrived.entry) recording.now (string_bytes answer.0) answer.1) }
+    ensures { IfOk result (λ answer. IsTextOf (command_value options.now.command) (arrived_value arrived.entry) recording.now (string_bytes answer.0) answer.1) }
 {
-    let asked = &options.asked;
-    let subject = Subject {
-        recording,
-        asked,
-        arrived,
-    };
-    match options.command {
-        Command::Check => told(alloc, Form::Check, subject, watch),
-        Command::CheckJson => told(alloc, Form::CheckJson, subject, watch),
-        Command::Show => show_text(alloc, recording, asked.fragments),
-        Command::List => list_text(alloc, recording),
-        Command::Audit => audit_text(alloc, recording, asked, watch),
-        Command::Json => told(alloc, Form::Json, subject, watch),
-        Command::Why => told(alloc, Form::Why, subject, watch),
-        Command::Page => told(alloc, Form::Page, subject, watch),
+    match &options.command {
+        Command::Report(form, asked) => {
+            let subject = Subject {
+                recording,
+                asked,
+                arrived,
+            };
+            told(alloc, *form, subject, watch)
+        }
+        Command::Show(fragments) => show_text(alloc, recording, *fragments),
+        Command::List(fragments) => list_text(alloc, recording, *fragments),
+        Command::Audit(asked) => audit_text(alloc, recording, *asked, watch),
+        Command::Json(asked) => json_text(alloc, recording, *asked, watch),
     }
 }
 
-/// In which form a report is told, with what each of its rows rests on.
-#[derive(Clone, Copy)]
-enum Form {
-    Check,
-    CheckJson,
-    Json,
-    Why,
-    Page,
-}
-
-/// The report that is asked for, in a form, and how the run ends.
-fn told<P: Watch>(
+/// The report that is asked for, in a form, and how the run ends. It tells how far it is, and when the text is written.
+fn told<P: Watch + Follow>(
     alloc: Global,
     form: Form,
     subject: Subject<'_>,
@@ -221,19 +200,19 @@ fn told<P: Watch>(
 {
     let mut samples = Samples::none(alloc);
     let report = report_on(alloc, subject, &mut samples, watch)?;
+    watch.writing();
     let text = form_text(alloc, form, &report)?;
     Ok((text, report.ending))
 }
 
 /// A report in a form.
 fn form_text(alloc: Global, form: Form, report: &FullReport<'_>) -> Result<String, Memory>
-    requires { IsIndexBy (intake_as report.now.asked.now.fragments report.now.recording.now.datagrams) report.now.index }
+    requires { IsIndexBy (intake_as Read report.now.recording.now.datagrams) report.now.index }
     ensures { IfOk result (λ text. IsFormOf form (asked_value report.now.asked.now) report.now.recording.now (report_value report.now) (string_bytes text)) }
 {
     let text = match form {
         Form::Check => check_text(alloc, report)?,
         Form::CheckJson => check_json(alloc, report)?,
-        Form::Json => json_text(alloc, report)?,
         Form::Why => why_text(alloc, report)?,
         Form::Page => return page_of(alloc, report),
     };
@@ -242,7 +221,7 @@ fn form_text(alloc: Global, form: Form, report: &FullReport<'_>) -> Result<Strin
 
 /// A report as a page, which shows the text of `check` where scripts do not run.
 fn page_of(alloc: Global, report: &FullReport<'_>) -> Result<String, Memory>
-    requires { IsIndexBy (intake_as report.now.asked.now.fragments report.now.recording.now.datagrams) report.now.index }
+    requires { IsIndexBy (intake_as Read report.now.recording.now.datagrams) report.now.index }
     ensures { IfOk result (λ text. IsPageForm (asked_value report.now.asked.now) report.now.recording.now (report_value report.now) (string_bytes text)) }
 {
     let plain = check_text(alloc, report)?;
@@ -258,7 +237,11 @@ pub fn run_show<R: Read, W: Write>(
     ensures { Runs IsShown
         (R.remaining input.old) (R.remaining input.new) (W.contents output.old) (W.contents output.new) result }
 {
-    let options = Options::usual(Command::Show, SeqNum::first());
+    let options = Options {
+        command: Command::Show(Fragments::Skipped),
+        limits: Limits::usual(),
+        captures: Captures::Classic,
+    };
     run(alloc, &options, input, output, &mut Unwatched)
 }
 
@@ -271,7 +254,11 @@ pub fn run_list<R: Read, W: Write>(
     ensures { Runs IsListed
         (R.remaining input.old) (R.remaining input.new) (W.contents output.old) (W.contents output.new) result }
 {
-    let options = Options::usual(Command::List, SeqNum::first());
+    let options = Options {
+        command: Command::List(Fragments::Skipped),
+        limits: Limits::usual(),
+        captures: Captures::Classic,
+    };
     run(alloc, &options, input, output, &mut Unwatched)
 }
 
@@ -285,7 +272,11 @@ pub fn run_audit_from<R: Read, W: Write>(
     ensures { Runs (IsAuditedFrom from)
         (R.remaining input.old) (R.remaining input.new) (W.contents output.old) (W.contents output.new) result }
 {
-    let options = Options::usual(Command::Audit, from);
+    let options = Options {
+        command: Command::Audit(AskedAudit::plainly(from)),
+        limits: Limits::usual(),
+        captures: Captures::Classic,
+    };
     run(alloc, &options, input, output, &mut Unwatched)
 }
 

@@ -1,4 +1,4 @@
-//! A recording is judged in every way that the libraries have: by the audit, by the judge with each kind of set, by the index,
+//! A recording is judged by each judge of the libraries: by the audit, by the judge with each kind of set, by the index,
 //! and with the evidence. All have to give the same, for all numbers and for those from 2 on.
 
 use crate::fault::Fault;
@@ -23,7 +23,7 @@ pub(crate) fn judge_each(alloc: Global, input: &str, text: &mut String) -> Resul
     Ok(())
 }
 
-/// The rows of the audit of all numbers. Each verdict has to be the same in every way, also that of `PAIR`, which need not
+/// The rows of the audit of all numbers. Each verdict has to be the same by each judge, also that of `PAIR`, which need not
 /// match.
 fn count_rows(alloc: Global, recording: &[&[u8]]) -> Result<usize, Fault> {
     let index = Index::build(alloc, recording)?;

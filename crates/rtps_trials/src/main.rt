@@ -1,7 +1,7 @@
 //! Tries the libraries: what no contract says and no run of the program shows.
 //!
 //!     rtps_trials               tries the cases of standard input, and judges the recording behind their first empty line
-//!     rtps_trials judge         judges each recording on standard input in every way; an empty line stands between two
+//!     rtps_trials judge         judges each recording on standard input by each judge; an empty line stands between two
 //!     rtps_trials refuse CALL   makes this call on a recording, and once more if it is refused memory
 //!     rtps_trials rewrite       writes each message of a recording again from its items, and prints the results
 //!     rtps_trials read N        reads each of its messages N times

@@ -1,17 +1,18 @@
-ghost use Rattle.std.specs.Prelude.{◌≡◌, ◌++◌, IfOk, OnOk, Some, flat_map, string_bytes};
+ghost use Rattle.std.specs.Prelude.{◌≡◌, ◌++◌, if◌then◌else◌, IfOk, OnOk, Some, flat_map, map, string_bytes};
 ghost use Rattle.std.specs.List.{list_all};
-ghost use Rattle.rtps_report.specs.Asked.{asked_value};
-ghost use Rattle.rtps_report.specs.FullReport.{report_value, rows_of};
+ghost use Rattle.rtps_evidence.specs.Explanation.{explanation_value, row_of};
 ghost use Rattle.rtps_lines.specs.JsonText.{IsJsonLine, report_json};
-ghost use Rattle.rtps_text.specs.ReportText.{IsAuditedAs, further_counts_text, ignored_text, report_counts_line, report_text as text_of_report, row_line};
-ghost use Rattle.rtps_report.specs.Reported.{facts_of_report, is_complete as completes};
+ghost use Rattle.rtps_text.specs.ReportText.{IsAuditedAs, IsJsonTextAs, further_counts_text, ignored_text, report_counts_line, report_text as text_of_report, row_line};
+ghost use Rattle.rtps_report.specs.Reported.{is_complete as completes};
+ghost use Rattle.rtps_report.specs.declared.findings.Ending.TheVariants.{Clean, Unclean};
 
 use json::Writer;
 use rtps_audit::{Counts, Report, Row, Watch};
+use rtps_evidence::{Explained, Explanation};
 use rtps_ids::Memory;
 use rtps_lines::{VerdictText, json_line, push_report};
 use rtps_report::{
-    Asked, Ending, Facts, FullReport, Recording, audit_asked, ending_of, is_complete,
+    AskedAudit, Ending, Recording, Samples, audit_asked, explain_asked, is_complete,
 };
 use std::alloc::{AllocError, Global};
 use std::fmt;
@@ -21,30 +22,60 @@ use std::fmt;
 pub fn audit_text<P: Watch>(
     alloc: Global,
     recording: &Recording,
-    asked: &Asked<'_>,
+    asked: AskedAudit,
     watch: &mut P,
 ) -> Result<(String, Ending), Memory>
-    ensures { IfOk result (λ audited. IsAuditedAs (asked_value asked.now) recording.now (string_bytes audited.0) audited.1) }
+    ensures { IfOk result (λ audited. IsAuditedAs asked recording.now (string_bytes audited.0) audited.1) }
 {
-    let asked_report = audit_asked(alloc, recording, asked, watch)?;
-    let report = &asked_report.report;
-    let text = report_text(alloc, report, recording.ignored())?;
-    let facts = facts_of(report, asked_report.missed, recording);
-    Ok((text, ending_of(asked, &facts)))
+    let report = audit_asked(alloc, recording, asked, watch)?;
+    let text = report_text(alloc, &report, recording.ignored())?;
+    Ok((text, ending_if(are_complete(&report.rows))))
 }
 
-/// What is known of a report of which so many rows have missed numbers, to hold it against what was asked.
-fn facts_of(report: &Report, missed: u64, recording: &Recording) -> Facts
-    ensures { result ≡ facts_of_report missed report.now.rows.items report.now.counts recording.now }
+/// How a run ends, by whether each pair is complete.
+fn ending_if(complete: bool) -> Ending
+    ensures { result ≡ (if complete then Clean else Unclean) }
 {
-    Facts {
-        rows: report.rows.len() as u64,
-        missed,
-        met: are_complete(&report.rows),
-        counts: report.counts,
-        reasons: recording.reasons(),
-        unmatched: 0,
+    if complete {
+        Ending::Clean
+    } else {
+        Ending::Unclean
     }
+}
+
+/// What `audit --json` prints of a recording, of what is asked, and how it ends. It tells how far it is.
+/// `Memory` is answered where the text, or what is kept for it, cannot grow.
+pub fn json_text<P: Watch>(
+    alloc: Global,
+    recording: &Recording,
+    asked: AskedAudit,
+    watch: &mut P,
+) -> Result<(String, Ending), Memory>
+    ensures { IfOk result (λ audited. IsJsonTextAs asked recording.now (string_bytes audited.0) audited.1) }
+{
+    let mut samples = Samples::none(alloc);
+    let explained = explain_asked(alloc, recording, asked, &mut samples, watch)?;
+    let text = json_of(alloc, &explained, recording)?;
+    Ok((text, ending_if(all_complete(&explained.rows))))
+}
+
+/// The line of JSON of these rows and counts.
+fn json_of(
+    alloc: Global,
+    explained: &Explained<'_>,
+    recording: &Recording,
+) -> Result<String, AllocError>
+    ensures { IfOk result (λ text. IsJsonLine (report_json (map explanation_value explained.now.rows.items) explained.now.counts recording.now) (string_bytes text)) }
+{
+    let mut writer = Writer::new(Vec::new(alloc));
+    push_report(alloc, &mut writer, explained, recording)?;
+    json_line(writer)
+}
+
+fn all_complete(rows: &[Explanation<'_>]) -> bool
+    ensures { result ≡ list_all (λ row. completes row.verdict) (map row_of rows.now) }
+{
+    rows.iter().all(|row| is_complete(&row.evidence.verdict))
 }
 
 /// The lines of a report on a recording of which so many frames were ignored, if it has any.
@@ -77,15 +108,6 @@ fn are_complete(rows: &[Row]) -> bool
     ensures { result ≡ list_all (λ row. completes row.verdict) rows.now }
 {
     rows.iter().all(|row| is_complete(&row.verdict))
-}
-
-/// What `audit --json` prints of a report.
-pub fn json_text(alloc: Global, report: &FullReport<'_>) -> Result<String, AllocError>
-    ensures { IfOk result (λ text. IsJsonLine (report_json (rows_of (report_value report.now)) report.now.explained.counts report.now.recording.now) (string_bytes text)) }
-{
-    let mut writer = Writer::new(Vec::new(alloc));
-    push_report(alloc, &mut writer, report)?;
-    json_line(writer)
 }
 
 /// The last line: what was counted, and how many frames of a capture were ignored.

@@ -1,28 +1,73 @@
-ghost use Rattle.std.specs.Prelude.{◌≡◌, ◌++◌, [], IfOk, OnOk, Some, string_bytes, flat_map};
+ghost use Rattle.std.specs.Prelude.{◌≡◌, ◌++◌, [], IfOk, OnOk, Some, map, string_bytes, flat_map};
+ghost use Rattle.rtps_audit.specs.Placed.{placed_value};
 ghost use Rattle.rtps_discovery.specs.Directory.{IsMapOf};
 ghost use Rattle.rtps_discovery.specs.Endpoint.{endpoint_value};
+ghost use Rattle.rtps_fragments.specs.declared.fragments.Fragments.TheVariants.{Read};
 ghost use Rattle.rtps_receiver.specs.Acts.{acts_in};
 ghost use Rattle.rtps_discovery.specs.Notice.{faults_in};
-ghost use Rattle.rtps_text.specs.ListText.{IsListed, directory_text as directory_text_lem, endpoint_line, match_line, match_text, participant_line};
+ghost use Rattle.rtps_text.specs.ListText.{IsListedWith, announcing_in, directory_text as directory_text_lem, endpoint_line, match_line, match_text, participant_line};
 
+use rtps_audit::Placed;
 use rtps_discovery::{Directory, Endpoint, Match};
+use rtps_fragments::{Fragments, Samples, index_as};
 use rtps_ids::{Guid, Memory};
 use rtps_lines::{durability_name, reliability_name, side_name};
 use rtps_parts::NameText;
 use rtps_receiver::Walk;
-use rtps_report::{Ending, Recording};
+use rtps_report::{Ending, Recording, datagrams_of};
 use std::alloc::{AllocError, Global};
-use std::fmt;
+use std::{fmt, slice};
 
-/// What `list` prints of a recording, and that it ends [`Ending::Clean`].
-/// `Memory` is answered where the text, or what is kept for it, cannot grow.
-pub fn list_text(alloc: Global, recording: &Recording) -> Result<(String, Ending), Memory>
-    ensures { IfOk result (λ listed. IsListed recording.now (string_bytes listed.0) listed.1) }
+/// What `list` prints of a recording, and that it ends [`Ending::Clean`]. Where fragments are read, what is announced by samples that
+/// come in fragments is listed, too. `Memory` is answered where the text, or what is kept for it, cannot grow.
+pub fn list_text(
+    alloc: Global,
+    recording: &Recording,
+    fragments: Fragments,
+) -> Result<(String, Ending), Memory>
+    ensures { IfOk result (λ listed. IsListedWith fragments recording.now (string_bytes listed.0) listed.1) }
 {
+    let mut samples = Samples::none(alloc);
     let mut directory = Directory::new(alloc);
-    let faults = note_datagrams(alloc, &mut directory, recording)?;
+    let faults = match fragments {
+        Fragments::Skipped => note_datagrams(alloc, &mut directory, recording)?,
+        Fragments::Read => note_samples(alloc, &mut directory, recording, &mut samples)?,
+    };
     let text = directory_text(alloc, &directory, faults)?;
     Ok((text, Ending::Clean))
+}
+
+/// Notes what all datagrams announce, also by samples that come in fragments, which are put into `samples`, and answers how many
+/// announcements had a fault.
+fn note_samples<'a>(
+    alloc: Global,
+    directory: &mut Directory<'a>,
+    recording: &'a Recording,
+    samples: &'a mut Samples,
+) -> Result<u128, Memory>
+    requires { IsMapOf [] directory.old }
+    ensures map { OnOk result (IsMapOf (announcing_in Read recording.now.datagrams) directory.new) }
+    ensures faults { IfOk result (λ faults. faults ≡ faults_in (announcing_in Read recording.now.datagrams)) }
+{
+    let datagrams = datagrams_of(alloc, recording)?;
+    let indexed = index_as(alloc, &datagrams, Fragments::Read, samples)?;
+    note_announcements(directory, &indexed.announcements)
+}
+
+/// Notes these acts, and answers how many had a fault.
+fn note_announcements<'a>(
+    directory: &mut Directory<'a>,
+    announcements: &[Placed<'a>],
+) -> Result<u128, Memory>
+    requires { IsMapOf [] directory.old }
+    ensures map { OnOk result (IsMapOf (map (λ placed. placed.act) (map placed_value announcements.now)) directory.new) }
+    ensures faults { IfOk result (λ faults. faults ≡ faults_in (map (λ placed. placed.act) (map placed_value announcements.now))) }
+{
+    let mut faults = 0u128;
+    for placed in announcements {
+        faults += u128::from(directory.note_all(slice::from_ref(&placed.act))?);
+    }
+    Ok(faults)
 }
 
 /// Notes the acts of all datagrams, and answers how many had a fault.

@@ -1,49 +1,94 @@
 ghost use Rattle.std.specs.Prelude.{◌≡◌, ◌+◌, ◌++◌, IfOk, OnOk, Some, flat_map, string_bytes};
 ghost use Rattle.rtps_evidence.specs.Explanation.{evidence_value, explanation_value};
 ghost use Rattle.rtps_evidence.specs.Grounds.{grounds_value};
-ghost use Rattle.rtps_report.specs.FullReport.{report_value, rows_of};
+ghost use Rattle.rtps_report.specs.Asked.{asked_value};
+ghost use Rattle.rtps_report.specs.FullReport.{report_value};
 ghost use Rattle.rtps_report.specs.Reported.{number_of as number_of_lem};
-ghost use Rattle.rtps_text.specs.ReportText.{explained_text, explanation_text, kept_text, missed_lines, not_received_line, rest_lines, shown_by, span_line, until_text};
+ghost use Rattle.rtps_report.specs.Talk.{talk_value};
+ghost use Rattle.rtps_text.specs.WhyText.{IsWhyText, advice_line, explanation_text, kept_text, missed_lines, not_received_line, rest_lines, row_text, shown_by, span_line, until_text};
 
 use crate::text::audit_text::ReportCountsLine;
 use rtps_evidence::{
     Evidence, Explanation, FirstMissed, Grounds, Location, NotReceived, Teller, Times,
 };
 use rtps_lines::{
-    AcknowledgedLine, AnnouncedLine, AskedLine, ClaimedLine, PlaceComma, PlaceText, QuestionsLine,
-    ToldLine, VerdictText, kind_name, push_field, push_sent,
+    AcknowledgedLine, AdviceText, AnnouncedLine, AskedLine, ClaimedLine, PlaceComma, PlaceText,
+    QuestionsLine, SecondText, ToldLine, VerdictText, kind_name, push_field, push_report_last,
+    push_sent,
 };
 use rtps_parts::NameText;
-use rtps_report::{FullReport, number_of};
+use rtps_report::{FullReport, Scope, Talk, advice_of, is_clean, number_of, scope_of};
 use std::alloc::{AllocError, Global};
 use std::fmt;
 
-/// What `why` prints of a report: each row, and what its verdict rests on. It says no times.
+/// By what the rows of a report are told.
+#[derive(Clone, Copy)]
+struct RowTelling<'r, 'a> {
+    scope: Scope,
+    talk: &'r Talk<'a>,
+    times: &'r Times,
+}
+
+/// What `why` prints of a report: each row, what its verdict rests on and what to do, and how the run ends.
 pub fn why_text(alloc: Global, report: &FullReport<'_>) -> Result<String, AllocError>
-    ensures { IfOk result (λ text. string_bytes text
-        ≡ explained_text (rows_of (report_value report.now)) report.now.explained.counts report.now.recording.now.ignored) }
+    ensures { IfOk result (λ text. IsWhyText (asked_value report.now.asked.now) report.now.recording.now (report_value report.now) (string_bytes text)) }
 {
     let explained = &report.explained;
-    let times = Times::none(alloc);
+    let telling = RowTelling {
+        scope: scope_of(report),
+        talk: &report.talk,
+        times: report.recording.times(),
+    };
     let mut text = String::new(alloc);
     writeln!(text, "pairs {}", explained.rows.len())?;
-    push_rows(&mut text, &explained.rows, &times)?;
-    write!(
-        text,
-        "{}",
-        ReportCountsLine(explained.counts, report.recording.ignored())
-    )?;
+    push_rows(&mut text, &explained.rows, telling)?;
+    let counts = ReportCountsLine(explained.counts, report.recording.ignored());
+    write!(text, "{counts}")?;
+    push_report_last(alloc, &mut text, report)?;
     Ok(text)
 }
 
-fn push_rows(text: &mut String, rows: &[Explanation<'_>], times: &Times) -> Result<(), AllocError>
+fn push_rows(
+    text: &mut String,
+    rows: &[Explanation<'_>],
+    telling: RowTelling<'_, '_>,
+) -> Result<(), AllocError>
     ensures { OnOk result (string_bytes text.new
-        ≡ string_bytes text.old ++ flat_map (λ row. explanation_text times.now (explanation_value row)) rows.now) }
+        ≡ string_bytes text.old ++ flat_map (λ row. row_text telling.entry.scope (talk_value telling.entry.talk.now) telling.entry.times.now (explanation_value row)) rows.now) }
 {
     for row in rows {
-        push_row(text, row, times)?;
+        push_told_row(text, row, telling)?;
     }
     Ok(())
+}
+
+fn push_told_row(
+    text: &mut String,
+    row: &Explanation<'_>,
+    telling: RowTelling<'_, '_>,
+) -> Result<(), AllocError>
+    ensures { OnOk result (string_bytes text.new
+        ≡ string_bytes text.old ++ row_text telling.entry.scope (talk_value telling.entry.talk.now) telling.entry.times.now (explanation_value row.now)) }
+{
+    push_row(text, row, telling.times)?;
+    push_advice(text, row, telling)
+}
+
+/// Appends the line of what to do for a row; nothing for a clean one.
+fn push_advice(
+    text: &mut String,
+    row: &Explanation<'_>,
+    telling: RowTelling<'_, '_>,
+) -> Result<(), AllocError>
+    ensures { OnOk result (string_bytes text.new
+        ≡ string_bytes text.old ++ advice_line telling.entry.scope (talk_value telling.entry.talk.now) telling.entry.times.now (explanation_value row.now)) }
+{
+    let RowTelling { scope, talk, times } = telling;
+    if is_clean(scope.tail, &row.evidence) {
+        return Ok(());
+    }
+    let advice = advice_of(scope, &row.evidence, talk.silences(row.pair), times);
+    writeln!(text, "  -> {}", AdviceText(times, advice))
 }
 
 fn push_row(text: &mut String, row: &Explanation<'_>, times: &Times) -> Result<(), AllocError>
@@ -63,7 +108,7 @@ fn push_row(text: &mut String, row: &Explanation<'_>, times: &Times) -> Result<(
         NameText(row.topic),
         NameText(row.type_name)
     )?;
-    push_span(text, evidence)?;
+    push_span(text, evidence, times)?;
     write!(text, "{}", AnnouncedLine(times, evidence.announcement))?;
     write!(
         text,
@@ -78,22 +123,25 @@ fn push_row(text: &mut String, row: &Explanation<'_>, times: &Times) -> Result<(
     push_rest(text, evidence, times)
 }
 
-fn push_span(text: &mut String, evidence: &Evidence<'_>) -> Result<(), AllocError>
-    ensures { OnOk result (string_bytes text.new ≡ string_bytes text.old ++ span_line evidence.now.in_span) }
+fn push_span(text: &mut String, evidence: &Evidence<'_>, times: &Times) -> Result<(), AllocError>
+    ensures { OnOk result (string_bytes text.new ≡ string_bytes text.old ++ span_line times.now evidence.now.in_span) }
 {
     let Some(in_span) = &evidence.in_span else {
         return Ok(());
     };
     push_field(text, "  from ", in_span.from)?;
-    push_until(text, in_span.until)?;
+    push_until(text, in_span.until, times)?;
     text.push_str("\n")
 }
 
-fn push_until(text: &mut String, until: Option<u64>) -> Result<(), AllocError>
-    ensures { OnOk result (string_bytes text.new ≡ string_bytes text.old ++ until_text until) }
+fn push_until(text: &mut String, until: Option<u64>, times: &Times) -> Result<(), AllocError>
+    ensures { OnOk result (string_bytes text.new ≡ string_bytes text.old ++ until_text times.now until) }
 {
     match until {
-        Some(datagram) => push_field(text, " until datagram ", datagram),
+        Some(datagram) => {
+            let second = SecondText(times, datagram);
+            write!(text, " until datagram {datagram}{second}")
+        }
         None => Ok(()),
     }
 }
@@ -139,6 +187,7 @@ fn push_shown(text: &mut String, evidence: &Evidence<'_>, times: &Times) -> Resu
             teller,
             asked_since,
             last_asked,
+            ..
         } => {
             write!(text, "{}", ToldLine(times, number, teller))?;
             write!(text, "{}", QuestionsLine(times, asked_since, last_asked))
@@ -181,7 +230,7 @@ struct KeptText<'t>(&'t Times, Option<Teller>, Option<Location>);
 impl fmt::Display for KeptText<'_> {
     ghost output = { λ text. Some (kept_text text.0.now text.1 text.2) };
 
-    #[tactic(auto, unfolding(crate::specs::ReportText::kept_text))]
+    #[tactic(auto, unfolding(crate::specs::WhyText::kept_text))]
     fn fmt<W: fmt::Write>(&self, f: &mut fmt::Formatter<W>) -> fmt::Result {
         let Some(claim) = self.2 else {
             return write!(f, "not acknowledged");
@@ -189,8 +238,10 @@ impl fmt::Display for KeptText<'_> {
         match self.1 {
             None => write!(
                 f,
-                "told nothing before datagram {} at {}",
-                claim.datagram, claim.at
+                "told nothing before datagram {} at {}{}",
+                claim.datagram,
+                claim.at,
+                SecondText(self.0, claim.datagram)
             ),
             Some(teller) => write!(
                 f,

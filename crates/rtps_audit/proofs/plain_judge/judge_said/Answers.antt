@@ -1,6 +1,7 @@
-use Rattle.std.proofs.Common.{◌≡◌, ◌≤◌, ◌-◌, ◌∙◌, [], ap, arith, filter, get_or, map, of_z, pos, subst, sym, take, to_z, w64}
+use Rattle.std.proofs.Common.{◌≡◌, ◌≤◌, ◌-◌, ◌^◌, ◌∙◌, [], ap, arith, filter, get_or, map, of_z, inl, inr, pos, subst, sym, take, to_z, w64}
 use Rattle.std.specs.List.{All}
 use Rattle.std.specs.List.Sorted.{IsNonDecreasingBy}
+use Rattle.std.proofs.lemmas.Bool.{cases_lt}
 use Rattle.std.proofs.lemmas.Int.{ints}
 use Rattle.std.proofs.lemmas.List.{get_or_default, take_all, take_more}
 use Rattle.std.proofs.lemmas.List.Elements.{All-nil}
@@ -13,7 +14,7 @@ use Rattle.rtps_audit.specs.declared.answer.Answer.{Answer}
 use Rattle.rtps_audit.proofs.ExactVerdicts.{exact_verdict}
 use Rattle.rtps_audit.proofs.IndexSpeech.{answers_counted}
 use Rattle.rtps_audit.proofs.PlacedActs.{answers_in_order, kept_in_order}
-use Rattle.rtps_audit.proofs.SweepLemmas.{acts_passed, front_found, front_least, hears_none}
+use Rattle.rtps_audit.proofs.SweepLemmas.{acts_passed, front_found, front_least, front_past, hears_none}
 use Rattle.rtps_audit.proofs.plain_judge.judge_said.Goals as goal
 
 pub loop-answer-init : goal.loop-answer-init
@@ -62,10 +63,16 @@ loop-answer-preserved g c = λ recording is.
     let told = subst (λ (r : Guid). IsToldUpTo (HasHeardOrUnasked from (covered c.tell_before.new.self.told) pair.writer r) acts c.tell_before.new.self.place answer.datagram) old.guid
     (c.in_ok-tell_before.ensures.told from pair.writer (acts_passed (is_from pair.writer) acts (placed_in recording) are) heard) in
     let behind = c.in_ok-tell_before.ensures.behind (kept_in_order recording (is_from pair.writer) acts are) in
-    let least = front_least from (covered c.tell_before.new.self.told) c.front-front.result (omega (arith, ints)) (omega (arith, ints)) (omega (arith, ints)) told.tells.passed c.front-front.ensures in
     let same : to_z w64 (of_z w64 c.front-front.result) ≡ c.front-front.result = omega (arith, ints) in
-    let front = subst (IsFrontBy from pair.writer pair.reader placed (answer.datagram - 1)) (sym (same ∙ least.1))
-    (front_found acts c.tell_before.new.self.place answer.datagram told.within told.before behind from from least.0 (covered c.tell_before.new.self.told) pair.writer pair.reader told.tells.heard (omega (arith, ints)) (omega arith, λ n asked lt. absurd (let le = asked.1 in omega arith)) least.2 counted) in
+    let front : IsFrontBy from pair.writer pair.reader placed (answer.datagram - 1) (to_z w64 (of_z w64 c.front-front.result)) = elim (cases_lt from (2 ^ 63)) [
+      | inl lt ↦
+          let least = front_least from (covered c.tell_before.new.self.told) c.front-front.result (omega (arith, ints)) lt (omega (arith, ints)) told.tells.passed c.front-front.ensures in
+          subst (IsFrontBy from pair.writer pair.reader placed (answer.datagram - 1)) (sym (same ∙ least.1))
+          (front_found acts c.tell_before.new.self.place answer.datagram told.within told.before behind from from least.0 (covered c.tell_before.new.self.told) pair.writer pair.reader told.tells.heard (omega (arith, ints)) (omega arith, λ n asked lt. absurd (let le = asked.1 in omega arith)) least.2 counted)
+      | inr past ↦
+          subst (IsFrontBy from pair.writer pair.reader placed (answer.datagram - 1)) (sym same)
+          (front_past from (covered c.tell_before.new.self.told) c.front-front.result pair.writer pair.reader placed (answer.datagram - 1) past told.tells.passed c.front-front.ensures)
+    ] in
     record {
       guid = c.tell_before.ensures.guid ∙ old.guid;
       heard = (answer.datagram, λ later d le within. subst (λ (a : Answer). a.datagram ≤ (get_or answers later d).datagram) (get_or_default answers k d none lt) (sorted k later d (omega arith) within), told);
@@ -81,7 +88,7 @@ returns g c = λ recording is.
     let are = is.acts in
     let its = is.answers in
     let all = take_all c.loop-answer.answer-index answers (omega (arith, c.loop-answer-test.false)) in
-    let first : c.cast_unsigned-first.result ≡ from = omega (arith, ints) in
+    let first : c.get-first.result ≡ from = c.get-first.ensures.value in
     let conflicts = subst (λ m. AreConflictsOf m c.in_ok-conflicts.conflicts.payloads.items (map placed_value acts)) first c.in_ok-conflicts.ensures.conflicts in
     exact_verdict from pair.writer pair.reader recording _
     (c.verdict_on.ensures from recording (omega (arith, ints))

@@ -1,4 +1,4 @@
-use Rattle.rtps_capture.proofs.StartLemmas.{start_first}
+use Rattle.rtps_capture.proofs.TimeLemmas.{start_first}
 use Rattle.rtps_capture.proofs.laws.start_is_first_time.Goals as goal
 
 pub returns : goal.returns

@@ -1,4 +1,4 @@
-use Rattle.std.proofs.Common.{List, Option, map, string_bytes, subst}
+use Rattle.std.proofs.Common.{◌∙◌, Bor, ℕ, List, Option, map, string_bytes, subst}
 use Rattle.rtps_evidence.specs.Times.{TimesValue}
 use Rattle.rtps_report.specs.Vocabulary.{Explanation, explanation_value}
 use Rattle.rtps_report.specs.declared.advice.Scope.{Scope}
@@ -7,10 +7,15 @@ use Rattle.rtps_report.specs.ByTopic.{AreByTopic}
 use Rattle.rtps_report.specs.FullReport.{report_value}
 use Rattle.rtps_report.specs.NoteFacts.{note_facts, scope_of}
 use Rattle.rtps_report.specs.SideFacts.{side_facts}
-use Rattle.rtps_report.specs.Talk.{talk_value}
+use Rattle.rtps_policies.specs.Unmatched.{unmatched_value}
+use Rattle.rtps_policies.specs.declared.unmatched.Unmatched.{Unmatched}
+use Rattle.rtps_report.specs.Talk.{left_out_value, talk_value}
+use Rattle.rtps_report.specs.declared.talk.LeftOut.{LeftOut}
 use Rattle.rtps_report.specs.declared.note_facts.NoteFacts.{NoteFacts}
 use Rattle.rtps_report.specs.declared.side_facts.SideFacts.{SideFacts}
+use Rattle.rtps_lines.specs.Notes.{talking_names}
 use Rattle.rtps_check.specs.CheckText.{IsTextBy}
+use Rattle.rtps_check.specs.TalkText.{AreByTopic as UnmatchedByTopic, AreLeftByTopic}
 use Rattle.rtps_check.proofs.checked_text.check_text.Goals as goal
 
 pub returns : goal.returns
@@ -19,23 +24,39 @@ returns c =
     let asked = asked_value report.asked.now in
     let recording = report.recording.now in
     let rows = c.in_ok-rows.rows.items in
-    let left_out = c.in_ok-left_out.left_out.items in
+    let talking = map (λ (one : Bor Unmatched). unmatched_value one.now) c.in_ok-talking.talking.items in
+    let left_out = map left_out_value c.in_ok-left_out.left_out.items in
     let text = string_bytes c.in_ok-text.text in
-    let IsText = λ (scope : Scope) (times : TimesValue) (facts : NoteFacts) (side : Option SideFacts) (all left : List Explanation).
-    IsTextBy scope (record { times = times; facts = facts; side = side; left_out = map explanation_value left; talk = talk_value report.talk; standard = asked.standard; ending = report.ending }) (map explanation_value all) text in
+    let IsText = λ (scope : Scope) (times : TimesValue) (facts : NoteFacts) (side : Option SideFacts) (all : List Explanation) (talk : List ℕ) (left : List LeftOut).
+    IsTextBy scope (record {
+      times = times;
+      facts = facts;
+      side = side;
+      talking = talk;
+      left_out = map left_out_value left;
+      talk = talk_value report.talk;
+      certain = asked.certain;
+      ending = report.ending;
+    }) (map explanation_value all) text in
     let scope = scope_of asked recording (report_value report) in
     let times = recording.times in
     let facts = note_facts asked recording (report_value report) in
     let side = side_facts (report_value report) in
+    let own = c.deref-4.result.now in
+    let those = c.deref-5.result.now in
+    let these = c.deref-6.result.now in
     record {
       rows = rows;
       rows_by_topic = subst (λ all. AreByTopic all rows) c.deref.ensures.value c.in_ok-rows.ensures;
+      talking = talking;
+      talking_by_topic = subst (λ (all : List Unmatched). UnmatchedByTopic (map unmatched_value all) talking) c.deref-2.ensures.value c.in_ok-talking.ensures;
       left_out = left_out;
-      left_out_by_topic = subst (λ all. AreByTopic all left_out) c.deref-2.ensures.value c.in_ok-left_out.ensures;
-      is_text = subst (λ left. IsText scope times facts side rows left) c.deref-4.ensures.value
-          (subst (λ all. IsText scope times facts side all c.deref-4.result.now) c.deref-3.ensures.value
-          (subst (λ beside. IsText scope times facts beside c.deref-3.result.now c.deref-4.result.now) c.facts_of_side.ensures
-          (subst (λ known. IsText scope times known c.facts_of_side.result c.deref-3.result.now c.deref-4.result.now) c.notes_on.ensures
-          (subst (λ all. IsText scope all c.notes_on.result c.facts_of_side.result c.deref-3.result.now c.deref-4.result.now) c.times.ensures
-          (subst (λ first. IsText first c.times.result.now c.notes_on.result c.facts_of_side.result c.deref-3.result.now c.deref-4.result.now) c.scope_of.ensures c.in_ok-text.ensures)))));
+      left_out_by_topic = subst (λ (all : List LeftOut). AreLeftByTopic (map left_out_value all) left_out) c.deref-3.ensures.value c.in_ok-left_out.ensures;
+      is_text = subst (λ left. IsText scope times facts side rows (talking_names talking) left) c.deref-6.ensures.value
+          (subst (λ talk. IsText scope times facts side rows talk these) (c.deref-5.ensures ∙ c.in_ok-names.ensures)
+          (subst (λ all. IsText scope times facts side all those these) c.deref-4.ensures.value
+          (subst (λ beside. IsText scope times facts beside own those these) c.facts_of_side.ensures
+          (subst (λ known. IsText scope times known c.facts_of_side.result own those these) c.notes_on.ensures
+          (subst (λ all. IsText scope all c.notes_on.result c.facts_of_side.result own those these) c.times.ensures
+          (subst (λ first. IsText first c.times.result.now c.notes_on.result c.facts_of_side.result own those these) c.scope_of.ensures c.in_ok-text.ensures))))));
     }

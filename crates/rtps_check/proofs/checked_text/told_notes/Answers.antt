@@ -1,7 +1,7 @@
-use Rattle.std.proofs.Common.{◌∙◌, ap, codes, map, true}
+use Rattle.std.proofs.Common.{◌∙◌, ℕ, List, ap, codes, map, true}
 use Rattle.std.proofs.lemmas.Result.{IfOk-weaker}
-use Rattle.rtps_evidence.specs.Explanation.{explanation_value}
-use Rattle.rtps_report.specs.Talk.{talk_value}
+use Rattle.rtps_evidence.specs.Explanation.{ExplanationValue, explanation_value}
+use Rattle.rtps_report.specs.Talk.{left_out_value, talk_value}
 use Rattle.rtps_lines.specs.Notes.{notes}
 use Rattle.rtps_check.proofs.checked_text.told_notes.Goals as goal
 
@@ -9,13 +9,16 @@ pub returns : goal.returns
 returns c =
     let told = c.args.told.now in
     let late = ap (map explanation_value) c.deref.ensures.value ∙ c.in_ok-late.ensures in
-    IfOk-weaker c.notes_of.result _ _
-    (λ noted found. found ∙ ap (λ rows. notes (codes "\n  -> ") told.facts (record {
+    let tails = ap (map explanation_value) c.deref-2.ensures.value ∙ c.in_ok-tails.ensures in
+    let told_of : List ExplanationValue → List ExplanationValue → List (List ℕ) = λ of_late of_tails.
+    notes (codes "\n  -> ") told.facts (record {
       talk = talk_value told.talk.now;
-      left_out = map explanation_value told.left_out.now;
-      late = rows;
+      talking = told.talking.now;
+      left_out = map left_out_value told.left_out.now;
+      late = of_late;
+      tails = of_tails;
       rows = map explanation_value told.rows.now;
       side = told.side;
       named = true;
-    })) late)
-    c.notes_of.ensures
+    }) in
+    IfOk-weaker c.notes_of.result _ _ (λ noted found. found ∙ (λ i. told_of (late i) (tails i))) c.notes_of.ensures

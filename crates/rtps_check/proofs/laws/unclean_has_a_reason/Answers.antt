@@ -4,50 +4,32 @@ use Rattle.std.proofs.lemmas.Bool.Decides.{nat_tests}
 use Rattle.std.proofs.lemmas.Bool.{and_cases, and_from, and_parts, false≢true, or_cases, or_parts}
 use Rattle.std.proofs.lemmas.List.Sums.{count_by-le-length, sum_by-cons}
 use Rattle.std.specs.List.{list_all}
-use Rattle.rtps_evidence.specs.Clean.{has_all, is_clean as is_clean_in, is_complete as complete_in, is_open, is_tail as is_tail_in, is_whole, loses_none}
-use Rattle.rtps_report.specs.Findings.{are_none, findings_of, no_findings, when}
-use Rattle.rtps_report.specs.Asked.{is_of_complete, tail_of}
-use Rattle.rtps_report.specs.FullReport.{facts_with, is_met_by, missed_in}
+use Rattle.rtps_evidence.specs.Clean.{has_all, is_begun, is_clean as is_clean_in, is_complete as complete_in, is_open, is_tail as is_tail_in, is_whole, loses_none}
+use Rattle.rtps_report.specs.Findings.{are_none, findings_of}
+use Rattle.rtps_report.specs.FullReport.{facts_with}
 use Rattle.rtps_report.specs.Reported.{is_complete}
 use Rattle.rtps_report.specs.RowFacts.{is_certain, is_clean, is_clean_by, is_held_in, outcomes_by, outcomes_of}
 use Rattle.rtps_report.specs.Totals.{is_unclean, lost_of, totals_of}
 use Rattle.rtps_report.specs.Vocabulary.{Complete, Conflict, EvidenceValue, ExplanationValue, InSpan, Open, Outcomes, Unfounded, Verdict}
-use Rattle.rtps_report.specs.declared.asked.Standard.TheVariants.{AllClean, AllComplete}
+use Rattle.rtps_report.specs.declared.best_effort.BestEffortNumbers.{BestEffortNumbers}
 use Rattle.rtps_report.specs.declared.findings.Ending.TheVariants.{Clean, Unclean, Unmet}
 use Rattle.rtps_report.specs.declared.findings.FewRows.{FewRows}
 use Rattle.rtps_report.specs.declared.findings.Findings.{Findings}
 use Rattle.rtps_report.specs.declared.advice.Scope.{Scope}
-use Rattle.rtps_report.specs.declared.asked.Standard.{Standard}
 use Rattle.rtps_report.specs.declared.totals.Totals.{Totals}
-use Rattle.rtps_lines.specs.Causes.{cause, causes_of, empty_cause, few_cause, findings_in, incomplete_words, lost_cause, lost_words, missed_words, row_causes, unanswered_words, uncertain_of, uncertain_words, unsent_words}
+use Rattle.rtps_lines.specs.Causes.{cause, causes_of, empty_cause, few_cause, findings_in, incomplete_words, lossy_cause, lost_cause, lost_words, missed_words, row_causes, unanswered_words, uncertain_of, uncertain_words, unsent_words}
 use Rattle.rtps_parts.specs.Parts.{WordsValue}
 use Rattle.rtps_check.specs.CheckText.{TellsWhyUnclean}
 use Rattle.rtps_check.proofs.laws.unclean_has_a_reason.Goals as goal
 
--- ---- rows that are all complete, and those that are not
+-- a row is what it has to be
+abbrev is_met_by : ℕ → ℕ → Bool → EvidenceValue → Bool
+is_met_by from tail certain evidence = is_clean tail evidence && (not certain || is_certain from evidence)
+
+-- ---- rows that are all clean, and those that are not
 
 count_step : {X : Type 0} (p : X → Bool) (x : X) (xs : List X) → count_by p (x ∷ xs) ≡ cond (p x) 1 0 + count_by p xs
 count_step p x xs = sum_by-cons (λ one. cond (p one) 1 0) x xs
-
-all_counted : {X : Type 0} (p : X → Bool) (xs : List X) → list_all p xs ≡ true → length xs ≤ count_by p xs
-all_counted p [] h = omega arith
-all_counted p (x ∷ xs) h =
-    let both = and_parts (p x) (list_all p xs) h in
-    omega (arith, count_step p x xs, all_counted p xs both.1, ap {B = ℕ} (λ b. cond b 1 0) both.0)
-
-at_most_one : (b : Bool) → cond b 1 0 ≤ 1
-at_most_one true = omega arith
-at_most_one false = omega arith
-
-not_all_counted : {X : Type 0} (p : X → Bool) (xs : List X) → list_all p xs ≡ false → count_by p xs < length xs
-not_all_counted p [] h = absurd (true≢false h)
-not_all_counted p (x ∷ xs) h = by (and_cases (p x) (list_all p xs) h) (not_all_counted p xs)
-  where
-    by : (p x ≡ false) ⊎ (list_all p xs ≡ false) → (list_all p xs ≡ false → count_by p xs < length xs) → count_by p (x ∷ xs) < length (x ∷ xs)
-    by (inl fails) less = omega (arith, count_step p x xs, ap {B = ℕ} (λ b. cond b 1 0) fails, count_by-le-length p xs)
-    by (inr fail) less = omega (arith, count_step p x xs, at_most_one (p x), less fail)
-
--- ---- rows that are all clean, and those that are not
 
 positive : (n : ℕ) → (n == 0) ≡ false → nat_lt 0 n ≡ true
 positive n e = grind (arith, nat_tests)
@@ -114,9 +96,9 @@ same_complete (Conflict number) = refl
 same_complete (Unfounded datagram number) = refl
 
 -- of a row in a span that is clean nothing is lost
-clean_loses_none : (tail : ℕ) (left held : Bool) (verdict : Verdict) (outcomes : Outcomes) (base : ℕ) → is_clean_in tail left held verdict outcomes base ≡ true → loses_none held outcomes ≡ true
-clean_loses_none tail left held verdict outcomes base e =
-    by (or_cases (complete_in verdict && none) (is_whole held verdict outcomes || (is_tail_in held verdict outcomes base && few)) e)
+clean_loses_none : (tail : ℕ) (left held : Bool) (verdict : Verdict) (outcomes : Outcomes) (from base : ℕ) → is_clean_in tail left held verdict outcomes from base ≡ true → loses_none held outcomes ≡ true
+clean_loses_none tail left held verdict outcomes from base e =
+    by (or_cases (complete_in verdict && none) (is_whole held verdict outcomes || (is_tail_in held verdict outcomes from base && few)) e)
   where
     none : Bool
     none = loses_none held outcomes
@@ -124,23 +106,23 @@ clean_loses_none tail left held verdict outcomes base e =
     few : Bool
     few = left || nat_le outcomes.unconfirmed tail
 
-    lacking : (is_whole held verdict outcomes ≡ true) ⊎ ((is_tail_in held verdict outcomes base && few) ≡ true) → loses_none held outcomes ≡ true
+    lacking : (is_whole held verdict outcomes ≡ true) ⊎ ((is_tail_in held verdict outcomes from base && few) ≡ true) → loses_none held outcomes ≡ true
     lacking (inl whole) =
         let opened = (and_parts held (is_open verdict && (none && (outcomes.unconfirmed == 0))) whole).1 in
         (and_parts none (outcomes.unconfirmed == 0) (and_parts (is_open verdict) (none && (outcomes.unconfirmed == 0)) opened).1).0
     lacking (inr tails) =
-        let is = (and_parts (is_tail_in held verdict outcomes base) few tails).0 in
-        (and_parts (nat_lt 1 base) none (and_parts (is_open verdict) (nat_lt 1 base && none) is).1).1
+        let is = (and_parts (is_tail_in held verdict outcomes from base) few tails).0 in
+        (and_parts (is_begun from base) none (and_parts (is_open verdict) (is_begun from base && none) is).1).1
 
-    by : ((complete_in verdict && none) ≡ true) ⊎ ((is_whole held verdict outcomes || (is_tail_in held verdict outcomes base && few)) ≡ true) → loses_none held outcomes ≡ true
+    by : ((complete_in verdict && none) ≡ true) ⊎ ((is_whole held verdict outcomes || (is_tail_in held verdict outcomes from base && few)) ≡ true) → loses_none held outcomes ≡ true
     by (inl complete) = (and_parts (complete_in verdict) none complete).1
-    by (inr lacks) = lacking (or_cases (is_whole held verdict outcomes) (is_tail_in held verdict outcomes base && few) lacks)
+    by (inr lacks) = lacking (or_cases (is_whole held verdict outcomes) (is_tail_in held verdict outcomes from base && few) lacks)
 
 none_lost : (tail received missed : ℕ) (verdict : Verdict) (in_span : Option InSpan) → is_clean_by tail verdict missed in_span ≡ true
     → lost_kinds (is_held_in in_span) (outcomes_by received missed in_span) ≡ 0
 none_lost tail received missed verdict None e = omega (arith, none_of _ (nothing missed (and_parts (is_complete verdict) (missed == 0) e).1))
 none_lost tail received missed verdict (Some in_span) e =
-    all_there in_span.is_held in_span.outcomes (clean_loses_none tail (is_some in_span.until) in_span.is_held verdict in_span.outcomes in_span.base e)
+    all_there in_span.is_held in_span.outcomes (clean_loses_none tail (is_some in_span.until) in_span.is_held verdict in_span.outcomes in_span.from in_span.base e)
 
 -- of a complete row that is not clean something is lost
 complete_lost : (tail received missed : ℕ) (verdict : Verdict) (in_span : Option InSpan) → is_complete verdict ≡ true → is_clean_by tail verdict missed in_span ≡ false
@@ -152,7 +134,7 @@ complete_lost tail received missed verdict None complete e = by (and_cases (is_c
     by (inr some) = omega (arith, one_of _ (positive missed some))
 complete_lost tail received missed verdict (Some in_span) complete e =
     by (and_cases (complete_in verdict) (loses_none held outcomes)
-    (or_parts (complete_in verdict && loses_none held outcomes) (is_whole held verdict outcomes || (is_tail_in held verdict outcomes in_span.base && (is_some in_span.until || nat_le outcomes.unconfirmed tail))) e).0)
+    (or_parts (complete_in verdict && loses_none held outcomes) (is_whole held verdict outcomes || (is_tail_in held verdict outcomes in_span.from in_span.base && (is_some in_span.until || nat_le outcomes.unconfirmed tail))) e).0)
   where
     held : Bool
     held = in_span.is_held
@@ -188,7 +170,7 @@ unsure false is e = absurd (true≢false e)
 abbrev wrong : ℕ → ℕ → Bool → EvidenceValue → ℕ
 wrong from tail certain evidence = cond (is_unclean tail evidence) 1 0 + (lost_kinds (is_held_in evidence.in_span) (outcomes_of evidence) + cond (certain && not (is_certain from evidence)) 1 0)
 
-none_wrong : (from tail : ℕ) (certain : Bool) (evidence : EvidenceValue) → is_met_by from (AllClean tail certain) evidence ≡ true → wrong from tail certain evidence ≡ 0
+none_wrong : (from tail : ℕ) (certain : Bool) (evidence : EvidenceValue) → is_met_by from tail certain evidence ≡ true → wrong from tail certain evidence ≡ 0
 none_wrong from tail certain evidence e =
     let both = and_parts (is_clean tail evidence) (not certain || is_certain from evidence) e in
     omega (
@@ -202,7 +184,7 @@ unclean_wrong : (from tail : ℕ) (certain : Bool) (evidence : EvidenceValue) (c
 unclean_wrong from tail certain evidence true is e = omega (arith, complete_lost tail evidence.received evidence.missed evidence.verdict evidence.in_span is e)
 unclean_wrong from tail certain evidence false is e = omega (arith, one_of _ (both_not (is_complete evidence.verdict) (is_clean tail evidence) is e))
 
-some_wrong : (from tail : ℕ) (certain : Bool) (evidence : EvidenceValue) → is_met_by from (AllClean tail certain) evidence ≡ false → 0 < wrong from tail certain evidence
+some_wrong : (from tail : ℕ) (certain : Bool) (evidence : EvidenceValue) → is_met_by from tail certain evidence ≡ false → 0 < wrong from tail certain evidence
 some_wrong from tail certain evidence e = by (and_cases (is_clean tail evidence) (not certain || is_certain from evidence) e)
   where
     by : (is_clean tail evidence ≡ false) ⊎ ((not certain || is_certain from evidence) ≡ false) → 0 < wrong from tail certain evidence
@@ -230,19 +212,19 @@ wrong_step scope certain row rows =
     )
 
 rows_met : (scope : Scope) (certain : Bool) (rows : List ExplanationValue)
-    → list_all (λ row. is_met_by scope.from (AllClean scope.tail certain) row.evidence) rows ≡ true → all_wrong scope certain rows ≡ 0
+    → list_all (λ row. is_met_by scope.from scope.tail certain row.evidence) rows ≡ true → all_wrong scope certain rows ≡ 0
 rows_met scope certain [] e = refl
 rows_met scope certain (row ∷ rows) e =
-    let both = and_parts (is_met_by scope.from (AllClean scope.tail certain) row.evidence) _ e in
+    let both = and_parts (is_met_by scope.from scope.tail certain row.evidence) _ e in
     wrong_step scope certain row rows ∙ ap₂ (λ n m. n + m) (none_wrong scope.from scope.tail certain row.evidence both.0) (rows_met scope certain rows both.1)
 
 rows_not_met : (scope : Scope) (certain : Bool) (rows : List ExplanationValue)
-    → list_all (λ row. is_met_by scope.from (AllClean scope.tail certain) row.evidence) rows ≡ false → 0 < all_wrong scope certain rows
+    → list_all (λ row. is_met_by scope.from scope.tail certain row.evidence) rows ≡ false → 0 < all_wrong scope certain rows
 rows_not_met scope certain [] e = absurd (true≢false e)
 rows_not_met scope certain (row ∷ rows) e = by (and_cases (test row) (list_all test rows) e) (rows_not_met scope certain rows)
   where
     test : ExplanationValue → Bool
-    test one = is_met_by scope.from (AllClean scope.tail certain) one.evidence
+    test one = is_met_by scope.from scope.tail certain one.evidence
 
     by : (test row ≡ false) ⊎ (list_all test rows ≡ false) → (list_all test rows ≡ false → 0 < all_wrong scope certain rows) → 0 < all_wrong scope certain (row ∷ rows)
     by (inl fails) more = omega (arith, wrong_step scope certain row rows, some_wrong scope.from scope.tail certain row.evidence fails)
@@ -289,14 +271,10 @@ lost_none numbers pairs words e = eqb-true pairs 0 (if_some (pairs == 0) _ e)
 -- ---- reasons of rows
 
 -- rows that are what they have to be give no reason
-met_without_reasons : (standard : Standard) (from : ℕ) (unread : Bool) (rows : List ExplanationValue)
-    → list_all (λ row. is_met_by from standard row.evidence) rows ≡ true
-    → row_causes standard (totals_of (record { from = from; tail = tail_of standard; unread = unread }) rows) no_findings ≡ []
-met_without_reasons AllComplete from unread rows e =
-    let totals = totals_of (record { from = from; tail = 0; unread = unread }) rows in
-    no_parts (cause (totals.pairs - totals.complete_pairs) incomplete_words) []
-    (no_cause (totals.pairs - totals.complete_pairs) incomplete_words (omega (arith, all_counted (λ (row : ExplanationValue). is_complete row.evidence.verdict) rows e))) refl
-met_without_reasons (AllClean tail certain) from unread rows e =
+met_without_reasons : (certain : Bool) (tail from : ℕ) (unread : Bool) (rows : List ExplanationValue)
+    → list_all (λ row. is_met_by from tail certain row.evidence) rows ≡ true
+    → row_causes (totals_of (record { from = from; tail = tail; unread = unread }) rows) certain ≡ []
+met_without_reasons certain tail from unread rows e =
     let scope : Scope = record { from = from; tail = tail; unread = unread } in
     let totals = totals_of scope rows in
     let none = rows_met scope certain rows e in
@@ -309,14 +287,10 @@ met_without_reasons (AllClean tail certain) from unread rows e =
     (no_lost (uncertain_of totals certain).numbers (uncertain_of totals certain).pairs uncertain_words (omega (arith, none, uncertain)))))))
 
 -- rows that are not give one
-not_met_has_a_reason : (standard : Standard) (from : ℕ) (unread : Bool) (rows : List ExplanationValue)
-    → list_all (λ row. is_met_by from standard row.evidence) rows ≡ false
-    → row_causes standard (totals_of (record { from = from; tail = tail_of standard; unread = unread }) rows) no_findings ≡ [] → false ≡ true
-not_met_has_a_reason AllComplete from unread rows e none =
-    let totals = totals_of (record { from = from; tail = 0; unread = unread }) rows in
-    let complete = both_empty (cause (totals.pairs - totals.complete_pairs) incomplete_words) _ none in
-    absurd (omega (arith, cause_none (totals.pairs - totals.complete_pairs) incomplete_words complete.0, not_all_counted (λ (row : ExplanationValue). is_complete row.evidence.verdict) rows e))
-not_met_has_a_reason (AllClean tail certain) from unread rows e none =
+not_met_has_a_reason : (certain : Bool) (tail from : ℕ) (unread : Bool) (rows : List ExplanationValue)
+    → list_all (λ row. is_met_by from tail certain row.evidence) rows ≡ false
+    → row_causes (totals_of (record { from = from; tail = tail; unread = unread }) rows) certain ≡ [] → false ≡ true
+not_met_has_a_reason certain tail from unread rows e none =
     let scope : Scope = record { from = from; tail = tail; unread = unread } in
     let totals = totals_of scope rows in
     let unclean = both_empty (cause totals.unclean_pairs incomplete_words) _ none in
@@ -342,61 +316,56 @@ not_empty : (empty : Bool) → empty_cause empty ≡ [] → not empty ≡ true
 not_empty true e = absurd (omega (arith, ap length e))
 not_empty false e = refl
 
+not_lossy : (lossy : Option BestEffortNumbers) → lossy_cause lossy ≡ [] → is_none lossy ≡ true
+not_lossy None e = refl
+not_lossy (Some told) e = absurd (omega (arith, ap length e))
+
 not_few : (few : Option FewRows) → few_cause few ≡ [] → is_none few ≡ true
 not_few None e = refl
 not_few (Some few) e = absurd (omega (arith, ap length e))
 
--- rows with missed numbers are found only where they are a reason
-not_missed : (strict : Bool) (standard : Standard) (missed : ℕ) (totals : Totals) (findings : Findings) → findings.missed ≡ when (strict && is_of_complete standard) missed
-    → row_causes standard totals findings ≡ [] → (findings.missed == 0) ≡ true
-not_missed strict AllComplete missed totals findings is e = if_some (findings.missed == 0) _ (both_empty (cause (totals.pairs - totals.complete_pairs) incomplete_words) _ e).1
-not_missed true (AllClean tail certain) missed totals findings is e = eq-eqb findings.missed 0 is
-not_missed false (AllClean tail certain) missed totals findings is e = eq-eqb findings.missed 0 is
-
 -- no reason: nothing is found, and the rows give none
-nothing_found : (strict : Bool) (standard : Standard) (missed : ℕ) (totals : Totals) (findings : Findings) → findings.missed ≡ when (strict && is_of_complete standard) missed
-    → causes_of standard totals findings ≡ [] → are_none findings ≡ true
-nothing_found strict standard missed totals findings is e =
+nothing_found : (certain : Bool) (totals : Totals) (findings : Findings) → causes_of certain totals findings ≡ [] → are_none findings ≡ true
+nothing_found certain totals findings e =
     let empty = both_empty (empty_cause findings.empty) _ e in
-    let rows = both_empty (row_causes standard totals findings) _ empty.1 in
+    let rows = both_empty (row_causes totals certain) _ empty.1 in
     let unmatched = both_empty _ _ rows.1 in
-    let few = both_empty (few_cause findings.few) _ unmatched.1 in
+    let lossy = both_empty (lossy_cause findings.lossy) _ unmatched.1 in
+    let few = both_empty (few_cause findings.few) _ lossy.1 in
     let unsettled = both_empty _ _ few.1 in
     let pieces = both_empty _ _ unsettled.1 in
     let cut = both_empty _ _ pieces.1 in
-    let links = both_empty _ _ cut.1 in
     and_from _ _ (not_few findings.few few.0)
     (and_from _ _ (not_empty findings.empty empty.0)
-    (and_from _ _ (not_missed strict standard missed totals findings is rows.0)
-    (and_from _ _ (if_some (findings.fragments == 0) _ links.1)
+    (and_from _ _ (not_lossy findings.lossy lossy.0)
     (and_from _ _ (if_some (findings.unsettled == 0) _ unsettled.0)
     (and_from _ _ (if_some (findings.pieces == 0) _ pieces.0)
     (and_from _ _ (if_some (findings.cut == 0) _ cut.0)
-    (and_from _ _ (if_some (findings.links.number == 0) _ links.0) (if_some (findings.unmatched == 0) _ unmatched.0))))))))
+    (and_from _ _ (if_some (findings.links.number == 0) _ cut.1) (if_some (findings.unmatched == 0) _ unmatched.0)))))))
 
 -- ---- the law
 
-by_found : (standard : Standard) (totals : Totals) (findings : Findings) (met : Bool) (none : Bool) → are_none findings ≡ none
-    → (met ≡ true → row_causes standard totals no_findings ≡ []) → (met ≡ false → row_causes standard totals no_findings ≡ [] → false ≡ true)
-    → (causes_of standard totals findings ≡ [] → are_none findings ≡ true)
-    → (cond none (cond met Clean Unclean) (Unmet findings) ≡ Clean) ↔ (causes_of standard totals (findings_in (cond none (cond met Clean Unclean) (Unmet findings))) ≡ [])
-by_found standard totals findings true true is all some found = (λ e. no_parts (row_causes standard totals no_findings) [] (all refl) refl, λ e. refl)
-by_found standard totals findings false true is all some found = (
+by_found : (certain : Bool) (totals : Totals) (findings : Findings) (met : Bool) (none : Bool) → are_none findings ≡ none
+    → (met ≡ true → row_causes totals certain ≡ []) → (met ≡ false → row_causes totals certain ≡ [] → false ≡ true)
+    → (causes_of certain totals findings ≡ [] → are_none findings ≡ true)
+    → (cond none (cond met Clean Unclean) (Unmet findings) ≡ Clean) ↔ (causes_of certain totals (findings_in (cond none (cond met Clean Unclean) (Unmet findings))) ≡ [])
+by_found certain totals findings true true is all some found = (λ e. no_parts (row_causes totals certain) [] (all refl) refl, λ e. refl)
+by_found certain totals findings false true is all some found = (
   λ e. absurd (let no : Unclean ≡ Clean = e in cc),
-  λ e. absurd (false≢true (some refl (both_empty (row_causes standard totals no_findings) _ e).0)),
+  λ e. absurd (false≢true (some refl (both_empty (row_causes totals certain) _ e).0)),
 )
-by_found standard totals findings met false is all some found = (
+by_found certain totals findings met false is all some found = (
   λ e. absurd (let no : Unmet findings ≡ Clean = e in cc),
   λ e. absurd (false≢true (sym is ∙ found e)),
 )
 
 clean_without_reasons : TellsWhyUnclean
-clean_without_reasons unmatched asked unread rows counts recording =
-    let findings = findings_of asked (facts_with unmatched asked rows counts recording) in
-    let totals = totals_of (record { from = asked.from; tail = tail_of asked.standard; unread = unread }) rows in
-    by_found asked.standard totals findings (list_all (λ (row : ExplanationValue). is_met_by asked.from asked.standard row.evidence) rows) (are_none findings) refl
-    (met_without_reasons asked.standard asked.from unread rows) (not_met_has_a_reason asked.standard asked.from unread rows)
-    (nothing_found asked.strict asked.standard (missed_in rows) totals findings refl)
+clean_without_reasons unmatched best_effort asked unread rows counts recording =
+    let findings = findings_of asked (facts_with unmatched best_effort asked rows counts recording) in
+    let totals = totals_of (record { from = asked.from; tail = asked.tail; unread = unread }) rows in
+    by_found asked.certain totals findings (list_all (λ (row : ExplanationValue). is_met_by asked.from asked.tail asked.certain row.evidence) rows) (are_none findings) refl
+    (met_without_reasons asked.certain asked.tail asked.from unread rows) (not_met_has_a_reason asked.certain asked.tail asked.from unread rows)
+    (nothing_found asked.certain totals findings)
 
 pub returns : goal.returns
 returns c = clean_without_reasons

@@ -4,7 +4,8 @@ use Rattle.std.proofs.lemmas.Result.{on_ok_weaker}
 use Rattle.rtps_report.specs.ByTopic.{topics_of}
 use Rattle.rtps_report.specs.Vocabulary.{Explanation, ExplanationValue, explanation_value}
 use Rattle.rtps_lines.specs.Notes.{joined_names}
-use Rattle.rtps_check.specs.CheckText.{longest_tail, tails_of, tails_text}
+use Rattle.rtps_lines.specs.TailNames.{longest_tail}
+use Rattle.rtps_check.specs.CheckText.{tails_of, tails_text}
 use Rattle.rtps_check.proofs.tails.push_tail_block.Goals as goal
 
 -- the lines of some rows

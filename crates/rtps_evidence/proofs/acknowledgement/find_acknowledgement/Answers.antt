@@ -10,8 +10,8 @@ use Rattle.rtps_evidence.specs.declared.acknowledgement.Claim.{Claim}
 use Rattle.rtps_evidence.proofs.AnswerLemmas.{acknowledged, unacknowledged}
 use Rattle.rtps_evidence.proofs.acknowledgement.find_acknowledgement.Goals as goal
 
-pub returns-then-base-cast_unsigned : goal.returns-then-base-cast_unsigned
-returns-then-base-cast_unsigned c = λ pair recording answers.
+pub returns-then-base-get : goal.returns-then-base-get
+returns-then-base-get c = λ pair recording answers.
     unacknowledged c.args.from c.greatest_base-base.result pair (placed_in recording)
     (c.greatest_base-base.ensures.value ∙ ap (λ (all : List Answer). greatest (map (λ answer. natural answer.base) all)) answers) (omega (arith, ints))
 

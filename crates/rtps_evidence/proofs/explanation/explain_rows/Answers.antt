@@ -13,7 +13,7 @@ use Rattle.rtps_evidence.proofs.RowLemmas.{judged_row, pairs_more, rows_more}
 use Rattle.rtps_evidence.proofs.explanation.explain_rows.Goals as goal
 
 pub loop-row-preserved : goal.loop-row-preserved
-loop-row-preserved c =
+loop-row-preserved g c =
     let extent = c.args.extent in
     let judgement = c.in_ok-judgement.judgement in
     let evidence = c.in_ok-evidence.evidence in
@@ -32,7 +32,7 @@ loop-row-preserved c =
           (subst (λ (p : Pair). IsEvidenceBy extent.in_spans extent.from beside p intake evidence) c.in_ok-judgement.ensures.pair (record {
             span = judgement.span;
             extent = subst (λ (p : Pair). IsExtent extent.in_spans extent.from p intake judgement.span) (sym c.in_ok-judgement.ensures.pair) (c.in_ok-judgement.ensures.extent intake are.index);
-            shown = c.in_ok-evidence.ensures.shown intake are.index (known intake are.index) its_verdict;
+            shown = c.in_ok-evidence.ensures.shown intake beside are (known intake are.index) its_verdict;
             in_span = subst (λ b. IsBeside b beside judgement.span judgement.pair (datagrams_until judgement.span.until intake.acts) evidence.in_span) c.in_ok-judgement.ensures.in_spans (c.in_ok-evidence.ensures.beside intake beside are (known intake are.index) its_verdict);
           })));
       known = known;

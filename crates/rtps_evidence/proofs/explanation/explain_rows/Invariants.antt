@@ -11,7 +11,7 @@ use Rattle.rtps_evidence.proofs.explanation.explain_rows.Given as goal
 
 -- each row so far is explained, and what the last writer says is known
 abbrev pub invariant-loop-row : goal.invariant-loop-row
-invariant-loop-row l = record {
+invariant-loop-row g l = record {
   pairs : map (λ row. row.pair) l.explained.items ≡ map (λ row. row.pair) (take l.row-index l.rows);
   rows : (intake : Intake) → IsIndexBy intake l.sides.index.now → l.fn.extent.in_spans ≡ false → map row_of l.explained.items ≡ take l.row-index l.rows;
   named : All (IsNamed l.directory.endpoints) l.explained.items;

@@ -1,5 +1,4 @@
-use Rattle.std.proofs.Common.{◌≡◌, ◌+◌, ◌-◌, ◌∙◌, ap, arith, map, max, not, sym}
-use Rattle.std.proofs.lemmas.Int.{ints}
+use Rattle.std.proofs.Common.{◌≡◌, ◌+◌, ◌-◌, ◌∙◌, ap, map, max, not, sym}
 use Rattle.rtps_audit.specs.Placed.{placed_in, placed_value}
 use Rattle.rtps_audit.specs.Said.{datagrams_until}
 use Rattle.rtps_coverage.specs.Counts.{count_in}
@@ -21,7 +20,7 @@ returns c = λ intake beside are.
     let stretches = arrivals.numbers.items in
     let there = c.in_ok-arrivals.ensures beside.other are.other in
     let asked = c.sent_from-asked.result in
-    let begins : c.cast_unsigned-from.result ≡ asked.from = omega (arith, ints) in
+    let begins : c.get-from.result ≡ asked.from = c.get-from.ensures.value in
     let last : asked.last ≡ max (greatest_sent pair.writer own) (asked.from - 1) =
     c.sent_from-asked.ensures.last ∙ ap (λ n. max (greatest_sent pair.writer own) (n - 1)) (sym c.sent_from-asked.ensures.from) in
     let same = first_same (λ n. not (stretches_have c.count_of.new.stretches.items n)) (λ n. not (stretches_have stretches n)) asked.from (asked.last + 1)

@@ -1,5 +1,4 @@
 use Rattle.std.proofs.Common.{◌≡◌, ◌+◌, ◌-◌, ◌∙◌, ap, arith, map}
-use Rattle.std.proofs.lemmas.Int.{ints}
 use Rattle.rtps_audit.specs.Placed.{placed_in, placed_value}
 use Rattle.rtps_audit.specs.Said.{datagrams_until}
 use Rattle.rtps_coverage.specs.Counts.{count_in}
@@ -14,9 +13,9 @@ returns c = λ intake is.
     let own = map placed_value c.until-said.result.acts.now in
     let said = c.until-said.ensures intake is in
     let sent = c.in_ok-sent.sent.items in
-    let from = c.cast_unsigned-from.result in
+    let from = c.get-from.result in
     let behind = c.greatest_sent-behind.result + 1 in
-    let first : from ≡ span.from = omega (arith, ints) in
+    let first : from ≡ span.from = c.get-from.ensures.value in
     let end : behind ≡ greatest_sent c.args.pair.writer own + 1 = ap (λ n. n + 1) c.greatest_sent-behind.ensures.value in
     let numbers : c.saturating_sub.result ≡ behind - from = omega arith in
     record {

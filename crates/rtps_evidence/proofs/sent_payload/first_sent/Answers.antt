@@ -5,7 +5,7 @@ use Rattle.std.specs.Prelude.{is_some}
 use Rattle.std.specs.Option.{option_map}
 use Rattle.rtps_audit.specs.Placed.{placed_value}
 use Rattle.rtps_wire.specs.Values.{payload_value}
-use Rattle.rtps_evidence.specs.Locations.{payload_for, sends}
+use Rattle.rtps_evidence.specs.Locations.{sends}
 use Rattle.rtps_evidence.proofs.FindLemmas.{found_item, none_past}
 use Rattle.rtps_evidence.proofs.MadeLemmas.{sent_made}
 use Rattle.rtps_evidence.proofs.sent_payload.first_sent.Goals as goal

@@ -1,6 +1,6 @@
 use Rattle.std.proofs.lemmas.Grind.{common_steps}
 use Rattle.std.proofs.lemmas.Bool.Decides.{nat_tests}
-use Rattle.std.proofs.Common.{◌≡◌, true, false, ◌+◌, ◌∙◌, ap, arith, length, subst, sym, take, rules}
+use Rattle.std.proofs.Common.{◌≡◌, true, false, ◌+◌, ◌∙◌, ap, arith, subst, sym, take, rules}
 use Rattle.std.proofs.Math.Seq.{take-length}
 use Rattle.std.proofs.lemmas.List.{length-map, take-map}
 use Rattle.std.proofs.lemmas.Option.{slice_get-get_or, slice_get_within}

@@ -1,4 +1,4 @@
-use Rattle.std.proofs.Common.{◌++◌, ◌∷◌, ◌∙◌, List, ℕ, append-nil, ap, codes, map, sym}
+use Rattle.std.proofs.Common.{◌++◌, ◌∷◌, ◌∙◌, List, ℕ, append-nil, ap, codes, map, Some, sym}
 use Rattle.std.proofs.lemmas.Result.{on_ok_weaker}
 use Rattle.std.specs.String.{string_bytes}
 use Rattle.json.specs.Json.{string as text}
@@ -22,13 +22,13 @@ returns-clause-tokens c =
     let value = report_value report in
     let rows = rows_of value in
     let status = status_members report.ending (report_causes asked recording value) in
-    let members = rows_members (check_telling asked recording value) rows report.explained.counts recording in
+    let members = rows_members (Some (check_telling asked recording value)) rows report.explained.counts recording in
     let talk = talk_members recording.times value in
     let notes = notes_members (report_notes asked recording value) in
     let first = c.in_ok-push_status.ensures.tokens
     ∙ ap (λ (all : List (List ℕ)). start ++ tokens_of (status_members report.ending all)) (ap (map string_bytes) c.deref.ensures.value ∙ c.in_ok-causes.ensures) in
     let second = c.in_ok-push_report_members.ensures.tokens
-    ∙ ap (λ (telling : TellingValue). c.push_status.new.writer.tokens ++ tokens_of (rows_members telling rows report.explained.counts recording)) c.telling_of.ensures in
+    ∙ ap (λ (telling : TellingValue). c.push_status.new.writer.tokens ++ tokens_of (rows_members (Some telling) rows report.explained.counts recording)) c.telling_of.ensures in
     let told = ap (map string_bytes) c.deref-2.ensures.value ∙ c.in_ok-notes.ensures in
     on_ok_weaker c.push_texts.result
     (λ last.

@@ -10,5 +10,5 @@ use Rattle.rtps_lines.proofs.check_members.report_causes_of.Goals as goal
 pub returns : goal.returns
 returns c =
     let report = c.args.report.now in
-    subst (λ (totals : Totals). IfOk c.causes_of.result (λ causes. map string_bytes causes.items ≡ causes_of report.asked.now.standard totals (findings_in report.ending)))
+    subst (λ (totals : Totals). IfOk c.causes_of.result (λ causes. map string_bytes causes.items ≡ causes_of report.asked.now.certain totals (findings_in report.ending)))
     (c.totals_of-totals.ensures ∙ ap₂ totals_of c.scope_of.ensures (ap (map explanation_value) c.deref.ensures.value)) c.causes_of.ensures

@@ -1,4 +1,4 @@
-use Rattle.std.proofs.Common.{◌++◌, ◌∷◌, [], ◌∙◌, ap, codes}
+use Rattle.std.proofs.Common.{◌++◌, ◌∷◌, [], ◌∙◌, ap, codes, option_map}
 use Rattle.std.proofs.lemmas.List.{take_all}
 use Rattle.std.proofs.lemmas.Result.{on_ok_weaker}
 use Rattle.std.specs.List.{flat_map}
@@ -14,7 +14,7 @@ pub returns-clause-tokens : goal.returns-clause-tokens
 returns-clause-tokens c =
     let start = c.args.writer.now.tokens in
     let rows = c.args.rows.now in
-    let telling = telling_value c.args.form.telling in
+    let telling = option_map telling_value c.args.form.telling in
     let times = c.args.form.clock.times.now in
     let written = c.loop-row.invariant.0
     ∙ ap (λ all. c.begin_array.new.self.tokens ++ flat_map (λ row. json_tokens (row_json telling times (explanation_value row))) all) (take_all c.loop-row.row-index rows c.loop-row-test.false) in

@@ -1,4 +1,4 @@
-use Rattle.std.proofs.Common.{◌++◌, ◌∙◌, List, ap, map, sym}
+use Rattle.std.proofs.Common.{◌++◌, ◌∙◌, List, ap, map, option_map, sym}
 use Rattle.std.proofs.lemmas.Result.{on_ok_weaker}
 use Rattle.json.specs.Token.{Token}
 use Rattle.rtps_evidence.specs.Explanation.{explanation_value}
@@ -10,10 +10,11 @@ use Rattle.rtps_lines.proofs.json_object.push_report_members.Goals as goal
 pub returns-clause-tokens : goal.returns-clause-tokens
 returns-clause-tokens c =
     let start : List Token = c.args.writer.now.tokens in
-    let report = c.args.report.now in
-    let telling = telling_value c.args.telling in
-    let counts = counts_members report.explained.counts in
-    let recording = report.recording.now in
+    let told = c.args.told.now in
+    let telling = option_map telling_value told.telling in
+    let explained = told.explained.now in
+    let counts = counts_members explained.counts in
+    let recording = told.recording.now in
     let pairs = pairs_member telling recording.times (map explanation_value c.deref.result.now) in
     let ignored = ignored_members recording.ignored in
     let reasons = reasons_members recording.reasons in
@@ -25,5 +26,5 @@ returns-clause-tokens c =
     c.in_ok-push_counts.ensures.tokens (c.in_ok-push_ignored.ensures.tokens ∙ ap (λ members. c.push_counts.new.writer.tokens ++ tokens_of (ignored_members members)) c.ignored.ensures)
     (last ∙ ap (λ members. c.push_ignored.new.writer.tokens ++ tokens_of (reasons_members members)) c.reasons.ensures)
     ∙ ap (λ tokens. start ++ tokens) (sym (audit_tokens pairs counts ignored reasons))
-    ∙ ap (λ items. start ++ tokens_of (rows_members telling (map explanation_value items) report.explained.counts recording)) c.deref.ensures.value)
+    ∙ ap (λ items. start ++ tokens_of (rows_members telling (map explanation_value items) explained.counts recording)) c.deref.ensures.value)
     c.push_reasons.ensures.tokens

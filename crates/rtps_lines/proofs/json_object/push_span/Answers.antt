@@ -13,8 +13,8 @@ use Rattle.rtps_lines.proofs.json_object.push_span.Goals as goal
 pub returns-clause-tokens : goal.returns-clause-tokens
 returns-clause-tokens c =
     let start : List Token = c.args.writer.now.tokens in
-    let telling = telling_value c.args.form.telling in
-    let times = c.args.form.clock.times.now in
+    let telling = telling_value c.args.telling in
+    let times = c.args.clock.times.now in
     let evidence = evidence_value c.args.evidence.now in
     let in_span = c.in-Some.in_span in
     let first : ℕ → Member = λ n. (codes "from", count_json n) in

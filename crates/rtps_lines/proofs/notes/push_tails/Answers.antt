@@ -11,7 +11,7 @@ pub returns : goal.returns
 returns c =
     let facts = c.args.facts.now in
     let told : ℕ → ℕ → WordsValue → List (List ℕ) = λ pairs longest words. concat (amount pairs (record { one = codes "pair is"; many = codes "pairs are" })
-    ∷ codes " clean with a tail, of at most " ∷ amount longest words ∷ []) ∷ [] in
+    ∷ codes " clean with a tail, of at most " ∷ amount longest words ∷ c.args.names.now ∷ []) ∷ [] in
     let note = ap (λ pairs. told pairs c.from-2.result (words_value c.number_words.result)) c.from.ensures
     ∙ ap (λ longest. told facts.tails longest (words_value c.number_words.result)) c.from-2.ensures
     ∙ ap (told facts.tails facts.longest) c.number_words.ensures

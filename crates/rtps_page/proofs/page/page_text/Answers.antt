@@ -1,6 +1,7 @@
 use Rattle.std.proofs.Common.{◌++◌, ◌∙◌, List, ℕ, ap, refl}
 use Rattle.json.specs.Print.{print}
 use Rattle.rtps_fragments.specs.RecordedSamples.{intake_as}
+use Rattle.rtps_fragments.specs.declared.fragments.Fragments.TheVariants.{Read}
 use Rattle.rtps_page.specs.Page.{page_json}
 use Rattle.rtps_page.specs.SafeText.{in_html, in_json, safe_text}
 use Rattle.rtps_page.specs.declared.page_parts.TheConstants.{HEAD, MIDDLE, TAIL}
@@ -20,7 +21,7 @@ returns c =
     let object = c.deref.ensures.value ∙ c.in_ok-data.ensures.is_text in
     record {
       directory = directory;
-      is_map = c.directory-directory.ensures (intake_as report.asked.now.fragments report.recording.now.datagrams) c.requires;
+      is_map = c.directory-directory.ensures (intake_as Read report.recording.now.datagrams) c.requires;
       is_page = record {
         is_page = ap (λ octets. octets.items) c.from_utf8_unchecked.ensures.value ∙ c.in_ok-page.ensures.text
             ∙ ap (λ (l : List ℕ). HEAD.now ++ (safe_text in_html plain ++ (MIDDLE.now ++ (safe_text in_json l ++ TAIL.now)))) object;

@@ -1,4 +1,3 @@
-use Rattle.std.proofs.Common.{ℕ}
 use Rattle.rtps_policies.proofs.duration.+write_places.Given as goal
 
 abbrev pub decreases-write_places : goal.decreases-write_places

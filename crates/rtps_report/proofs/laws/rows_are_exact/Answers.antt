@@ -1,5 +1,5 @@
 use Rattle.std.proofs.Common.{◌≡◌, ◌∙◌, ℕ, Bool, true, false, List, All, Option, None, ap, subst, sym}
-use Rattle.std.proofs.lemmas.List.Elements.{All-filter, All-same, All-weaker}
+use Rattle.std.proofs.lemmas.List.Elements.{All-weaker}
 use Rattle.rtps_audit.specs.Laws.{FirstDatagramsDecide}
 use Rattle.rtps_audit.specs.RunVerdict.{IsVerdictFrom}
 use Rattle.rtps_audit.specs.Said.{FirstDatagramsSayTheSame, datagrams_until}
@@ -7,13 +7,14 @@ use Rattle.rtps_audit.specs.Speech.{speech_by}
 use Rattle.rtps_audit.proofs.Offered.{exact_verdict}
 use Rattle.rtps_receiver.specs.Values.{ActValue}
 use Rattle.rtps_evidence.specs.Evidence.{IsBeside, IsEvidenceBy, IsShown}
-use Rattle.rtps_evidence.specs.OtherSide.{Beside}
+use Rattle.rtps_evidence.specs.OtherSide.{Beside, alone, is_there}
 use Rattle.rtps_evidence.specs.Spans.{IsExtent, since_of}
 use Rattle.rtps_evidence.specs.declared.span.Span.{Span}
 use Rattle.rtps_fragments.specs.Laws.{FirstDatagramsDecideSamples, FirstDatagramsTellTheSame}
 use Rattle.rtps_report.specs.Vocabulary.{Explanation, Fragments, InSpan, Intake, IsJudgedFrom, Pair, Read, Row, Skipped, Verdict, intake_as, intake_of}
 use Rattle.rtps_report.specs.FullReport.{AskedValue}
-use Rattle.rtps_report.specs.Laws.{ExplainedRowsAreExact, IsExactRow, IsVerdictAs, LeftOutRowsAreExact, ReportedRowsAreExact, first_acts}
+use Rattle.rtps_report.specs.Laws.{AuditedRowsAreExact, ExplainedRowsAreExact, IsExactRow, IsVerdictAs, ReportedRowsAreExact, first_acts}
+use Rattle.rtps_report.specs.declared.audited.AskedAudit.{AskedAudit}
 use Rattle.rtps_report.specs.RowFacts.{left_in, row_from}
 use Rattle.rtps_report.proofs.laws.rows_are_exact.Goals as goal
 
@@ -42,13 +43,13 @@ row_until true from beside pair intake span acts found extent (in_span, is, show
 row_until false from beside pair intake span acts found extent is = ap left_in is ∙ sym extent.until
 
 module _ (say : FirstDatagramsSayTheSame) (tell : FirstDatagramsTellTheSame) (plain : FirstDatagramsDecide) (samples : FirstDatagramsDecideSamples) where
-  exact_row : (asked : AskedValue) (beside : Beside) (recording : List (List ℕ)) (row : Explanation)
-      → IsEvidenceBy asked.spans asked.from beside row.pair (intake_as asked.fragments recording) row.evidence → IsExactRow asked beside recording row
-  exact_row asked beside recording row is =
+  exact_row : (spans : Bool) (asked : AskedAudit) (beside : Beside) (recording : List (List ℕ)) (row : Explanation)
+      → IsEvidenceBy spans asked.from beside row.pair (intake_as asked.fragments recording) row.evidence → IsExactRow spans asked beside recording row
+  exact_row spans asked beside recording row is =
       let intake = intake_as asked.fragments recording in
       let acts = datagrams_until is.span.until intake.acts in
-      let first = row_first asked.spans asked.from beside row.pair intake is.span acts row.evidence.in_span is.extent is.in_span in
-      let until = row_until asked.spans asked.from beside row.pair intake is.span acts row.evidence.in_span is.extent is.in_span in
+      let first = row_first spans asked.from beside row.pair intake is.span acts row.evidence.in_span is.extent is.in_span in
+      let until = row_until spans asked.from beside row.pair intake is.span acts row.evidence.in_span is.extent is.in_span in
       let same = acts_are say tell asked.fragments is.span.until recording in
       record {
         verdict = rw (first, until) (verdict_as plain samples asked.fragments is.span.from row.pair is.span.until recording row.evidence.verdict is.shown.verdict);
@@ -56,31 +57,30 @@ module _ (say : FirstDatagramsSayTheSame) (tell : FirstDatagramsTellTheSame) (pl
         extent = is.extent;
         first = first;
         until = until;
-        shown = subst (λ (those : List (List ActValue)). IsShown is.span.from (since_of is.span) row.pair those row.evidence) same is.shown;
-        in_span = subst (λ (those : List (List ActValue)). IsBeside asked.spans beside is.span row.pair those row.evidence.in_span) same is.in_span;
+        shown = subst (λ (those : List (List ActValue)). IsShown (is_there beside.other row.pair) is.span.from (since_of is.span) row.pair those row.evidence) same is.shown;
+        in_span = subst (λ (those : List (List ActValue)). IsBeside spans beside is.span row.pair those row.evidence.in_span) same is.in_span;
       }
 
-  exact_rows : (asked : AskedValue) (beside : Beside) (recording : List (List ℕ)) (rows : List Explanation)
-      → All (λ (row : Explanation). IsEvidenceBy asked.spans asked.from beside row.pair (intake_as asked.fragments recording) row.evidence) rows → All (IsExactRow asked beside recording) rows
-  exact_rows asked beside recording rows shown =
-      All-weaker (λ (row : Explanation). IsEvidenceBy asked.spans asked.from beside row.pair (intake_as asked.fragments recording) row.evidence) (IsExactRow asked beside recording)
-      (exact_row asked beside recording) rows shown
+  exact_rows : (spans : Bool) (asked : AskedAudit) (beside : Beside) (recording : List (List ℕ)) (rows : List Explanation)
+      → All (λ (row : Explanation). IsEvidenceBy spans asked.from beside row.pair (intake_as asked.fragments recording) row.evidence) rows → All (IsExactRow spans asked beside recording) rows
+  exact_rows spans asked beside recording rows shown =
+      All-weaker (λ (row : Explanation). IsEvidenceBy spans asked.from beside row.pair (intake_as asked.fragments recording) row.evidence) (IsExactRow spans asked beside recording)
+      (exact_row spans asked beside recording) rows shown
+
+  audited_are_exact : AuditedRowsAreExact
+  audited_are_exact asked recording explained is = exact_rows false asked alone recording explained.rows.items is.shown
+
+  -- of a report samples in fragments are read
+  abbrev reading : AskedValue → AskedAudit
+  reading asked = record { from = asked.from; fragments = Read }
 
   explained_are_exact : ExplainedRowsAreExact
-  explained_are_exact asked beside recording explained is =
-      All-same (IsExactRow asked beside recording) _ _ is.rows (All-filter _ (IsExactRow asked beside recording) is.whole.rows.items (exact_rows asked beside recording is.whole.rows.items is.explains.shown))
-
-  left_out_are_exact : LeftOutRowsAreExact
-  left_out_are_exact asked beside recording explained left_out is =
-      let whole = is.explains.whole in
-      All-same (IsExactRow asked beside recording) _ _ is.left_out_too (All-filter _ (IsExactRow asked beside recording) whole.rows.items (exact_rows asked beside recording whole.rows.items is.explains.explains.shown))
+  explained_are_exact asked beside recording traffic explained is = exact_rows true (reading asked) beside recording explained.rows.items is.rows.shown
 
   reported_are_exact : ReportedRowsAreExact
   reported_are_exact asked recording report is =
-      let IsExact : Row → Type 0 = λ row. IsVerdictAs asked.fragments asked.from row.pair recording row.verdict in
-      let whole = All-weaker (IsJudgedFrom asked.from (intake_as asked.fragments recording).acts) IsExact
-      (λ row verdict. verdict_as plain samples asked.fragments asked.from row.pair None recording row.verdict verdict) is.whole.rows.items is.reports.judged in
-      All-same IsExact _ _ is.rows (All-filter _ IsExact is.whole.rows.items whole)
+      All-weaker (IsJudgedFrom asked.from (intake_as asked.fragments recording).acts) (λ (row : Row). IsVerdictAs asked.fragments asked.from row.pair recording row.verdict)
+      (λ row verdict. verdict_as plain samples asked.fragments asked.from row.pair None recording row.verdict verdict) report.rows.items is.judged
 
 pub returns-clause-reported : goal.returns-clause-reported
 returns-clause-reported c = reported_are_exact c.first_datagrams_say_the_same.ensures.acts c.first_datagrams_tell_the_same.ensures c.first_datagrams_say_the_same.ensures.verdict c.first_datagrams_decide.ensures
@@ -88,5 +88,5 @@ returns-clause-reported c = reported_are_exact c.first_datagrams_say_the_same.en
 pub returns-clause-explained : goal.returns-clause-explained
 returns-clause-explained c = explained_are_exact c.first_datagrams_say_the_same.ensures.acts c.first_datagrams_tell_the_same.ensures c.first_datagrams_say_the_same.ensures.verdict c.first_datagrams_decide.ensures
 
-pub returns-clause-left_out : goal.returns-clause-left_out
-returns-clause-left_out c = left_out_are_exact c.first_datagrams_say_the_same.ensures.acts c.first_datagrams_tell_the_same.ensures c.first_datagrams_say_the_same.ensures.verdict c.first_datagrams_decide.ensures
+pub returns-clause-audited : goal.returns-clause-audited
+returns-clause-audited c = audited_are_exact c.first_datagrams_say_the_same.ensures.acts c.first_datagrams_tell_the_same.ensures c.first_datagrams_say_the_same.ensures.verdict c.first_datagrams_decide.ensures

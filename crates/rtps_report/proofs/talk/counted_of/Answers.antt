@@ -17,7 +17,7 @@ loop-found-preserved c = λ intake other index beside.
     elim c.if-is_counted.branch [
       | then-is_counted+in_ok-recorded+in_ok-arrived+in_ok-push w ↦
           rw w.counted-is
-          (counted_more asked other intake entries test c.deref-found-items.result.now c.loop-found.counted.items _ c.loop-found.found-index _ _ c.loop-found-test.true
+          (counted_more asked other intake entries test c.args.matched.now c.loop-found.counted.items _ c.loop-found.found-index _ _ c.loop-found-test.true
           (by_topic ∙ w.if-is_counted.true) w.in_ok-push.ensures.items c.topic_of-topic.ensures
           (record {
             of_pair = refl;
@@ -28,5 +28,5 @@ loop-found-preserved c = λ intake other index beside.
           (c.loop-found.invariant intake other index beside))
       | else-is_counted w ↦
           rw w.counted-is
-          (counted_skip asked other intake entries test c.deref-found-items.result.now _ c.loop-found.found-index _ c.loop-found-test.true (by_topic ∙ w.if-is_counted.false) (c.loop-found.invariant intake other index beside))
+          (counted_skip asked other intake entries test c.args.matched.now _ c.loop-found.found-index _ c.loop-found-test.true (by_topic ∙ w.if-is_counted.false) (c.loop-found.invariant intake other index beside))
     ]

@@ -11,4 +11,4 @@ abbrev pub invariant-loop-found : goal.invariant-loop-found
 invariant-loop-found l =
     (intake : Intake) (other : Option OtherRecording) → IsIndexBy intake l.heard.index.now → IsOtherSide other l.heard.other
     → AreCounted (asked_value l.heard.asked.now) other intake l.heard.directory.now.endpoints
-    (filter (is_counted_of l.talk.unfit l.talk.namings (asked_value l.heard.asked.now) l.heard.directory.now.endpoints) (take l.found-index l.found-items)) (map counted_value l.counted.items)
+    (filter (is_counted_of l.talk.unfit l.talk.namings (asked_value l.heard.asked.now) l.heard.directory.now.endpoints) (take l.found-index l.matched)) (map counted_value l.counted.items)

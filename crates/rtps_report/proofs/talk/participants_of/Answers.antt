@@ -1,4 +1,4 @@
-use Rattle.std.proofs.Common.{◌∙◌, ap, map}
+use Rattle.std.proofs.Common.{Bor, ◌∙◌, ℕ, List, ap, map}
 use Rattle.std.proofs.lemmas.List.{take_all}
 use Rattle.rtps_audit.specs.Intake.{acts_together}
 use Rattle.rtps_report.specs.Participants.{participant_told}
@@ -6,19 +6,23 @@ use Rattle.rtps_report.proofs.TalkLemmas.{leaves_then, participant_is, participa
 use Rattle.rtps_report.proofs.talk.participants_of.Goals as goal
 
 pub loop-guid-preserved : goal.loop-guid-preserved
-loop-guid-preserved c = λ intake datagrams index same announced traffic.
-    let times = c.args.heard.now.times.now.of_datagrams in
+loop-guid-preserved c = λ intake index same announced.
+    let heard = c.args.heard.now in
+    let recording = map (λ (datagram : Bor (List ℕ)). datagram.now) heard.datagrams.now in
+    let times = heard.times.now in
+    let presences = c.in_ok-presences.ensures in
     let left = leaves_then intake c.args.heard.now.announcements.now c.in_ok-joined.joined _ c.copied.result c.left_of-left.result c.in_ok-joined.ensures same
     (c.copied.ensures ∙ c.get.ensures.value) (c.left_of-left.ensures intake index) in
-    participants_more (participant_told intake datagrams times) c.deref-guid-items.result.now c.loop-guid.participants.items c.push.new.self.items c.loop-guid.guid-index _ _
+    participants_more (participant_told intake recording times) c.deref-guid-items.result.now c.loop-guid.participants.items c.push.new.self.items c.loop-guid.guid-index _ _
     c.loop-guid-test.true c.in_ok-push.ensures.items
-    (participant_is intake datagrams times _ c.host.result c.stay.result c.left_of-left.result c.latest.result c.end_until-end.result c.is_silent.result
-    (c.host.ensures.announced (acts_together intake.announcing) announced) (c.stay.ensures datagrams times traffic) left
-    (c.latest.ensures datagrams times traffic) c.end_until-end.ensures c.is_silent.ensures)
-    (c.loop-guid.invariant intake datagrams index same announced traffic)
+    (participant_is intake recording times _ c.host-host.result c.stay.result c.left_of-left.result c.latest-latest.result c.of_last_frame-end.result c.is_silent.result
+    (c.host-host.ensures.announced (acts_together intake.announcing) announced) (c.stay.ensures recording times.of_datagrams presences) left
+    (c.latest-latest.ensures recording times.of_datagrams presences) c.of_last_frame-end.ensures c.is_silent.ensures)
+    (c.loop-guid.invariant intake index same announced)
 
 pub returns : goal.returns
-returns c = λ intake datagrams index same announced traffic.
-    c.loop-guid.invariant intake datagrams index same announced traffic
-    ∙ ap (map (participant_told intake datagrams c.args.heard.now.times.now.of_datagrams))
+returns c = λ intake index same announced.
+    let heard = c.args.heard.now in
+    c.loop-guid.invariant intake index same announced
+    ∙ ap (map (participant_told intake (map (λ (datagram : Bor (List ℕ)). datagram.now) heard.datagrams.now) heard.times.now))
     (take_all c.loop-guid.guid-index c.deref-guid-items.result.now c.loop-guid-test.false ∙ c.deref-guid-items.ensures.value ∙ c.in_ok-participants.ensures)

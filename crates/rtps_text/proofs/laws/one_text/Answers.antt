@@ -1,18 +1,22 @@
-use Rattle.std.proofs.Common.{◌≡◌, List, sym, ◌∙◌, ap, ap₂}
-use Rattle.rtps_report.specs.Vocabulary.{acts_in, acts_together, Counts, DirectoryValue, intake_as, intake_of, Row}
+use Rattle.std.proofs.Common.{◌≡◌, ◌++◌, ◌∙◌, ◌∷◌, [], ℕ, List, ap, ap₂, false, flat_map, length, map, refl, sym}
+use Rattle.rtps_evidence.specs.OtherSide.{alone}
+use Rattle.rtps_report.specs.Vocabulary.{Counts, DirectoryValue, Explanation, ExplanationValue, Row, explanation_value, intake_as, row_of}
+use Rattle.rtps_report.specs.declared.advice.Scope.{Scope}
+use Rattle.rtps_report.specs.declared.findings.Ending.{Ending}
 use Rattle.rtps_discovery.specs.Notice.{faults_in}
-use Rattle.rtps_report.specs.Findings.{ending_as}
-use Rattle.rtps_report.specs.Reported.{facts_of_report, missed_rows}
-use Rattle.rtps_report.proofs.Offered.{HasOneForm, one_rows, rows_told_from_once, rows_told_once}
-use Rattle.rtps_text.specs.ReportText.{IsReportLine, ending_of, report_text, IsExplainedRows}
-use Rattle.rtps_text.specs.ListText.{directory_text}
+use Rattle.rtps_report.specs.BestEfforts.{numbers_told}
+use Rattle.rtps_report.specs.FullReport.{AskedValue, RecordingValue, ReportValue, rows_of}
+use Rattle.rtps_report.specs.Laws.{AreSame}
+use Rattle.rtps_report.specs.NoteFacts.{is_unread}
+use Rattle.rtps_report.specs.Talk.{TalkValue}
+use Rattle.rtps_report.specs.Totals.{totals_of}
+use Rattle.rtps_report.proofs.Offered.{same_talk}
+use Rattle.rtps_lines.specs.Causes.{causes_of, findings_in, last_line}
+use Rattle.rtps_lines.specs.JsonText.{json_line, report_json}
+use Rattle.rtps_text.specs.ListText.{announcing_in, directory_text}
+use Rattle.rtps_text.specs.ReportText.{ending_of, pairs_line, report_counts_line, report_text}
+use Rattle.rtps_text.specs.WhyText.{row_text, why_text}
 use Rattle.rtps_text.proofs.laws.one_text.Goals as goal
-
-one_why : HasOneForm IsExplainedRows
-one_why rows counts recording text other is also = is ∙ sym also
-
-one_line : HasOneForm IsReportLine
-one_line rows counts recording text other is also = is.is_text ∙ sym also.is_text
 
 pub returns-clause-shown : goal.returns-clause-shown
 returns-clause-shown c = λ recording one other ending last (is, ends) (also, too). (is ∙ sym also, ends ∙ sym too)
@@ -21,36 +25,50 @@ pub returns-clause-shown_with : goal.returns-clause-shown_with
 returns-clause-shown_with c = λ choice recording one other ending last (is, ends) (also, too). (is ∙ sym also, ends ∙ sym too)
 
 pub returns-clause-listed : goal.returns-clause-listed
-returns-clause-listed c = λ recording one other ending last ((directory, map, is), ends) ((found, of, also), too).
-    let same : directory ≡ found = c.one_map.ensures.unique (acts_in recording.datagrams) directory found map of in
-    (is ∙ ap (λ (d : DirectoryValue). directory_text d (faults_in (acts_in recording.datagrams))) same ∙ sym also, ends ∙ sym too)
+returns-clause-listed c = λ choice recording one other ending last ((directory, map, is), ends) ((found, of, also), too).
+    let acts = announcing_in choice recording.datagrams in
+    let same : directory ≡ found = c.one_map.ensures.unique acts directory found map of in
+    (is ∙ ap (λ (d : DirectoryValue). directory_text d (faults_in acts)) same ∙ sym also, ends ∙ sym too)
 
 pub returns-clause-audited : goal.returns-clause-audited
-returns-clause-audited c = λ from recording one other ending last is also.
-    let same = c.one_report.ensures from (intake_of recording.datagrams) is.report also.report is.reports also.reports in (
-      is.is_text ∙ ap (λ (rows : List Row). report_text rows is.report.counts recording.ignored) same.0 ∙ ap (λ (counts : Counts). report_text also.report.rows.items counts recording.ignored) same.1 ∙ sym also.is_text,
+returns-clause-audited c = λ asked recording one other ending last is also.
+    let same = c.one_report.ensures asked.from (intake_as asked.fragments recording.datagrams) is.report also.report is.reports also.reports in (
+      is.is_text ∙ ap₂ (λ (rows : List Row) (counts : Counts). report_text rows counts recording.ignored) same.0 same.1 ∙ sym also.is_text,
       is.ends ∙ ap ending_of same.0 ∙ sym also.ends,
     )
 
-pub returns-clause-audited_as : goal.returns-clause-audited_as
-returns-clause-audited_as c = λ asked recording one other ending last is also.
-    let datagrams = recording.datagrams in
-    let whole = c.one_report.ensures asked.from (intake_as asked.fragments datagrams) is.reports.whole also.reports.whole is.reports.reports also.reports.reports in
-    let directory = c.one_map.ensures.unique (acts_together (intake_as asked.fragments datagrams).announcing) is.reports.directory also.reports.directory is.reports.is_map also.reports.is_map in
-    let rows = one_rows asked datagrams is.report also.report is.reports also.reports whole.0 directory in
-    let counts = is.reports.counts ∙ whole.1 ∙ sym also.reports.counts in (
-      is.is_text ∙ ap₂ (λ (rows : List Row) (counts : Counts). report_text rows counts recording.ignored) rows counts ∙ sym also.is_text,
-      is.ends ∙ ap₂ (λ (rows : List Row) (counts : Counts). ending_as asked (facts_of_report (missed_rows asked.from (intake_as asked.fragments datagrams) rows) rows counts recording)) rows counts ∙ sym also.ends,
-    )
+-- the row of a report that an explained row is of, as a value
+abbrev row_in : ExplanationValue → Row
+row_in row = record { pair = row.pair; verdict = row.evidence.verdict }
 
-pub returns-clause-explained : goal.returns-clause-explained
-returns-clause-explained c = rows_told_from_once c.one_explanation.ensures IsExplainedRows one_why
+rows_in : (rows : List Explanation) → map row_of rows ≡ map row_in (map explanation_value rows)
+rows_in [] = refl
+rows_in (row ∷ rows) = ap (λ rest. row_of row ∷ rest) (rows_in rows)
 
 pub returns-clause-json : goal.returns-clause-json
-returns-clause-json c = rows_told_from_once c.one_explanation.ensures IsReportLine one_line
+returns-clause-json c = λ asked recording one other ending last is also.
+    let same = c.one_explanation.ensures false asked.from alone (intake_as asked.fragments recording.datagrams) is.explained also.explained is.explains also.explains in (
+      is.is_text.is_text ∙ ap₂ (λ (rows : List ExplanationValue) (counts : Counts). json_line (report_json rows counts recording)) same.0 same.1 ∙ sym also.is_text.is_text,
+      is.ends ∙ ap ending_of (rows_in is.explained.rows.items ∙ ap (map row_in) same.0 ∙ sym (rows_in also.explained.rows.items)) ∙ sym also.ends,
+    )
 
-pub returns-clause-explained_as : goal.returns-clause-explained_as
-returns-clause-explained_as c = rows_told_once c.one_full_report.ensures IsExplainedRows one_why
+-- the lines of a report by its parts
+abbrev lines_with : AskedValue → RecordingValue → Ending → Counts → List ExplanationValue → TalkValue → List ℕ
+lines_with asked recording ending counts rows talk =
+    let scope : Scope = record { from = asked.from; tail = asked.tail; unread = is_unread counts recording.reasons } in
+    pairs_line (length rows)
+    ++ (flat_map (row_text scope talk recording.times) rows
+    ++ (report_counts_line counts recording.ignored ++ last_line (totals_of scope rows) (numbers_told talk.best_effort_total) ending (causes_of asked.certain (totals_of scope rows) (findings_in ending))))
 
-pub returns-clause-json_as : goal.returns-clause-json_as
-returns-clause-json_as c = rows_told_once c.one_full_report.ensures IsReportLine one_line
+same_lines : (asked : AskedValue) (recording : RecordingValue) (one other : ReportValue) → AreSame one other → why_text asked recording one ≡ why_text asked recording other
+same_lines asked recording one other same =
+    let with = lines_with asked recording in
+    ap (λ (rows : List ExplanationValue). with one.ending one.explained.counts rows one.talk) same.rows
+    ∙ ap (λ (counts : Counts). with one.ending counts (rows_of other) one.talk) same.counts
+    ∙ ap (λ (talk : TalkValue). with one.ending other.explained.counts (rows_of other) talk) (same_talk one.talk other.talk same.talk)
+    ∙ ap (λ (ending : Ending). with ending other.explained.counts (rows_of other) other.talk) same.ending
+
+pub returns-clause-why : goal.returns-clause-why
+returns-clause-why c = λ asked theirs recording one other ending last is also.
+    let same = c.one_full_report.ensures asked theirs recording is.report also.report is.is_report also.is_report in
+    (is.is_text ∙ same_lines asked recording is.report also.report same ∙ sym also.is_text, is.ends ∙ same.ending ∙ sym also.ends)

@@ -2,6 +2,7 @@ use Rattle.std.proofs.Common.{List, refl, subst, sym}
 use Rattle.std.specs.String.{string_bytes}
 use Rattle.rtps_audit.specs.Index.{IsIndexBy}
 use Rattle.rtps_fragments.specs.RecordedSamples.{intake_as}
+use Rattle.rtps_fragments.specs.declared.fragments.Fragments.TheVariants.{Read}
 use Rattle.rtps_report.specs.Asked.{AskedValue, asked_value}
 use Rattle.rtps_report.specs.FullReport.{report_value}
 use Rattle.rtps_report.specs.Recording.{RecordingValue}
@@ -12,8 +13,7 @@ pub form_text-requires : goal.form_text-requires
 form_text-requires g c =
     let report = c.in_ok-report.report in
     let is = c.in_ok-report.ensures in
-    let by_asked = subst (λ (asked : AskedValue). IsIndexBy (intake_as asked.fragments c.args.subject.recording.now.datagrams) report.index) (sym is.asks) is.indexes in
-    subst (λ (recording : RecordingValue). IsIndexBy (intake_as report.asked.now.fragments recording.datagrams) report.index) (sym is.records) by_asked
+    subst (λ (recording : RecordingValue). IsIndexBy (intake_as Read recording.datagrams) report.index) (sym is.records) is.indexes
 
 pub returns : goal.returns
 returns g c =

@@ -61,17 +61,17 @@ returns c =
     } in
     record {
       judged = refl;
-      shown = λ recording is summary judged.
+      shown = λ recording there is summary judged has.
           let all = placed_in recording in
           let amounts = c.in_ok-amounts.ensures writer reader acts _ (heard_by recording is summary) in
-          subst (λ from. IsShown from since pair recording evidence) c.requires.from (record {
+          subst (λ from. IsShown there from since pair recording evidence) c.requires.from (record {
             verdict = subst (λ m. IsVerdictFrom m (speech_by writer reader recording) c.args.verdict) (sym c.requires.from) judged;
             announcement = summary.announcement ∙ ap (λ (w : Guid). announcement_of asked.from w asked.last all) c.requires.writer ∙ ap (λ n. announcement_of asked.from writer n all) (last recording summary);
             acknowledgement = c.find_acknowledgement.ensures pair recording is.answers;
             amounts = subst (λ n. AreAmounts asked.from n writer reader all c.in_ok-amounts.amounts) (last recording summary)
                 (amounts_same asked.from asked.last writer reader all c.in_ok-amounts.amounts (subst (λ l. AreAmounts asked.from asked.last writer reader l c.in_ok-amounts.amounts) is.acts amounts));
             received = subst (λ n. AreReceived asked.from n writer reader all c.in_ok-received.received) (last recording summary) (c.in_ok-received.ensures recording is (lacking recording is summary judged));
-            missed = subst (λ n. AreMissed asked.from n since writer reader all c.in_ok-missed-2.missed) (last recording summary) (c.in_ok-missed-2.ensures recording is (missed recording is summary judged));
+            missed = subst (λ n. AreMissed there asked.from n since writer reader all c.in_ok-missed-2.missed) (last recording summary) (c.in_ok-missed-2.ensures recording there is has (missed recording is summary judged));
             grounds = c.grounds_of.ensures recording is;
           });
       beside = λ recording beside is summary judged there times.

@@ -2,7 +2,7 @@ use Rattle.std.proofs.Common.{◌≡◌, ap, false, subst}
 use Rattle.rtps_audit.specs.Said.{datagrams_until}
 use Rattle.rtps_discovery.specs.declared.matching.Pair.{Pair}
 use Rattle.rtps_evidence.specs.Evidence.{IsBeside, IsShown}
-use Rattle.rtps_evidence.specs.OtherSide.{alone}
+use Rattle.rtps_evidence.specs.OtherSide.{alone, is_there}
 use Rattle.rtps_evidence.specs.Spans.{since_of}
 use Rattle.rtps_evidence.specs.Times.{TimesValue}
 use Rattle.rtps_evidence.proofs.RowLemmas.{judged_row}
@@ -19,7 +19,7 @@ returns c = λ intake is.
     record {
       span = judgement.span;
       extent = c.in_ok-judgement.ensures.extent intake is;
-      shown = subst (λ (p : Pair). IsShown judgement.span.from (since_of judgement.span) p recording evidence) same (c.in_ok-evidence.ensures.shown intake is summed verdict);
+      shown = subst (λ (p : Pair). IsShown (is_there alone.other p) judgement.span.from (since_of judgement.span) p recording evidence) same (c.in_ok-evidence.ensures.shown intake alone (record { index = is; other = tt; times = ap (λ (t : TimesValue). t.of_datagrams) c.none-times.ensures }) summed verdict);
       in_span = subst (λ (p : Pair). IsBeside false alone judgement.span p recording evidence.in_span) same
           (subst (λ b. IsBeside b alone judgement.span judgement.pair recording evidence.in_span) c.in_ok-judgement.ensures.in_spans
           (c.in_ok-evidence.ensures.beside intake alone (record { index = is; other = tt; times = ap (λ (t : TimesValue). t.of_datagrams) c.none-times.ensures }) summed verdict));

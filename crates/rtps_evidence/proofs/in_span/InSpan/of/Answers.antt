@@ -1,5 +1,4 @@
-use Rattle.std.proofs.Common.{◌≡◌, ◌∙◌, List, Some, ap, arith, map, refl, subst, sym, true}
-use Rattle.std.proofs.lemmas.Int.{ints}
+use Rattle.std.proofs.Common.{◌≡◌, ◌∙◌, List, Some, ap, map, refl, subst, sym, true}
 use Rattle.rtps_audit.specs.Delivery.{greatest, last_announced_from}
 use Rattle.rtps_audit.specs.Placed.{placed_in}
 use Rattle.rtps_receiver.specs.Said.{natural}
@@ -24,12 +23,12 @@ returns c = λ recording beside is there times last are missed.
     let has = is_there beside.other pair in
     let final = last_announced_from asked.from (speech_by pair.writer pair.reader recording) in
     let own = c.in_ok-outcomes.ensures recording has is there.numbers are missed in
-    let counted = subst (λ n. AreOutcomes has asked.from n (since_of exchange.span) pair all c.in_ok-outcomes.outcomes) last own in
+    let counted = subst (λ n. AreOutcomes has asked.from n exchange.times.now.of_datagrams (since_of exchange.span) pair all c.in_ok-outcomes.outcomes) last own in
     let absent : c.in_ok-absent.absent ≡ absent_of exchange.is_held has asked.from final pair all =
     c.in_ok-absent.ensures all has there.numbers own ∙ ap (λ n. absent_of exchange.is_held has asked.from n pair all) last in
     let lacking : c.in_ok-lacking.lacking ≡ kept (lacking_of exchange.is_held has asked.from final pair all) =
     c.in_ok-lacking.ensures all has there.numbers are ∙ ap (λ n. kept (lacking_of exchange.is_held has asked.from n pair all)) last in
-    let in_span : InSpan = record { joined = exchange.span.joined; is_joined_here = exchange.span.is_joined_here; from = c.cast_unsigned.result; until = exchange.span.until; outcomes = c.in_ok-outcomes.outcomes; base = c.greatest_base.result; is_held = exchange.is_held; absent = c.in_ok-absent.absent; lacking = c.in_ok-lacking.lacking; wait = c.told_wait.result } in
+    let in_span : InSpan = record { joined = exchange.span.joined; is_joined_here = exchange.span.is_joined_here; from = c.get.result; wrote_before = c.wrote_before.result; until = exchange.span.until; outcomes = c.in_ok-outcomes.outcomes; base = c.greatest_base.result; is_held = exchange.is_held; absent = c.in_ok-absent.absent; lacking = c.in_ok-lacking.lacking; wait = c.told_wait.result } in
     let yes : exchange.in_spans ≡ true = c.if-not-exchange.false in
     subst (λ b. IsBeside b beside exchange.span pair recording (Some in_span)) (sym yes) (
       in_span,
@@ -37,9 +36,11 @@ returns c = λ recording beside is there times last are missed.
       record {
         joined = refl;
         here = refl;
-        first = omega (arith, ints);
+        first = c.get.ensures.value;
+        wrote = c.wrote_before.ensures recording is;
         until = refl;
-        outcomes = subst (λ from. AreOutcomes has from (last_announced_from from (speech_by pair.writer pair.reader recording)) (since_of exchange.span) pair all c.in_ok-outcomes.outcomes) c.requires.from counted;
+        outcomes = subst (λ t. AreOutcomes has exchange.span.from (last_announced_from exchange.span.from (speech_by pair.writer pair.reader recording)) t (since_of exchange.span) pair all c.in_ok-outcomes.outcomes) times
+            (subst (λ from. AreOutcomes has from (last_announced_from from (speech_by pair.writer pair.reader recording)) exchange.times.now.of_datagrams (since_of exchange.span) pair all c.in_ok-outcomes.outcomes) c.requires.from counted);
         base = c.greatest_base.ensures.value ∙ ap (λ (l : List Answer). greatest (map (λ (answer : Answer). natural answer.base) l)) is.answers ∙ bases_same pair all;
         held = there.holds;
         absent = absent ∙ ap (λ h. absent_of h has asked.from final pair all) there.holds

@@ -2,7 +2,6 @@ use Rattle.std.proofs.Common.{◌≡◌, ◌∙◌, ◌+◌, ◌-◌, ◌<◌, �
 use Rattle.std.specs.List.{list_any}
 use Rattle.std.specs.Prelude.{is_some}
 use Rattle.std.proofs.lemmas.Bool.Decides.{nat_tests}
-use Rattle.std.proofs.lemmas.Int.{ints}
 use Rattle.rtps_audit.specs.Delivery.{greatest}
 use Rattle.rtps_audit.specs.Placed.{placed_in, placed_value}
 use Rattle.rtps_receiver.specs.Said.{natural}
@@ -32,6 +31,7 @@ returns c = λ recording there is at_host are missed.
     let exchange = c.args.exchange.now in
     let pair = exchange.pair in
     let since = since_of exchange.span in
+    let times = exchange.times.now.of_datagrams in
     let all = placed_in recording in
     let from = c.args.asked.now.from in
     let last = c.args.asked.now.last in
@@ -39,17 +39,17 @@ returns c = λ recording there is at_host are missed.
     let r : ℕ → Bool = is_received pair.writer pair.reader all in
     let w : ℕ → Bool = is_wanting since pair.writer pair.reader all in
     let b : ℕ → Bool = is_brought since pair all in
-    let u : ℕ → Bool = is_unanswered since pair all in
+    let u : ℕ → Bool = is_unanswered times since pair all in
     let k : ℕ → Bool = λ n. is_some (first_claiming pair.writer pair.reader n all) in
-    let begins : c.cast_unsigned-from.result ≡ from = omega (arith, ints) in
+    let begins : c.get-from.result ≡ from = c.get-from.ensures.value in
     let base : c.greatest_base.result ≡ greatest_base pair.writer pair.reader all =
     c.greatest_base.ensures.value ∙ ap (λ (l : List Answer). greatest (map (λ (answer : Answer). natural answer.base) l)) is.answers ∙ bases_same pair all in
     let claimed : List Stretch = record { lo = 0; hi = c.greatest_base.result } ∷ [] in
     let one : ℕ → Bool = λ n. stretches_have c.in_ok-numbers.numbers.items n || false in
     let two : ℕ → Bool = λ n. stretches_have c.count_with.new.numbers.items n || stretches_have exchange.there.now n in
     let three : ℕ → Bool = λ n. stretches_have c.count_with-2.new.numbers.items n || stretches_have c.args.unreceived.now.missed.now n in
-    let four : ℕ → Bool = λ n. stretches_have c.count_with-3.new.numbers.items n || stretches_have c.deref.result.now n in
-    let five : ℕ → Bool = λ n. stretches_have c.count_with-4.new.numbers.items n || stretches_have c.deref-2.result.now n in
+    let four : ℕ → Bool = λ n. stretches_have c.count_with-3.new.numbers.items n || stretches_have c.deref-2.result.now n in
+    let five : ℕ → Bool = λ n. stretches_have c.count_with-4.new.numbers.items n || stretches_have c.deref-3.result.now n in
     let six : ℕ → Bool = λ n. stretches_have c.count_with-5.new.numbers.items n || stretches_have claimed n in
     let lacking_too : (n : ℕ) → from ≤ n → n < last + 1 → r n ≡ false → lacks n ≡ true = λ n low high out. are n low (omega arith) ∙ ap not out in
     let first : (n : ℕ) → from ≤ n → n < last + 1 → one n ≡ r n =
@@ -65,11 +65,11 @@ returns c = λ recording there is at_host are missed.
     ∙ ap (λ (p : Pair). list_any (brings_behind since p.writer p.reader n) (map placed_value exchange.said.acts.now)) c.listener.ensures.pair
     ∙ ap (list_any (brings_behind since pair.writer pair.reader n)) is.acts ∙ brought_same since pair.writer pair.reader n all in
     let fourth : (n : ℕ) → from ≤ n → n < last + 1 → four n ≡ with_unsent (r n) (there n) (w n) (b n) =
-    λ n low high. unsent_put (stretches_have c.count_with-3.new.numbers.items n) (r n) (there n) (w n) (b n) (stretches_have c.deref.result.now n) (four n) (c.in_ok-missed.ensures.numbers n ∙ third n low high)
-    (λ out. ap (λ l. stretches_have l n) c.deref.ensures.value ∙ c.in_ok-unsent.ensures n low (omega arith) ∙ ap not (brought n (lacking_too n low high out))) refl in
+    λ n low high. unsent_put (stretches_have c.count_with-3.new.numbers.items n) (r n) (there n) (w n) (b n) (stretches_have c.deref-2.result.now n) (four n) (c.in_ok-missed.ensures.numbers n ∙ third n low high)
+    (λ out. ap (λ l. stretches_have l n) c.deref-2.ensures.value ∙ c.in_ok-unsent.ensures n low (omega arith) ∙ ap not (brought n (lacking_too n low high out))) refl in
     let fifth : (n : ℕ) → from ≤ n → n < last + 1 → five n ≡ with_unanswered (r n) (there n) (w n) (b n) (u n) =
-    λ n low high. unanswered_put (stretches_have c.count_with-4.new.numbers.items n) (r n) (there n) (w n) (b n) (stretches_have c.deref-2.result.now n) (u n) (five n) (c.in_ok-unsent-2.ensures.numbers n ∙ fourth n low high)
-    (λ out. ap (λ l. stretches_have l n) c.deref-2.ensures.value ∙ c.in_ok-silent.ensures recording is n low (omega arith) (lacking_too n low high out)) refl in
+    λ n low high. unanswered_put (stretches_have c.count_with-4.new.numbers.items n) (r n) (there n) (w n) (b n) (stretches_have c.deref-3.result.now n) (u n) (five n) (c.in_ok-unsent-2.ensures.numbers n ∙ fourth n low high)
+    (λ out is_brought. ap (λ l. stretches_have l n) c.deref-3.ensures.value ∙ c.in_ok-silent.ensures recording is n (ap (λ l. stretches_have l n) c.deref.ensures.value ∙ brought n (lacking_too n low high out) ∙ is_brought)) refl in
     let below : (n : ℕ) → stretches_have claimed n ≡ k n =
     λ n.
     let zero : nat_le 0 n ≡ true = grind (arith, nat_tests) in
@@ -77,7 +77,7 @@ returns c = λ recording there is at_host are missed.
     let sixth : (n : ℕ) → from ≤ n → n < last + 1 → six n ≡ with_likely (r n) (there n) (w n) (b n) (u n) (k n) =
     λ n low high.
     ap (λ x. x || stretches_have claimed n) (c.in_ok-unanswered.ensures.numbers n ∙ fifth n low high) ∙ ap (λ x. with_unanswered (r n) (there n) (w n) (b n) (u n) || x) (below n) in
-    let counted = outcomes_counted there from last since pair all one two three four five six
+    let counted = outcomes_counted there from last times since pair all one two three four five six
     (record { of_received = first; of_arrived = second; of_missed = third; of_unsent = fourth; of_unanswered = fifth; of_likely = sixth }) in
     let arrived_more : c.saturating_sub.result ≡ c.in_ok-arrived.arrived - c.in_ok-received.received = (let is = c.saturating_sub.ensures in omega (arith, is)) in
     let missed_more : c.saturating_sub-2.result ≡ c.in_ok-missed.missed - c.in_ok-arrived.arrived = (let is = c.saturating_sub-2.ensures in omega (arith, is)) in

@@ -1,6 +1,5 @@
 use Rattle.std.proofs.lemmas.Bool.Decides.{nat_tests}
-use Rattle.std.proofs.Common.{◌≡◌, ◌∙◌, ◌+◌, ◌<◌, ◌≤◌, ◌||◌, ◌&&◌, ℕ, Bool, List, ap, arith, false, not, sym, true}
-use Rattle.std.proofs.lemmas.Int.{ints}
+use Rattle.std.proofs.Common.{◌≡◌, ◌∙◌, ◌+◌, ◌<◌, ◌≤◌, ◌||◌, ◌&&◌, ℕ, Bool, List, ap, arith, not, sym, true}
 use Rattle.std.proofs.lemmas.List.Folds.{list_any-append}
 use Rattle.rtps_coverage.specs.Stretches.{stretch_has, stretches_have}
 use Rattle.rtps_evidence.specs.FirstNumbers.{kept}
@@ -23,7 +22,7 @@ returns c = λ acts there at_host are.
     let received : ℕ → Bool = is_received pair.writer pair.reader acts in
     let numbers : List Stretch = c.extend_from_slice.new.self.items in
     let held : exchange.is_held ≡ true = c.if-not-exchange.false in
-    let from : c.cast_unsigned-from.result ≡ asked.from = omega (arith, ints) in
+    let from : c.get-from.result ≡ asked.from = c.get-from.ensures.value in
     let has : (n : ℕ) → asked.from ≤ n → n < asked.last + 1 → stretches_have numbers n ≡ (not (lacks n) || there n) = λ n low high.
     ap (λ l. stretches_have l n) c.in_ok-extend_from_slice.ensures.items
     ∙ list_any-append (stretch_has n) c.in_ok-numbers.numbers.items exchange.there.now

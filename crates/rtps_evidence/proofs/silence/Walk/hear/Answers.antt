@@ -6,11 +6,12 @@ use Rattle.rtps_evidence.specs.Silences.{IsAt}
 use Rattle.rtps_evidence.proofs.SilenceLemmas.{heard_question}
 use Rattle.rtps_evidence.proofs.silence.Walk.hear.Goals as goal
 
-pub returns-then-asks_behind : goal.returns-then-asks_behind
-returns-then-asks_behind c = λ n silence at.
+pub returns-in_ok-ask : goal.returns-in_ok-ask
+returns-in_ok-ask c = λ n silence at.
     let listener = c.args.listener.now in
     let pair = listener.pair in
     let x = placed_value c.args.placed.now in
-    let told = subst (λ b. IsAt n (cond b (told_gone silence) silence) c.withdraw_all.new.self) (c.said_to-said.ensures.gone n) (c.in_ok-withdraw_all.ensures n silence at) in
-    subst (λ s. IsAt n s c.ask.new.self) (heard_question listener.since pair n x silence (c.said_to-said.result.announced + 1) (sym c.asks_behind.ensures ∙ c.if-asks_behind.true) (ap (λ m. m + 1) c.said_to-said.ensures.said.announced))
-    (c.ask.ensures n (cond (withdraws pair.writer pair.reader n x) (told_gone silence) silence) told)
+    let times = c.args.times.now.of_datagrams in
+    let told = subst (λ b. IsAt n (cond b (told_gone times x.datagram silence) silence) c.withdraw_all.new.self) (c.said_to-said.ensures.gone n) (c.in_ok-withdraw_all.ensures n silence at) in
+    subst (λ s. IsAt n s c.ask.new.self) (heard_question times listener.since pair n x silence (c.said_to-said.result.announced + 1) (sym c.asks_behind.ensures ∙ c.if-asks_behind.true) (ap (λ m. m + 1) c.said_to-said.ensures.said.announced))
+    (c.in_ok-ask.ensures n (cond (withdraws pair.writer pair.reader n x) (told_gone times x.datagram silence) silence) told)

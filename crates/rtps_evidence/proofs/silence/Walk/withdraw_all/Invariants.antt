@@ -8,7 +8,7 @@ use Rattle.rtps_evidence.proofs.silence.Walk.withdraw_all.Given as goal
 
 -- the numbers below that place are told gone
 abbrev pub invariant-apart : goal.invariant-apart
-invariant-apart l = (n : ℕ) (silence : Silence) → IsAt n silence l.fn.self → IsAt n (if below (numbers_have l.numbers) l.at n then told_gone silence else silence) l.self
+invariant-apart l = (n : ℕ) (silence : Silence) → IsAt n silence l.fn.self → IsAt n (if below (numbers_have l.numbers) l.at n then told_gone l.moment.times.now.of_datagrams l.moment.datagram silence else silence) l.self
 
 abbrev pub decreases-apart : goal.decreases-apart
 decreases-apart l = 2 ^ 64 - l.at

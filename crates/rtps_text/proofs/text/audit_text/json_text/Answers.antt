@@ -1,17 +1,15 @@
-use Rattle.std.proofs.Common.{◌++◌, ◌∙◌, ap}
-use Rattle.json.specs.Tree.{json_tokens}
-use Rattle.rtps_report.specs.FullReport.{report_value, rows_of}
-use Rattle.rtps_lines.specs.JsonText.{report_json}
-use Rattle.rtps_lines.proofs.Offered.{report_within}
+use Rattle.std.proofs.Common.{◌∙◌, Bool, List, ap, if◌then◌else◌, map}
+use Rattle.std.specs.List.{list_all}
+use Rattle.rtps_report.specs.Reported.{is_complete}
+use Rattle.rtps_report.specs.Vocabulary.{Explanation, row_of}
+use Rattle.rtps_report.specs.declared.findings.Ending.TheVariants.{Clean, Unclean}
 use Rattle.rtps_text.proofs.text.audit_text.json_text.Goals as goal
 
-pub json_line-requires : goal.json_line-requires
-json_line-requires c = c.in_ok-push_report.ensures.before ∙ c.new-writer.ensures.before ∙ c.new.ensures.items
-
 pub returns : goal.returns
-returns c =
-    let report = c.args.report.now in
-    let rows = rows_of (report_value report) in
-    let json = report_json rows report.explained.counts report.recording.now in
-    c.json_line.ensures json (c.in_ok-push_report.ensures.tokens ∙ ap (λ all. all ++ json_tokens json) c.new-writer.ensures.tokens)
-    (report_within rows report.explained.counts report.recording.now)
+returns g c = record {
+  explained = c.in_ok-explained.explained;
+  explains = c.in_ok-explained.ensures;
+  is_text = c.in_ok-text.ensures;
+  ends = c.ending_if.ensures ∙ ap (λ (complete : Bool). if complete then Clean else Unclean)
+      (c.all_complete.ensures ∙ ap (λ (rows : List Explanation). list_all (λ row. is_complete row.verdict) (map row_of rows)) c.deref.ensures.value);
+}

@@ -1,11 +1,11 @@
 -- Facts on what `list` prints: the acts of datagrams, and how many have a fault.
-use Rattle.std.proofs.Common.{◌≡◌, ◌+◌, ℕ, List, [], ◌∷◌, ◌++◌, ap, ◌∙◌, if◌then◌else◌, append-nil, arith, subst, sym, append_assoc, length-append}
+use Rattle.std.proofs.Common.{◌≡◌, ◌+◌, ℕ, List, [], ◌∷◌, ◌++◌, ap, ◌∙◌, append-nil, arith, subst, sym, append_assoc, length-append}
 use Rattle.std.proofs.lemmas.Grind.{flat_map-append}
-use Rattle.std.proofs.lemmas.List.Sums.{sum_by-append}
 use Rattle.rtps_report.specs.Vocabulary.{ActValue, IsMapOf}
 use Rattle.rtps_wire.specs.Reading.{reading_of}
 use Rattle.rtps_receiver.specs.Acts.{acts_in, acts_of}
-use Rattle.rtps_discovery.specs.Notice.{announcement_of, answer_of, faults_in, is_fault}
+use Rattle.rtps_discovery.specs.Notice.{faults_in}
+use Rattle.rtps_text.proofs.ListLemmas.{faults_in-append}
 use Rattle.rtps_text.proofs.text.list_text.note_datagrams.Goals as goal
 
 -- the acts of one datagram more
@@ -13,9 +13,6 @@ acts_in-push : (datagrams : List (List ℕ)) (octets : List ℕ) → acts_in (da
 acts_in-push datagrams octets =
     let acts : List ℕ → List ActValue = λ datagram. acts_of (reading_of datagram) in
     flat_map-append acts datagrams (octets ∷ []) ∙ ap (λ more. acts_in datagrams ++ more) (append-nil (acts octets))
-
-faults_in-append : (acts more : List ActValue) → faults_in (acts ++ more) ≡ faults_in acts + faults_in more
-faults_in-append acts more = sum_by-append (λ act. if is_fault (answer_of (announcement_of act)) then 1 else 0) acts more
 
 pub loop-octets-preserved : goal.loop-octets-preserved
 loop-octets-preserved c =

@@ -3,7 +3,7 @@ use Rattle.std.proofs.Common.{◌+◌, ◌++◌, ◌∙◌, ap, string_bytes}
 use Rattle.rtps_evidence.specs.Explanation.{evidence_value}
 use Rattle.rtps_report.specs.Reported.{number_of}
 use Rattle.rtps_lines.proofs.Offered.{four_parts}
-use Rattle.rtps_text.specs.ReportText.{missed_lines, not_received_line, received_line, shown_by}
+use Rattle.rtps_text.specs.WhyText.{missed_lines, not_received_line, received_line, shown_by}
 use Rattle.rtps_text.proofs.text.why_text.push_rest.Goals as goal
 
 pub returns : goal.returns

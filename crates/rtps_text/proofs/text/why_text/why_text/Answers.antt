@@ -1,28 +1,39 @@
-use Rattle.std.proofs.Common.{◌≡◌, ◌++◌, ◌∙◌, ap, append_assoc, length, map, sym, flat_map, string_bytes}
+use Rattle.std.proofs.Common.{◌≡◌, ◌++◌, ◌∙◌, [], ℕ, List, Option, ap, length, map, sym, flat_map, string_bytes}
 use Rattle.std.proofs.lemmas.List.{length-map}
 use Rattle.std.proofs.lemmas.List.Folds.{flat_map-map}
 use Rattle.rtps_evidence.specs.Explanation.{explanation_value}
-use Rattle.rtps_evidence.specs.Times.{no_times}
-use Rattle.rtps_text.specs.ReportText.{pairs_line, report_counts_line, explanation_text}
+use Rattle.rtps_evidence.specs.Times.{TimesValue}
+use Rattle.rtps_report.specs.Asked.{asked_value}
+use Rattle.rtps_report.specs.FullReport.{report_value}
+use Rattle.rtps_report.specs.NoteFacts.{scope_of}
+use Rattle.rtps_report.specs.Talk.{talk_value}
+use Rattle.rtps_report.specs.Vocabulary.{Explanation}
+use Rattle.rtps_report.specs.declared.advice.Scope.{Scope}
+use Rattle.rtps_lines.specs.CheckMembers.{report_last}
+use Rattle.rtps_lines.proofs.Offered.{four_parts}
+use Rattle.rtps_text.specs.ReportText.{pairs_line, report_counts_line}
+use Rattle.rtps_text.specs.WhyText.{row_text}
 use Rattle.rtps_text.proofs.text.why_text.why_text.Goals as goal
 
 pub returns : goal.returns
 returns c =
     let report = c.args.report.now in
+    let asked = asked_value report.asked.now in
+    let recording = report.recording.now in
+    let value = report_value report in
     let explained = report.explained in
     let items = explained.rows.items in
     let rows = map explanation_value items in
-    let lines = flat_map (explanation_text no_times) rows in
-    let first = pairs_line (length rows) in
-    let last = report_counts_line explained.counts report.recording.now.ignored in
+    let scope = scope_of asked recording value in
+    let talk = talk_value report.talk in
+    let by : Scope → TimesValue → List Explanation → List ℕ = λ first times all. flat_map (λ row. row_text first talk times (explanation_value row)) all in
     let count : c.len.result ≡ length rows = c.len.ensures ∙ explained.rows.ok.0 ∙ sym (length-map items explanation_value) in
-    let one : string_bytes c.writeln.new.self ≡ first =
-    c.in_ok-writeln.ensures.bytes ∙ ap (λ bytes. bytes ++ pairs_line c.len.result) c.new-text.ensures.bytes ∙ ap pairs_line count in
-    let two : string_bytes c.push_rows.new.text ≡ first ++ lines =
-    c.in_ok-push_rows.ensures
-    ∙ ap (λ times. string_bytes c.writeln.new.self ++ flat_map (λ row. explanation_text times (explanation_value row)) c.deref.result.now) c.none-times.ensures
-    ∙ ap (λ bytes. bytes ++ flat_map (λ row. explanation_text no_times (explanation_value row)) c.deref.result.now) one
-    ∙ ap (λ all. first ++ flat_map (λ row. explanation_text no_times (explanation_value row)) all) c.deref.ensures.value
-    ∙ ap (λ more. first ++ more) (sym (flat_map-map (explanation_text no_times) explanation_value items)) in
-    c.in_ok-write.ensures.bytes ∙ ap (λ ignored. string_bytes c.push_rows.new.text ++ report_counts_line explained.counts ignored) c.ignored.ensures
-    ∙ ap (λ bytes. bytes ++ last) two ∙ append_assoc first lines last
+    let one = c.in_ok-writeln.ensures.bytes ∙ ap (λ bytes. bytes ++ pairs_line c.len.result) c.new-text.ensures.bytes ∙ ap pairs_line count in
+    let two = c.in_ok-push_rows.ensures
+    ∙ ap (λ (first : Scope). string_bytes c.writeln.new.self ++ by first c.times.result.now c.deref.result.now) c.scope_of.ensures
+    ∙ ap (λ (times : TimesValue). string_bytes c.writeln.new.self ++ by scope times c.deref.result.now) c.times.ensures
+    ∙ ap (λ (all : List Explanation). string_bytes c.writeln.new.self ++ by scope recording.times all) c.deref.ensures.value
+    ∙ ap (λ (more : List ℕ). string_bytes c.writeln.new.self ++ more) (sym (flat_map-map (row_text scope talk recording.times) explanation_value items)) in
+    let three = c.in_ok-write.ensures.bytes ∙ ap (λ (ignored : Option ℕ). string_bytes c.push_rows.new.text ++ report_counts_line explained.counts ignored) c.ignored.ensures in
+    four_parts [] (pairs_line (length rows)) (flat_map (row_text scope talk recording.times) rows) (report_counts_line explained.counts recording.ignored) (report_last asked recording value)
+    one two three c.in_ok-push_report_last.ensures

@@ -1,0 +1,112 @@
+#!/usr/bin/env python3
+"""How many random recordings meet each rule of a report, so that comparisons with the second implementation try all of them.
+
+    rules.py [COUNT [SEED]]
+                    prints of COUNT random texts, of as many captures with times and of as many with another recording, how many meet
+                    each rule
+"""
+import random
+import sys
+
+import arrived
+import check
+import report
+from asked import GREATEST
+from life import Span
+from random_recordings import some_asked, text_of_datagrams
+from random_systems import some_both, some_other, some_recorded
+from random_times import some_asked_of
+from times import NO_TIMES, SILENCE
+
+
+def spans_of(found):
+    return [Span(found.talk.recording, found.talk.life, row.w, row.r, found.asked.first) for row in found.rows]
+
+
+def by_irrelevant(span, first):
+    """the first number is another one for what was told gone before anything was sent"""
+    return span.joined_here and span.first > first and span.irrelevant() >= max(first, span.announced_before() + 1)
+
+
+def without_times(row):
+    """the numbers that are no outage for a short time alone"""
+    delivery = row.delivery
+    times, delivery.times = delivery.times, NO_TIMES
+    unanswered = [delivery.kind(n) for n in delivery.bounds() if n <= row.last].count('unanswered')
+    delivery.times = times
+    return unanswered > [delivery.kind(n) for n in delivery.bounds() if n <= row.last].count('unanswered')
+
+
+def rules_of(found):
+    """the rules that a report meets"""
+    rows, talk, last = found.rows, found.talk, check.ending(found)
+    by_lease = [guid for guid, when in talk.silent.items() if talk.times.last - talk.times.of(when) <= SILENCE]
+    advice = [row.advice(found.counts) or '' for row in rows]
+    return {
+        'irrelevant before anything is sent': any(by_irrelevant(span, found.asked.first) for span in spans_of(found)),
+        'from is 2^63': any(row.first > GREATEST for row in rows),
+        'wrote nothing since it joined': any(row.wrote_before_alone() for row in rows),
+        'unanswered': any(row.counts['unanswered'] for row in rows),
+        'no outage by the 100 ms': any(map(without_times, rows)),
+        'a tail': any(row.is_tail() and row.tail() for row in rows),
+        'a tail from its first number': any(row.is_tail() and row.delivery.base() == row.first for row in rows),
+        'clean with a tail': any(row.is_clean_with_a_tail() for row in rows),
+        'talks and does not match': bool(talk.talking),
+        'talks, of two domains': any(talk.announced.two_domains(row.w, row.r) and row.delivery.base() > 1 for row in rows),
+        'does not match': bool(talk.unmatched),
+        'best effort, left out': any(not reliable for reliable in (w[4] == r[4] == 1 for w, r in talk.unobserved)),
+        'best effort alone, clean': 'clean: no reliable' in last and not found.because,
+        'best effort alone, not clean': 'no reliable pair' in last and bool(found.because),
+        'silent': bool(talk.silent),
+        'silent by its lease': bool(by_lease),
+        'silent by a frame that gives nothing': any(talk.times.end(len(found.datagrams)) - talk.times.of(when) <= SILENCE for when in talk.silent.values()),
+        'advice on who is silent': any('ended without leaving' in one for one in advice),
+        'record longer': 'record longer' in advice,
+        'never asked, and left': any('it was never asked' in one for one in advice),
+        'none is known to be lost': 'none is known' in last,
+        'clean': last == 'clean',
+    } | (rules_of_sides(found) if found.sides else {})
+
+
+def rules_of_sides(found):
+    return {
+        'held': any(row.held for row in found.rows),
+        'missed, and some of these arrived': any(row.counts['missed'] and set(row.delivery.asked) & row.delivery.arrived for row in found.rows),
+    }
+
+
+def some_text(rng):
+    return some_recorded(rng), some_asked(rng), None
+
+
+def some_timed(rng):
+    octets, asked = some_asked_of(rng)
+    return octets, asked, None
+
+
+def some_two(rng):
+    datagrams, there = some_other(rng, some_both(rng))
+    return text_of_datagrams(datagrams), some_asked(rng), arrived.Other(there)
+
+
+def main():
+    count, seed = (int(word) for word in sys.argv[1:] + ['1000', '1'][len(sys.argv) - 1:])
+    for name, some in (('texts', some_text), ('captures', some_timed), ('two texts', some_two)):
+        rng, met, refused = random.Random(seed), {}, 0
+        for _ in range(count):
+            octets, asked, other = some(rng)
+            try:
+                found = report.report_of(octets, asked)
+            except report.Refused:
+                refused += 1
+                continue
+            found = report.Report(found.datagrams, asked, times=found.talk.times, other=other) if other else found
+            for rule, is_met in rules_of(found).items():
+                met[rule] = met.get(rule, 0) + is_met
+        print(f'{name}: {count}, of which {refused} are refused')
+        for rule, times in met.items():
+            print(f'  {times:6} {rule}')
+
+
+if __name__ == '__main__':
+    sys.exit(main())

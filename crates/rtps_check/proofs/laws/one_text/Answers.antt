@@ -1,0 +1,102 @@
+use Rattle.std.proofs.Common.{◌≡◌, ◌++◌, ◌∙◌, ℕ, List, Option, ap, ap₂, filter, map, refl, subst, sym}
+use Rattle.std.specs.Cmp.{IsTotalOrder}
+use Rattle.std.specs.Cmp.Lexicographic.{slice_cmp}
+use Rattle.std.specs.Ordering.{nat_cmp, ordering_then}
+use Rattle.std.specs.declared.cmp.Ordering.{Ordering}
+use Rattle.std.proofs.lemmas.Cmp.{nat_list_cmp_total, on_total, then_total}
+use Rattle.rtps_audit.specs.declared.report.Counts.{Counts}
+use Rattle.rtps_evidence.specs.Explanation.{ExplanationValue, explanation_value}
+use Rattle.rtps_evidence.specs.declared.explanation.Explanation.{Explanation}
+use Rattle.rtps_policies.specs.Unmatched.{UnmatchedValue}
+use Rattle.rtps_report.specs.Asked.{AskedValue}
+use Rattle.rtps_report.specs.BestEfforts.{HeldValue}
+use Rattle.rtps_report.specs.ByTopic.{AreByTopic}
+use Rattle.rtps_report.specs.FullReport.{ReportValue, rows_of}
+use Rattle.rtps_report.specs.Laws.{AreSame}
+use Rattle.rtps_report.specs.NoteFacts.{facts_by, is_unread, note_facts, scope_of}
+use Rattle.rtps_report.specs.Recording.{RecordingValue}
+use Rattle.rtps_report.specs.SideFacts.{facts_if, side_facts}
+use Rattle.rtps_report.specs.Talk.{LeftOutValue}
+use Rattle.rtps_report.specs.Totals.{totals_of}
+use Rattle.rtps_report.specs.declared.advice.Scope.{Scope}
+use Rattle.rtps_report.proofs.Offered.{same_talk}
+use Rattle.rtps_lines.specs.Notes.{talking_names}
+use Rattle.rtps_check.specs.ArrivedText.{AreByTopic as LossyByTopic, is_lossy, lossy_lines}
+use Rattle.rtps_check.specs.CheckText.{Beside, IsCheckText, IsTextBy, beside_of, ending_text, first_lines, told_beside, topics_text}
+use Rattle.rtps_check.specs.TalkText.{AreByTopic as UnmatchedByTopic, AreLeftByTopic, one_way_block, unmatched_lines}
+use Rattle.rtps_check.proofs.OrderLemmas.{sorted_once, sorted_same}
+use Rattle.rtps_check.proofs.laws.one_text.Goals as goal
+
+-- ---- rows by topic
+
+abbrev names_ord : List ℕ × List ℕ → List ℕ × List ℕ → Ordering
+names_ord one other = ordering_then (slice_cmp nat_cmp one.0 other.0) (slice_cmp nat_cmp one.1 other.1)
+
+names_total : IsTotalOrder names_ord
+names_total = then_total (on_total (λ (names : List ℕ × List ℕ). names.0) nat_list_cmp_total) (on_total (λ (names : List ℕ × List ℕ). names.1) nat_list_cmp_total)
+
+-- the same row with these names
+abbrev with_names : Explanation → List ℕ × List ℕ → Explanation
+with_names row names = record row { topic = record row.topic { now = names.0 }; type_name = record row.type_name { now = names.1 } }
+
+rows_once : (xs ys one other : List Explanation) → AreByTopic xs one → AreByTopic ys other → map explanation_value xs ≡ map explanation_value ys
+    → map explanation_value one ≡ map explanation_value other
+rows_once xs ys one other by also same =
+    sorted_once names_ord names_total (λ (row : ExplanationValue). (row.topic, row.type_name)) explanation_value with_names (λ row names. refl)
+    xs ys one other same by.by_names by.in_order also.by_names also.in_order
+
+unmatched_once : (xs ys one other : List UnmatchedValue) → xs ≡ ys → UnmatchedByTopic xs one → UnmatchedByTopic ys other → one ≡ other
+unmatched_once xs ys one other same by also =
+    sorted_same (slice_cmp nat_cmp) nat_list_cmp_total (λ (found : UnmatchedValue). found.writer.endpoint.topic) xs ys one other same by.by_topic by.in_order also.by_topic also.in_order
+
+left_once : (xs ys one other : List LeftOutValue) → xs ≡ ys → AreLeftByTopic xs one → AreLeftByTopic ys other → one ≡ other
+left_once xs ys one other same by also =
+    sorted_same (slice_cmp nat_cmp) nat_list_cmp_total (λ (found : LeftOutValue). found.topic) xs ys one other same by.by_topic by.in_order also.by_topic also.in_order
+
+lossy_once : (xs one other : List HeldValue) → LossyByTopic xs one → LossyByTopic xs other → one ≡ other
+lossy_once xs one other by also =
+    sorted_same (slice_cmp nat_cmp) nat_list_cmp_total (λ (found : HeldValue). found.topic) xs xs one other refl by.by_topic by.in_order also.by_topic also.in_order
+
+-- ---- the text
+
+text_by_once : (scope : Scope) (beside : Beside) (rows : List ExplanationValue) (one other : List ℕ) → IsTextBy scope beside rows one → IsTextBy scope beside rows other → one ≡ other
+text_by_once scope beside rows one other is also =
+    let totals = totals_of scope rows in
+    is.is_text
+    ∙ ap₂ (λ (first : List UnmatchedValue) (second : List HeldValue). first_lines totals beside
+    ++ (topics_text (told_beside scope beside) totals rows
+    ++ (unmatched_lines beside.talk.hosts first
+    ++ (one_way_block beside.talk ++ (lossy_lines beside.talk.hosts second ++ ending_text scope beside totals rows)))))
+    (unmatched_once beside.talk.unmatched beside.talk.unmatched is.unmatched also.unmatched refl is.unmatched_by_topic also.unmatched_by_topic)
+    (lossy_once (filter is_lossy beside.talk.held) is.lossy also.lossy is.lossy_by_topic also.lossy_by_topic)
+    ∙ sym also.is_text
+
+-- what a text is by: what rows are told by, what is told beside them, and the rows
+abbrev Told : Type 0
+Told = Scope × Beside × List ExplanationValue
+
+text_once : (asked : AskedValue) (recording : RecordingValue) (one other : ReportValue) (text last : List ℕ) → AreSame one other
+    → IsCheckText asked recording one text → IsCheckText asked recording other last → text ≡ last
+text_once asked recording one other text last same is also =
+    let rows : map explanation_value is.rows ≡ map explanation_value also.rows =
+    rows_once one.explained.rows.items other.explained.rows.items is.rows also.rows is.rows_by_topic also.rows_by_topic same.rows in
+    let talking : is.talking ≡ also.talking = unmatched_once one.talk.talking other.talk.talking is.talking also.talking same.talk.talking is.talking_by_topic also.talking_by_topic in
+    let left_out : is.left_out ≡ also.left_out = left_once one.talk.left_out other.talk.left_out is.left_out also.left_out same.talk.left_out is.left_out_by_topic also.left_out_by_topic in
+    let scope_by : Counts → Scope = λ counts. record { from = asked.from; tail = asked.tail; unread = is_unread counts recording.reasons } in
+    let scope : scope_of asked recording one ≡ scope_of asked recording other = ap scope_by same.counts in
+    let facts : note_facts asked recording one ≡ note_facts asked recording other =
+    ap₂ (λ (rows : List ExplanationValue) (counts : Counts). facts_by rows (scope_by counts) counts recording) same.rows same.counts in
+    let side : side_facts one ≡ side_facts other = ap₂ (λ (rows : List ExplanationValue) (arrived : Option RecordingValue). facts_if rows arrived) same.rows same.arrived in
+    let talk = same_talk one.talk other.talk same.talk in
+    let beside : beside_of asked recording one (talking_names is.talking) is.left_out ≡ beside_of asked recording other (talking_names also.talking) also.left_out =
+    λ i. record (beside_of asked recording one (talking_names is.talking) is.left_out) { facts = facts i; side = side i; talking = talking_names (talking i); left_out = left_out i; talk = talk i; ending = same.ending i } in
+    let told : Told = (scope_of asked recording one, beside_of asked recording one (talking_names is.talking) is.left_out, map explanation_value is.rows) in
+    let told' : Told = (scope_of asked recording other, beside_of asked recording other (talking_names also.talking) also.left_out, map explanation_value also.rows) in
+    let path : told ≡ told' = λ i. (scope i, beside i, rows i) in
+    text_by_once (scope_of asked recording other) (beside_of asked recording other (talking_names also.talking) also.left_out) (map explanation_value also.rows) text last
+    (subst (λ (by : Told). IsTextBy by.0 by.1 by.2 text) path is.is_text) also.is_text
+
+pub returns : goal.returns
+returns c = λ asked theirs recording one other ending last is also.
+    let same = c.one_full_report.ensures asked theirs recording is.report also.report is.is_report also.is_report in
+    (text_once asked recording is.report also.report one other same is.is_text also.is_text, is.ends ∙ same.ending ∙ sym also.ends)

@@ -1,8 +1,0 @@
-use Rattle.std.proofs.Common.{◌≡◌, map, take}
-use Rattle.rtps_evidence.specs.Explanation.{explanation_value}
-use Rattle.rtps_check.specs.CheckText.{longest_tail}
-use Rattle.rtps_check.proofs.tails.longest_tail.Given as goal
-
--- of the rows so far
-abbrev pub invariant-loop-row : goal.invariant-loop-row
-invariant-loop-row l = l.longest ≡ longest_tail (map explanation_value (take l.row-index l.rows))

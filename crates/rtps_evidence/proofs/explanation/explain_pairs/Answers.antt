@@ -1,0 +1,13 @@
+use Rattle.std.proofs.Common.{◌∙◌, All, ap, map, subst, sym}
+use Rattle.rtps_audit.specs.Report.{IsJudgedFrom}
+use Rattle.rtps_audit.specs.declared.report.Row.{Row}
+use Rattle.rtps_evidence.proofs.explanation.explain_pairs.Goals as goal
+
+pub returns : goal.returns
+returns g c = λ intake beside are known. record {
+  of_pairs = c.in_ok-explained.ensures.pairs ∙ ap (map (λ (row : Row). row.pair)) c.deref.ensures.value ∙ c.in_ok-rows.ensures.pairs;
+  directory = c.directory.result.now;
+  is_map = c.directory.ensures intake are.index;
+  named = c.in_ok-explained.ensures.named;
+  shown = c.in_ok-explained.ensures.shown intake beside are (subst (All (IsJudgedFrom c.args.extent.from _)) (sym c.deref.ensures.value) (c.in_ok-rows.ensures.judged intake are.index known));
+}

@@ -1,0 +1,35 @@
+use Rattle.std.proofs.Common.{◌≡◌, ◌∙◌, All, List, ap, length, map, subst, sym, true}
+use Rattle.rtps_audit.specs.Intake.{acts_together}
+use Rattle.rtps_audit.specs.Report.{IsJudgedFrom, counts_of}
+use Rattle.rtps_audit.specs.declared.report.Row.{Row}
+use Rattle.rtps_discovery.specs.Directory.{DirectoryValue, settled_in, unsettled_in}
+use Rattle.rtps_discovery.specs.Matching.{matches_among, reliable_pairs}
+use Rattle.rtps_discovery.specs.declared.matching.Pair.{Pair}
+use Rattle.rtps_evidence.specs.Explanation.{AreExplained}
+use Rattle.rtps_evidence.specs.declared.exchange.Extent.{Extent}
+use Rattle.rtps_report.specs.Asked.{asked_value}
+use Rattle.rtps_report.specs.Talk.{IsKeptOf}
+use Rattle.rtps_report.proofs.full_report.explained_of.Goals as goal
+
+pub returns : goal.returns
+returns g c = λ intake beside traffic are kept.
+    let report = (c.in_ok-matched.ensures intake are.index).report in
+    let acts = acts_together intake.announcing in
+    let own = c.args.sides.now.index.now.directory in
+    let directory = c.directory-directory.result.now in
+    let is_map = c.directory-directory.ensures intake are.index in
+    let here : own ≡ directory = c.one_map.ensures.unique acts own directory are.index.directory is_map in
+    let same : report.directory ≡ directory = c.one_map.ensures.unique acts report.directory directory report.is_map is_map in
+    let pairs = ap (map (λ (row : Row). row.pair)) c.deref.ensures.value ∙ report.pairs ∙ ap (λ (of : DirectoryValue). reliable_pairs (matches_among (settled_in of.endpoints))) same in
+    let judged = subst (λ (extent : Extent). All (IsJudgedFrom extent.from intake.acts) c.deref-3.result.now) (sym c.extent.ensures)
+    (subst (All (IsJudgedFrom c.args.asked.now.from intake.acts)) (sym c.deref-3.ensures.value) report.judged) in
+    record {
+      directory = directory;
+      is_map = is_map;
+      pairs = c.in_ok-pairs.pairs.items;
+      are_pairs = c.in_ok-pairs.ensures intake traffic pairs (subst (λ (of : DirectoryValue). IsKeptOf (asked_value c.args.asked.now) intake traffic of.endpoints c.args.talk.now) here kept);
+      rows = subst (λ (those : List Pair). AreExplained true c.args.asked.now.from beside intake those c.in_ok-rows.rows.items) c.deref-2.ensures.value
+          (subst (λ (extent : Extent). AreExplained extent.in_spans extent.from beside intake c.deref-2.result.now c.in_ok-rows.rows.items) c.extent.ensures
+          (c.in_ok-rows.ensures intake beside are judged));
+      counts = report.counts ∙ ap (λ (of : DirectoryValue). counts_of intake (length (unsettled_in of.endpoints))) same;
+    }

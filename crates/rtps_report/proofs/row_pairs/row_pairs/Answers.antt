@@ -1,0 +1,23 @@
+use Rattle.std.proofs.Common.{◌++◌, ◌∙◌, List, ap, filter, map, subst}
+use Rattle.std.specs.List.Sorted.{IsPermutation}
+use Rattle.std.proofs.lemmas.List.Filters.{dedup_is}
+use Rattle.rtps_audit.specs.declared.report.Row.{Row}
+use Rattle.rtps_discovery.specs.declared.matching.Pair.{Pair}
+use Rattle.rtps_policies.specs.Unmatched.{pair_of, unmatched_value}
+use Rattle.rtps_report.specs.Asked.{asked_value}
+use Rattle.rtps_report.specs.RowPairs.{is_match_told, is_topic_asked}
+use Rattle.rtps_report.proofs.RowPairLemmas.{rows_are}
+use Rattle.rtps_report.proofs.TalkLemmas.{pair_alike}
+use Rattle.rtps_report.proofs.row_pairs.row_pairs.Goals as goal
+
+pub returns : goal.returns
+returns c = λ intake traffic same kept.
+    let wanted = c.args.wanted in
+    let asked = asked_value wanted.asked.now in
+    let entries = wanted.directory.now.endpoints in
+    rows_are asked intake traffic entries wanted.talk.now kept _ pair_alike c.sort.new.self.items c.dedup.new.self.items
+    (subst (λ (those : List Pair). IsPermutation those c.sort.new.self.items)
+    (c.in_ok-push_talking.ensures ∙ ap (λ (front : List Pair). front ++ filter (is_topic_asked asked.topics entries) (map pair_of (map unmatched_value wanted.talk.now.talking.items))) (c.in_ok-push_matches.ensures
+    ∙ ap (λ (start : List Pair). start ++ filter (is_match_told wanted.talk.now asked.topics entries) (map (λ (row : Row). row.pair) c.args.matched.now)) c.new-pairs.ensures.items
+    ∙ ap (filter (is_match_told wanted.talk.now asked.topics entries)) same)) c.sort.ensures.permutation)
+    c.in_ok-sort.ensures.sorted (dedup_is _ _ _ c.dedup.ensures.filtered)

@@ -1,0 +1,93 @@
+ghost use Rattle.std.specs.Prelude.{◌≡◌, ◌++◌, IfOk, List, OnOk, filter, map};
+ghost use Rattle.rtps_discovery.specs.Directory.{settled_in};
+ghost use Rattle.rtps_discovery.specs.Matching.{matches_among, reliable_pairs};
+ghost use Rattle.rtps_policies.specs.Unmatched.{pair_of as pair_of_lem, unmatched_value};
+ghost use Rattle.rtps_report.specs.Asked.{asked_value};
+ghost use Rattle.rtps_report.specs.RowPairs.{AreRowPairs, is_match_told as is_match_told_lem, is_topic_asked as is_topic_asked_lem};
+ghost use Rattle.rtps_report.specs.Talk.{IsKeptOf};
+ghost use Rattle.rtps_report.specs.Vocabulary.{Intake};
+ghost use Rattle.rtps_policies.specs.Silence.{Traffic};
+
+use crate::asked::Asked;
+use crate::rows::{are_observed, fits_one};
+use crate::talk::{Talk, pair_of};
+use crate::topics::topic_of;
+use rtps_audit::Row;
+use rtps_discovery::{Directory, Pair};
+use rtps_ids::Memory;
+use std::alloc::Global;
+
+/// What tells the pairs that have a row from others, of one recording.
+#[derive(Clone, Copy)]
+pub(crate) struct Wanted<'t, 's, 'q, 'd, 'a> {
+    pub(crate) talk: &'t Talk<'a>,
+    pub(crate) asked: &'s Asked<'q>,
+    pub(crate) directory: &'d Directory<'a>,
+}
+
+impl Wanted<'_, '_, '_, '_, '_> {
+    /// Whether the topic of a pair is asked for.
+    fn is_topic_asked(&self, pair: Pair) -> bool
+        ensures { result ≡ is_topic_asked_lem (asked_value self.now.asked.now).topics self.now.directory.now.endpoints pair }
+    {
+        fits_one(self.asked.topics, topic_of(self.directory, pair.writer))
+    }
+
+    /// Whether a reliable match has a row: the two match by all policies, and the recording can speak of them.
+    fn is_match_told(&self, pair: Pair) -> bool
+        ensures { result ≡ is_match_told_lem self.now.talk.now (asked_value self.now.asked.now).topics self.now.directory.now.endpoints pair }
+    {
+        !self.talk.is_unfit(pair)
+            && are_observed(&self.talk.namings, pair)
+            && self.is_topic_asked(pair)
+    }
+}
+
+/// Adds the pairs of these rows, of reliable matches, that have a row.
+fn push_matches(
+    pairs: &mut Vec<Pair>,
+    matched: &[Row],
+    wanted: Wanted<'_, '_, '_, '_, '_>,
+) -> Result<(), Memory>
+    ensures { OnOk result (pairs.new.items ≡ pairs.old.items
+        ++ filter (is_match_told_lem wanted.entry.talk.now (asked_value wanted.entry.asked.now).topics wanted.entry.directory.now.endpoints) (map (λ row. row.pair) matched.now)) }
+{
+    for row in matched {
+        if wanted.is_match_told(row.pair) {
+            pairs.push(row.pair)?;
+        }
+    }
+    Ok(())
+}
+
+/// Adds the pairs that talk though they do not match.
+fn push_talking(pairs: &mut Vec<Pair>, wanted: Wanted<'_, '_, '_, '_, '_>) -> Result<(), Memory>
+    ensures { OnOk result (pairs.new.items ≡ pairs.old.items
+        ++ filter (is_topic_asked_lem (asked_value wanted.entry.asked.now).topics wanted.entry.directory.now.endpoints) (map pair_of_lem (map unmatched_value wanted.entry.talk.now.talking.items))) }
+{
+    for one in &wanted.talk.talking {
+        let pair = pair_of(one);
+        if wanted.is_topic_asked(pair) {
+            pairs.push(pair)?;
+        }
+    }
+    Ok(())
+}
+
+/// The pairs that have a row, by writer and then by reader, where these are the rows of the reliable matches.
+pub(crate) fn row_pairs(
+    alloc: Global,
+    matched: &[Row],
+    wanted: Wanted<'_, '_, '_, '_, '_>,
+) -> Result<Vec<Pair>, Memory>
+    ensures { IfOk result (λ pairs. (intake : Intake) (traffic : Traffic) → map (λ row. row.pair) matched.now ≡ reliable_pairs (matches_among (settled_in wanted.entry.directory.now.endpoints))
+        → IsKeptOf (asked_value wanted.entry.asked.now) intake traffic wanted.entry.directory.now.endpoints wanted.entry.talk.now
+        → AreRowPairs (asked_value wanted.entry.asked.now) intake traffic wanted.entry.directory.now.endpoints pairs.items) }
+{
+    let mut pairs = Vec::new(alloc);
+    push_matches(&mut pairs, matched, wanted)?;
+    push_talking(&mut pairs, wanted)?;
+    pairs.sort()?;
+    pairs.dedup();
+    Ok(pairs)
+}

@@ -1,0 +1,115 @@
+-- What `why` prints of a report.
+-- own: it prints behind the line of a pair what its verdict rests on, place by place, so that it can be checked with `show`; each such line
+-- begins with two spaces, and fields have one space between them. What to do stands behind a pair that is not clean. The last line is that of
+-- `check`: it says whether the run ends clean, and why not.
+use Rattle.std.specs.Prelude.{ℕ, ℤ, ◌≡◌, ◌+◌, ◌++◌, if◌then◌else◌, List, [], ◌∷◌, codes, length, Option, Some, None, decimal, flat_map}
+use Rattle.rtps_report.specs.Vocabulary.{CompleteGrounds, ConflictGrounds, EvidenceValue, ExplanationValue, FirstMissed, GroundsValue, InSpan, Location, NotReceived, OpenGrounds, Teller, UnfoundedGrounds}
+use Rattle.rtps_report.specs.declared.advice.Scope.{Scope}
+use Rattle.rtps_report.specs.declared.findings.Ending.{Ending}
+use Rattle.rtps_evidence.specs.Times.{TimesValue}
+use Rattle.rtps_report.specs.Advice.{advice_of}
+use Rattle.rtps_report.specs.FullReport.{AskedValue, IsTold, RecordingValue, ReportValue, rows_of}
+use Rattle.rtps_report.specs.NoteFacts.{scope_of}
+use Rattle.rtps_report.specs.Reported.{number_of}
+use Rattle.rtps_report.specs.RowFacts.{is_clean}
+use Rattle.rtps_report.specs.Silences.{silences_of}
+use Rattle.rtps_report.specs.Talk.{TalkValue}
+use Rattle.rtps_lines.specs.CheckMembers.{report_last}
+use Rattle.rtps_lines.specs.Lines.{line_of, verdict_text, acknowledged_line, advice_text, announced_line, asked_line, claimed_line, inner_line, kind_text, place_comma, place_text, questions_line, second_text, sent_line, told_line}
+use Rattle.rtps_parts.specs.Names.{guid_text, name_text}
+use Rattle.rtps_text.specs.ReportText.{pairs_line, report_counts_line}
+
+-- the line of a pair with its verdict
+abbrev pub pair_line : ExplanationValue → List ℕ
+pair_line row = line_of (codes "pair" ∷ guid_text row.pair.writer ∷ guid_text row.pair.reader ∷ verdict_text row.evidence.verdict ∷ [])
+
+-- the line of the names of its topic and its type
+abbrev pub names_line : List ℕ → List ℕ → List ℕ
+names_line topic type_name = inner_line (codes "topic" ∷ name_text topic ∷ codes "type" ∷ name_text type_name ∷ [])
+
+-- the datagram in which a reader leaves; nothing where it does not
+abbrev pub until_text : TimesValue → Option ℕ → List ℕ
+until_text times None = []
+until_text times (Some datagram) = codes " until datagram " ++ (decimal datagram ++ second_text times datagram)
+
+-- the span of a row: its first number, and the datagram in which its reader leaves; nothing where it is in no span
+abbrev pub span_line : TimesValue → Option InSpan → List ℕ
+span_line times None = []
+span_line times (Some in_span) = codes "  from " ++ (decimal in_span.from ++ (until_text times in_span.until ++ codes "\n"))
+
+-- of the numbers asked for, up to the last announced one: how many have a payload, are gone without one, have no word
+abbrev pub amounts_line : ℕ → ℕ → ℕ → List ℕ
+amounts_line payloads gone untold = inner_line (codes "payloads" ∷ decimal payloads ∷ codes "gone" ∷ decimal gone ∷ codes "untold" ∷ decimal untold ∷ [])
+
+-- how many of the numbers asked about are received
+abbrev pub received_line : ℕ → ℕ → List ℕ
+received_line received numbers = inner_line (codes "received" ∷ decimal received ∷ codes "of" ∷ decimal numbers ∷ [])
+
+-- how many numbers are missed, and the least of them; nothing where none is
+abbrev pub missed_lines : TimesValue → ℕ → Option FirstMissed → List ℕ
+missed_lines times missed None = []
+missed_lines times missed (Some first) = inner_line (codes "missed" ∷ decimal missed ∷ []) ++ asked_line times first
+
+-- what keeps a number from being received: that it is not acknowledged, or what told it gone before it was
+unfoldable pub kept_text : TimesValue → Option Teller → Option Location → List ℕ
+kept_text times teller None = codes "not acknowledged"
+kept_text times None (Some claim) =
+    codes "told nothing before datagram " ++ (decimal claim.datagram ++ (codes " at " ++ (decimal claim.at ++ second_text times claim.datagram)))
+kept_text times (Some teller) (Some claim) =
+    codes "told gone by " ++ (kind_text teller.kind ++ 32 ∷ (place_comma times teller.place ++ (codes " acknowledged " ++ place_text times claim)))
+
+-- the least number that is not received, and what keeps it; nothing where all are received
+abbrev pub not_received_line : TimesValue → Option NotReceived → List ℕ
+not_received_line times None = []
+not_received_line times (Some kept) = inner_line (codes "number" ∷ decimal kept.number ∷ codes "may not be received:" ∷ kept_text times kept.gone kept.acknowledged ∷ [])
+
+-- the lines of what the verdict on a number rests on
+abbrev pub shown_by : TimesValue → ℤ → GroundsValue → List ℕ
+shown_by times number CompleteGrounds = []
+shown_by times number (OpenGrounds teller count first last) = told_line times number teller ++ questions_line times count last
+shown_by times number (ConflictGrounds first other) = sent_line times number first ++ sent_line times number other
+shown_by times number (UnfoundedGrounds teller claim) = claimed_line times claim ++ told_line times number teller
+
+-- the lines behind the amounts
+abbrev pub rest_lines : TimesValue → EvidenceValue → List ℕ
+rest_lines times evidence =
+    received_line evidence.received (evidence.payloads + evidence.gone + evidence.untold)
+    ++ (missed_lines times evidence.missed evidence.first_missed
+    ++ (not_received_line times evidence.not_received
+    ++ shown_by times (number_of evidence.verdict) evidence.grounds))
+
+-- the lines of a pair
+abbrev pub explanation_text : TimesValue → ExplanationValue → List ℕ
+explanation_text times row =
+    pair_line row
+    ++ (names_line row.topic row.type_name
+    ++ (span_line times row.evidence.in_span
+    ++ (announced_line times row.evidence.announcement
+    ++ (acknowledged_line times row.evidence.acknowledgement
+    ++ (amounts_line row.evidence.payloads row.evidence.gone row.evidence.untold
+    ++ rest_lines times row.evidence)))))
+
+-- the line of what to do for a pair; nothing for a clean one
+abbrev pub advice_line : Scope → TalkValue → TimesValue → ExplanationValue → List ℕ
+advice_line scope talk times row =
+    if is_clean scope.tail row.evidence then []
+    else codes "  -> " ++ (advice_text times (advice_of times (silences_of talk row.pair) scope row.evidence) ++ codes "\n")
+
+-- all lines of a pair
+abbrev pub row_text : Scope → TalkValue → TimesValue → ExplanationValue → List ℕ
+row_text scope talk times row = explanation_text times row ++ advice_line scope talk times row
+
+-- the lines of a report
+abbrev pub why_text : AskedValue → RecordingValue → ReportValue → List ℕ
+why_text asked recording report =
+    pairs_line (length (rows_of report))
+    ++ (flat_map (row_text (scope_of asked recording report) report.talk recording.times) (rows_of report)
+    ++ (report_counts_line report.explained.counts recording.ignored ++ report_last asked recording report))
+
+-- they are the lines of this report
+abbrev pub IsWhyText : AskedValue → RecordingValue → ReportValue → List ℕ → Type 0
+IsWhyText asked recording report text = text ≡ why_text asked recording report
+
+-- what `why` answers of what is asked of a recording, beside another one, if there is one: these lines, and the ending of the report
+abbrev pub IsWhyAs : AskedValue → Option RecordingValue → RecordingValue → List ℕ → Ending → Type 0
+IsWhyAs asked other recording text ending = IsTold IsWhyText asked other recording text ending
