@@ -55,12 +55,31 @@ def data_frags(writer, number, sample, size, reader=bytes(4), flags=0):
     return [data_frag(writer, number, at // size + 1, sample[at:at + size], size, len(sample), reader, flags) for at in places]
 
 
-def heartbeat(writer, first, last, reader=bytes(4)):
-    return b'\x07\0\0\x1c' + reader + writer + first.to_bytes(8, 'big') + last.to_bytes(8, 'big') + b'\0\0\0\1'
+def heartbeat(writer, first, last, reader=bytes(4), flags=0):
+    return b'\x07' + bytes([flags]) + b'\0\x1c' + reader + writer + first.to_bytes(8, 'big') + last.to_bytes(8, 'big') + b'\0\0\0\1'
 
 
-def ack_nack(reader, writer, base):
-    return b'\x06\0\0\x18' + reader + writer + base.to_bytes(8, 'big') + bytes(4) + b'\0\0\0\1'
+def listed(base, numbers):
+    """The words of a list that has these numbers, from `base` on, and of how many it is."""
+    count = max(numbers, default=base - 1) + 1 - base
+    words = [0] * ((count + 31) // 32)
+    for number in numbers:
+        words[(number - base) // 32] |= 1 << 31 - (number - base) % 32
+    return words, count
+
+
+def ack_nack(reader, writer, base, words=(), count=0, flags=0):
+    """Of the numbers below `base`. It asks for those from there on that a list of so many has."""
+    body = reader + writer + base.to_bytes(8, 'big') + count.to_bytes(4, 'big')
+    body += b''.join(word.to_bytes(4, 'big') for word in words) + b'\0\0\0\1'
+    return b'\x06' + bytes([flags]) + len(body).to_bytes(2, 'big') + body
+
+
+def nack_frag(reader, writer, number, base, words, count):
+    """It asks for the fragments of a sample from `base` on that a list of so many has."""
+    body = reader + writer + number.to_bytes(8, 'big') + base.to_bytes(4, 'big') + count.to_bytes(4, 'big')
+    body += b''.join(word.to_bytes(4, 'big') for word in words) + b'\0\0\0\1'
+    return b'\x12\0' + len(body).to_bytes(2, 'big') + body
 
 
 def gap(writer, start, base, words, count=256, reader=bytes(4)):
@@ -76,7 +95,13 @@ def announced(built_in, prefix, entity, more):
 
 
 def to(prefix):
+    """For whom the next ones are."""
     return b'\x0e\0\0\x0c' + prefix
+
+
+def by(prefix):
+    """Who says the next ones."""
+    return b'\x0c\0\0\x14' + bytes(4) + b'\2\5\0\0' + prefix
 
 
 WRITER, READER = b'\0\0\1\3', b'\0\0\1\4'
@@ -99,8 +124,11 @@ OF_ONE_TOPIC = {
 
 
 def of_one_topic(kind, count):
+    return ends_of_one_topic(*OF_ONE_TOPIC[kind], count)
+
+
+def ends_of_one_topic(offered, asked, count):
     """So many writers of one topic, and then as many readers of it."""
-    offered, asked = OF_ONE_TOPIC[kind]
     for i in range(1, count + 1):
         yield announced(b'\0\0\3\xc2', A, scattered(i), offered)
     for i in range(1, count + 1):
@@ -198,11 +226,10 @@ def one_each(submessage, octets):
         yield sent
 
 
-def of_named(is_named):
-    """A writer and 100 readers. Every 20,000 numbers each reader acknowledges all but the latest 100, and is sent that one
-    again, and a GAP of the number before it; the last reader comes late, and is told what it will not get. That is said to
+def of_named(is_named, last=99_000, step=20_000):
+    """A writer of numbers up to a last one, and 100 readers. At each step each reader acknowledges all but the latest 100, and is sent
+    that one again, and a GAP of the number before it; the last reader comes late, and is told what it will not get. That is said to
     the reader alone, or to all."""
-    last, step = 99_000, 20_000
     readers = [(b'\xbb' * 8 + (i // 10).to_bytes(4, 'big'), (0x104 + 256 * i).to_bytes(4, 'big')) for i in range(100)]
 
     def said(reader, *acts):
@@ -276,10 +303,14 @@ def of_rows(kind, octets):
         yield header(B) + to(A) + b''.join(ack_nack(reader, WRITER, last + 1 if kind == 'disputed' else numbers_of[reader]) for reader in some)
 
 
+def lines(sent):
+    """The lines of a text of these datagrams."""
+    return (datagram.hex().encode() + b'\n' for datagram in sent)
+
+
 def write(path, sent):
     with open(path, 'wb') as f:
-        for datagram in sent:
-            f.write(datagram.hex().encode() + b'\n')
+        f.writelines(lines(sent))
 
 
 def main():

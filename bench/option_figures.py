@@ -9,6 +9,7 @@ has two runs of `audit`, each on a recording that is made as a capture. The capt
 that is set. A time is the least processor time of RUNS runs that take turns (5 if none is given), and memory the greatest
 that a run took. Nothing here passes or fails.
 """
+import ctypes
 import os
 import subprocess
 import sys
@@ -26,6 +27,7 @@ INTERFACE = bytes.fromhex('01000000 14000000 01000000 00000000 14000000')
 RECORD, LINK, PACKET = 16, 14, 20        # octets of the headers in front of a frame, of Ethernet and of IPv4
 ANY, FRAGMENTS, LIMIT = ['--any'], ['--fragments'], ['--max-octets', str(1 << 33)]
 SAMPLE, FRAGMENT = 100000, 1344          # octets of a sample and of a fragment
+CHILD_SUBREAPER = 36                     # of prctl
 
 
 def classic(number, datagram):
@@ -170,10 +172,18 @@ def made(run, folder):
     return path
 
 
-def run_of(command):
-    """processor time, the greatest memory in KiB, and the status"""
-    child = subprocess.Popen(command, stdout=subprocess.DEVNULL, stderr=subprocess.DEVNULL)
-    _, status, usage = os.wait4(child.pid, 0)
+# Starts a command with a limit of processor time, and tells its id at once; the command waits until its input ends.
+STARTED = 'ulimit -S -t "$0"; exec 3<&0; { read go; exec "$@" 3<&- </dev/null >/dev/null 2>&1; } <&3 & echo $!'
+
+
+def run_of(command, limit='unlimited'):
+    """processor time, the greatest memory in KiB, and the status; more seconds than the limit end the run. A shell starts it, since a process
+    counts the memory of the one that starts it; when the shell has ended, the run is this process's own child"""
+    ctypes.CDLL(None).prctl(CHILD_SUBREAPER, 1)
+    with subprocess.Popen(['sh', '-c', STARTED, str(limit), *command], stdin=subprocess.PIPE, stdout=subprocess.PIPE) as shell:
+        child = int(shell.stdout.readline())
+        shell.wait()
+    _, status, usage = os.wait4(child, 0)
     return usage.ru_utime + usage.ru_stime, usage.ru_maxrss, os.waitstatus_to_exitcode(status)
 
 

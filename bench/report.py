@@ -70,8 +70,15 @@ def why_lines(row, counts):
     names = row.names()
     until = f' until datagram {row.until[0]}{behind(row.times, row.until[0])}' if row.until else ''
     lines = [f"pair {names['writer']} {names['reader']} {row.verdict}", f"  topic \"{names['topic']}\" type \"{names['type']}\"",
-             f'  from {row.first}{until}', *('  ' + timed_line(row.times, line) for line in row.lines)]
-    return lines + ([] if row.is_clean() else ['  -> ' + row.advice(counts)])
+             f'  from {row.first}{until}', *('  ' + timed_line(row.times, line) for line in with_outcomes(row))]
+    return lines + ['  ' + line for line in check.said_lines(row)] + ([] if row.is_clean() else ['  -> ' + row.advice(counts)])
+
+
+def with_outcomes(row):
+    """the lines of its evidence, and behind that of received numbers how many have each other outcome; what is missed has its own lines"""
+    at = 1 + [line.split()[0] for line in row.lines].index('received')
+    others = [f'{kind} {row.counts[kind]}' for kind in check.COLUMNS if row.counts[kind] and kind not in ('received', 'missed')]
+    return row.lines[:at] + others + row.lines[at:]
 
 
 # ---- what a command prints

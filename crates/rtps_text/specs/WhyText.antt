@@ -2,20 +2,21 @@
 -- own: it prints behind the line of a pair what its verdict rests on, place by place, so that it can be checked with `show`; each such line
 -- begins with two spaces, and fields have one space between them. What to do stands behind a pair that is not clean. The last line is that of
 -- `check`: it says whether the run ends clean, and why not.
-use Rattle.std.specs.Prelude.{ℕ, ℤ, ◌≡◌, ◌+◌, ◌++◌, if◌then◌else◌, List, [], ◌∷◌, codes, length, Option, Some, None, decimal, flat_map}
-use Rattle.rtps_report.specs.Vocabulary.{CompleteGrounds, ConflictGrounds, EvidenceValue, ExplanationValue, FirstMissed, GroundsValue, InSpan, Location, NotReceived, OpenGrounds, Teller, UnfoundedGrounds}
+use Rattle.std.specs.Prelude.{ℕ, ℤ, ◌≡◌, ◌+◌, ◌++◌, if◌then◌else◌, List, [], ◌∷◌, ◌==◌, codes, length, Option, Some, None, decimal, flat_map}
+use Rattle.rtps_report.specs.Vocabulary.{CompleteGrounds, ConflictGrounds, EvidenceValue, ExplanationValue, FirstMissed, GroundsValue, InSpan, Location, NotReceived, OpenGrounds, Outcomes, Teller, UnfoundedGrounds}
 use Rattle.rtps_report.specs.declared.advice.Scope.{Scope}
 use Rattle.rtps_report.specs.declared.findings.Ending.{Ending}
 use Rattle.rtps_evidence.specs.Times.{TimesValue}
+use Rattle.rtps_evidence.specs.declared.waits.Wait.{Wait}
 use Rattle.rtps_report.specs.Advice.{advice_of}
 use Rattle.rtps_report.specs.FullReport.{AskedValue, IsTold, RecordingValue, ReportValue, rows_of}
 use Rattle.rtps_report.specs.NoteFacts.{scope_of}
 use Rattle.rtps_report.specs.Reported.{number_of}
-use Rattle.rtps_report.specs.RowFacts.{is_clean}
+use Rattle.rtps_report.specs.RowFacts.{is_clean, outcomes_of}
 use Rattle.rtps_report.specs.Silences.{silences_of}
 use Rattle.rtps_report.specs.Talk.{TalkValue}
 use Rattle.rtps_lines.specs.CheckMembers.{report_last}
-use Rattle.rtps_lines.specs.Lines.{line_of, verdict_text, acknowledged_line, advice_text, announced_line, asked_line, claimed_line, inner_line, kind_text, place_comma, place_text, questions_line, second_text, sent_line, told_line}
+use Rattle.rtps_lines.specs.Lines.{line_of, verdict_text, acknowledged_line, advice_text, announced_line, asked_line, claimed_line, inner_line, kind_text, place_comma, place_text, questions_line, second_text, sent_line, silence_lines, told_line, wait_text}
 use Rattle.rtps_parts.specs.Names.{guid_text, name_text}
 use Rattle.rtps_text.specs.ReportText.{pairs_line, report_counts_line}
 
@@ -44,6 +45,18 @@ amounts_line payloads gone untold = inner_line (codes "payloads" ∷ decimal pay
 -- how many of the numbers asked about are received
 abbrev pub received_line : ℕ → ℕ → List ℕ
 received_line received numbers = inner_line (codes "received" ∷ decimal received ∷ codes "of" ∷ decimal numbers ∷ [])
+
+-- how many numbers have an outcome, a line behind its name; nothing where none has
+abbrev pub outcome_line : List ℕ → ℕ → List ℕ
+outcome_line name count = if count == 0 then [] else name ++ (decimal count ++ codes "\n")
+
+-- what became of the numbers that are neither received nor missed
+abbrev pub outcome_lines : Outcomes → List ℕ
+outcome_lines outcomes =
+    outcome_line (codes "  arrived ") outcomes.arrived
+    ++ (outcome_line (codes "  likely ") outcomes.likely
+    ++ (outcome_line (codes "  unsent ") outcomes.unsent
+    ++ (outcome_line (codes "  unanswered ") outcomes.unanswered ++ outcome_line (codes "  unconfirmed ") outcomes.unconfirmed)))
 
 -- how many numbers are missed, and the least of them; nothing where none is
 abbrev pub missed_lines : TimesValue → ℕ → Option FirstMissed → List ℕ
@@ -74,9 +87,10 @@ shown_by times number (UnfoundedGrounds teller claim) = claimed_line times claim
 abbrev pub rest_lines : TimesValue → EvidenceValue → List ℕ
 rest_lines times evidence =
     received_line evidence.received (evidence.payloads + evidence.gone + evidence.untold)
+    ++ (outcome_lines (outcomes_of evidence)
     ++ (missed_lines times evidence.missed evidence.first_missed
     ++ (not_received_line times evidence.not_received
-    ++ shown_by times (number_of evidence.verdict) evidence.grounds))
+    ++ shown_by times (number_of evidence.verdict) evidence.grounds)))
 
 -- the lines of a pair
 abbrev pub explanation_text : TimesValue → ExplanationValue → List ℕ
@@ -89,6 +103,20 @@ explanation_text times row =
     ++ (amounts_line row.evidence.payloads row.evidence.gone row.evidence.untold
     ++ rest_lines times row.evidence)))))
 
+-- a line of a sentence
+abbrev pub sentence_line : List ℕ → List ℕ
+sentence_line sentence = codes "  " ++ (sentence ++ codes "\n")
+
+-- the line of the longest that a reader let a writer wait; nothing where it is not told
+abbrev pub wait_by : TimesValue → Option Wait → List ℕ
+wait_by times None = []
+wait_by times (Some wait) = sentence_line (wait_text times wait)
+
+-- that of a row
+abbrev pub wait_line : TimesValue → Option InSpan → List ℕ
+wait_line times None = []
+wait_line times (Some in_span) = wait_by times in_span.wait
+
 -- the line of what to do for a pair; nothing for a clean one
 abbrev pub advice_line : Scope → TalkValue → TimesValue → ExplanationValue → List ℕ
 advice_line scope talk times row =
@@ -97,7 +125,10 @@ advice_line scope talk times row =
 
 -- all lines of a pair
 abbrev pub row_text : Scope → TalkValue → TimesValue → ExplanationValue → List ℕ
-row_text scope talk times row = explanation_text times row ++ advice_line scope talk times row
+row_text scope talk times row =
+    explanation_text times row
+    ++ (wait_line times row.evidence.in_span
+    ++ (flat_map sentence_line (silence_lines times (silences_of talk row.pair)) ++ advice_line scope talk times row))
 
 -- the lines of a report
 abbrev pub why_text : AskedValue → RecordingValue → ReportValue → List ℕ

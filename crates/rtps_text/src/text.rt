@@ -6,6 +6,7 @@ ghost use Rattle.rtps_text.specs.SampleText.{sample as sample_lines};
 pub(crate) mod audit_text;
 mod item_lines;
 pub(crate) mod list_text;
+mod outcome_lines;
 mod parts;
 pub(crate) mod show_text;
 pub(crate) mod why_text;

@@ -8,6 +8,7 @@ ghost use Rattle.rtps_report.specs.Talk.{talk_value};
 ghost use Rattle.rtps_text.specs.WhyText.{IsWhyText, advice_line, explanation_text, kept_text, missed_lines, not_received_line, rest_lines, row_text, shown_by, span_line, until_text};
 
 use crate::text::audit_text::ReportCountsLine;
+use crate::text::outcome_lines::{push_outcomes, push_silences, push_wait};
 use rtps_evidence::{
     Evidence, Explanation, FirstMissed, Grounds, Location, NotReceived, Teller, Times,
 };
@@ -17,7 +18,7 @@ use rtps_lines::{
     push_sent,
 };
 use rtps_parts::NameText;
-use rtps_report::{FullReport, Scope, Talk, advice_of, is_clean, number_of, scope_of};
+use rtps_report::{FullReport, Scope, Talk, advice_of, is_clean, number_of, outcomes_of, scope_of};
 use std::alloc::{AllocError, Global};
 use std::fmt;
 
@@ -41,7 +42,7 @@ pub fn why_text(alloc: Global, report: &FullReport<'_>) -> Result<String, AllocE
     };
     let mut text = String::new(alloc);
     writeln!(text, "pairs {}", explained.rows.len())?;
-    push_rows(&mut text, &explained.rows, telling)?;
+    push_rows(alloc, &mut text, &explained.rows, telling)?;
     let counts = ReportCountsLine(explained.counts, report.recording.ignored());
     write!(text, "{counts}")?;
     push_report_last(alloc, &mut text, report)?;
@@ -49,6 +50,7 @@ pub fn why_text(alloc: Global, report: &FullReport<'_>) -> Result<String, AllocE
 }
 
 fn push_rows(
+    alloc: Global,
     text: &mut String,
     rows: &[Explanation<'_>],
     telling: RowTelling<'_, '_>,
@@ -57,12 +59,13 @@ fn push_rows(
         ≡ string_bytes text.old ++ flat_map (λ row. row_text telling.entry.scope (talk_value telling.entry.talk.now) telling.entry.times.now (explanation_value row)) rows.now) }
 {
     for row in rows {
-        push_told_row(text, row, telling)?;
+        push_told_row(alloc, text, row, telling)?;
     }
     Ok(())
 }
 
 fn push_told_row(
+    alloc: Global,
     text: &mut String,
     row: &Explanation<'_>,
     telling: RowTelling<'_, '_>,
@@ -70,7 +73,10 @@ fn push_told_row(
     ensures { OnOk result (string_bytes text.new
         ≡ string_bytes text.old ++ row_text telling.entry.scope (talk_value telling.entry.talk.now) telling.entry.times.now (explanation_value row.now)) }
 {
-    push_row(text, row, telling.times)?;
+    let RowTelling { talk, times, .. } = telling;
+    push_row(text, row, times)?;
+    push_wait(text, row.evidence.in_span.as_ref(), times)?;
+    push_silences(alloc, text, talk.silences(row.pair), times)?;
     push_advice(text, row, telling)
 }
 
@@ -151,6 +157,7 @@ fn push_rest(text: &mut String, evidence: &Evidence<'_>, times: &Times) -> Resul
 {
     let numbers = sum_of(evidence.payloads, evidence.gone, evidence.untold);
     writeln!(text, "  received {} of {numbers}", evidence.received)?;
+    push_outcomes(text, outcomes_of(evidence))?;
     push_missed(text, evidence.missed, evidence.first_missed, times)?;
     write!(text, "{}", NotReceivedLine(times, evidence.not_received))?;
     push_shown(text, evidence, times)

@@ -2,8 +2,10 @@ use Rattle.std.proofs.lemmas.Result.{on_ok_weaker}
 use Rattle.std.proofs.Common.{◌+◌, ◌++◌, ◌∙◌, ap, string_bytes}
 use Rattle.rtps_evidence.specs.Explanation.{evidence_value}
 use Rattle.rtps_report.specs.Reported.{number_of}
-use Rattle.rtps_lines.proofs.Offered.{four_parts}
-use Rattle.rtps_text.specs.WhyText.{missed_lines, not_received_line, received_line, shown_by}
+use Rattle.rtps_report.specs.Vocabulary.{Outcomes}
+use Rattle.rtps_report.specs.RowFacts.{outcomes_of}
+use Rattle.rtps_lines.proofs.Offered.{five_parts}
+use Rattle.rtps_text.specs.WhyText.{missed_lines, not_received_line, outcome_lines, received_line, shown_by}
 use Rattle.rtps_text.proofs.text.why_text.push_rest.Goals as goal
 
 pub returns : goal.returns
@@ -11,7 +13,7 @@ returns c =
     let evidence = evidence_value c.args.evidence.now in
     let times = c.args.times.now in
     on_ok_weaker c.push_shown.result
-    (four_parts (string_bytes c.args.text.now) (received_line evidence.received (evidence.payloads + evidence.gone + evidence.untold)) (missed_lines times evidence.missed evidence.first_missed)
+    (five_parts (string_bytes c.args.text.now) (received_line evidence.received (evidence.payloads + evidence.gone + evidence.untold)) (outcome_lines (outcomes_of evidence)) (missed_lines times evidence.missed evidence.first_missed)
     (not_received_line times evidence.not_received) (shown_by times (number_of evidence.verdict) evidence.grounds)
-    (c.in_ok-writeln.ensures.bytes ∙ ap (λ numbers. string_bytes c.args.text.now ++ received_line evidence.received numbers) c.sum_of-numbers.ensures) c.in_ok-push_missed.ensures c.in_ok-write.ensures.bytes)
+    (c.in_ok-writeln.ensures.bytes ∙ ap (λ numbers. string_bytes c.args.text.now ++ received_line evidence.received numbers) c.sum_of-numbers.ensures) (c.in_ok-push_outcomes.ensures ∙ ap (λ (outcomes : Outcomes). string_bytes c.writeln.new.self ++ outcome_lines outcomes) c.outcomes_of.ensures) c.in_ok-push_missed.ensures c.in_ok-write.ensures.bytes)
     c.push_shown.ensures

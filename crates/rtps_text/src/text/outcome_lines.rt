@@ -1,0 +1,70 @@
+ghost use Rattle.std.specs.Prelude.{◌≡◌, ◌++◌, OnOk, flat_map, map, option_copied, string_bytes};
+ghost use Rattle.rtps_lines.specs.Lines.{silence_lines as silence_lines_lem};
+ghost use Rattle.rtps_text.specs.WhyText.{outcome_line, outcome_lines, sentence_line, wait_line};
+
+use rtps_evidence::{InSpan, Outcomes, Times};
+use rtps_lines::{WaitText, push_field, silence_lines};
+use rtps_report::Silences;
+use std::alloc::{AllocError, Global};
+
+fn push_outcome(text: &mut String, name: &str, count: u64) -> Result<(), AllocError>
+    ensures { OnOk result (string_bytes text.new ≡ string_bytes text.old ++ outcome_line name.now count) }
+{
+    if count == 0 {
+        return Ok(());
+    }
+    push_field(text, name, count)?;
+    text.push_str("\n")
+}
+
+/// Appends how many numbers have each outcome but received and missed, of those that some have.
+pub(crate) fn push_outcomes(text: &mut String, outcomes: Outcomes) -> Result<(), AllocError>
+    ensures { OnOk result (string_bytes text.new ≡ string_bytes text.old ++ outcome_lines outcomes) }
+{
+    push_outcome(text, "  arrived ", outcomes.arrived)?;
+    push_outcome(text, "  likely ", outcomes.likely)?;
+    push_outcome(text, "  unsent ", outcomes.unsent)?;
+    push_outcome(text, "  unanswered ", outcomes.unanswered)?;
+    push_outcome(text, "  unconfirmed ", outcomes.unconfirmed)
+}
+
+/// Appends the longest that the reader of a row let the writer wait, where that is told.
+pub(crate) fn push_wait(
+    text: &mut String,
+    in_span: Option<&InSpan>,
+    times: &Times,
+) -> Result<(), AllocError>
+    ensures { OnOk result (string_bytes text.new ≡ string_bytes text.old ++ wait_line times.now (option_copied in_span.entry)) }
+{
+    match in_span {
+        Some(
+            InSpan {
+                wait: Some(wait),
+                ..
+            },
+        ) => writeln!(text, "  {}", WaitText(times, *wait)),
+        _ => Ok(()),
+    }
+}
+
+fn push_sentences(text: &mut String, sentences: &[String]) -> Result<(), AllocError>
+    ensures { OnOk result (string_bytes text.new ≡ string_bytes text.old ++ flat_map sentence_line (map string_bytes sentences.now)) }
+{
+    for sentence in sentences {
+        writeln!(text, "  {sentence}")?;
+    }
+    Ok(())
+}
+
+/// Appends since when the participants of a row are silent, of those that are.
+pub(crate) fn push_silences(
+    alloc: Global,
+    text: &mut String,
+    silences: Silences,
+    times: &Times,
+) -> Result<(), AllocError>
+    ensures { OnOk result (string_bytes text.new ≡ string_bytes text.old ++ flat_map sentence_line (silence_lines_lem times.now silences)) }
+{
+    let sentences = silence_lines(alloc, times, silences)?;
+    push_sentences(text, &sentences)
+}
