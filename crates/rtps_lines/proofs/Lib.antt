@@ -6,4 +6,5 @@ mod TalkLemmas
 mod SecondLemmas
 mod JoinLemmas
 mod NoteLemmas
+mod OneMembers
 mod TailLemmas

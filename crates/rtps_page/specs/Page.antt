@@ -17,7 +17,7 @@ use Rattle.rtps_discovery.specs.Endpoint.{EndpointValue}
 use Rattle.rtps_audit.specs.Placed.{PlacedValue, answers_among, placed_in}
 use Rattle.rtps_evidence.specs.Times.{TimesValue}
 use Rattle.rtps_report.specs.Asked.{AskedValue, asked_value}
-use Rattle.rtps_report.specs.FullReport.{ReportValue, report_value, rows_of}
+use Rattle.rtps_report.specs.FullReport.{IsFullReport, ReportValue, report_value, rows_of}
 use Rattle.rtps_report.specs.Recording.{RecordingValue}
 use Rattle.rtps_lines.specs.CheckMembers.{check_members}
 use Rattle.rtps_lines.specs.JsonText.{Member, array_of, count_json, name_json, object_of, timed_members}
@@ -142,3 +142,10 @@ pub record IsPageOf (asked : AskedValue) (recording : RecordingValue) (report : 
   pub directory : DirectoryValue
   pub is_map : IsMapOf (acts_together (intake_as Read recording.datagrams).announcing) directory
   pub is_page : IsPageWith plain (page_json asked recording report directory) page
+
+-- of what is asked of a recording, beside the same other one, there is one page with each text
+abbrev pub HasOnePage : Type 0
+HasOnePage =
+    (asked : AskedValue) (theirs : Option RecordingValue) (recording : RecordingValue) (one other : ReportValue) (plain page last : List ℕ)
+    → IsFullReport asked theirs recording one → IsFullReport asked theirs recording other → IsPageOf asked recording one plain page → IsPageOf asked recording other plain last
+    → page ≡ last

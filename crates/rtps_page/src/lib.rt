@@ -8,6 +8,7 @@ mod chart_room;
 mod chart_times;
 mod chart_writers;
 mod entry_counts;
+pub mod laws;
 mod page;
 mod page_data;
 mod page_directory;

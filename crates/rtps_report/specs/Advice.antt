@@ -1,7 +1,7 @@
 -- What to do for a pair that is not clean. own: it is chosen by what the recording shows of the pair and its participants, by what was not
 -- read of it, and by the first number asked for, so that one case has one advice. Who was killed or cut off comes first, since nothing else
--- of the pair needs a reason; then what was told nowhere, since no answer can be owed for it; then what was asked. The guide prints the
--- cases and their sentences.
+-- of the pair needs a reason; then what is lost or missed; then a tail; then what was told nowhere, since no answer can be owed for it; then
+-- what was asked. The guide prints the cases and their sentences.
 use Rattle.std.specs.Prelude.{ℕ, ℤ, ◌-◌, ◌^◌, ◌==◌, ◌&&◌, ◌||◌, not, nat_le, nat_lt, int_lt, Bool, true, false, if◌then◌else◌, List, codes, length, Option, Some, None, is_none, is_some, unwrap_or}
 use Rattle.rtps_receiver.specs.Said.{natural}
 use Rattle.rtps_report.specs.Vocabulary.{Absent, Announcement, Claim, CompleteGrounds, ConflictGrounds, EvidenceValue, FirstMissed, GroundsValue, Key, Location, OpenGrounds, PayloadValue, Scope, SentValue, Teller, UnfoundedGrounds, Whole}

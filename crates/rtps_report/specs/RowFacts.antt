@@ -78,10 +78,10 @@ is_clean_tail tail evidence = is_clean tail evidence && (is_tail evidence && nat
 abbrev pub is_noted : Silences → ℕ → EvidenceValue → Bool
 is_noted silences tail evidence = not (is_clean tail evidence) && not (is_tail_alone silences tail evidence)
 
--- the writer of a row announced numbers, and all of them stand before it
+-- the writer of a row announced numbers, all of them stand before it, and no answer claims a number of it
 abbrev pub wrote_before_in : Option InSpan → Bool
 wrote_before_in None = false
-wrote_before_in (Some in_span) = in_span.wrote_before
+wrote_before_in (Some in_span) = in_span.wrote_before && nat_le in_span.base in_span.from
 
 -- the same of a complete row that does not begin with the first number that is asked for
 abbrev pub is_late : ℕ → EvidenceValue → Bool

@@ -28,7 +28,3 @@ fits_topic pattern topic = fits pattern topic || fits pattern (ros_topic topic)
 -- a topic fits one of the patterns, or there is none
 abbrev pub fits_one : List (List ℕ) → List ℕ → Bool
 fits_one patterns topic = (length patterns == 0) || list_any (λ pattern. fits_topic pattern topic) patterns
-
--- the row of a pair with this topic is kept, of a recording with these acts: the topic is asked for, and the recording can speak of the pair
-abbrev pub is_kept : List (List ℕ) → List ActValue → List ℕ → Pair → Bool
-is_kept topics acts topic pair = fits_one topics topic && is_observed acts pair

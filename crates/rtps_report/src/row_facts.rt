@@ -164,7 +164,7 @@ fn wrote_before(evidence: &Evidence<'_>) -> bool
     ensures { result ≡ wrote_before_in evidence.now.in_span }
 {
     match &evidence.in_span {
-        Some(in_span) => in_span.wrote_before,
+        Some(in_span) => in_span.wrote_before && in_span.base <= in_span.from,
         None => false,
     }
 }

@@ -1,6 +1,7 @@
 pub mod CaptureLemmas
 pub mod LimitsLemmas
 pub mod LinesLemmas
+pub mod OneText
 pub mod OpeningLemmas
 pub mod ReadingLemmas
 pub mod RunsLemmas
