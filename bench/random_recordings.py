@@ -622,5 +622,77 @@ def some_input(rng):
     return text_of_datagrams(some_delivery(rng, rng.random() < 0.5) if kind < 0.75 else some_network(rng))
 
 
+# ---- audiences that cross
+
+class Crossing:
+    """two writers, three readers in two participants, and datagrams in which several of them speak, to everyone, to a participant,
+    to the readers of an entity id, and to one reader. What a reader answers goes mostly by what it was told before the datagram, and now
+    and then by what the datagram itself tells, or by what others were told"""
+    WRITERS = A + b'\0\0\1\3', C + b'\0\0\2\3'
+
+    def __init__(self, rng):
+        self.rng, self.source, self.dest = rng, None, None
+        self.before = {(w, r): set() for w in self.WRITERS for r in READERS}
+        self.here = {pair: set() for pair in self.before}
+
+    def speaks(self, source, dest):
+        """the submessages that change the source and the destination, where they are others"""
+        octets = b''
+        if self.source != source:
+            octets += b'\x0c\0\0\x14' + bytes(4) + b'\2\5\0\0' + source
+        if self.dest != dest:
+            octets += b'\x0e\0\0\x0c' + (dest or bytes(12))
+        self.source, self.dest = source, dest
+        return octets
+
+    def told(self, writer, dest, reader, numbers):
+        for guid in READERS:
+            if dest in (None, guid[:12]) and reader in (bytes(4), guid[12:]):
+                self.here[writer, guid] |= set(numbers)
+
+    def word(self):
+        writer, dest = self.rng.choice(self.WRITERS), self.rng.choice([None, None, B, C])
+        reader, n = self.rng.choice([bytes(4), bytes(4), b'\0\0\1\4', b'\0\0\1\5']), self.rng.randrange(1, 6)
+        kind, names = self.rng.random(), reader + writer[12:]
+        if kind < 0.7:
+            self.told(writer, dest, reader, [n])
+            payload = b'\0\0\0\0abcd' if self.rng.random() < 0.93 else b'\0\0\0\0ef'
+            body = put('be', 0x15, 4, b'\0\0\0\x10' + names + sn('be', n) + payload)
+        elif kind < 0.85:
+            self.told(writer, dest, reader, range(1, n))
+            body = put('be', 0x07, self.rng.choice([0, 2]), names + sn('be', n) + sn('be', self.rng.randrange(n - 1, 6)) + u('be', 4, 1))
+        else:
+            self.told(writer, dest, reader, [n, n + 2])
+            body = put('be', 0x08, 0, names + sn('be', n) + Told.set_of(n + 1, {n + 2}))
+        return self.speaks(writer[:12], dest) + body
+
+    def answer(self):
+        writer, reader = self.rng.choice(self.WRITERS), self.rng.choice(READERS)
+        other = self.rng.choice(READERS)
+        known = self.rng.choice([self.before[writer, reader]] * 7 + [self.before[writer, reader] | self.here[writer, reader], self.before[writer, other]])
+        base = next(n for n in range(1, 20) if n not in known)
+        if self.rng.random() < 0.03:
+            base = self.rng.randrange(1, 8)
+        names = reader[12:] + writer[12:]
+        return self.speaks(reader[:12], writer[:12]) + put('be', 0x06, 2, names + Told.set_of(base, set()) + u('be', 4, 1))
+
+    def datagram(self):
+        self.source, self.dest = self.rng.choice([A, B, C]), None
+        octets = b'RTPS\2\5\0\0' + self.source
+        for _ in range(self.rng.randrange(1, 8)):
+            octets += self.word() if self.rng.random() < 0.65 else self.answer()
+        for pair, numbers in self.here.items():
+            self.before[pair] |= numbers
+        return octets
+
+
+def some_crossing(rng):
+    """what two writers and three readers say to audiences that cross"""
+    crossing = Crossing(rng)
+    ends = [announced(b'\0\0\3\xc2', guid[:12], guid[12:], b'') for guid in Crossing.WRITERS]
+    ends += [announced(b'\0\0\4\xc2', guid[:12], guid[12:], RELIABLE) for guid in READERS]
+    return text_of_datagrams(ends + [crossing.datagram() for _ in range(rng.randrange(2, 8))])
+
+
 def text_of_datagrams(datagrams):
     return b''.join(d.hex().encode() + b'\n' for d in datagrams)

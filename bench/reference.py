@@ -12,6 +12,8 @@
                                            prints what `rtps-audit` should print, by report.py and page.py
     reference.py compare PROGRAM [COUNT [SEED]]
                                            runs PROGRAM on COUNT random recordings, and says where it differs
+    reference.py crossing PROGRAM [COUNT [SEED]]
+                                           the same on COUNT random recordings in which several speak in a datagram, to audiences that cross
     reference.py runs [COUNT [SEED]]       compares verdicts and received numbers with those of all runs, on COUNT random
                                            deliveries, and says where they differ
     reference.py texts PROGRAM [COUNT [SEED]]
@@ -34,7 +36,7 @@ import capture_reader
 from asked import GREATEST, PLAIN, Asked, asked_by
 from fragments import by_writer, payloads_told, placed_samples, without_sample
 from random_captures import some_capture
-from random_recordings import A, B, START, some_delivery, some_input, text_of_datagrams
+from random_recordings import A, B, START, some_crossing, some_delivery, some_input, text_of_datagrams
 from times import NO_TIMES, Times, json_text, timed_values
 
 READ = {0x06, 0x07, 0x08, 0x09, 0x0c, 0x0e, 0x15}
@@ -1150,11 +1152,11 @@ def differing_in_runs(recording, w, r):
             yield f'the {what} by runs from {first} on'
 
 
-def compare(program, count, seed):
+def compare(program, count, seed, made=some_input):
     rng, differing, verdicts, fragmented = random.Random(seed), 0, {}, 0
     w, r = A + b'\0\0\1\3', B + b'\0\0\1\4'
     for k in range(count):
-        text = some_input(rng)
+        text = made(rng)
         found = list(differing_in_answers(rng, program, text))
         datagrams = recording_of(text)
         if not isinstance(datagrams, str):
@@ -1169,6 +1171,11 @@ def compare(program, count, seed):
             print(f'{what} differs on recording {k}, kept in {kept(text)}')
     print(f'{count} recordings, {differing} differences; verdicts {verdicts}, of which {fragmented} are others with fragments')
     return int(differing > 0)
+
+
+def crossing(program, count, seed):
+    """on recordings of audiences that cross"""
+    return compare(program, count, seed, some_crossing)
 
 
 # ---- random texts
@@ -1274,9 +1281,9 @@ def main():
     if sys.argv[1] == 'runs':
         count, seed = (int(word) for word in sys.argv[2:4] + ['1000', '1'][len(sys.argv[2:4]):])
         return runs(count, seed)
-    if sys.argv[1] in ('compare', 'texts', 'captures'):
+    if sys.argv[1] in ('compare', 'crossing', 'texts', 'captures'):
         count = int(sys.argv[3]) if len(sys.argv) > 3 else 1000
-        run = {'compare': compare, 'texts': texts, 'captures': captures}[sys.argv[1]]
+        run = {'compare': compare, 'crossing': crossing, 'texts': texts, 'captures': captures}[sys.argv[1]]
         return run(sys.argv[2], count, int(sys.argv[4]) if len(sys.argv) > 4 else 1)
     words = sys.argv[2:-1]
     with open(sys.argv[-1], 'rb') as f:
