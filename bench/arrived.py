@@ -19,8 +19,9 @@ How the two are read
 - One of the two may be standard input. Both may not: the words are refused.
 
 What the terms mean
-- Held against OTHER is a pair where OTHER has an act whose source is the reader's participant and whose destination is the writer's.
-  Only such a reader is at that host. Who joins, leaves or matches is a matter of FILE: what OTHER announces counts for nothing.
+- Held against OTHER is a pair where OTHER has an act whose source is the reader's participant and whose destination is the writer's, and
+  which is not the wrong way round (way.py). Only such a reader is at that host. Who joins, leaves or matches is a matter of FILE: what
+  OTHER announces counts for nothing.
 - The numbers of a pair are those that FILE asks about: from its first one up to the greatest one before the reader left. A number
   that OTHER alone has is none of them.
 - A number arrived where it is not received for certain and the reader is told a payload of it in OTHER: by a DATA, or by fragments
@@ -35,6 +36,9 @@ What the terms mean
   or no more numbers lack than --tail allows. A conflict or an unfounded answer is in FILE, and stays.
 - All other rows are as without OTHER. A note says how many pairs are so.
 - The numbers that are missed of a row that is held, the first of them, and the advice are those that did not arrive.
+- The two recordings look swapped where some pair is the wrong way round, and none the right way round: a reason and a note. Where some are
+  the one way and some the other, a note says how many are judged by FILE alone. Where some pair is asked, and all are alike, a note says
+  that nothing tells the two apart; it is a reason, and no note, where they have equal datagrams at equal times, and each has a time.
 
 What is proved, and what is counted
 - Verdicts, received numbers and all evidence but for missed numbers are those of FILE, as without OTHER, and so is what `--certain` asks for.
@@ -51,7 +55,8 @@ What is printed
   A row that is told has the first ten numbers that lack, and so has each best-effort pair of which some lack.
 - In JSON `"outcomes"` has a member `"arrived"` behind `"received"`, null in a row that is not held. Behind `"outcomes"` stands
   `"not_arrived"`: the first ten numbers that lack, or null. The object has behind `"best_effort"` the member `"arrived"`: of each
-  best-effort pair that is held its topic, writer and reader, its numbers, how many of them arrived, and the first ten that lack.
+  best-effort pair that is held its topic, writer and reader, its numbers, how many of them arrived, and the first ten that lack. Before
+  `"notes"` stands `"wrong_way"`: how many pairs are the wrong way round.
 """
 import json
 import os
@@ -67,6 +72,8 @@ from random_recordings import some_asked, text_of_datagrams
 from random_systems import some_both, some_other
 from reference import acts_of, guid_text, name_text, told_to
 from talk import named_by
+from times import NO_TIMES
+from way import entries, way
 from wording import amount, grouped, in_pairs, of
 
 # So many numbers that did not arrive are named.
@@ -77,6 +84,10 @@ TWICE = ["error: the argument '--arrived <OTHER>' cannot be standard input: FILE
 
 BEST_EFFORT = 'by best effort nothing is sent again: look at the network, or make both reliable'
 ALONE = "the recording at the reader's host has nothing of the reader to the writer: it was not made at that host"
+SWAPPED = 'give the other one first'
+SOME_SWAPPED = 'the other order judges them'
+TOGETHER = 'nothing tells the two recordings apart: nothing was lost, or both were made at one place'
+GIVEN_TWICE = 'one recording was given twice'
 LACKING = 'it lacks something: see that it ran all the time, and that tcpdump dropped nothing'
 
 # What weakens OTHER: its name among the counts of a capture, text of one, text of many, what to do.
@@ -95,8 +106,8 @@ UNREAD = [
 class Other:
     """a recording that was made at the host of readers"""
 
-    def __init__(self, datagrams, ignored=None):
-        self.datagrams, self.ignored = datagrams, ignored or {}
+    def __init__(self, datagrams, ignored=None, times=NO_TIMES):
+        self.datagrams, self.ignored, self.times = datagrams, ignored or {}, times
         self.recording = [acts_of(d, True) for d in datagrams]
         self.namings = named_by(self.recording)
 
@@ -104,16 +115,25 @@ class Other:
         """whether it has an act of the reader's participant that names the writer's"""
         return (r[:12], w[:12]) in self.namings
 
+    def way(self, recording, w, r):
+        """which way round a recording and this one are, by a pair; None where this one has nothing of the reader to the writer"""
+        return way(entries(recording, w, r), entries(self.recording, w, r)) if self.holds(w, r) else None
+
     def told(self, w, r):
         """the numbers of which the reader is told a payload"""
         return {act['number'] for _, act, words in told_to(self.recording, w, r) if words.payload is not None}
+
+    def equals(self, datagrams, times):
+        """whether these datagrams are its own, each at the same time"""
+        places = range(1, len(datagrams) + 1)
+        return self.datagrams == datagrams and all(times.of(i) is not None and times.of(i) == self.times.of(i) for i in places)
 
 
 def other_of(octets, name, limits=reference.USUAL, view='check'):
     """the other recording, which is read as the one that is judged, or the lines of standard error, each with its name"""
     read = reference.input_of(octets, limits, True)
     if not isinstance(read, str):
-        return Other(*read)
+        return Other(*read, reference.times_of(octets, limits, True))
     *reasons, _ = reference.told_of(name, octets, limits, True, f'{view} --arrived - FILE')
     return [*reasons, f'rtps-audit: {name_text(name.encode())}: {read}']
 
@@ -177,13 +197,36 @@ def len_of(numbers):
 
 
 class BothSides:
-    """what the other recording shows beside the rows: pairs of best effort, and what weakens it"""
+    """what the other recording shows beside the rows: pairs of best effort, which way round the two are, and what weakens it. `first` has
+    the datagrams and the times of the recording that is judged"""
 
-    def __init__(self, rows, talk, other):
-        self.other, self.rows = other, rows
-        held = [(w, r) for w, r in talk.best_effort if other.holds(w[0], r[0])]
-        self.best_effort = [BestEffort(talk, w, r, other.told(w[0], r[0])) for w, r in held]
-        self.alone = [row.key for row in rows if not row.held]
+    def __init__(self, rows, talk, other, first):
+        self.other, self.rows, self.is_twice = other, rows, other.equals(*first)
+        ways = [(w, r, other.way(talk.recording, w[0], r[0])) for w, r in talk.best_effort]
+        self.best_effort = [BestEffort(talk, w, r, other.told(w[0], r[0])) for w, r, found in ways if found not in (None, 'wrong')]
+        self.alone = [row.key for row in rows if row.way is None]
+        self.ways = [found for found in [row.way for row in rows] + [found for _, _, found in ways] if found is not None]
+        self.wrong, self.right = self.ways.count('wrong'), self.ways.count('right')
+
+    def are_alike(self):
+        """some pair is asked, and none has a difference"""
+        return bool(self.ways) and set(self.ways) == {'alike'}
+
+    def swapped(self):
+        return f"the two recordings look swapped: {amount(self.wrong, 'pair is', 'pairs are')} the wrong way round"
+
+    def reasons(self):
+        """why no report by these two recordings is clean"""
+        return ([self.swapped()] if self.wrong and not self.right else []) + ([GIVEN_TWICE] if self.are_alike() and self.is_twice else [])
+
+    def order_notes(self):
+        if self.wrong and not self.right:
+            yield self.swapped(), None, SWAPPED
+        elif self.wrong:
+            are = 'it is' if self.wrong == 1 else 'they are'
+            yield f"{amount(self.wrong, 'pair is', 'pairs are')} judged by the first recording alone: {are} the wrong way round", None, SOME_SWAPPED
+        elif self.are_alike() and not self.is_twice:
+            yield TOGETHER, None, None
 
     def by_topic(self):
         """by topic how many numbers of best-effort pairs there are, and how many arrived"""
@@ -213,6 +256,7 @@ class BothSides:
         for name, one, many, advice in UNREAD:
             if self.other.ignored.get(name, 0):
                 yield f"at the reader's host: {amount(self.other.ignored[name], one, many)}", None, advice
+        yield from self.order_notes()
 
     def lines(self, hosted, topic_text):
         """the best-effort pairs of which numbers did not arrive, by topic"""
@@ -292,7 +336,7 @@ def failing(report, plain_rows):
             yield 'sum of the kinds'
         if not row.held and (row.counts, row.is_clean()) != (plain.counts, plain.is_clean()):
             yield 'row that is not held'
-        if row.held != any(act['source'] == row.r[:12] and act['dest'] == row.w[:12] for acts in other.recording for act in acts):
+        if (row.way is not None) != any(act['source'] == row.r[:12] and act['dest'] == row.w[:12] for acts in other.recording for act in acts):
             yield 'row that is held'
         if row.held and other.told(row.w, row.r) != backwards.told(row.w, row.r):
             yield 'order of the other recording'
@@ -325,13 +369,30 @@ def failing_best_effort(sides):
             yield 'best effort'
 
 
+SWAPS = {'right': 'wrong', 'wrong': 'right'}
+
+
+def failing_ways(report, datagrams):
+    """whether the two recordings are the other way round where they are given in the other order"""
+    recording, other = report.talk.recording, report.sides.other
+    swapped = Other(datagrams)
+    for row in report.rows:
+        if row.way is not None and swapped.holds(row.w, row.r):
+            if swapped.way(other.recording, row.w, row.r) != SWAPS.get(row.way, row.way):
+                yield 'order of the two'
+        if row.way is not None and Other(other.datagrams).way(other.recording, row.w, row.r) != 'alike':
+            yield 'one recording twice'
+    if recording != [acts_of(d, True) for d in datagrams]:
+        yield 'recording'
+
+
 def laws(count, seed):
-    names = 'rows', 'held', 'clean', 'clean by it', 'unclean by it', 'arrived', 'lacking', 'best effort'
+    names = 'rows', 'held', 'clean', 'clean by it', 'unclean by it', 'arrived', 'lacking', 'best effort', 'right', 'wrong', 'both', 'alike'
     rng, failed, tried = random.Random(seed), 0, dict.fromkeys(names, 0)
     for k in range(count):
         asked, (datagrams, there) = some_asked(rng), some_other(rng, some_both(rng))
         report, plain = (report_module().Report(datagrams, asked, other=one) for one in (Other(there), None))
-        found = [*failing(report, plain.rows), *failing_best_effort(report.sides)]
+        found = [*failing(report, plain.rows), *failing_best_effort(report.sides), *failing_ways(report, datagrams)]
         if bool(check_reasons(report.rows)) != any(not row.is_clean() for row in report.rows):
             found.append('reasons')
         for what in found:
@@ -349,7 +410,7 @@ def count_laws(tried, report, plain):
         clean = row.is_clean(), old.is_clean()
         more = {'rows': 1, 'held': row.held, 'clean': clean[0], 'clean by it': clean == (True, False), 'unclean by it': clean == (False, True),
                 'arrived': row.counts['arrived'], 'lacking': row.lacking_count() if row.held else 0}
-        for name, count in more.items():
+        for name, count in (more | {row.way: 1} if row.way else more).items():
             tried[name] += count
 
 

@@ -380,7 +380,7 @@ def because(report):
     """why the recording is not clean"""
     rows, talk = report.rows, report.talk
     reasons = pair_reasons(report) + row_reasons(rows) + (uncertain(rows) if report.asked.certain else [])
-    reasons += [unmatched_amount(talk)] if talk.unmatched else []
+    reasons += ([unmatched_amount(talk)] if talk.unmatched else []) + (report.sides.reasons() if report.sides else [])
     return reasons + best_effort_reasons(report) + few(rows, report.asked.expect or 0) + unread(report.counts, 'unsettled', 'pieces', 'cut', 'links')
 
 

@@ -36,7 +36,7 @@ class Report:
     def __init__(self, datagrams, asked=PLAIN, ignored=None, link=None, times=NO_TIMES, other=None):
         self.datagrams, self.asked, self.ignored = datagrams, asked, ignored
         self.rows, self.talk, counted = rows_of(datagrams, asked, times, other)
-        self.sides = arrived.BothSides(self.rows, self.talk, other) if other else None
+        self.sides = arrived.BothSides(self.rows, self.talk, other, (datagrams, times)) if other else None
         self.counted = counted | (ignored or {})
         # A datagram of one octet is refused, and is no reason to look at it.
         self.counts = self.counted | {'link': link, 'refused': counted['refused'] - sum(len(d) < 2 for d in datagrams)}
@@ -50,7 +50,8 @@ class Report:
         """those of `check --json`"""
         head = {'status': 'unclean' if self.because else 'clean', 'because': self.because}
         pairs = [row.values(self.counts) for row in self.rows]
-        return head | {'pairs': pairs} | self.counted | talk_members(self.talk, self.sides) | {'notes': check.note_sentences(self)}
+        wrong_way = {'wrong_way': self.sides.wrong} if self.sides else {}
+        return head | {'pairs': pairs} | self.counted | talk_members(self.talk, self.sides) | wrong_way | {'notes': check.note_sentences(self)}
 
     def json(self):
         return json_text(self.members()) + '\n'

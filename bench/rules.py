@@ -69,8 +69,14 @@ def rules_of(found):
 
 
 def rules_of_sides(found):
-    return {
+    sides = found.sides
+    ways = {f'a pair is {name}': name in sides.ways for name in ('right', 'wrong', 'both', 'alike')}
+    return ways | {
         'held': any(row.held for row in found.rows),
+        'looks swapped': sides.wrong > 0 and not sides.right,
+        'some each way': sides.wrong > 0 and sides.right > 0,
+        'given twice': sides.are_alike() and sides.is_twice,
+        'nothing tells apart': sides.are_alike() and not sides.is_twice,
         'missed, and some of these arrived': any(row.counts['missed'] and set(row.delivery.asked) & row.delivery.arrived for row in found.rows),
     }
 

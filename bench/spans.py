@@ -82,7 +82,9 @@ class Row:
         span = Span(recording, talk.life, self.w, self.r, asked.first)
         self.first, self.until, self.joined_here = span.first, span.until, span.joined_here
         self.datagrams = span.datagrams(recording)
-        self.beside, self.held = other is not None, other is not None and other.holds(self.w, self.r)
+        # which way round the two recordings are, by this row; None where the other one has nothing of it
+        self.way = other.way(recording, self.w, self.r) if other else None
+        self.beside, self.held = other is not None, self.way not in (None, 'wrong')
         told_there = other.told(self.w, self.r) if self.held else None
         self.times = talk.times
         self.delivery = Outcome(self.datagrams, self.w, self.r, self.first, span.since, told_there, self.times)

@@ -9,6 +9,7 @@ group prints a line with what was counted. The last line is 'N passed, M failed'
 """
 import re
 import sys
+import tempfile
 
 sys.dont_write_bytecode = True
 import program
@@ -520,12 +521,34 @@ def asked_at_the_end(tests):
     print(f'asked at the end: {len(rows) + 3}')
 
 
+# ---- one recording given twice
+
+def given_twice(tests):
+    """by a second file with the same datagrams at the same times"""
+    topic = pair()
+    said = [d for n in range(1, 9) for d in (topic.sent(n), topic.asks(1, n), topic.answers(n + 1))]
+    datagrams = [*TWO, *topic.announced, *said]
+    times = [at(50) + MILLISECOND * k for k in range(len(datagrams))]
+    octets, later = timed(datagrams, times), timed(datagrams, [*times[:-1], times[-1] + 1])
+    blocks_of = section() + interface(options=told(9, 9)) + b''.join(enhanced(packet(d), time=time) for time, d in zip(times, datagrams))
+    half = section() + interface() + b''.join(map(simple, map(packet, datagrams)))
+    twice, apart = ['not clean: one recording was given twice'], ['nothing tells the two recordings apart: nothing was lost, or both were made at one place', 'clean']
+    rows = {'the same file': (octets, octets, twice), 'a file of another form': (octets, blocks_of, twice), 'a nanosecond later': (octets, later, apart),
+            'without times': (half, half, apart), 'one without times': (octets, half, apart), 'with a frame more': (octets, octets + record(TCP), twice)}
+    for name, (one, other, wanted) in rows.items():
+        with tempfile.NamedTemporaryFile() as file:
+            file.write(other)
+            file.flush()
+            tests.says(name, 'check', one, wanted, lambda text: text[:-1].split('\n\n')[2:], ('--arrived', file.name))
+    print(f'one recording given twice: {len(rows)}')
+
+
 def main():
     if len(sys.argv) > 2:
         raise SystemExit(__doc__)
     tests = Timed(sys.argv[1] if len(sys.argv) == 2 else None)
     for group in (units, places, page_data, going_back, waiting, silence, silence_by_headers, silence_by_leases, silence_to_the_last_frame, outages,
-                  asked_at_the_end):
+                  asked_at_the_end, given_twice):
         group(tests)
     return tests.told()
 

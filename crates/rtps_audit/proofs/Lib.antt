@@ -6,7 +6,6 @@ pub mod Verdicts
 pub mod SameSaid
 pub mod GroupLemmas
 pub mod PlacedLemmas
-pub mod ToldLemmas
 pub mod AnswerLemmas
 pub mod PlacedActs
 pub mod IntakeLemmas
@@ -21,6 +20,8 @@ pub mod ExactVerdicts
 pub mod Offered
 pub mod PayloadRuns
 pub mod PayloadHearing
-pub mod SweepLemmas
+pub mod AskLemmas
+pub mod AccountLemmas
+pub mod AccountsLemmas
 pub mod AnnouncedLemmas
 pub mod SaidLemmas

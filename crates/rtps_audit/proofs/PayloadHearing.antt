@@ -66,14 +66,14 @@ if_both true true word p q = refl
 if_both true false word p q = cc
 if_both false b word p q = cc
 
-and_second : (a b : Bool) → (a && b) ≡ true → b ≡ true
+pub and_second : (a b : Bool) → (a && b) ≡ true → b ≡ true
 and_second true b e = e
 and_second false b e = cc
 
 -- ---- the entries of acts
 
-pub none_sent : (from : ℕ) (entries : List AddressedPayload) → entries ≡ [] → AreSentIn from [] entries
-none_sent from entries none = record {
+pub none_sent : (wanted : ℕ → Bool) (entries : List AddressedPayload) → entries ≡ [] → AreSentIn wanted [] entries
+none_sent wanted entries none = record {
   sent = λ e among. absurd (nothing e (subst (λ l. Contains l e) none among));
   all = λ at n x among. absurd (nothing at among);
 }
@@ -81,9 +81,9 @@ none_sent from entries none = record {
     nothing : {X : Type 0} (e : X) → Contains [] e → ⊥
     nothing e among = let lt = among.1 in omega arith
 
--- one act more, which tells no payload that is asked for
-pub silent_more : (from : ℕ) (placed : List PlacedValue) (entries : List AddressedPayload) (at : PlacedValue) → ((n : ℕ) (x : PayloadValue) → IsAsked from n → word_of at.act.body n ≢ Some (Told x)) → AreSentIn from placed entries → AreSentIn from (placed ++ at ∷ []) entries
-silent_more from placed entries at silent known = record {
+-- one act more, which tells no payload that is wanted
+pub silent_more : (wanted : ℕ → Bool) (placed : List PlacedValue) (entries : List AddressedPayload) (at : PlacedValue) → ((n : ℕ) (x : PayloadValue) → wanted n ≡ true → word_of at.act.body n ≢ Some (Told x)) → AreSentIn wanted placed entries → AreSentIn wanted (placed ++ at ∷ []) entries
+silent_more wanted placed entries at silent known = record {
   sent = λ e among. let was = known.sent e among in (was.0, (was.1.0, Contains-append_left placed (at ∷ []) was.1.0 was.1.1, was.1.2));
   all = λ act n x among asked says. elim (Contains-push_cases placed at act among) [
     | inl there ↦ known.all act n x there asked says
@@ -91,22 +91,22 @@ silent_more from placed entries at silent known = record {
   ];
 }
 
--- one DATA more that is asked for
-pub sent_more : (from : ℕ) (placed : List PlacedValue) (entries : List AddressedPayload) (at : PlacedValue) (e : AddressedPayload) → IsSentBy at.act e → IsAsked from (number_in e) → AreSentIn from placed entries → AreSentIn from (placed ++ at ∷ []) (entries ++ e ∷ [])
-sent_more from placed entries at e sent asked known = record {
+-- one DATA more that is wanted
+pub sent_more : (wanted : ℕ → Bool) (placed : List PlacedValue) (entries : List AddressedPayload) (at : PlacedValue) (e : AddressedPayload) → IsSentBy at.act e → wanted (number_in e) ≡ true → AreSentIn wanted placed entries → AreSentIn wanted (placed ++ at ∷ []) (entries ++ e ∷ [])
+sent_more wanted placed entries at e sent asked known = record {
   sent = λ f among. elim (Contains-push_cases entries e f among) [
     | inl there ↦ let was = known.sent f there in (was.0, (was.1.0, Contains-append_left placed (at ∷ []) was.1.0 was.1.1, was.1.2))
-    | inr is ↦ subst (λ g. IsAsked from (number_in g) × ((act : PlacedValue) × Contains (placed ++ at ∷ []) act × IsSentBy act.act g)) is (asked, (at, Contains-push placed at, sent))
+    | inr is ↦ subst (λ g. (wanted (number_in g) ≡ true) × ((act : PlacedValue) × Contains (placed ++ at ∷ []) act × IsSentBy act.act g)) is (asked, (at, Contains-push placed at, sent))
   ];
-  all = λ act n x among wanted says. elim (Contains-push_cases placed at act among) [
-    | inl there ↦ let was = known.all act n x there wanted says in (was.0, Contains-append_left entries (e ∷ []) was.0 was.1, was.2)
+  all = λ act n x among asked says. elim (Contains-push_cases placed at act among) [
+    | inl there ↦ let was = known.all act n x there asked says in (was.0, Contains-append_left entries (e ∷ []) was.0 was.1, was.2)
     | inr is ↦ subst (λ (a : PlacedValue). (f : AddressedPayload) × Contains (entries ++ e ∷ []) f × IsSentBy a.act f) is (e, Contains-push entries e, sent)
   ];
 }
 
 -- the same entries in another order
-pub sent_moved : (from : ℕ) (placed : List PlacedValue) (xs ys : List AddressedPayload) → IsPermutation xs ys → AreSentIn from placed xs → AreSentIn from placed ys
-sent_moved from placed xs ys moved known = record {
+pub sent_moved : (wanted : ℕ → Bool) (placed : List PlacedValue) (xs ys : List AddressedPayload) → IsPermutation xs ys → AreSentIn wanted placed xs → AreSentIn wanted placed ys
+sent_moved wanted placed xs ys moved known = record {
   sent = λ e among. known.sent e (Contains-permutation ys xs e (IsPermutation-sym xs ys moved) among);
   all = λ at n x among asked says. let was = known.all at n x among asked says in (was.0, Contains-permutation xs ys was.0 moved was.1, was.2);
 }
@@ -117,18 +117,18 @@ sent_moved from placed xs ys moved known = record {
 abbrev pub IsHeardAmong : List AddressedPayload → Guid → AddressedPayload → Type 0
 IsHeardAmong entries reader entry = Contains entries entry × (is_among entry.dest.now (Some entry.reader) reader ≡ true)
 
-kept_of_heard : (from : ℕ) (kept : List AddressedPayload) (writer reader : Guid) (placed : List PlacedValue) (n : ℕ) (x : PayloadValue) (known : AreConflictsOf from kept placed) → IsAsked from n → IsHeard writer reader placed n (Told x)
+kept_of_heard : (wanted : ℕ → Bool) (kept : List AddressedPayload) (writer reader : Guid) (placed : List PlacedValue) (n : ℕ) (x : PayloadValue) (known : AreConflictsOf wanted kept placed) → wanted n ≡ true → IsHeard writer reader placed n (Told x)
     → (e : AddressedPayload) × IsHeardAmong known.entries reader e × (number_in e ≡ n) × (payload_value e.payload.now ≡ x)
-kept_of_heard from kept writer reader placed n x known asked heard =
+kept_of_heard wanted kept writer reader placed n x known asked heard =
     let said = if_some (is_spoken_by heard.at.act writer && is_heard_by heard.at.act reader) (word_of heard.at.act.body n) (Told x) heard.says in
     let entry = known.sent.all heard.at n x heard.among asked said.1 in
     let is = told_itself heard.at.act entry.0 n x entry.2 said.1 in
     (entry.0, (entry.1, sym (heard_alike heard.at.act entry.0 reader entry.2) ∙ and_second _ _ said.0), is.0, is.1)
 
-pub two_kept : (from : ℕ) (kept : List AddressedPayload) (writer reader : Guid) (placed : List PlacedValue) (n : ℕ) → AreConflictsOf from kept placed → HearsTwo from writer reader placed n → HasTwo (IsHeardAmong kept reader) n
-two_kept from kept writer reader placed n known (asked, (x, y, first, second, differ)) =
-    let one = kept_of_heard from kept writer reader placed n x known asked first in
-    let other = kept_of_heard from kept writer reader placed n y known asked second in
+pub two_kept : (from : ℕ) (wanted : ℕ → Bool) (kept : List AddressedPayload) (writer reader : Guid) (placed : List PlacedValue) (n : ℕ) → AreConflictsOf wanted kept placed → wanted n ≡ true → HearsTwo from writer reader placed n → HasTwo (IsHeardAmong kept reader) n
+two_kept from wanted kept writer reader placed n known is_wanted (asked, (x, y, first, second, differ)) =
+    let one = kept_of_heard wanted kept writer reader placed n x known is_wanted first in
+    let other = kept_of_heard wanted kept writer reader placed n y known is_wanted second in
     let unlike : payload_value one.0.payload.now ≢ payload_value other.0.payload.now = λ e. differ (sym one.3 ∙ e ∙ other.3) in
     let two : (m : ℕ) → n ≡ m → HasTwo (Contains known.entries) m = λ m is. record { one = one.0; other = other.0; one_among = one.1.0; other_among = other.1.0; one_number = one.2 ∙ is; other_number = other.2 ∙ is; differ = unlike } in
     record {
@@ -141,9 +141,9 @@ two_kept from kept writer reader placed n known (asked, (x, y, first, second, di
       differ = unlike;
     }
 
-heard_of_kept : (from : ℕ) (kept : List AddressedPayload) (writer reader : Guid) (placed : List PlacedValue) (e : AddressedPayload) → AreConflictsOf from kept placed → All (λ at. is_from writer at ≡ true) placed
-    → IsHeardAmong kept reader e → IsAsked from (number_in e) × IsHeard writer reader placed (number_in e) (Told (payload_value e.payload.now))
-heard_of_kept from kept writer reader placed e known writers heard =
+heard_of_kept : (wanted : ℕ → Bool) (kept : List AddressedPayload) (writer reader : Guid) (placed : List PlacedValue) (e : AddressedPayload) → AreConflictsOf wanted kept placed → All (λ at. is_from writer at ≡ true) placed
+    → IsHeardAmong kept reader e → (wanted (number_in e) ≡ true) × IsHeard writer reader placed (number_in e) (Told (payload_value e.payload.now))
+heard_of_kept wanted kept writer reader placed e known writers heard =
     let sent = known.sent.sent e ((known.conflicts e).0 heard.0).0 in
     let at = sent.1.0 in
     let by = sent.1.2 in
@@ -151,12 +151,12 @@ heard_of_kept from kept writer reader placed e known writers heard =
     let hears = heard_alike at.act e reader by ∙ heard.1 in
     (sent.0, record { at = at; among = sent.1.1; says = if_both _ _ (word_of at.act.body e.number) spoken hears ∙ tells_itself at.act e by })
 
-pub two_heard : (from : ℕ) (kept : List AddressedPayload) (writer reader : Guid) (placed : List PlacedValue) (n : ℕ) → AreConflictsOf from kept placed → All (λ at. is_from writer at ≡ true) placed
+pub two_heard : (from : ℕ) (wanted : ℕ → Bool) (kept : List AddressedPayload) (writer reader : Guid) (placed : List PlacedValue) (n : ℕ) → AreConflictsOf wanted kept placed → All (λ at. is_from writer at ≡ true) placed → ((m : ℕ) → wanted m ≡ true → IsAsked from m)
     → HasTwo (IsHeardAmong kept reader) n → HearsTwo from writer reader placed n
-two_heard from kept writer reader placed n known writers two =
-    let one = heard_of_kept from kept writer reader placed two.one known writers two.one_among in
-    let other = heard_of_kept from kept writer reader placed two.other known writers two.other_among in (
-      subst (IsAsked from) two.one_number one.0,
+two_heard from wanted kept writer reader placed n known writers asks two =
+    let one = heard_of_kept wanted kept writer reader placed two.one known writers two.one_among in
+    let other = heard_of_kept wanted kept writer reader placed two.other known writers two.other_among in (
+      subst (IsAsked from) two.one_number (asks two.one.number one.0),
       (
         payload_value two.one.payload.now,
         payload_value two.other.payload.now,

@@ -121,7 +121,7 @@ kept_in_order recording test kept same i j d le lt =
 
 -- ---- where they stand
 
-pub record Stands (before : ℕ) (recording : List (List ActValue)) (placed : PlacedValue) : Type 0 where
+pub record StandsIn (before : ℕ) (recording : List (List ActValue)) (placed : PlacedValue) : Type 0 where
   pub place : ℕ
   pub datagram : List ActValue
   pub stands : slice_get recording place ≡ Some datagram
@@ -155,7 +155,7 @@ at_contains datagram (first ∷ acts) act among = elim (contains_cases first act
   | inr there ↦ contains_tail _ _ _ (at_contains datagram acts act there)
 ]
 
-pub stands_where : (before : ℕ) (recording : List (List ActValue)) (placed : PlacedValue) → Contains (placed_behind before recording) placed → Stands before recording placed
+pub stands_where : (before : ℕ) (recording : List (List ActValue)) (placed : PlacedValue) → Contains (placed_behind before recording) placed → StandsIn before recording placed
 stands_where before [] placed among = absurd (contains_none placed among)
 stands_where before (datagram ∷ recording) placed among = elim (Contains-append_cases (placed_at (before + 1) datagram) (placed_behind (before + 1) recording) placed among) [
   | inl here ↦

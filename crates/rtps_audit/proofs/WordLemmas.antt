@@ -1,14 +1,17 @@
 -- The numbers that the words of one act more add.
 use Rattle.std.proofs.Common.{◌≡◌, ℕ, ◌≤◌, ◌+◌, Bool, true, false, ◌&&◌, ◌||◌, nat_le, nat_lt, max, refl, arith, Option, Some, None, sym, ◌∙◌, ap}
 use Rattle.std.proofs.lemmas.Bool.Decides.{nat_tests}
+use Rattle.std.proofs.lemmas.Bool.{eqb-true}
 use Rattle.std.specs.Option.{option_map}
 use Rattle.std.specs.Prelude.{◌==◌, if◌then◌else◌, is_some}
 use Rattle.std.proofs.Math.Bool.{or-false, or_assoc}
 use Rattle.rtps_wire.specs.Values.{PayloadValue}
-use Rattle.rtps_receiver.specs.Said.{SaidValue, Says, is_at, numbers_have, told_of}
+use Rattle.rtps_receiver.specs.Said.{SaidValue, Says, is_at, is_in_gap, numbers_have, said, told_of}
 use Rattle.rtps_receiver.specs.declared.said.SaidNumbers.{SaidNumbers}
 use Rattle.rtps_coverage.specs.Coverage.{TellsMore}
-use Rattle.rtps_audit.specs.Speech.{word_in}
+use Rattle.rtps_receiver.specs.Values.{ActBodyValue}
+use Rattle.rtps_receiver.specs.Values.ActBodyValue.{Data, Heartbeat, AckNack, Gap, DataFrag, NackFrag}
+use Rattle.rtps_audit.specs.Speech.{announced_of_body, word_in, word_of}
 use Rattle.rtps_audit.specs.Delivery.{Word}
 use Rattle.rtps_audit.specs.Delivery.Word.{Told, Gone}
 
@@ -41,6 +44,27 @@ word_is value n = by (value.gone n) value.brought value.payload
     by false None (Some payload) = refl
     by false (Some number) None = never (number == n)
     by false (Some number) (Some payload) = if_same (number == n) (Told payload)
+
+-- a payload is told of the number that the act announces, and of no other
+pub payload_number : (body : ActBodyValue) (n : ℕ) (x : PayloadValue) → word_of body n ≡ Some (Told x) → (announced_of_body body ≡ Some n) × (told_of (said body) ≡ Some n)
+payload_number body n x says = by body says
+  where
+    at : (number : ℕ) (b : Bool) (o : Option PayloadValue) → (number == n) ≡ b → (let none : Option Word = None in if b then option_map Told o else none) ≡ Some (Told x) → (number ≡ n) × (is_some o ≡ true)
+    at number true None e f = cc
+    at number true (Some y) e f = (eqb-true number n e, refl)
+    at number false o e f = cc
+
+    gone : (b : Bool) → (let none : Option Word = None in if b then Some Gone else none) ≡ Some (Told x) → ⊥
+    gone true e = cc
+    gone false e = cc
+
+    by : (body : ActBodyValue) → word_of body n ≡ Some (Told x) → (announced_of_body body ≡ Some n) × (told_of (said body) ≡ Some n)
+    by (Data value) e = let is = at value.number (value.number == n) (Some value.payload) refl e in (ap Some is.0, ap Some is.0)
+    by (Heartbeat value) e = absurd (gone (nat_lt n value.first) e)
+    by (Gap value) e = absurd (gone (is_in_gap value n) e)
+    by (DataFrag value) e = let is = at value.number (value.number == n) value.told refl e in (ap Some is.0, ap (λ b. if b then Some value.number else None) is.1 ∙ ap Some is.0)
+    by (AckNack value) e = cc
+    by (NackFrag value) e = cc
 
 -- ---- numbers that are told
 

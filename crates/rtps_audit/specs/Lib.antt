@@ -11,5 +11,6 @@ pub mod PayloadConflict
 pub mod Intake
 pub mod Index
 pub mod Said
-pub mod Sweep
+pub mod FrontRanges
+pub mod Account
 pub mod Laws

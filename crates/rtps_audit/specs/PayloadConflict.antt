@@ -1,15 +1,26 @@
 -- Different payloads for one number, and who hears them. own: a number has one payload, so a reader that hears two of
 -- them is in doubt. Who hears an act: DDSI-RTPS 2.5, 8.3.4 "The RTPS Message Receiver", 8.3.8.2 "Data" and 8.3.8.3
 -- "DataFrag".
-use Rattle.std.specs.Prelude.{ℕ, ◌==◌, ◌≡◌, ◌≢◌, ◌↔◌, ◌<◌, ◌≤◌, ◌^◌, if◌then◌else◌, Contains, List, Option, Some, None}
+use Rattle.std.specs.Prelude.{ℕ, Bool, true, ◌&&◌, ◌||◌, ◌-◌, ◌==◌, ◌≡◌, ◌≢◌, ◌↔◌, ◌<◌, ◌≤◌, ◌^◌, if◌then◌else◌, Contains, List, Option, Some, None}
 use Rattle.rtps_receiver.specs.Speech.{reader_named}
 use Rattle.rtps_receiver.specs.Values.{ActValue}
 use Rattle.rtps_wire.specs.Values.{PayloadValue, payload_value}
-use Rattle.rtps_audit.specs.Delivery.{IsAsked}
+use Rattle.rtps_audit.specs.Delivery.{is_asked}
 use Rattle.rtps_audit.specs.Delivery.Word.{Told}
 use Rattle.rtps_audit.specs.Placed.{PlacedValue}
 use Rattle.rtps_audit.specs.Speech.{word_of}
+use Rattle.rtps_coverage.specs.MergedRanges.{covered_of}
 use Rattle.rtps_audit.specs.declared.payload_conflict.AddressedPayload.{AddressedPayload}
+use Rattle.rtps_audit.specs.declared.payload_conflict.Questions.{Questions}
+
+-- whether a number is in question, where a payload of each number of a set came again: it is asked for, and in the set, or the
+-- greatest number, which no set has
+abbrev pub is_in_question : ℕ → (ℕ → Bool) → ℕ → Bool
+is_in_question from set n = is_asked from n && ((n == 2 ^ 63 - 1) || set n)
+
+-- whether these ask for it
+abbrev pub asks_for : Questions → ℕ → Bool
+asks_for questions n = is_in_question questions.from (covered_of questions.again.now) n
 
 -- the number by which an entry stands
 abbrev pub number_in : AddressedPayload → ℕ
@@ -25,10 +36,10 @@ pub record IsSentBy (act : ActValue) (entry : AddressedPayload) : Type 0 where
   pub reader : reader_named act.body ≡ Some entry.reader
   pub says : (n : ℕ) → word_of act.body n ≡ (if n == entry.number then Some (Told (payload_value entry.payload.now)) else None)
 
--- the entries are the payloads that these acts tell for numbers that are asked for
-pub record AreSentIn (from : ℕ) (placed : List PlacedValue) (entries : List AddressedPayload) : Type 0 where
-  pub sent : (entry : AddressedPayload) → Contains entries entry → IsAsked from entry.number × ((at : PlacedValue) × Contains placed at × IsSentBy at.act entry)
-  pub all : (at : PlacedValue) (n : ℕ) (x : PayloadValue) → Contains placed at → IsAsked from n → word_of at.act.body n ≡ Some (Told x) → (entry : AddressedPayload) × Contains entries entry × IsSentBy at.act entry
+-- the entries are the payloads that these acts tell for numbers that are wanted
+pub record AreSentIn (wanted : ℕ → Bool) (placed : List PlacedValue) (entries : List AddressedPayload) : Type 0 where
+  pub sent : (entry : AddressedPayload) → Contains entries entry → (wanted entry.number ≡ true) × ((at : PlacedValue) × Contains placed at × IsSentBy at.act entry)
+  pub all : (at : PlacedValue) (n : ℕ) (x : PayloadValue) → Contains placed at → wanted n ≡ true → word_of at.act.body n ≡ Some (Told x) → (entry : AddressedPayload) × Contains entries entry × IsSentBy at.act entry
 
 -- two of these entries have different payloads for the number
 pub record HasTwo (Among : AddressedPayload → Type 0) (n : ℕ) : Type 0 where
@@ -44,10 +55,10 @@ pub record HasTwo (Among : AddressedPayload → Type 0) (n : ℕ) : Type 0 where
 abbrev pub AreConflictsAmong : List AddressedPayload → List AddressedPayload → Type 0
 AreConflictsAmong entries kept = (entry : AddressedPayload) → Contains kept entry ↔ (Contains entries entry × HasTwo (Contains entries) entry.number)
 
--- kept are the payloads that these acts tell for the numbers that are asked for and have two different ones
-pub record AreConflictsOf (from : ℕ) (kept : List AddressedPayload) (placed : List PlacedValue) : Type 0 where
+-- kept are the payloads that these acts tell for the numbers that are wanted and have two different ones
+pub record AreConflictsOf (wanted : ℕ → Bool) (kept : List AddressedPayload) (placed : List PlacedValue) : Type 0 where
   pub entries : List AddressedPayload
-  pub sent : AreSentIn from placed entries
+  pub sent : AreSentIn wanted placed entries
   pub conflicts : AreConflictsAmong entries kept
 
 -- there is an entry before this one, with another payload for the same number

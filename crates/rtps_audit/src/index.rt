@@ -12,14 +12,13 @@ ghost use Rattle.rtps_audit.specs.Speech.{speech_by};
 use crate::announced_places::{AnnouncedPlace, note_places};
 use crate::answer::{Answer, Answers, note_answers};
 use crate::first_asked::FirstAsked;
+use crate::front_ranges::FrontRanges;
 use crate::groups::Groups;
+use crate::judging::judge_said;
 use crate::placed::{Placed, note_acts};
-use crate::plain_judge::judge_said;
 use crate::said_between::Said;
-use crate::sweep::rows_of_writer;
 use crate::tallies::Tallies;
 use crate::verdict::Verdict;
-use rtps_coverage::MergedRanges;
 use rtps_discovery::{Directory, Pair};
 use rtps_ids::{Guid, Memory, SeqNum};
 use rtps_receiver::{ActBody, Spoken, SpokenBody, Walk};
@@ -129,8 +128,7 @@ impl<'a> Index<'a> {
         ensures { (intake : Intake) → IsIndexBy intake self.now
             → IfOk result (IsExactVerdictFrom from (speech_by pair.writer pair.reader intake.acts)) }
     {
-        let rows = rows_of_writer(self, pair.writer, &[pair], from)?;
-        Ok(rows[0].verdict)
+        self.judge_until(pair, FirstAsked::of(from), None)
     }
 
     /// Judges by the datagrams before this one, which is counted from 1, as [`Index::judge_from`] does by all: what stands behind
@@ -144,7 +142,7 @@ impl<'a> Index<'a> {
         ensures { (intake : Intake) → IsIndexBy intake self.now
             → IfOk result (IsExactVerdictFrom from (speech_by pair.writer pair.reader (datagrams_until until intake.acts))) }
     {
-        judge_said::<MergedRanges>(self.alloc, &Said::until(self, pair, until), pair, from)
+        judge_said::<FrontRanges>(self.alloc, &Said::until(self, pair, until), pair, from)
     }
 
     /// Judges by all of the writer's numbers, as [`Index::judge_from`] does.

@@ -2,20 +2,22 @@
 //! (DDSI-RTPS 2.5, 8.4 "Behavior Module").
 #![tactic(auto)]
 
+mod account;
+mod accounts;
 mod announced_places;
 mod answer;
+mod ask;
 mod first_asked;
+mod front_ranges;
 mod groups;
 mod index;
+mod judging;
 pub mod laws;
 mod payload_conflict;
 mod placed;
-mod plain_judge;
 mod report;
 mod said_between;
-mod sweep;
 mod tallies;
-mod told;
 mod verdict;
 mod word;
 
@@ -23,8 +25,8 @@ pub use announced_places::AnnouncedPlace;
 pub use answer::Answer;
 pub use first_asked::FirstAsked;
 pub use index::Index;
+pub use judging::{judge, judge_by, judge_from};
 pub use placed::{Placed, place};
-pub use plain_judge::{judge, judge_by, judge_from};
 pub use report::{Counts, Report, Row, Unwatched, Watch, audit, audit_from, audit_watched};
 pub use rtps_coverage::{Coverage, MergedRanges, PlainRanges};
 pub use said_between::Said;

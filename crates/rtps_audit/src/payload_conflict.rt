@@ -1,4 +1,4 @@
-ghost use Rattle.std.specs.Prelude.{ℕ, ◌≡◌, ◌≢◌, ◌<◌, ◌≤◌, ◌^◌, ◌↔◌, false, true, length, map, take, All, Contains, IfOk, IfSome, IsTrue, List, MatchOption, Some};
+ghost use Rattle.std.specs.Prelude.{ℕ, Bool, ◌≡◌, ◌≢◌, ◌<◌, ◌≤◌, ◌^◌, ◌↔◌, false, true, length, map, take, All, Contains, IfOk, IfSome, IsTrue, List, MatchOption, Some};
 ghost use Rattle.std.specs.List.{AllWithin, HoldsAt};
 ghost use Rattle.std.specs.List.Sorted.{IsNonDecreasingBy};
 ghost use Rattle.std.specs.Option.{ForSome};
@@ -6,14 +6,14 @@ ghost use Rattle.rtps_ids.specs.declared.identity.Guid.{Guid as GuidValue};
 ghost use Rattle.rtps_receiver.specs.Values.{spoken_value};
 ghost use Rattle.rtps_wire.specs.Values.{PayloadValue, payload_value};
 ghost use Rattle.rtps_audit.specs.Delivery.{IsAsked, Word};
-ghost use Rattle.rtps_audit.specs.Answered.{HearsTwo, last_among};
-ghost use Rattle.rtps_audit.specs.PayloadConflict.{AreConflictsAmong, AreSentIn, AreConflictsOf, IsAnother, IsInRange, IsSentBy, number_in};
+ghost use Rattle.rtps_audit.specs.Answered.{HearsTwo};
+ghost use Rattle.rtps_audit.specs.PayloadConflict.{asks_for, AreConflictsAmong, AreSentIn, AreConflictsOf, IsAnother, IsInRange, IsSentBy, number_in};
 ghost use Rattle.rtps_audit.specs.Placed.{PlacedValue, is_from, placed_value};
 ghost use Rattle.rtps_audit.specs.RunVerdict.{IsLeast};
 ghost use Rattle.rtps_audit.specs.Speech.{word_of};
 
 use crate::placed::Placed;
-use crate::word::announced_number;
+use rtps_coverage::{Coverage, MergedRanges};
 use rtps_ids::{EntityId, Guid, GuidPrefix, Memory};
 use rtps_receiver::{Audience, Spoken};
 use rtps_wire::Payload;
@@ -49,18 +49,45 @@ fn is_same_payload(one: Payload<'_>, other: Payload<'_>) -> bool
     }
 }
 
-/// The payload that an act tells, where its number is `from` or a greater one; None of any other act. A DATA tells one, and a
-/// DATA_FRAG at which a sample was put together.
-fn addressed<'x, 'a>(act: &'x Spoken<'a>, from: u64) -> Option<AddressedPayload<'x, 'a>>
+/// The numbers whose payloads are compared: those from `from` on of which a payload came again, and the greatest number, which
+/// no set has.
+#[derive(Clone, Copy)]
+pub(crate) struct Questions<'q> {
+    pub(crate) from: u64,
+    pub(crate) again: &'q MergedRanges,
+}
+
+impl<'q> Questions<'q> {
+    ghost use Rattle.rtps_audit.specs.PayloadConflict.{asks_for};
+
+    /// Whether payloads of a number are compared.
+    fn ask_for(&self, number: u64) -> bool
+        requires positive { 1 ≤ number }
+        requires in_range { number < 2 ^ 63 }
+        ensures { result ≡ asks_for self.now number }
+    {
+        if number < self.from {
+            return false;
+        }
+        number == i64::MAX.cast_unsigned() || self.again.covers(number.cast_signed())
+    }
+}
+
+/// The payload that an act tells, where its number is in question; None of any other act. A DATA tells one, and a DATA_FRAG at
+/// which a sample was put together.
+fn addressed<'x, 'a>(
+    act: &'x Spoken<'a>,
+    questions: Questions<'_>,
+) -> Option<AddressedPayload<'x, 'a>>
     ensures { MatchOption result
-        ((n : ℕ) (x : PayloadValue) → IsAsked from n → word_of (spoken_value act.now).body n ≢ Some (Word.Told x))
-        (λ entry. IsSentBy (spoken_value act.now) entry × IsAsked from entry.number × IsInRange entry) }
+        ((n : ℕ) (x : PayloadValue) → asks_for questions.entry n ≡ true → word_of (spoken_value act.now).body n ≢ Some (Word.Told x))
+        (λ entry. IsSentBy (spoken_value act.now) entry × (asks_for questions.entry entry.number ≡ true) × IsInRange entry) }
 {
     let said = act.said();
     let number = said.told?;
     let payload = said.payload?;
     let reader = act.audience()?.reader;
-    if number < from {
+    if !questions.ask_for(number) {
         return None;
     }
     Some(AddressedPayload {
@@ -71,29 +98,22 @@ fn addressed<'x, 'a>(act: &'x Spoken<'a>, from: u64) -> Option<AddressedPayload<
     })
 }
 
-/// The payloads that these acts tell, whose number is `from` or a greater one, in the order of sending, and the last number
-/// that the writer announces by the acts, whoever hears it, or 0.
+/// The payloads that these acts tell for numbers that are in question, in the order of sending.
 fn collect<'x, 'a>(
     alloc: Global,
     acts: &'x [Placed<'a>],
-    writer: Guid,
-    from: u64,
-) -> Result<(Vec<AddressedPayload<'x, 'a>>, u64), Memory>
-    ensures sent { IfOk result (λ found. AreSentIn from (map placed_value acts.now) found.0.items) }
-    ensures in_range { IfOk result (λ found. All IsInRange found.0.items) }
-    ensures last { IfOk result (λ found. found.1 ≡ last_among writer (map placed_value acts.now)) }
-    ensures last_in_range { IfOk result (λ found. found.1 < 2 ^ 63) }
+    questions: Questions<'_>,
+) -> Result<Vec<AddressedPayload<'x, 'a>>, Memory>
+    ensures sent { IfOk result (λ entries. AreSentIn (asks_for questions.entry) (map placed_value acts.now) entries.items) }
+    ensures in_range { IfOk result (λ entries. All IsInRange entries.items) }
 {
     let mut entries = Vec::new(alloc);
-    let mut last = 0u64;
     for place in 0..acts.len() {
-        let act = &acts[place].act;
-        last = last.max(announced_number(act, writer));
-        if let Some(entry) = addressed(act, from) {
+        if let Some(entry) = addressed(&acts[place].act, questions) {
             entries.push(entry)?;
         }
     }
-    Ok((entries, last))
+    Ok(entries)
 }
 
 /// The first place from this one on that has another number; the end, where none has.
@@ -160,30 +180,27 @@ impl<'x, 'a> PayloadConflicts<'x, 'a> {
         Ok(PayloadConflicts { payloads })
     }
 
-    /// Of the payloads that a writer's acts tell, whose number is `from` or a greater one; and the last number that the
-    /// writer announces by the acts, whoever hears it, or 0. It takes the time of the acts where their numbers came in
-    /// order, as most do. `Memory` is answered where there is none for all these payloads.
+    /// Of the payloads that a writer's acts tell for numbers that are in question. It takes the time of the acts where their
+    /// numbers came in order, as most do. `Memory` is answered where there is none for these payloads.
     pub(crate) fn of(
         alloc: Global,
         acts: &'x [Placed<'a>],
-        writer: Guid,
-        from: u64,
-    ) -> Result<(Self, u64), Memory>
-        ensures conflicts { IfOk result (λ found. AreConflictsOf from found.0.payloads.items (map placed_value acts.now)) }
-        ensures last { IfOk result (λ found. found.1 ≡ last_among writer (map placed_value acts.now)) }
-        ensures last_in_range { IfOk result (λ found. found.1 < 2 ^ 63) }
+        questions: Questions<'_>,
+    ) -> Result<Self, Memory>
+        ensures { IfOk result (λ conflicts. AreConflictsOf (asks_for questions.entry) conflicts.payloads.items (map placed_value acts.now)) }
     {
-        let (mut entries, last) = collect(alloc, acts, writer, from)?;
+        let mut entries = collect(alloc, acts, questions)?;
         entries.sort_by_key(|entry| entry.number)?;
         let conflicts = PayloadConflicts::among(alloc, &entries)?;
-        Ok((conflicts, last))
+        Ok(conflicts)
     }
 
     /// The least number for which a reader hears two different payloads. Each payload is compared with the one that the
     /// reader heard before, since where two of a number differ, two that follow one another do. It takes no memory.
     pub(crate) fn least_for(&self, reader: Guid) -> Option<u64>
-        ensures conflict { (from : ℕ) (writer : GuidValue) (placed : List PlacedValue) → AreConflictsOf from self.now.payloads.items placed
-            → All (λ at. is_from writer at ≡ true) placed
+        ensures conflict { (from : ℕ) (wanted : ℕ → Bool) (writer : GuidValue) (placed : List PlacedValue)
+            → AreConflictsOf wanted self.now.payloads.items placed → All (λ at. is_from writer at ≡ true) placed
+            → ((n : ℕ) → wanted n ≡ true → IsAsked from n) → ((n : ℕ) → HearsTwo from writer reader placed n → wanted n ≡ true)
             → MatchOption result ((n : ℕ) → ¬ HearsTwo from writer reader placed n) (IsLeast (HearsTwo from writer reader placed)) }
         ensures in_range { IfSome result (λ n. (1 ≤ n) × (n < 2 ^ 63)) }
     {

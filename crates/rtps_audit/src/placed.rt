@@ -29,6 +29,7 @@ fn body_of<'a>(body: &SpokenBody<'a>) -> SpokenBody<'a>
             reader: fragment.reader,
             writer: fragment.writer,
             number: fragment.number,
+            sent: fragment.sent,
             told: fragment.told,
         }),
         SpokenBody::NackFrag(nack_frag) => SpokenBody::NackFrag(*nack_frag),

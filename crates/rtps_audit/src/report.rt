@@ -1,12 +1,12 @@
-ghost use Rattle.std.specs.Prelude.{◌≡◌, ◌<◌, ◌≤◌, length, map, All, IfOk};
+ghost use Rattle.std.specs.Prelude.{◌≡◌, ◌<◌, ◌≤◌, length, map, IfOk};
 ghost use Rattle.std.specs.List.{AllWithin};
 ghost use Rattle.rtps_audit.specs.Delivered.{IsExactReport, IsExactReportFrom};
 ghost use Rattle.rtps_audit.specs.Index.{IsIndexBy, counts_with as counts_with_lem};
 ghost use Rattle.rtps_audit.specs.Intake.{Intake};
-ghost use Rattle.rtps_audit.specs.Report.{IsJudgedFrom};
+ghost use Rattle.rtps_audit.specs.Account.{AreRowsOf};
 
 use crate::index::Index;
-use crate::sweep::rows_of_writer;
+use crate::judging::rows_of_writer;
 use crate::tallies::Tallies;
 use crate::verdict::Verdict;
 use rtps_discovery::Pair;
@@ -88,9 +88,7 @@ fn rows_of<P: Watch>(
     from: SeqNum,
     watch: &mut P,
 ) -> Result<Vec<Row>, Memory>
-    ensures pairs { IfOk result (λ rows. map (λ row. row.pair) rows.items ≡ pairs.now) }
-    ensures judged { (intake : Intake) → IsIndexBy intake index.now
-        → IfOk result (λ rows. All (IsJudgedFrom from intake.acts) rows.items) }
+    ensures { (intake : Intake) → IsIndexBy intake index.now → IfOk result (λ rows. AreRowsOf from intake.acts pairs.now rows.items) }
 {
     let mut rows = Vec::new(index.alloc);
     let mut start = 0;

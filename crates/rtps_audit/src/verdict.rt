@@ -47,7 +47,7 @@ impl Claims {
     ghost use Rattle.rtps_audit.specs.Placed.{PlacedValue};
     ghost use Rattle.rtps_audit.specs.RunVerdict.{IsVerdictFrom};
     ghost use Rattle.rtps_audit.specs.Speech.{speech_by};
-    ghost use Rattle.rtps_audit.specs.Sweep.{AreClaimsOf, IsAllKnown};
+    ghost use Rattle.rtps_audit.specs.Account.{AreClaimsOf, IsAllKnown};
     ghost use Rattle.rtps_audit.specs.declared.answer.Answer.{Answer as AnswerValue};
 
     /// Nothing is claimed. The numbers from `from` on are asked for.

@@ -29,6 +29,7 @@ use Rattle.rtps_report.specs.declared.silences.Silences.{Silences}
 use Rattle.rtps_evidence.specs.declared.waits.Wait.{Wait}
 use Rattle.rtps_report.specs.declared.advice.Advice.TheVariants.{Tail}
 use Rattle.rtps_report.specs.declared.note_facts.NoteFacts.{NoteFacts}
+use Rattle.rtps_report.specs.declared.order.Order.{Order}
 use Rattle.rtps_lines.specs.Causes.{causes_of, findings_in, last_line}
 use Rattle.rtps_lines.specs.Notes.{NotedValue, joined_names, notes, number_words, talking_names, topic_name}
 use Rattle.rtps_lines.specs.TailNames.{longest_tail}
@@ -384,5 +385,5 @@ IsCleanWithoutReasons asked scope rows ending = (ending ≡ Clean) ↔ (causes_o
 
 -- Whatever is asked of whatever rows, a run ends clean exactly where it gives no reason. own: a job that ends unclean has to say why.
 abbrev pub TellsWhyUnclean : Type 0
-TellsWhyUnclean = (unmatched : ℕ) (best_effort : BestEffortNumbers) (asked : AskedValue) (unread : Bool) (rows : List ExplanationValue) (counts : Counts) (recording : RecordingValue)
-    → IsCleanWithoutReasons asked (record { from = asked.from; tail = asked.tail; unread = unread }) rows (ending_as asked (facts_with unmatched best_effort asked rows counts recording))
+TellsWhyUnclean = (unmatched : ℕ) (best_effort : BestEffortNumbers) (order : Order) (asked : AskedValue) (unread : Bool) (rows : List ExplanationValue) (counts : Counts) (recording : RecordingValue)
+    → IsCleanWithoutReasons asked (record { from = asked.from; tail = asked.tail; unread = unread }) rows (ending_as asked (facts_with unmatched best_effort order asked rows counts recording))

@@ -1,9 +1,7 @@
 -- The set that ranges stand for of which no two overlap or touch.
 -- own: so many ranges are kept as there are gaps between numbers, in whatever order the numbers came.
-use Rattle.std.specs.Borrow.{Bor}
 use Rattle.std.specs.Prelude.{ℕ, Bool, true, ◌≡◌, ◌≤◌, ◌<◌, ◌+◌, ◌-◌, ◌^◌, ℤ, pos, ◌≤ℤ◌, List}
 use Rattle.std.specs.BTreeMap.{btree_map_len, values}
-use Rattle.std.specs.List.{list_any}
 use Rattle.rtps_coverage.specs.Stretches.{IsBounded, stretches_in_range}
 use Rattle.rtps_coverage.specs.RangeMap.{kept_has, values_all}
 use Rattle.rtps_coverage.specs.declared.stretch.Stretch.{Stretch}
@@ -20,10 +18,6 @@ ranges_of set = values set.kept
 -- how many ranges are kept
 abbrev pub count_of : MergedRanges → ℕ
 count_of set = btree_map_len set.kept
-
--- whether one of several sets has a number
-abbrev pub any_has : List (Bor MergedRanges) → ℕ → Bool
-any_has sets n = list_any (λ set. covered_of set.now n) sets
 
 -- the numbers from lo on and below hi overlap or touch those of a set: it has one from lo - 1 to hi
 pub record Touches (set : ℕ → Bool) (lo hi : ℤ) : Type 0 where

@@ -7,12 +7,10 @@ mod merged_ranges;
 mod plain_ranges;
 mod range_map;
 pub mod rising;
-mod set_union;
 mod stretch;
 pub mod stretches;
 
 pub use coverage::Coverage;
 pub use merged_ranges::MergedRanges;
 pub use plain_ranges::PlainRanges;
-pub use set_union::least_outside;
 pub use stretch::Stretch;

@@ -162,15 +162,15 @@ all_earlier (x ∷ xs) g rest out order = (last_later x xs g rest out order, all
 -- ---- the acts of a recording
 
 -- these numbers rise from this one on
-abbrev Rise : ℕ → List ℕ → Type 0
+abbrev pub Rise : ℕ → List ℕ → Type 0
 Rise low [] = Unit {0}
 Rise low (x ∷ xs) = (low ≤ x) × Rise (x + 1) xs
 
-rise_later : (low high : ℕ) (xs : List ℕ) → low ≤ high → Rise high xs → Rise low xs
+pub rise_later : (low high : ℕ) (xs : List ℕ) → low ≤ high → Rise high xs → Rise low xs
 rise_later low high [] le rise = tt
 rise_later low high (x ∷ xs) le (first, rest) = (omega arith, rest)
 
-abbrev item_places : List ItemValue → List ℕ
+abbrev pub item_places : List ItemValue → List ℕ
 item_places items = map (λ (item : ItemValue). item.at) items
 
 abbrev act_places : List ActValue → List ℕ
@@ -188,7 +188,7 @@ within_rise zero rest at = tt
 within_rise (suc k) [] at = tt
 within_rise (suc k) (octet ∷ octets) at = with_rise (outcomes_within k) (λ rest at. within_rise k rest at) (fault_at (octet ∷ octets)) (octet ∷ octets) at
 
-items_rise : (rest : List ℕ) (at : ℕ) → Rise at (item_places (items_among (outcomes rest at)))
+pub items_rise : (rest : List ℕ) (at : ℕ) → Rise at (item_places (items_among (outcomes rest at)))
 unfolding outcomes
 items_rise rest at = within_rise (length rest) rest at
 
@@ -213,10 +213,10 @@ datagram_rise : (datagram : List ℕ) → Rise 0 (act_places (acts_of (reading_o
 unfolding acts_of reading_of
 datagram_rise datagram = read_rise (header_fault datagram) datagram
 
-later_next : (one other : PlacedValue) → one.datagram < other.datagram → stands_next one other ≡ true
+pub later_next : (one other : PlacedValue) → one.datagram < other.datagram → stands_next one other ≡ true
 later_next one other lt = grind (arith, nat_tests)
 
-behind_next : (one other : PlacedValue) → one.datagram ≡ other.datagram → one.act.at < other.act.at → stands_next one other ≡ true
+pub behind_next : (one other : PlacedValue) → one.datagram ≡ other.datagram → one.act.at < other.act.at → stands_next one other ≡ true
 behind_next one other same lt = grind (arith, nat_tests)
 
 datagram_from : (d : ℕ) (acts : List ActValue) (low : ℕ) (one : Option PlacedValue) (behind : List PlacedValue) → Rise low (act_places acts)

@@ -1,7 +1,8 @@
 -- Another recording changes nothing of a pair that is not held against it.
 use Rattle.std.proofs.lemmas.Bool.Decides.{nat_tests}
-use Rattle.std.proofs.Common.{◌≡◌, ◌∙◌, ℕ, ◌+◌, Bool, false, List, Option, None, ap, arith}
+use Rattle.std.proofs.Common.{◌≡◌, ◌∙◌, ℕ, ◌+◌, Bool, false, List, Option, None, refl, ap, arith}
 use Rattle.rtps_discovery.specs.declared.matching.Pair.{Pair}
+use Rattle.rtps_receiver.specs.Values.{ActValue}
 use Rattle.rtps_audit.specs.Delivery.{last_announced_from}
 use Rattle.rtps_audit.specs.Placed.{PlacedValue, placed_in}
 use Rattle.rtps_audit.specs.Speech.{speech_by}
@@ -17,8 +18,8 @@ use Rattle.rtps_evidence.specs.declared.outcome.Outcomes.{Outcomes}
 use Rattle.rtps_coverage.proofs.Offered.{count_same}
 use Rattle.rtps_evidence.proofs.OutcomeCounts.{arrived_is_all_that_changes}
 
-nowhere_there : (other : Option OtherRecording) (pair : Pair) (n : ℕ) → is_held other pair ≡ false → is_there other pair n ≡ false
-nowhere_there other pair n h = grind (arith, nat_tests)
+nowhere_there : (all : List (List ActValue)) (other : Option OtherRecording) (pair : Pair) (n : ℕ) → is_held all other pair ≡ false → is_there all other pair n ≡ false
+nowhere_there all other pair n h = grind (arith, nat_tests)
 
 -- the outcomes by two sets of numbers that are the same
 outcomes_same : (there other : ℕ → Bool) (from last : ℕ) (times : List (Option ℕ)) (since : Option Location) (pair : Pair) (acts : List PlacedValue) (outcomes : Outcomes) → ((n : ℕ) → there n ≡ other n)
@@ -41,11 +42,11 @@ outcomes_same there other from last times since pair acts outcomes same are = re
     alike kind = count_same (λ n. is_outcome kind (outcome_of there times since pair acts n)) (λ n. is_outcome kind (outcome_of other times since pair acts n)) from (last + 1) (λ n low high. ap (is_outcome kind) (found n))
 
 pub not_held_is_alone : NotHeldIsAlone
-not_held_is_alone = λ own beside pair recording in_span alone is.
+not_held_is_alone = λ own beside pair whole recording in_span alone is.
     let last = last_announced_from own.from (speech_by pair.writer pair.reader recording) in
     let all = placed_in recording in
-    let there = is_there beside.other pair in
-    let none = λ (n : ℕ). nowhere_there beside.other pair n alone in
+    let there = is_there whole beside.other pair in
+    let none = λ (n : ℕ). nowhere_there whole beside.other pair n alone in
     let absent = is.absent ∙ ap (λ b. absent_of b there own.from last pair all) alone in
     let lacking = is.lacking ∙ ap (λ b. kept (lacking_of b there own.from last pair all)) alone in
     record {
@@ -55,8 +56,9 @@ not_held_is_alone = λ own beside pair recording in_span alone is.
         first = is.first;
         wrote = is.wrote;
         until = is.until;
-        outcomes = outcomes_same there (is_there None pair) own.from last beside.times (since_of own) pair all in_span.outcomes none is.outcomes;
+        outcomes = outcomes_same there (is_there whole None pair) own.from last beside.times (since_of own) pair all in_span.outcomes none is.outcomes;
         base = is.base;
+        way = refl;
         held = is.held ∙ alone;
         absent = absent;
         lacking = lacking;

@@ -29,4 +29,7 @@ pub mod UnansweredLemmas
 pub mod RecordedLemmas
 pub mod TimeLemmas
 pub mod WaitLemmas
+pub mod PlaceOrder
+pub mod KeptLemmas
+pub mod WayLemmas
 pub mod Offered

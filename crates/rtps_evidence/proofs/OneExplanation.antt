@@ -24,8 +24,8 @@ one_shown : (there : ℕ → Bool) (from : ℕ) (since : Option Location) (pair 
     → IsShown there from since pair recording one → IsShown there from since pair recording other → evidence_value one ≡ evidence_value other
 one_shown there from since pair recording one other same beside is also = grind (arith, nat_tests)
 
-one_beside : (spans : Bool) (beside : Beside) (span : Span) (pair : Pair) (recording : List (List ActValue)) (one other : Option InSpan) → IsBeside spans beside span pair recording one → IsBeside spans beside span pair recording other → one ≡ other
-one_beside spans beside span pair recording one other h h2 = grind (arith, nat_tests)
+one_beside : (spans : Bool) (beside : Beside) (span : Span) (pair : Pair) (all recording : List (List ActValue)) (one other : Option InSpan) → IsBeside spans beside span pair all recording one → IsBeside spans beside span pair all recording other → one ≡ other
+one_beside spans beside span pair all recording one other h h2 = grind (arith, nat_tests)
 
 one_evidence : HasOneMap → HasNoTwoVerdicts → (spans : Bool) (from : ℕ) (beside : Beside) (pair : Pair) (intake : Intake) (one other : Evidence) → IsEvidenceBy spans from beside pair intake one → IsEvidenceBy spans from beside pair intake other → evidence_value one ≡ evidence_value other
 one_evidence unique no_two spans from beside pair intake one other is also = grind (arith, nat_tests, common_steps, one_extent, one_shown, one_beside)

@@ -14,7 +14,7 @@ use Rattle.rtps_evidence.specs.Amount.{AreAmounts}
 use Rattle.rtps_evidence.specs.FirstNumbers.{kept}
 use Rattle.rtps_evidence.specs.Grounds.{grounds_by, grounds_value}
 use Rattle.rtps_evidence.specs.Missed.{AreMissed}
-use Rattle.rtps_evidence.specs.OtherSide.{Beside, alone, is_held, is_there, without_other}
+use Rattle.rtps_evidence.specs.OtherSide.{Beside, alone, is_held, is_there, way_against, without_other}
 use Rattle.rtps_evidence.specs.Outcomes.{AreOutcomes, absent_of, lacking_of}
 use Rattle.rtps_evidence.specs.Received.{AreReceived}
 use Rattle.rtps_evidence.specs.Spans.{IsExtent, since_of, wrote_before}
@@ -40,27 +40,29 @@ pub record IsShown (there : ℕ → Bool) (from : ℕ) (since : Option Location)
   pub grounds : grounds_value evidence.grounds ≡ grounds_by evidence.verdict pair (placed_in recording)
 
 -- what a row in a span has beside: the span, what became of its numbers, the greatest base of the reader's answers, what another
--- recording, if there is one, has of the pair, and the longest that the reader let the writer wait for an answer
-pub record IsInSpan (own : Span) (beside : Beside) (pair : Pair) (recording : List (List ActValue)) (in_span : InSpan) : Type 0 where
+-- recording, if there is one, has of the pair, and the longest that the reader let the writer wait for an answer. The row is by acts of all
+-- that the recording has
+pub record IsInSpan (own : Span) (beside : Beside) (pair : Pair) (all recording : List (List ActValue)) (in_span : InSpan) : Type 0 where
   pub joined : in_span.joined ≡ own.joined
   pub here : in_span.is_joined_here ≡ own.is_joined_here
   pub first : in_span.from ≡ own.from
   pub wrote : in_span.wrote_before ≡ wrote_before own.from pair.writer (placed_in recording)
   pub until : in_span.until ≡ own.until
-  pub outcomes : AreOutcomes (is_there beside.other pair) own.from (last_announced_from own.from (speech_by pair.writer pair.reader recording)) beside.times (since_of own) pair (placed_in recording) in_span.outcomes
+  pub outcomes : AreOutcomes (is_there all beside.other pair) own.from (last_announced_from own.from (speech_by pair.writer pair.reader recording)) beside.times (since_of own) pair (placed_in recording) in_span.outcomes
   pub base : in_span.base ≡ greatest_base pair.writer pair.reader (placed_in recording)
-  pub held : in_span.is_held ≡ is_held beside.other pair
+  pub way : in_span.way ≡ way_against all beside.other pair
+  pub held : in_span.is_held ≡ is_held all beside.other pair
   pub absent : in_span.absent
-      ≡ absent_of (is_held beside.other pair) (is_there beside.other pair) own.from (last_announced_from own.from (speech_by pair.writer pair.reader recording)) pair (placed_in recording)
+      ≡ absent_of (is_held all beside.other pair) (is_there all beside.other pair) own.from (last_announced_from own.from (speech_by pair.writer pair.reader recording)) pair (placed_in recording)
   pub lacking : in_span.lacking
-      ≡ kept (lacking_of (is_held beside.other pair) (is_there beside.other pair) own.from
+      ≡ kept (lacking_of (is_held all beside.other pair) (is_there all beside.other pair) own.from
       (last_announced_from own.from (speech_by pair.writer pair.reader recording)) pair (placed_in recording))
   pub wait : in_span.wait ≡ told_wait own pair beside.times recording
 
 -- it has that, where rows are in spans
-abbrev pub IsBeside : Bool → Beside → Span → Pair → List (List ActValue) → Option InSpan → Type 0
-IsBeside true beside span pair recording found = (in_span : InSpan) × (found ≡ Some in_span) × IsInSpan span beside pair recording in_span
-IsBeside false beside span pair recording found = found ≡ None
+abbrev pub IsBeside : Bool → Beside → Span → Pair → List (List ActValue) → List (List ActValue) → Option InSpan → Type 0
+IsBeside true beside span pair all recording found = (in_span : InSpan) × (found ≡ Some in_span) × IsInSpan span beside pair all recording in_span
+IsBeside false beside span pair all recording found = found ≡ None
 
 -- It is the evidence of what is taken in for a writer and a reader, by the numbers from `from` on: where rows are in spans, that of the
 -- datagrams of the span, by the span's numbers, as of a recording that ends there; else that of all datagrams. Another recording and
@@ -68,8 +70,8 @@ IsBeside false beside span pair recording found = found ≡ None
 pub record IsEvidenceBy (spans : Bool) (from : ℕ) (beside : Beside) (pair : Pair) (intake : Intake) (evidence : Evidence) : Type 0 where
   pub span : Span
   pub extent : IsExtent spans from pair intake span
-  pub shown : IsShown (is_there beside.other pair) span.from (since_of span) pair (datagrams_until span.until intake.acts) evidence
-  pub in_span : IsBeside spans beside span pair (datagrams_until span.until intake.acts) evidence.in_span
+  pub shown : IsShown (is_there intake.acts beside.other pair) span.from (since_of span) pair (datagrams_until span.until intake.acts) evidence
+  pub in_span : IsBeside spans beside span pair intake.acts (datagrams_until span.until intake.acts) evidence.in_span
 
 -- that of all datagrams
 abbrev pub IsEvidenceFrom : ℕ → Pair → Intake → Evidence → Type 0
@@ -81,10 +83,10 @@ IsEvidence pair intake evidence = IsEvidenceFrom 1 pair intake evidence
 
 -- ---- laws
 
--- what a pair has beside that is held against no other recording: what it has without one, so nothing arrived, nothing is absent,
--- no number is named that lacks, and the wait is the same
-pub record IsAlone (own : Span) (beside : Beside) (pair : Pair) (recording : List (List ActValue)) (in_span : InSpan) : Type 0 where
-  pub without : IsInSpan own (without_other beside) pair recording in_span
+-- what a pair has beside that is held against no other recording: what it has without one, but for which way round the two are; so nothing
+-- arrived, nothing is absent, no number is named that lacks, and the wait is the same
+pub record IsAlone (own : Span) (beside : Beside) (pair : Pair) (all recording : List (List ActValue)) (in_span : InSpan) : Type 0 where
+  pub without : IsInSpan own (without_other beside) pair all recording (record in_span { way = None })
   pub arrived : in_span.outcomes.arrived ≡ 0
   pub absent : in_span.absent ≡ 0
   pub lacking : in_span.lacking ≡ kept []
@@ -92,5 +94,5 @@ pub record IsAlone (own : Span) (beside : Beside) (pair : Pair) (recording : Lis
 -- another recording changes nothing of a pair that is not held against it
 abbrev pub NotHeldIsAlone : Type 0
 NotHeldIsAlone =
-    (own : Span) (beside : Beside) (pair : Pair) (recording : List (List ActValue)) (in_span : InSpan)
-    → is_held beside.other pair ≡ false → IsInSpan own beside pair recording in_span → IsAlone own beside pair recording in_span
+    (own : Span) (beside : Beside) (pair : Pair) (all recording : List (List ActValue)) (in_span : InSpan)
+    → is_held all beside.other pair ≡ false → IsInSpan own beside pair all recording in_span → IsAlone own beside pair all recording in_span

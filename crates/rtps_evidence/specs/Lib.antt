@@ -20,3 +20,4 @@ pub mod Explanation
 pub mod WriterSummary
 pub mod Times
 pub mod Waits
+pub mod WayRound

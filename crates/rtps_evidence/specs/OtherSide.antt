@@ -1,7 +1,7 @@
 -- What stands beside a recording that is judged: another one, made at the host of readers, and when its datagrams came. DDSI-RTPS 2.5, 8.3.8.8 "InfoDestination": a
 -- participant that sends says which one it sends to. own: what stands in the other recording came to that host. Two hosts have two
 -- clocks, so no place of the one is compared with one of the other.
-use Rattle.std.specs.Prelude.{ℕ, Bool, false, ◌≡◌, ◌&&◌, nat_lt, List, [], Option, Some, None}
+use Rattle.std.specs.Prelude.{ℕ, Bool, false, ◌≡◌, ◌&&◌, nat_lt, not, if◌then◌else◌, List, [], Option, Some, None}
 use Rattle.rtps_discovery.specs.declared.matching.Pair.{Pair}
 use Rattle.rtps_receiver.specs.Values.{ActValue}
 use Rattle.rtps_policies.specs.Namings.{AreNamingsOf, named_in}
@@ -13,6 +13,8 @@ use Rattle.rtps_evidence.specs.Amount.{is_sent}
 use Rattle.rtps_coverage.specs.declared.stretch.Stretch.{Stretch}
 use Rattle.rtps_evidence.specs.declared.other_side.OtherSide.{OtherSide}
 use Rattle.rtps_evidence.specs.declared.other_side.Sides.{Sides}
+use Rattle.rtps_evidence.specs.declared.way.Way.{Way}
+use Rattle.rtps_evidence.specs.WayRound.{is_wrong, way_of_pair}
 
 -- what is taken in of it, and the acts of each of its datagrams by which it is known who names whom
 pub record OtherRecording : Type 0 where
@@ -50,18 +52,33 @@ pub record AreSides (intake : Intake) (beside : Beside) (sides : Sides) : Type 0
   pub other : IsOtherSide beside.other sides.other
   pub times : sides.times.now.of_datagrams ≡ beside.times
 
--- A pair is held against it: it has an act whose source is the reader's participant and whose destination is the writer's. Only such a
--- reader is at that host.
-abbrev pub is_held : Option OtherRecording → Pair → Bool
-is_held None pair = false
-is_held (Some other) pair = nat_lt 0 (named_in other.named (record { source = pair.reader.prefix; dest = pair.writer.prefix }))
+-- It was made at the host of the pair's reader: it has an act whose source is the reader's participant and whose destination is the
+-- writer's. Only such a reader is at that host.
+abbrev pub has_reader : OtherRecording → Pair → Bool
+has_reader other pair = nat_lt 0 (named_in other.named (record { source = pair.reader.prefix; dest = pair.writer.prefix }))
+
+-- which way round a recording of these acts and the other one are by what a pair said, where the other one was made at the host of its
+-- reader
+abbrev pub way_against : List (List ActValue) → Option OtherRecording → Pair → Option Way
+way_against all None pair = None
+way_against all (Some other) pair = if has_reader other pair then Some (way_of_pair pair all other.intake.acts) else None
+
+-- a pair is held against another recording that was made at its reader's host, unless the two are the wrong way round
+abbrev pub holds_by : Option Way → Bool
+holds_by None = false
+holds_by (Some way) = not (is_wrong way)
+
+-- A pair of a recording of these acts is held against the other one. Else it is judged as without that.
+abbrev pub is_held : List (List ActValue) → Option OtherRecording → Pair → Bool
+is_held all other pair = holds_by (way_against all other pair)
 
 -- n is there for a pair that is held: in the other recording its reader hears a payload for n from its writer
-abbrev pub is_there : Option OtherRecording → Pair → ℕ → Bool
-is_there None pair n = false
-is_there (Some other) pair n = is_held (Some other) pair && is_sent pair.writer pair.reader (placed_in other.intake.acts) n
+abbrev pub is_there : List (List ActValue) → Option OtherRecording → Pair → ℕ → Bool
+is_there all None pair n = false
+is_there all (Some other) pair n = is_held all (Some other) pair && is_sent pair.writer pair.reader (placed_in other.intake.acts) n
 
--- whether the pair is held, and the numbers that are there
-pub record AreThere (other : Option OtherRecording) (pair : Pair) (held : Bool) (there : List Stretch) : Type 0 where
-  pub holds : held ≡ is_held other pair
-  pub numbers : (n : ℕ) → stretches_have there n ≡ is_there other pair n
+-- which way round the two are, whether the pair is held, and the numbers that are there
+pub record AreThere (all : List (List ActValue)) (other : Option OtherRecording) (pair : Pair) (way : Option Way) (held : Bool) (there : List Stretch) : Type 0 where
+  pub way_is : way ≡ way_against all other pair
+  pub holds : held ≡ is_held all other pair
+  pub numbers : (n : ℕ) → stretches_have there n ≡ is_there all other pair n

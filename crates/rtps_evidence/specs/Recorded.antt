@@ -13,8 +13,9 @@ use Rattle.rtps_audit.specs.Said.{datagrams_until}
 use Rattle.rtps_coverage.specs.Counts.{count_in}
 use Rattle.rtps_evidence.specs.Amount.{is_sent}
 use Rattle.rtps_evidence.specs.FirstNumbers.{first_ten, kept}
-use Rattle.rtps_evidence.specs.OtherSide.{OtherRecording, is_held, is_there}
+use Rattle.rtps_evidence.specs.OtherSide.{OtherRecording, is_held, is_there, way_against}
 use Rattle.rtps_evidence.specs.Spans.{IsExtent}
+use Rattle.rtps_evidence.specs.declared.recorded.Arrived.{Arrived}
 use Rattle.rtps_evidence.specs.declared.recorded.ArrivedNumbers.{ArrivedNumbers}
 use Rattle.rtps_evidence.specs.declared.recorded.Recorded.{Recorded}
 use Rattle.rtps_evidence.specs.declared.span.Span.{Span}
@@ -44,12 +45,13 @@ pub record IsArrivedAmong (there : ℕ → Bool) (lo hi : ℕ) (found : ArrivedN
   pub arrived : found.arrived ≡ count_in there lo hi
   pub lacking : found.lacking ≡ kept (first_ten (λ n. not (there n)) lo hi)
 
--- the same numbers, of a pair that is held against another recording: how many are there, and the first ten that are not
-pub record IsArrivedBy (spans : Bool) (from : ℕ) (other : Option OtherRecording) (pair : Pair) (intake : Intake)
-    (found : Option ArrivedNumbers) : Type 0 where
+-- the same numbers, of a pair that is held against another recording: how many are there, and the first ten that are not. And which way
+-- round the two recordings are
+pub record IsArrivedBy (spans : Bool) (from : ℕ) (other : Option OtherRecording) (pair : Pair) (intake : Intake) (found : Arrived) : Type 0 where
   pub span : Span
   pub is_extent : IsExtent spans from pair intake span
-  pub arrived : MatchOption found (is_held other pair ≡ false)
-      (λ numbers. (is_held other pair ≡ true)
-      × IsArrivedAmong (is_there other pair) span.from
+  pub way : found.way ≡ way_against intake.acts other pair
+  pub arrived : MatchOption found.numbers (is_held intake.acts other pair ≡ false)
+      (λ numbers. (is_held intake.acts other pair ≡ true)
+      × IsArrivedAmong (is_there intake.acts other pair) span.from
       (greatest_sent pair.writer (placed_in (datagrams_until span.until intake.acts)) + 1) numbers)

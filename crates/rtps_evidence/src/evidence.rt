@@ -101,10 +101,10 @@ impl<'a> Evidence<'a> {
         ensures judged { IfOk result (λ evidence. evidence.verdict ≡ judgement.now.verdict) }
         ensures shown { (intake : Intake) (beside : Beside) → AreSides intake beside sides.now → IsSummaryOf intake.acts summary.now
             → IsVerdictIn judgement.now.span judgement.now.pair intake.acts judgement.now.verdict
-            → IfOk result (IsShown (is_there beside.other judgement.now.pair) judgement.now.span.from (since_of judgement.now.span) judgement.now.pair (datagrams_until judgement.now.span.until intake.acts)) }
+            → IfOk result (IsShown (is_there intake.acts beside.other judgement.now.pair) judgement.now.span.from (since_of judgement.now.span) judgement.now.pair (datagrams_until judgement.now.span.until intake.acts)) }
         ensures beside { (intake : Intake) (beside : Beside) → AreSides intake beside sides.now → IsSummaryOf intake.acts summary.now
             → IsVerdictIn judgement.now.span judgement.now.pair intake.acts judgement.now.verdict
-            → IfOk result (λ evidence. IsBeside judgement.now.in_spans beside judgement.now.span judgement.now.pair (datagrams_until judgement.now.span.until intake.acts) evidence.in_span) }
+            → IfOk result (λ evidence. IsBeside judgement.now.in_spans beside judgement.now.span judgement.now.pair intake.acts (datagrams_until judgement.now.span.until intake.acts) evidence.in_span) }
     {
         let arrivals = Arrivals::of(alloc, sides, judgement.pair)?;
         let exchange = Exchange {
@@ -112,6 +112,7 @@ impl<'a> Evidence<'a> {
             span: judgement.span,
             in_spans: judgement.in_spans,
             said: Said::until(sides.index, judgement.pair, judgement.span.until),
+            way: arrivals.way,
             is_held: arrivals.is_held,
             there: &arrivals.numbers,
             times: sides.times,
@@ -134,11 +135,11 @@ impl<'a> Evidence<'a> {
             → IsVerdictFrom exchange.now.span.from (speech_by exchange.now.pair.writer exchange.now.pair.reader recording) verdict
             → ((n : ℕ) → stretches_have exchange.now.there.now n ≡ there n)
             → IfOk result (IsShown there exchange.now.span.from (since_of exchange.now.span) exchange.now.pair recording) }
-        ensures beside { (recording : List (List ActValue)) (beside : Beside) → IsSaid exchange.now.pair recording exchange.now.said
+        ensures beside { (all recording : List (List ActValue)) (beside : Beside) → IsSaid exchange.now.pair recording exchange.now.said
             → IsSummary recording summary.now
             → IsVerdictFrom exchange.now.span.from (speech_by exchange.now.pair.writer exchange.now.pair.reader recording) verdict
-            → AreThere beside.other exchange.now.pair exchange.now.is_held exchange.now.there.now → exchange.now.times.now.of_datagrams ≡ beside.times
-            → IfOk result (λ evidence. IsBeside exchange.now.in_spans beside exchange.now.span exchange.now.pair recording evidence.in_span) }
+            → AreThere all beside.other exchange.now.pair exchange.now.way exchange.now.is_held exchange.now.there.now → exchange.now.times.now.of_datagrams ≡ beside.times
+            → IfOk result (λ evidence. IsBeside exchange.now.in_spans beside exchange.now.span exchange.now.pair all recording evidence.in_span) }
     {
         let asked = &summary.asked;
         let mut heard = summary.heard_by(alloc, exchange.said.acts, exchange.pair.reader)?;

@@ -4,6 +4,7 @@ ghost use Rattle.rtps_evidence.specs.Spans.{since_of as since_of_lem};
 use crate::listener::Listener;
 use crate::span::Span;
 use crate::times::Times;
+use crate::way::Way;
 use rtps_audit::Said;
 use rtps_coverage::Stretch;
 use rtps_discovery::Pair;
@@ -26,7 +27,9 @@ pub(crate) struct Exchange<'s, 'a> {
     pub(crate) span: Span,
     pub(crate) in_spans: bool,
     pub(crate) said: Said<'s, 'a>,
-    /// Whether the pair is held against another recording.
+    /// Which way round this recording and another one are for the pair.
+    pub(crate) way: Option<Way>,
+    /// Whether the pair is held against that.
     pub(crate) is_held: bool,
     /// The numbers of which the reader hears a payload in that; none where the pair is not held.
     pub(crate) there: &'s [Stretch],

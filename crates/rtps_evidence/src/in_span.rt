@@ -19,6 +19,7 @@ use crate::last_announcement::greatest_number;
 use crate::location::Location;
 use crate::outcome::{Outcomes, Unreceived};
 use crate::waits::{Wait, told_wait};
+use crate::way::Way;
 use rtps_audit::Verdict;
 use rtps_ids::Memory;
 use std::alloc::Global;
@@ -39,7 +40,10 @@ pub struct InSpan {
     pub outcomes: Outcomes,
     /// The greatest base of the reader's answers to the writer, or 0.
     pub base: u64,
-    /// Whether the pair is held against another recording.
+    /// Which way round the recording and another one are, by what the pair said in both; None where there is no other one, or it has
+    /// no act whose source is the reader's participant and whose destination is the writer's.
+    pub way: Option<Way>,
+    /// Whether the pair is held against the other recording.
     pub is_held: bool,
     /// Of a pair that is held: how many of the numbers are received for certain though the other recording has none of them.
     pub absent: u64,
@@ -104,13 +108,13 @@ impl InSpan {
     ) -> Result<Option<InSpan>, Memory>
         requires rising { AreRising unreceived.now.numbers.now }
         requires from { asked.now.from ≡ exchange.now.span.from }
-        ensures { (recording : List (List ActValue)) (beside : Beside) → IsSaid exchange.now.pair recording exchange.now.said
-            → AreThere beside.other exchange.now.pair exchange.now.is_held exchange.now.there.now → exchange.now.times.now.of_datagrams ≡ beside.times
+        ensures { (all recording : List (List ActValue)) (beside : Beside) → IsSaid exchange.now.pair recording exchange.now.said
+            → AreThere all beside.other exchange.now.pair exchange.now.way exchange.now.is_held exchange.now.there.now → exchange.now.times.now.of_datagrams ≡ beside.times
             → asked.now.last ≡ last_announced_from asked.now.from (speech_by exchange.now.pair.writer exchange.now.pair.reader recording)
             → AreLacking asked.now.from asked.now.last exchange.now.pair (placed_in recording) unreceived.now.numbers.now
             → ((n : ℕ) → asked.now.from ≤ n → n ≤ asked.now.last → stretches_have unreceived.now.missed.now n
             ≡ is_missed (since_of exchange.now.span) exchange.now.pair.writer exchange.now.pair.reader (placed_in recording) n)
-            → IfOk result (IsBeside exchange.now.in_spans beside exchange.now.span exchange.now.pair recording) }
+            → IfOk result (IsBeside exchange.now.in_spans beside exchange.now.span exchange.now.pair all recording) }
     {
         if !exchange.in_spans {
             return Ok(None);
@@ -126,6 +130,7 @@ impl InSpan {
             until: exchange.span.until,
             outcomes,
             base: greatest_base(exchange.said.answers),
+            way: exchange.way,
             is_held: exchange.is_held,
             absent,
             lacking,

@@ -3,6 +3,7 @@
 #![tactic(auto)]
 
 mod acknowledgement;
+mod act_key;
 mod amount;
 mod claimed;
 mod evidence;
@@ -28,13 +29,18 @@ mod questions;
 mod received;
 mod recorded;
 mod said_to;
+mod same_act;
 mod sent_payload;
 mod silence;
 mod span;
 mod teller;
 mod times;
 mod waits;
+mod way;
+mod way_round;
+mod window;
 mod withdrawal;
+mod words;
 mod writer_summary;
 
 pub use acknowledgement::{Claim, acknowledges};
@@ -50,9 +56,10 @@ pub use location::{Kind, Location};
 pub use not_received::NotReceived;
 pub use other_side::{OtherSide, Sides};
 pub use outcome::{Outcome, Outcomes};
-pub use recorded::{ArrivedNumbers, Recorded, arrived_of, recorded_of};
+pub use recorded::{Arrived, ArrivedNumbers, Recorded, arrived_of, recorded_of};
 pub use sent_payload::Sent;
 pub use span::{Span, left_in};
 pub use teller::Teller;
 pub use times::{Seconds, Times};
 pub use waits::Wait;
+pub use way::Way;

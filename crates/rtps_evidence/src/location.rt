@@ -7,7 +7,7 @@ use rtps_audit::Placed;
 use rtps_receiver::{ActBody, SpokenBody};
 
 /// The place of a submessage in a recording: its datagram, and where it stands in that.
-#[derive(Clone, Copy)]
+#[derive(Clone, Copy, PartialEq, Eq, PartialOrd, Ord)]
 pub struct Location {
     /// Its datagram, counted from 1.
     pub datagram: u64,

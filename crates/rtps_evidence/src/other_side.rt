@@ -1,10 +1,14 @@
 ghost use Rattle.std.specs.Prelude.{ℕ, ◌≡◌, IfOk, Option};
+ghost use Rattle.rtps_audit.specs.Intake.{Intake};
 ghost use Rattle.rtps_audit.specs.Placed.{placed_in};
 ghost use Rattle.rtps_coverage.specs.Stretches.{stretches_have};
 ghost use Rattle.rtps_evidence.specs.Amount.{is_sent};
+ghost use Rattle.rtps_evidence.specs.OtherSide.{holds_by as holds_by_lem};
 
 use crate::recorded::sent_among;
 use crate::times::Times;
+use crate::way::Way;
+use crate::way_round::way_round;
 use rtps_audit::Index;
 use rtps_coverage::Stretch;
 use rtps_discovery::Pair;
@@ -29,12 +33,12 @@ pub struct Sides<'i, 'a, 'o, 'b> {
 }
 
 impl<'o, 'b> OtherSide<'o, 'b> {
-    ghost use Rattle.rtps_evidence.specs.OtherSide.{IsSideOf, OtherRecording, is_held};
+    ghost use Rattle.rtps_evidence.specs.OtherSide.{IsSideOf, OtherRecording, has_reader as has_reader_lem};
 
-    /// Whether a pair is held against it: it has an act whose source is the reader's participant and whose destination is the
-    /// writer's.
-    pub fn holds(&self, pair: Pair) -> bool
-        ensures { (other : OtherRecording) → IsSideOf other self.now → result ≡ is_held (Some other) pair }
+    /// Whether it was made at the host of a pair's reader: it has an act whose source is the reader's participant and whose
+    /// destination is the writer's.
+    fn has_reader(&self, pair: Pair) -> bool
+        ensures { (other : OtherRecording) → IsSideOf other self.now → result ≡ has_reader_lem other pair }
     {
         let answer = Naming {
             source: pair.reader.prefix,
@@ -53,9 +57,44 @@ impl<'o, 'b> OtherSide<'o, 'b> {
     }
 }
 
+impl<'i, 'a, 'o, 'b> Sides<'i, 'a, 'o, 'b> {
+    ghost use Rattle.rtps_evidence.specs.OtherSide.{AreSides, Beside, way_against};
+
+    /// Which way round the two recordings are, by what a pair said in both. None where there is no other one, or it has no act whose
+    /// source is the reader's participant and whose destination is the writer's. `Memory` is answered where what is kept cannot grow.
+    pub fn way(&self, alloc: Global, pair: Pair) -> Result<Option<Way>, Memory>
+        ensures { (intake : Intake) (beside : Beside) → AreSides intake beside self.now
+            → IfOk result (λ way. way ≡ way_against intake.acts beside.other pair) }
+    {
+        let Some(side) = &self.other else {
+            return Ok(None);
+        };
+        if !side.has_reader(pair) {
+            return Ok(None);
+        }
+        let way = way_round(alloc, self.index, side.index, pair)?;
+        Ok(Some(way))
+    }
+}
+
+/// Whether a pair is held against the other recording: that was made at its reader's host, and the two are not the wrong way round.
+fn holds_by(way: Option<Way>) -> bool
+    ensures { result ≡ holds_by_lem way }
+{
+    match way {
+        Some(Way::Wrong) => false,
+        Some(Way::Right) => true,
+        Some(Way::Both) => true,
+        Some(Way::Alike) => true,
+        None => false,
+    }
+}
+
 /// What another recording has of a pair.
 #[derive(Drop)]
 pub(crate) struct Arrivals {
+    /// Which way round the two recordings are for the pair.
+    pub(crate) way: Option<Way>,
     /// Whether the pair is held against it.
     pub(crate) is_held: bool,
     /// The numbers of which the reader hears a payload in it; none where the pair is not held.
@@ -63,7 +102,26 @@ pub(crate) struct Arrivals {
 }
 
 impl Arrivals {
-    ghost use Rattle.rtps_evidence.specs.OtherSide.{AreThere, IsOtherSide, OtherRecording};
+    ghost use Rattle.rtps_evidence.specs.OtherSide.{AreSides, AreThere, Beside, is_held as is_held_lem, is_there};
+
+    /// The numbers that are there of a pair; none where it is not held.
+    fn numbers_of(
+        alloc: Global,
+        sides: &Sides<'_, '_, '_, '_>,
+        pair: Pair,
+        is_held: bool,
+    ) -> Result<Vec<Stretch>, Memory>
+        ensures { (intake : Intake) (beside : Beside) → AreSides intake beside sides.now → is_held ≡ is_held_lem intake.acts beside.other pair
+            → IfOk result (λ numbers. (n : ℕ) → stretches_have numbers.items n ≡ is_there intake.acts beside.other pair n) }
+    {
+        if is_held {
+            if let Some(side) = &sides.other {
+                let numbers = side.sent(alloc, pair)?;
+                return Ok(numbers);
+            }
+        }
+        Ok(Vec::new(alloc))
+    }
 
     /// What the other recording has of a pair; nothing where there is none.
     pub(crate) fn of(
@@ -71,21 +129,16 @@ impl Arrivals {
         sides: &Sides<'_, '_, '_, '_>,
         pair: Pair,
     ) -> Result<Arrivals, Memory>
-        ensures { (other : Option OtherRecording) → IsOtherSide other sides.now.other
-            → IfOk result (λ arrivals. AreThere other pair arrivals.is_held arrivals.numbers.items) }
+        ensures { (intake : Intake) (beside : Beside) → AreSides intake beside sides.now
+            → IfOk result (λ arrivals. AreThere intake.acts beside.other pair arrivals.way arrivals.is_held arrivals.numbers.items) }
     {
-        if let Some(side) = &sides.other {
-            if side.holds(pair) {
-                let numbers = side.sent(alloc, pair)?;
-                return Ok(Arrivals {
-                    is_held: true,
-                    numbers,
-                });
-            }
-        }
+        let way = sides.way(alloc, pair)?;
+        let is_held = holds_by(way);
+        let numbers = Arrivals::numbers_of(alloc, sides, pair, is_held)?;
         Ok(Arrivals {
-            is_held: false,
-            numbers: Vec::new(alloc),
+            way,
+            is_held,
+            numbers,
         })
     }
 }

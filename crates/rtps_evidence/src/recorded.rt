@@ -14,6 +14,7 @@ use crate::first_numbers::FirstNumbers;
 use crate::judgement::span_of;
 use crate::other_side::{Arrivals, Sides};
 use crate::said_to::said_to;
+use crate::way::Way;
 use rtps_audit::{FirstAsked, Index, Placed, Said};
 use rtps_coverage::Stretch;
 use rtps_coverage::stretches::count_of;
@@ -36,6 +37,16 @@ pub struct ArrivedNumbers {
     pub arrived: u64,
     /// The first of those of which it has none.
     pub lacking: FirstNumbers,
+}
+
+/// What another recording tells of a pair of best effort.
+#[derive(Clone, Copy)]
+pub struct Arrived {
+    /// Which way round the two recordings are for the pair; None where there is no other one, or it has no act whose source is the
+    /// reader's participant and whose destination is the writer's.
+    pub way: Option<Way>,
+    /// What arrived of the numbers; None where the pair is not held against the other recording.
+    pub numbers: Option<ArrivedNumbers>,
 }
 
 /// The number of which the writer sends a payload, or a part of one, by an act, to whomever; 0 where it sends none.
@@ -109,25 +120,27 @@ fn sent_from(from: FirstAsked, acts: &[Placed<'_>], writer: Guid) -> AskedNumber
     AskedNumbers { from, last }
 }
 
-/// What arrived of the same numbers by the other recording; None where there is none, or the pair is not held against it.
+/// What arrived of the same numbers by the other recording, where the pair is held against it, and which way round the two are.
 pub fn arrived_of(
     alloc: Global,
     sides: &Sides<'_, '_, '_, '_>,
     pair: Pair,
     extent: Extent,
-) -> Result<Option<ArrivedNumbers>, Memory>
+) -> Result<Arrived, Memory>
     ensures { (intake : Intake) (beside : Beside) → AreSides intake beside sides.now
         → IfOk result (IsArrivedBy extent.in_spans extent.from beside.other pair intake) }
 {
     let span = span_of(sides.index, pair, extent.from, extent.in_spans);
     let mut arrivals = Arrivals::of(alloc, sides, pair)?;
+    let way = arrivals.way;
     if !arrivals.is_held {
-        return Ok(None);
+        return Ok(Arrived { way, numbers: None });
     }
     let said = Said::until(sides.index, pair, span.until);
     let asked = sent_from(span.from, said.acts, pair.writer);
     let from = asked.from.get();
     let arrived = count_of(&mut arrivals.numbers, from, asked.last + 1)?;
     let lacking = FirstNumbers::outside(alloc, &mut arrivals.numbers, &asked)?;
-    Ok(Some(ArrivedNumbers { arrived, lacking }))
+    let numbers = Some(ArrivedNumbers { arrived, lacking });
+    Ok(Arrived { way, numbers })
 }

@@ -119,6 +119,7 @@ impl WriterSummary {
             span: judgement.span,
             in_spans: judgement.in_spans,
             said: Said::until(index, judgement.pair, judgement.span.until),
+            way: None,
             is_held: false,
             there: &[],
             times: &times,

@@ -10,7 +10,7 @@ use Rattle.rtps_wire.specs.declared.counts.Tally.{Tally}
 use Rattle.rtps_wire.specs.declared.header.Header.{Header}
 use Rattle.rtps_wire.specs.declared.nack_frag.NackFrag.{NackFrag as NackFragBody}
 use Rattle.rtps_receiver.specs.Acts.{act_at, act_body, gathered, state_at_start}
-use Rattle.rtps_receiver.specs.Values.{ActBodyValue, ActValue, spoken_value}
+use Rattle.rtps_receiver.specs.Values.{ActBodyValue, ActValue, FragmentValue, spoken_value}
 use Rattle.rtps_receiver.specs.Values.ActBodyValue.{DataFrag, NackFrag}
 use Rattle.rtps_receiver.specs.declared.state.State.{State}
 use Rattle.rtps_fragments.specs.FragmentDelivery.{Piece}
@@ -23,11 +23,22 @@ use Rattle.rtps_fragments.specs.declared.fragment_walk.FragmentWalk.{FragmentWal
 abbrev pub piece_of : DataFragValue → Piece
 piece_of value = record { number = value.number; shape = value.shape; first = value.first; parts = parts_of value }
 
+-- what a DATA_FRAG with these fragments says
+abbrev pub fragment_of : DataFragValue → FragmentValue
+fragment_of value =
+    record {
+      reader = value.reader;
+      writer = value.writer;
+      number = value.number;
+      sent = Some (record { first = value.first; shape = value.shape; octets = value.octets });
+      told = None;
+    }
+
 -- the act that an item is: a DATA_FRAG, if it has fragments, or a NACK_FRAG, if it asks for some
 abbrev pub skipped_acts : State → ItemValue → Option DataFragValue → Option NackFragBody → List PieceAct
 skipped_acts state item (Some value) asks =
     record {
-      act = act_at state item.at item.order (DataFrag (record { reader = value.reader; writer = value.writer; number = value.number; told = None }));
+      act = act_at state item.at item.order (DataFrag (fragment_of value));
       piece = Some (piece_of value);
     } ∷ []
 skipped_acts state item None (Some asks) = record { act = act_at state item.at item.order (NackFrag asks); piece = None } ∷ []

@@ -71,7 +71,7 @@ offers_of writer n shape acts = flat_map (λ one. offered_by one.act one.piece) 
 -- a sample as a DATA_FRAG that tells it to an audience, from where this act is from
 abbrev pub sample_act : ActValue → ℕ → Audience → PayloadValue → ActValue
 sample_act act n audience payload =
-    record act { dest = audience.dest; body = DataFrag (record { reader = audience.reader; writer = entity_from act.body; number = n; told = Some payload }) }
+    record act { dest = audience.dest; body = DataFrag (record { reader = audience.reader; writer = entity_from act.body; number = n; sent = None; told = Some payload }) }
 
 -- a sample that is told, as an act
 abbrev pub act_of_told : ActValue → Piece → Audience × List ℕ → ActValue

@@ -7,12 +7,12 @@ ghost use Rattle.rtps_wire.specs.Reading.{items_among, outcomes_left, reading_of
 ghost use Rattle.rtps_wire.specs.Tally.{tally_of, tally_of_outcomes};
 ghost use Rattle.rtps_wire.specs.Values.{item_value};
 ghost use Rattle.rtps_fragments.specs.Heard.{came_from};
-ghost use Rattle.rtps_fragments.specs.FragmentWalk.{AddsActs, CountsItem, IsFragmentWalk, no_tally, one_unusable, piece_acts_behind, piece_acts_of, piece_acts_of_item, skipped_acts, unusable_among, unusable_in};
+ghost use Rattle.rtps_fragments.specs.FragmentWalk.{AddsActs, CountsItem, IsFragmentWalk, fragment_of, no_tally, one_unusable, piece_acts_behind, piece_acts_of, piece_acts_of_item, skipped_acts, unusable_among, unusable_in};
 ghost use Rattle.rtps_fragments.specs.ToldSamples.{IsSent, sent_value};
 
 use crate::piece::{FragmentRun, SampleKey, SentFragments};
 use rtps_ids::{Guid, Memory};
-use rtps_receiver::{Audience, FragmentBody, Spoken, SpokenBody, State};
+use rtps_receiver::{Audience, FragmentBody, SentPart, Spoken, SpokenBody, State};
 use rtps_wire::{DataFrag, Item, Items, NackFrag, Tally};
 use std::alloc::Global;
 use std::slice;
@@ -80,7 +80,7 @@ fn sent_of<'a>(act: usize, state: &State, fragments: &DataFrag<'a>) -> SentFragm
 /// The act that a DATA_FRAG is, which stands there, in this state.
 fn act_of<'a>(state: &State, item: &Item<'_>, fragments: &DataFrag<'a>) -> Spoken<'a>
     ensures { spoken_value result ≡ act_at state.now (item_value item.now).at (item_value item.now).order
-        (DataFragAct (record { reader = fragments.now.reader; writer = fragments.now.writer; number = fragments.now.number; told = None })) }
+        (DataFragAct (fragment_of (data_frag_value fragments.now))) }
 {
     Spoken {
         at: item.at,
@@ -94,6 +94,11 @@ fn act_of<'a>(state: &State, item: &Item<'_>, fragments: &DataFrag<'a>) -> Spoke
             reader: fragments.reader,
             writer: fragments.writer,
             number: fragments.number,
+            sent: Some(SentPart {
+                first: fragments.first,
+                shape: fragments.shape,
+                octets: fragments.octets,
+            }),
             told: None,
         }),
     }

@@ -47,6 +47,7 @@ fn act_as<'s>(
                 reader: told.audience.reader,
                 writer,
                 number,
+                sent: None,
                 told: Some(payload),
             };
             (told.audience.dest, SpokenBody::DataFrag(fragment))

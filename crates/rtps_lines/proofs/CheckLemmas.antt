@@ -1,13 +1,17 @@
 -- How deep the object of a report that is checked nests.
-use Rattle.std.proofs.Common.{◌≤◌, ◌++◌, Option, Some, arith}
+use Rattle.std.proofs.Common.{◌≤◌, ◌++◌, ℕ, Bool, true, false, is_some, Option, Some, arith}
 use Rattle.json.specs.Json.{max_depth}
 use Rattle.json.specs.Tree.{depth, members_depth}
 use Rattle.rtps_report.specs.FullReport.{AskedValue, RecordingValue, ReportValue, rows_of}
-use Rattle.rtps_lines.specs.CheckMembers.{check_members, check_telling, notes_members, report_causes, report_notes, status_members}
+use Rattle.rtps_lines.specs.CheckMembers.{check_members, check_telling, last_members, notes_members, report_causes, report_notes, status_members, wrong_way_members}
 use Rattle.rtps_lines.specs.JsonText.{TellingValue, members_of, object_of, rows_members}
 use Rattle.rtps_lines.specs.TalkMembers.{talk_members}
 use Rattle.rtps_lines.proofs.JsonLemmas.{joined, rows_depth, strings_within}
 use Rattle.rtps_lines.proofs.TalkLemmas.{talk_depth}
+
+wrong_within : (has_other : Bool) (wrong : ℕ) → members_depth (members_of (wrong_way_members has_other wrong)) ≤ 4
+wrong_within true wrong = omega arith
+wrong_within false wrong = omega arith
 
 pub check_depth : (asked : AskedValue) (recording : RecordingValue) (report : ReportValue) → members_depth (members_of (check_members asked recording report)) ≤ 4
 check_depth asked recording report =
@@ -18,9 +22,12 @@ check_depth asked recording report =
     let few = strings_within causes in
     let last = strings_within notes in
     let talk = talk_members recording.times report in
-    let end = joined 4 talk (notes_members notes) (omega (arith, talk_depth recording.times report)) (omega (arith, last)) in
-    let behind = joined 4 rows (talk ++ notes_members notes) (rows_depth telling (rows_of report) report.explained.counts recording) end in
-    joined 4 (status_members report.ending causes) (rows ++ (talk ++ notes_members notes)) (omega (arith, few)) behind
+    let wrong = wrong_way_members (is_some report.arrived) report.order.wrong in
+    let ends = last_members (is_some report.arrived) report.order.wrong notes in
+    let behind_talk = joined 4 wrong (notes_members notes) (wrong_within (is_some report.arrived) report.order.wrong) (omega (arith, last)) in
+    let end = joined 4 talk ends (omega (arith, talk_depth recording.times report)) behind_talk in
+    let behind = joined 4 rows (talk ++ ends) (rows_depth telling (rows_of report) report.explained.counts recording) end in
+    joined 4 (status_members report.ending causes) (rows ++ (talk ++ ends)) (omega (arith, few)) behind
 
 pub check_within : (asked : AskedValue) (recording : RecordingValue) (report : ReportValue) → depth (object_of (check_members asked recording report)) ≤ max_depth
 check_within asked recording report = omega (arith, check_depth asked recording report)

@@ -12,6 +12,7 @@ use Rattle.rtps_report.specs.declared.findings.Findings.{Findings}
 use Rattle.rtps_report.specs.declared.totals.Totals.{Totals}
 use Rattle.rtps_report.specs.declared.recording.Links.{Links as LinksFound}
 use Rattle.rtps_lines.specs.Notes.{detail_of, pair_words, words_of}
+use Rattle.rtps_lines.specs.WayNotes.{swapped_cause, twice_cause}
 use Rattle.rtps_lines.specs.declared.causes.Lost.{Lost}
 use Rattle.rtps_lines.specs.declared.notes.Weakness.TheVariants.{Cut, Links, Pieces, Unsettled}
 
@@ -104,10 +105,16 @@ unread_causes findings =
     ++ (cause findings.pieces (words_of Pieces)
     ++ (cause findings.cut (words_of Cut) ++ links_cause findings.links))
 
+-- two recordings look swapped, or are one
+abbrev pub order_causes : Findings → List (List ℕ)
+order_causes findings = swapped_cause findings.swapped ++ twice_cause findings.twice
+
 -- all of them, for rows of which this is counted, where each number has to be certain or not
 abbrev pub causes_of : Bool → Totals → Findings → List (List ℕ)
 causes_of certain totals findings =
-    empty_cause findings.empty ++ (row_causes totals certain ++ (cause findings.unmatched unmatched_words ++ (lossy_cause findings.lossy ++ (few_cause findings.few ++ unread_causes findings))))
+    empty_cause findings.empty
+    ++ (row_causes totals certain
+    ++ (cause findings.unmatched unmatched_words ++ (order_causes findings ++ (lossy_cause findings.lossy ++ (few_cause findings.few ++ unread_causes findings)))))
 
 -- the words for all numbers, of which so many are received for certain
 abbrev pub certain_words : WordsValue

@@ -1,6 +1,6 @@
 -- The members of the object of a report that is checked.
 -- own: other programs read the outcome, its reasons and what to do without taking lines apart. They stand around those of `audit --json`.
-use Rattle.std.specs.Prelude.{◌++◌, ℕ, false, is_some, List, [], ◌∷◌, codes, map, Some}
+use Rattle.std.specs.Prelude.{◌++◌, ℕ, Bool, false, if◌then◌else◌, is_some, List, [], ◌∷◌, codes, map, Some}
 use Rattle.json.specs.Json.{string}
 use Rattle.rtps_report.specs.BestEfforts.{numbers_told}
 use Rattle.rtps_report.specs.FullReport.{AskedValue, RecordingValue, ReportValue, rows_of}
@@ -10,7 +10,7 @@ use Rattle.rtps_report.specs.Totals.{totals_of}
 use Rattle.rtps_report.specs.declared.findings.Ending.{Ending}
 use Rattle.rtps_report.specs.declared.findings.Ending.TheVariants.{Clean}
 use Rattle.rtps_lines.specs.Causes.{causes_of, findings_in, last_line}
-use Rattle.rtps_lines.specs.JsonText.{Member, TellingValue, array_of, rows_members}
+use Rattle.rtps_lines.specs.JsonText.{Member, TellingValue, array_of, count_json, rows_members}
 use Rattle.rtps_lines.specs.Notes.{NotedValue, notes}
 use Rattle.rtps_lines.specs.TalkMembers.{talk_members}
 
@@ -23,9 +23,17 @@ status_text ending = codes "unclean"
 abbrev pub status_members : Ending → List (List ℕ) → List Member
 status_members ending causes = (codes "status", string (status_text ending)) ∷ (codes "because", array_of (map string causes)) ∷ []
 
+-- how many pairs are the wrong way round, where there is another recording
+abbrev pub wrong_way_members : Bool → ℕ → List Member
+wrong_way_members has_other wrong = if has_other then (codes "wrong_way", count_json wrong) ∷ [] else []
+
 -- the one that stands last: what weakens the report
 abbrev pub notes_members : List (List ℕ) → List Member
 notes_members notes = (codes "notes", array_of (map string notes)) ∷ []
+
+-- the ones that stand last
+abbrev pub last_members : Bool → ℕ → List (List ℕ) → List Member
+last_members has_other wrong notes = wrong_way_members has_other wrong ++ notes_members notes
 
 -- why the run of this report does not end clean
 abbrev pub report_causes : AskedValue → RecordingValue → ReportValue → List (List ℕ)
@@ -55,4 +63,4 @@ abbrev pub check_members : AskedValue → RecordingValue → ReportValue → Lis
 check_members asked recording report =
     status_members report.ending (report_causes asked recording report)
     ++ (rows_members (Some (check_telling asked recording report)) (rows_of report) report.explained.counts recording
-    ++ (talk_members recording.times report ++ notes_members (report_notes asked recording report)))
+    ++ (talk_members recording.times report ++ last_members (is_some report.arrived) report.order.wrong (report_notes asked recording report)))

@@ -3,7 +3,8 @@ pub mod CheckMembers
 pub mod JsonText
 pub mod Lines
 pub mod Notes
+pub mod PolicyValues
 pub mod QosNames
 pub mod TailNames
-pub mod PolicyValues
 pub mod TalkMembers
+pub mod WayNotes

@@ -1,5 +1,5 @@
 -- What weakens a report, each with what to do. own: what was not read, and which pairs were not seen, is told beside the rows.
-use Rattle.std.specs.Prelude.{ℕ, ◌++◌, ◌==◌, Bool, true, false, if◌then◌else◌, nat_lt, not, List, [], ◌∷◌, codes, filter, length, map, Option, Some, None}
+use Rattle.std.specs.Prelude.{ℕ, ◌++◌, ◌==◌, Bool, true, false, if◌then◌else◌, is_none, nat_lt, List, [], ◌∷◌, codes, filter, length, map, Option, Some, None}
 use Rattle.std.specs.List.{concat, flat_map, join_by}
 use Rattle.rtps_evidence.specs.Explanation.{ExplanationValue, explanation_value}
 use Rattle.rtps_evidence.specs.Times.{seconds_of}
@@ -10,7 +10,7 @@ use Rattle.rtps_policies.specs.declared.silence.Silence.{Silence}
 use Rattle.rtps_policies.specs.declared.silence.Silence.TheVariants.{OneParticipant, TwoDomains, OneWay, Silent}
 use Rattle.rtps_report.specs.BestEfforts.{BestEffortValue}
 use Rattle.rtps_report.specs.Participants.{are_on_one_host}
-use Rattle.rtps_report.specs.RowFacts.{absent_in, is_held_in}
+use Rattle.rtps_report.specs.RowFacts.{absent_in, way_in}
 use Rattle.rtps_report.specs.Talk.{LeftOutValue, TalkValue, left_out_value, talk_value}
 use Rattle.rtps_policies.specs.Unmatched.{UnmatchedValue}
 use Rattle.rtps_policies.specs.declared.fitting.Policy.{Policy}
@@ -21,6 +21,7 @@ use Rattle.rtps_report.specs.declared.side_facts.SideFacts.{SideFacts}
 use Rattle.rtps_lines.specs.Lines.{seconds_text}
 use Rattle.rtps_lines.specs.PolicyValues.{policy_words}
 use Rattle.rtps_lines.specs.TailNames.{tail_names}
+use Rattle.rtps_lines.specs.WayNotes.{way_notes}
 use Rattle.std.specs.Str.{bytes_eq}
 use Rattle.rtps_lines.specs.declared.notes.NotedRows.{NotedRows}
 use Rattle.rtps_lines.specs.declared.side_notes.Unread.{Unread}
@@ -244,11 +245,11 @@ held_note total shares =
     ∷ words_for total.numbers (record { one = codes " number at the reader's host"; many = codes " numbers at the reader's host" })
     ∷ shares ∷ []) ∷ []
 
--- the rows that are not held
+-- the rows of which it has nothing
 abbrev pub alone_in : List ExplanationValue → List ExplanationValue
-alone_in rows = filter (λ row. not (is_held_in row.evidence.in_span)) rows
+alone_in rows = filter (λ row. is_none (way_in row.evidence.in_span)) rows
 
--- so many rows are not held, the names of their topics, and behind an arrow what to do; none where all are held
+-- of so many rows it has nothing, the names of their topics, and behind an arrow what to do; none where it has something of each
 abbrev pub alone_note : List ℕ → ℕ → List ℕ → List (List ℕ)
 alone_note arrow alone names =
     if alone == 0 then []
@@ -333,7 +334,7 @@ abbrev pub notes_beside : List ℕ → NotedValue → SideFacts → List (List �
 notes_beside arrow noted side =
     held_note noted.talk.held_total (shares_if noted.named noted.talk.held_sums)
     ++ (alone_note arrow side.alone (names_if noted.named (alone_in noted.rows))
-    ++ (absent_note arrow side (names_if noted.named (absent_rows noted.rows)) ++ flat_map (unread_note arrow) (unread_there side)))
+    ++ (absent_note arrow side (names_if noted.named (absent_rows noted.rows)) ++ (flat_map (unread_note arrow) (unread_there side) ++ way_notes arrow side.order)))
 
 -- the same, where there is another recording
 abbrev pub side_notes : List ℕ → NotedValue → Option SideFacts → List (List ℕ)

@@ -1,9 +1,10 @@
 ghost use Rattle.std.specs.Prelude.{◌≡◌, ◌++◌, OnOk, IfOk, flat_map, map};
 ghost use Rattle.std.specs.String.{string_bytes};
 ghost use Rattle.rtps_parts.specs.Parts.{part_text, words_value};
-ghost use Rattle.rtps_lines.specs.Causes.{best_effort_text, cause, certain_detail, certain_words as certain_words_lem, causes_of as causes_of_lem, clean_detail, empty_cause, few_cause, findings_in as findings_in_lem, incomplete_words as incomplete_words_lem, last_line, links_cause, lossy_cause, lost_cause, lost_words as lost_words_lem, missed_words as missed_words_lem, row_causes, unanswered_words as unanswered_words_lem, uncertain_of as uncertain_of_lem, uncertain_words as uncertain_words_lem, unmatched_words as unmatched_words_lem, unread_causes, unsent_words as unsent_words_lem};
+ghost use Rattle.rtps_lines.specs.Causes.{best_effort_text, cause, certain_detail, certain_words as certain_words_lem, causes_of as causes_of_lem, clean_detail, empty_cause, few_cause, findings_in as findings_in_lem, incomplete_words as incomplete_words_lem, last_line, links_cause, lossy_cause, lost_cause, lost_words as lost_words_lem, missed_words as missed_words_lem, order_causes, row_causes, unanswered_words as unanswered_words_lem, uncertain_of as uncertain_of_lem, uncertain_words as uncertain_words_lem, unmatched_words as unmatched_words_lem, unread_causes, unsent_words as unsent_words_lem};
 
 use crate::notes::{Weakness, pair_words};
+use crate::way_notes::{push_swapped_cause, push_twice_cause};
 use rtps_parts::{Part, Words, push_joined, push_rendered, render, words_for};
 use rtps_report::{BestEffortNumbers, Ending, FewRows, Findings, Links, Totals};
 use std::alloc::{AllocError, Global};
@@ -262,6 +263,13 @@ fn push_unread(alloc: Global, causes: &mut Vec<String>, found: &Findings) -> Res
     push_links(alloc, causes, found.links)
 }
 
+fn push_order(alloc: Global, causes: &mut Vec<String>, found: &Findings) -> Result<(), AllocError>
+    ensures { OnOk result (map string_bytes causes.new.items ≡ map string_bytes causes.old.items ++ order_causes found.now) }
+{
+    push_swapped_cause(alloc, causes, found.swapped)?;
+    push_twice_cause(alloc, causes, found.twice)
+}
+
 /// What was counted of rows, and whether each number of theirs has to be certain.
 #[derive(Clone, Copy)]
 pub struct Judged<'t> {
@@ -283,6 +291,7 @@ fn push_causes(
     push_empty(alloc, causes, found.empty)?;
     push_row_causes(alloc, causes, judged.totals, judged.certain)?;
     push_cause(alloc, causes, unmatched, unmatched_words())?;
+    push_order(alloc, causes, found)?;
     push_lossy(alloc, causes, found.lossy)?;
     push_few(alloc, causes, found.few)?;
     push_unread(alloc, causes, found)

@@ -2,11 +2,11 @@ ghost use Rattle.std.specs.Prelude.{◌≡◌, ◌++◌, IfOk, OnOk, map};
 ghost use Rattle.std.specs.String.{string_bytes};
 ghost use Rattle.rtps_report.specs.Asked.{asked_value};
 ghost use Rattle.rtps_report.specs.FullReport.{report_value};
-ghost use Rattle.rtps_lines.specs.CheckMembers.{check_members, check_telling, report_causes, report_last, report_notes, status_members, status_text};
+ghost use Rattle.rtps_lines.specs.CheckMembers.{check_members, check_telling, last_members, report_causes, report_last, report_notes, status_members, status_text, wrong_way_members};
 ghost use Rattle.rtps_lines.specs.JsonText.{telling_value, tokens_of};
 
 use crate::causes::{Judged, causes_of, push_last};
-use crate::json_members::{push_text, push_texts};
+use crate::json_members::{push_text, push_texts, push_total};
 use crate::json_object::{Telling, ToldRows, push_report_members};
 use crate::notes::{NotedRows, notes_of};
 use crate::talk_members::{has_other, push_talk_members};
@@ -92,6 +92,33 @@ fn telling_of<'t, 'a>(report: &'t FullReport<'a>) -> Telling<'t, 'a>
     }
 }
 
+/// Appends how many pairs are the wrong way round, where there is another recording.
+fn push_wrong_way(writer: &mut Writer, has_other: bool, wrong: u128) -> Result<(), AllocError>
+    ensures tokens { OnOk result (writer.new.tokens ≡ writer.old.tokens ++ tokens_of (wrong_way_members has_other wrong)) }
+    ensures before { writer.new.before ≡ writer.old.before }
+{
+    if has_other {
+        push_total(writer, "wrong_way", wrong)
+    } else {
+        Ok(())
+    }
+}
+
+/// Appends the members that stand last.
+fn push_last_members(
+    writer: &mut Writer,
+    has_other: bool,
+    wrong: u128,
+    notes: &[String],
+) -> Result<(), AllocError>
+    ensures tokens { OnOk result (writer.new.tokens
+        ≡ writer.old.tokens ++ tokens_of (last_members has_other wrong (map string_bytes notes.now))) }
+    ensures before { writer.new.before ≡ writer.old.before }
+{
+    push_wrong_way(writer, has_other, wrong)?;
+    push_texts(writer, "notes", notes)
+}
+
 /// Appends the members of the object of a report that is checked. After an `Err` what was written is of no use.
 pub fn push_check_members(
     alloc: Global,
@@ -112,5 +139,5 @@ pub fn push_check_members(
     };
     push_report_members(alloc, writer, &rows)?;
     push_talk_members(alloc, writer, report)?;
-    push_texts(writer, "notes", &notes)
+    push_last_members(writer, has_other(report), report.order.wrong, &notes)
 }

@@ -15,6 +15,7 @@ mod silent_participants;
 mod tail_names;
 mod talk_members;
 mod talk_notes;
+mod way_notes;
 
 pub use causes::{Judged, causes_of, push_last, unmatched_words};
 pub use check_members::{push_check_members, push_report_last};

@@ -6,9 +6,10 @@ ghost use Rattle.rtps_report.specs.BestEfforts.{best_effort_value};
 ghost use Rattle.rtps_lines.specs.Notes.{absent_note, absent_rows, alone_in, alone_note, held_note, names_if as names_if_lem, noted_value, side_notes, unread_note, unread_there as unread_there_lem, unread_value};
 
 use crate::notes::{NotedRows, Weakness, names_if, number_words, pair_words, shares_if};
+use crate::way_notes::push_ways;
 use rtps_evidence::Explanation;
 use rtps_parts::{Part, Words, push_rendered, words_for};
-use rtps_report::{BestEffort, SideFacts, absent_of, is_held};
+use rtps_report::{BestEffort, SideFacts, absent_of, way_of};
 use std::alloc::{AllocError, Global};
 
 /// Appends how many numbers of all pairs of best effort arrived, and behind that the text on their topics.
@@ -40,7 +41,7 @@ fn push_held(
     push_rendered(alloc, notes, &parts)
 }
 
-/// Those of rows that are not held.
+/// Those of rows of which the other recording has nothing.
 fn alone_among<'a>(
     alloc: Global,
     rows: &[Explanation<'a>],
@@ -49,7 +50,7 @@ fn alone_among<'a>(
 {
     let mut alone = Vec::new(alloc);
     for row in rows {
-        if !is_held(&row.evidence) {
+        if way_of(&row.evidence).is_none() {
             alone.push(*row)?;
         }
     }
@@ -72,7 +73,7 @@ fn absent_among<'a>(
     Ok(absent)
 }
 
-/// Appends how many rows are not held, and behind that the names of their topics.
+/// Appends of how many rows the other recording has nothing, and behind that the names of their topics.
 fn push_alone<'t>(
     alloc: Global,
     notes: &mut Vec<String>,
@@ -197,7 +198,7 @@ fn push_all_unread(
     Ok(())
 }
 
-/// The names of the topics of rows that are not held, where topics are named.
+/// The names of the topics of rows of which the other recording has nothing, where topics are named.
 fn alone_names(alloc: Global, told: NotedRows<'_, '_>) -> Result<String, AllocError>
     ensures { IfOk result (λ names. string_bytes names ≡ names_if_lem told.entry.named (alone_in (map explanation_value told.entry.rows.now))) }
 {
@@ -231,5 +232,6 @@ pub(crate) fn push_beside(
     push_held(alloc, notes, &told.talk.held_total, &shares)?;
     push_alone(alloc, notes, (side.alone, &alone), arrow)?;
     push_absent(alloc, notes, (&side, &absent), arrow)?;
-    push_all_unread(alloc, notes, &side, arrow)
+    push_all_unread(alloc, notes, &side, arrow)?;
+    push_ways(alloc, notes, &side.order, arrow)
 }

@@ -1,6 +1,6 @@
 -- Acts with lists of octets in place of borrowed slices. own: so that two are equal if they say the same, wherever
 -- their octets are.
-use Rattle.std.specs.Prelude.{ℕ, Option, Result, Ok, Err}
+use Rattle.std.specs.Prelude.{ℕ, List, Option, Result, Ok, Err}
 use Rattle.std.specs.Option.{option_map}
 use Rattle.rtps_ids.specs.declared.identity.EntityId.{EntityId}
 use Rattle.rtps_ids.specs.declared.identity.GuidPrefix.{GuidPrefix}
@@ -12,21 +12,30 @@ use Rattle.rtps_wire.specs.Values.{DataValue, PayloadValue, data_value, payload_
 use Rattle.rtps_wire.specs.declared.body.AckNackBody.{AckNackBody}
 use Rattle.rtps_wire.specs.declared.body.GapBody.{GapBody}
 use Rattle.rtps_wire.specs.declared.body.HeartbeatBody.{HeartbeatBody}
+use Rattle.rtps_wire.specs.declared.data_frag.Shape.{Shape}
 use Rattle.rtps_wire.specs.declared.fault.Refusal.{Refusal}
 use Rattle.rtps_wire.specs.declared.nack_frag.NackFrag.{NackFrag as NackFragBody}
 use Rattle.rtps_receiver.specs.declared.act.Act.{Act}
 use Rattle.rtps_receiver.specs.declared.act.ActBody.{ActBody}
 use Rattle.rtps_receiver.specs.declared.act.ActBody.TheVariants as body
 use Rattle.rtps_receiver.specs.declared.spoken.FragmentBody.{FragmentBody}
+use Rattle.rtps_receiver.specs.declared.spoken.SentPart.{SentPart}
 use Rattle.rtps_receiver.specs.declared.spoken.Spoken.{Spoken}
 use Rattle.rtps_receiver.specs.declared.spoken.SpokenBody.{SpokenBody}
 use Rattle.rtps_receiver.specs.declared.spoken.SpokenBody.TheVariants as spoken
 
--- a DATA_FRAG: the number of its sample, and the sample where its fragments were put together
+-- the fragments that a DATA_FRAG sends, from the first one on
+pub record SentPartValue : Type 0 where
+  pub first : ℕ
+  pub shape : Shape
+  pub octets : List ℕ
+
+-- a DATA_FRAG: the number of its sample, the fragments that it sends, and the sample where its fragments were put together
 pub record FragmentValue : Type 0 where
   pub reader : EntityId
   pub writer : EntityId
   pub number : ℕ
+  pub sent : Option SentPartValue
   pub told : Option PayloadValue
 
 -- what an act says
@@ -49,9 +58,20 @@ pub record ActValue : Type 0 where
   pub order : Order
   pub body : ActBodyValue
 
+-- fragments of the code, as a value
+abbrev pub sent_part_value : SentPart → SentPartValue
+sent_part_value part = record { first = part.first; shape = part.shape; octets = part.octets.now }
+
 -- a DATA_FRAG of the code, as a value
 abbrev pub fragment_value : FragmentBody → FragmentValue
-fragment_value value = record { reader = value.reader; writer = value.writer; number = value.number; told = option_map payload_value value.told }
+fragment_value value =
+    record {
+      reader = value.reader;
+      writer = value.writer;
+      number = value.number;
+      sent = option_map sent_part_value value.sent;
+      told = option_map payload_value value.told;
+    }
 
 -- what an act of the code says, as a value
 abbrev pub act_body_value : ActBody → ActBodyValue

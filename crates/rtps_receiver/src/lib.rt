@@ -15,6 +15,6 @@ pub use act::{Act, ActBody};
 pub use receiver::Acts;
 pub use said::{Numbers, SaidNumbers};
 pub use speech::{Audience, EVERY_READER};
-pub use spoken::{FragmentBody, Spoken, SpokenBody};
+pub use spoken::{FragmentBody, SentPart, Spoken, SpokenBody};
 pub use state::State;
 pub use walk::Walk;

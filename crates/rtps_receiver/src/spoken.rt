@@ -1,6 +1,17 @@
 use crate::act::ActBody;
 use rtps_ids::{EntityId, GuidPrefix, Order, SeqNum, Stamp, Vendor, Version};
-use rtps_wire::{NackFrag, Payload};
+use rtps_wire::{NackFrag, Payload, Shape};
+
+/// The fragments that a DATA_FRAG sends (DDSI-RTPS 2.5, 8.3.8.3 "DataFrag").
+#[derive(Clone, Copy, PartialEq, Eq, Debug)]
+pub struct SentPart<'a> {
+    /// The number of the first of them. Fragments count from 1.
+    pub first: u32,
+    /// How their sample is sent.
+    pub shape: Shape,
+    /// Their octets, one after another.
+    pub octets: &'a [u8],
+}
 
 /// What a DATA_FRAG says: that a sample of this number exists, and, where its fragments were put together, the sample
 /// (DDSI-RTPS 2.5, 8.3.8.3 "DataFrag").
@@ -10,6 +21,8 @@ pub struct FragmentBody<'a> {
     pub writer: EntityId,
     /// The number of the sample.
     pub number: SeqNum,
+    /// The fragments that it sends; None where the act tells a sample.
+    pub sent: Option<SentPart<'a>>,
     /// What the fragments up to this one were put together to; None where the act tells no sample.
     pub told: Option<Payload<'a>>,
 }

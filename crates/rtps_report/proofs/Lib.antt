@@ -1,3 +1,4 @@
+mod ActsInOrder
 mod AskedLemmas
 mod BestEffortLemmas
 mod BestEffortSums

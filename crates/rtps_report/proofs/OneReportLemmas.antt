@@ -1,5 +1,5 @@
 -- Of a recording there is one full report.
-use Rattle.std.proofs.Common.{◌≡◌, ◌∙◌, ℕ, List, ap, length, map, subst, sym, true}
+use Rattle.std.proofs.Common.{◌≡◌, ◌∙◌, ℕ, List, ap, length, map, ap₂, subst, sym, true}
 use Rattle.rtps_audit.specs.Report.{counts_of}
 use Rattle.rtps_discovery.specs.Directory.{DirectoryValue, unsettled_in}
 use Rattle.rtps_discovery.specs.Listings.{pair_cmp}
@@ -11,12 +11,14 @@ use Rattle.rtps_report.specs.Vocabulary.{Counts, Ending, Explained, ExplanationV
 use Rattle.rtps_report.specs.Asked.{AskedValue}
 use Rattle.rtps_report.specs.BestEfforts.{numbers_told}
 use Rattle.rtps_report.specs.Findings.{ending_as}
-use Rattle.rtps_report.specs.FullReport.{AreRowsOf, facts_with}
+use Rattle.rtps_report.specs.FullReport.{AreRowsOf, facts_with, rows_of}
+use Rattle.rtps_report.specs.Order.{order_by}
 use Rattle.rtps_report.specs.RowPairs.{AreRowPairs}
 use Rattle.rtps_report.specs.Laws.{HasOneFullReport}
 use Rattle.rtps_report.specs.ReaderSide.{beside_of, other_by}
 use Rattle.rtps_report.specs.Talk.{traffic_of}
 use Rattle.rtps_report.specs.declared.best_effort.BestEffortNumbers.{BestEffortNumbers}
+use Rattle.rtps_report.specs.declared.order.Order.{Order}
 use Rattle.rtps_report.proofs.OneTalkLemmas.{one_talk}
 use Rattle.rtps_report.proofs.RowPairLemmas.{exact_two, pairs_total}
 use Rattle.rtps_report.proofs.SameLists.{same_members}
@@ -38,13 +40,15 @@ pub one_full_report : PairsHaveOneExplanation → HasOneMap → HasOneFullReport
 one_full_report law unique asked theirs recording one other is also =
     let talk = one_talk unique asked (other_by theirs) recording one.talk other.talk is.talks also.talks in
     let lists = one_list law unique asked (intake_as Read recording.datagrams) (beside_of theirs recording) (traffic_of recording.datagrams) one.explained other.explained is.rows also.rows in
-    let ends : ℕ → BestEffortNumbers → List ExplanationValue → Counts → Ending = λ unmatched numbers those counted. ending_as asked (facts_with unmatched numbers asked those counted recording) in
+    let ends : ℕ → BestEffortNumbers → Order → List ExplanationValue → Counts → Ending = λ unmatched numbers order those counted. ending_as asked (facts_with unmatched numbers order asked those counted recording) in
     let unmatched = ap length talk.unmatched in
     let numbers = ap numbers_told talk.best_effort_total in
+    let order : one.order ≡ other.order = is.order ∙ ap₂ (order_by theirs recording) lists.0 talk.ways ∙ sym also.order in
     record {
       arrived = is.beside ∙ sym also.beside;
       rows = lists.0;
       counts = lists.1;
-      ending = is.ends ∙ (λ i. ends (unmatched i) (numbers i) (lists.0 i) (lists.1 i)) ∙ sym also.ends;
+      order = order;
+      ending = is.ends ∙ (λ i. ends (unmatched i) (numbers i) (order i) (lists.0 i) (lists.1 i)) ∙ sym also.ends;
       talk = talk;
     }

@@ -1,5 +1,5 @@
 -- Of a recording it is told in one way who does not talk.
-use Rattle.std.proofs.Common.{◌≡◌, ◌∙◌, ℕ, ◌+◌, Bool, Option, Some, None, List, [], ◌∷◌, All, Contains, ap, ap₂, filter, map, not, refl, subst, sym, true}
+use Rattle.std.proofs.Common.{◌≡◌, ◌∙◌, ℕ, ◌+◌, Bool, false, MatchOption, Option, Some, None, List, [], ◌∷◌, All, Contains, ap, ap₂, filter, map, not, refl, subst, sym, true}
 use Rattle.std.proofs.lemmas.Bool.{false≢true}
 use Rattle.std.specs.Cmp.{IsTotalOrder}
 use Rattle.std.specs.Cmp.Lexicographic.{slice_cmp}
@@ -15,12 +15,14 @@ use Rattle.rtps_discovery.proofs.Offered.{from_map, into_map}
 use Rattle.rtps_audit.specs.Intake.{Intake}
 use Rattle.rtps_audit.specs.Placed.{placed_in}
 use Rattle.rtps_audit.specs.Said.{datagrams_until}
-use Rattle.rtps_evidence.specs.OtherSide.{OtherRecording, is_there}
+use Rattle.rtps_evidence.specs.OtherSide.{OtherRecording, is_held, is_there}
 use Rattle.rtps_evidence.specs.Recorded.{AreRecordedIn, IsArrivedAmong, IsArrivedBy, IsRecordedBy, greatest_sent}
 use Rattle.rtps_evidence.specs.declared.first_numbers.FirstNumbers.{FirstNumbers}
+use Rattle.rtps_evidence.specs.declared.recorded.Arrived.{Arrived}
 use Rattle.rtps_evidence.specs.declared.recorded.ArrivedNumbers.{ArrivedNumbers}
 use Rattle.rtps_evidence.specs.declared.recorded.Recorded.{Recorded}
 use Rattle.rtps_evidence.specs.declared.span.Span.{Span}
+use Rattle.rtps_evidence.specs.declared.way.Way.{Way}
 use Rattle.rtps_evidence.proofs.Offered.{HasOneMap, one_extent}
 use Rattle.rtps_evidence.specs.Times.{TimesValue}
 use Rattle.rtps_fragments.specs.RecordedSamples.{intake_as}
@@ -37,11 +39,13 @@ use Rattle.rtps_report.specs.Laws.{TellSame}
 use Rattle.rtps_report.specs.Participants.{participant_told}
 use Rattle.rtps_report.specs.Recording.{RecordingValue}
 use Rattle.rtps_report.specs.Talk.{AreCounted, IsTalkAs, IsTalkOf, LeftOutValue, TalkValue, is_counted, is_left_out, left_out_of, talks, traffic_of, unfit_in}
+use Rattle.rtps_report.specs.Ways.{ways_of_counted}
 use Rattle.std.proofs.Math.Path.{fun_ext}
 use Rattle.rtps_ids.specs.declared.identity.GuidPrefix.{GuidPrefix}
 use Rattle.rtps_policies.specs.declared.host.Host.{Host}
 use Rattle.rtps_policies.specs.declared.silence.Silence.{Silence}
 use Rattle.rtps_report.specs.declared.participant.Participant.{Participant}
+use Rattle.rtps_report.specs.declared.ways.Ways.{Ways}
 use Rattle.rtps_report.proofs.SameLists.{same_keys, same_members}
 
 -- ---- pairs of best effort
@@ -53,18 +57,29 @@ one_recorded unique spans from pair intake one other is also =
     let made : ℕ → ℕ → Recorded = λ numbers recorded. record { numbers = numbers; recorded = recorded } in
     ap₂ made (same.numbers ∙ sym also.are_recorded.numbers) (same.recorded ∙ sym also.are_recorded.recorded)
 
-one_arrived : HasOneMap → (spans : Bool) (from : ℕ) (theirs : Option OtherRecording) (pair : Pair) (intake : Intake) (one other : Option ArrivedNumbers)
-    → IsArrivedBy spans from theirs pair intake one → IsArrivedBy spans from theirs pair intake other → one ≡ other
-one_arrived unique spans from theirs pair intake None None is also = refl
-one_arrived unique spans from theirs pair intake None (Some other) is also = absurd (false≢true (sym is.arrived ∙ also.arrived.0))
-one_arrived unique spans from theirs pair intake (Some one) None is also = absurd (false≢true (sym also.arrived ∙ is.arrived.0))
-one_arrived unique spans from theirs pair intake (Some one) (Some other) is also =
-    let span : is.span ≡ also.span = one_extent unique spans from pair intake is.span also.span is.is_extent also.is_extent in
-    let among : Span → ArrivedNumbers → Type 0 = λ s numbers.
-    IsArrivedAmong (is_there theirs pair) s.from (greatest_sent pair.writer (placed_in (datagrams_until s.until intake.acts)) + 1) numbers in
-    let same : among also.span one = subst (λ (s : Span). among s one) span is.arrived.1 in
+-- what arrived, of a pair that is held or not
+abbrev arrives_as : Option OtherRecording → Pair → Intake → Span → Option ArrivedNumbers → Type 0
+arrives_as theirs pair intake s found =
+    MatchOption found (is_held intake.acts theirs pair ≡ false)
+    (λ numbers. (is_held intake.acts theirs pair ≡ true)
+    × IsArrivedAmong (is_there intake.acts theirs pair) s.from (greatest_sent pair.writer (placed_in (datagrams_until s.until intake.acts)) + 1) numbers)
+
+same_numbers : (theirs : Option OtherRecording) (pair : Pair) (intake : Intake) (s : Span) (one other : Option ArrivedNumbers) → arrives_as theirs pair intake s one
+    → arrives_as theirs pair intake s other → one ≡ other
+same_numbers theirs pair intake s None None is also = refl
+same_numbers theirs pair intake s None (Some other) is also = absurd (false≢true (sym is ∙ also.0))
+same_numbers theirs pair intake s (Some one) None is also = absurd (false≢true (sym also ∙ is.0))
+same_numbers theirs pair intake s (Some one) (Some other) is also =
     let made : ℕ → FirstNumbers → ArrivedNumbers = λ arrived lacking. record { arrived = arrived; lacking = lacking } in
-    ap Some (ap₂ made (same.arrived ∙ sym also.arrived.1.arrived) (same.lacking ∙ sym also.arrived.1.lacking))
+    ap Some (ap₂ made (is.1.arrived ∙ sym also.1.arrived) (is.1.lacking ∙ sym also.1.lacking))
+
+one_arrived : HasOneMap → (spans : Bool) (from : ℕ) (theirs : Option OtherRecording) (pair : Pair) (intake : Intake) (one other : Arrived)
+    → IsArrivedBy spans from theirs pair intake one → IsArrivedBy spans from theirs pair intake other → one ≡ other
+one_arrived unique spans from theirs pair intake one other is also =
+    let span : is.span ≡ also.span = one_extent unique spans from pair intake is.span also.span is.is_extent also.is_extent in
+    let moved : arrives_as theirs pair intake also.span one.numbers = subst (λ (s : Span). arrives_as theirs pair intake s one.numbers) span is.arrived in
+    let made : Option Way → Option ArrivedNumbers → Arrived = λ way numbers. record { way = way; numbers = numbers } in
+    ap₂ made (is.way ∙ sym also.way) (same_numbers theirs pair intake also.span one.numbers other.numbers moved also.arrived)
 
 one_counted : HasOneMap → (asked : AskedValue) (theirs : Option OtherRecording) (intake : Intake) (entries : Entries) (matches : List Match) (one other : List CountedValue)
     → AreCounted asked theirs intake entries matches one → AreCounted asked theirs intake entries matches other → one ≡ other
@@ -74,7 +89,7 @@ one_counted unique asked theirs intake entries [] (first ∷ one) other is also 
 one_counted unique asked theirs intake entries (found ∷ matches) [] other is also = absurd is
 one_counted unique asked theirs intake entries (found ∷ matches) (first ∷ one) [] is also = absurd also
 one_counted unique asked theirs intake entries (found ∷ matches) (first ∷ one) (next ∷ other) is also =
-    let made : List ℕ → Pair → Recorded → Option ArrivedNumbers → CountedValue = λ topic pair recorded arrived. record { topic = topic; pair = pair; recorded = recorded; arrived = arrived } in
+    let made : List ℕ → Pair → Recorded → Arrived → CountedValue = λ topic pair recorded arrived. record { topic = topic; pair = pair; recorded = recorded; arrived = arrived } in
     let topic = is.0 ∙ sym also.0 in
     let pair = is.1.of_pair ∙ sym also.1.of_pair in
     let recorded = one_recorded unique true asked.from found.pair intake first.recorded next.recorded is.1.recorded also.1.recorded in
@@ -151,6 +166,7 @@ talk_once unique asked theirs recording times one other is also =
       held_sums = one_sums (arrived_among also.best_effort.counted) one.held_sums other.held_sums
           (subst (λ (those : List CountedValue). AreSumsOf (arrived_among those) one.held_sums) counted is.best_effort.are_held_sums) also.best_effort.are_held_sums;
       held_total = is.best_effort.is_held_total ∙ ap (λ those. total_of (arrived_among those)) counted ∙ sym also.best_effort.is_held_total;
+      ways = is.best_effort.are_ways ∙ ap ways_of_counted counted ∙ sym also.best_effort.are_ways;
       participants = is.participants ∙ ap (λ (d : DirectoryValue). map (participant_told intake recording times) d.participants) same ∙ sym also.participants;
     }
 
@@ -161,8 +177,8 @@ one_talk unique asked theirs recording one other is also =
 
 -- what is told of who does not talk, by its parts
 abbrev talk_of : (GuidPrefix → Host) → (Pair → Silence) → List UnmatchedValue → List UnmatchedValue → List LeftOutValue → List OneWay → List BestEffortValue → BestEffortValue
-    → List HeldValue → List BestEffortValue → BestEffortValue → List Participant → TalkValue
-talk_of hosts silence unmatched talking left_out one_way best_effort total held held_sums held_total participants =
+    → List HeldValue → List BestEffortValue → BestEffortValue → Ways → List Participant → TalkValue
+talk_of hosts silence unmatched talking left_out one_way best_effort total held held_sums held_total ways participants =
     record {
       hosts = hosts;
       silence = silence;
@@ -175,6 +191,7 @@ talk_of hosts silence unmatched talking left_out one_way best_effort total held 
       held = held;
       held_sums = held_sums;
       held_total = held_total;
+      ways = ways;
       participants = participants;
     }
 
@@ -185,4 +202,4 @@ same_talk one other same =
     let silence : one.silence ≡ other.silence = fun_ext same.silence in
     λ i.
     talk_of (hosts i) (silence i) (same.unmatched i) (same.talking i) (same.left_out i) (same.one_way i) (same.best_effort i) (same.best_effort_total i) (same.held i) (same.held_sums i)
-    (same.held_total i) (same.participants i)
+    (same.held_total i) (same.ways i) (same.participants i)

@@ -53,6 +53,7 @@ use Rattle.rtps_report.specs.Participants.{AreJoined, announces, host_known, is_
 use Rattle.rtps_report.specs.Rows.{fits_one}
 use Rattle.rtps_report.specs.Stays.{latest_of, stay_of}
 use Rattle.rtps_report.specs.Talk.{AreCounted, AreUnfit, IsKeptOf, IsPairCounted, IsTalkOf, LeftOutValue, is_asked, is_counted, is_counted_by, is_counted_of, is_left_out, is_left_out_by, is_left_out_of, is_pair, is_unfit, left_out_of, left_out_value, talk_value, talks, traffic_of, unfit_in}
+use Rattle.rtps_report.specs.Ways.{ways_of_counted}
 use Rattle.rtps_report.specs.Vocabulary.{Read}
 use Rattle.rtps_report.specs.declared.best_effort.Counted.{Counted}
 use Rattle.rtps_report.specs.declared.participant.Participant.{Participant}
@@ -350,9 +351,10 @@ pub talk_is : (asked : AskedValue) (other : Option OtherRecording) (recording : 
     → AreSumsOf counted (map best_effort_value talk.best_effort.items) → best_effort_value talk.best_effort_total ≡ total_of counted
     → map held_value talk.held.items ≡ held_among counted
     → AreSumsOf (arrived_among counted) (map best_effort_value talk.held_sums.items) → best_effort_value talk.held_total ≡ total_of (arrived_among counted)
+    → talk.ways ≡ ways_of_counted counted
     → talk.participants.items ≡ map (participant_told (intake_as Read recording) recording times) directory.participants
     → IsTalkOf asked other recording times (talk_value talk)
-talk_is asked other recording times directory talk counted map_of announced kept unmatched left one_way are sums total held held_sums held_total participants =
+talk_is asked other recording times directory talk counted map_of announced kept unmatched left one_way are sums total held held_sums held_total ways participants =
     let traffic = traffic_of recording in
     let unfit = unfit_in asked traffic directory.endpoints in
     let matches = matches_among (settled_in directory.endpoints) in
@@ -374,6 +376,7 @@ talk_is asked other recording times directory talk counted map_of announced kept
         are_held = held;
         are_held_sums = held_sums;
         is_held_total = held_total;
+        are_ways = ways;
       };
       participants = participants;
     }

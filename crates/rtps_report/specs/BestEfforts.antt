@@ -1,11 +1,12 @@
 -- Pairs of best effort by topic. own: of such pairs nothing is asked again and nothing is judged, so sums tell all that there is.
-use Rattle.std.specs.Prelude.{ℕ, ◌≡◌, ◌↔◌, ◌+◌, ◌*◌, ◌≤◌, ◌<◌, ◌^◌, All, Contains, Bool, if◌then◌else◌, List, [], ◌∷◌, Option, count_by, filter, is_some, length, map, sum_by, unwrap_or}
+use Rattle.std.specs.Prelude.{ℕ, ◌≡◌, ◌↔◌, ◌+◌, ◌*◌, ◌≤◌, ◌<◌, ◌^◌, All, Contains, Bool, if◌then◌else◌, List, [], ◌∷◌, count_by, filter, is_some, length, map, sum_by, unwrap_or}
 use Rattle.std.specs.Cmp.Lexicographic.{slice_cmp}
 use Rattle.std.specs.List.Sorted.{IsStrictlySortedBy}
 use Rattle.std.specs.Ordering.{nat_cmp}
 use Rattle.std.specs.Str.{bytes_eq}
 use Rattle.rtps_discovery.specs.declared.matching.Pair.{Pair}
 use Rattle.rtps_evidence.specs.FirstNumbers.{kept}
+use Rattle.rtps_evidence.specs.declared.recorded.Arrived.{Arrived}
 use Rattle.rtps_evidence.specs.declared.recorded.ArrivedNumbers.{ArrivedNumbers}
 use Rattle.rtps_evidence.specs.declared.recorded.Recorded.{Recorded}
 use Rattle.rtps_report.specs.declared.best_effort.BestEffort.{BestEffort}
@@ -13,12 +14,13 @@ use Rattle.rtps_report.specs.declared.best_effort.BestEffortNumbers.{BestEffortN
 use Rattle.rtps_report.specs.declared.best_effort.Counted.{Counted}
 use Rattle.rtps_report.specs.declared.best_effort.HeldPair.{HeldPair}
 
--- a pair, what the recording has of it, and what arrived of its numbers, where it is held against another recording
+-- a pair, what the recording has of it, and what another one has: which way round the two are by it, and what arrived of its numbers, where
+-- it is held
 pub record CountedValue : Type 0 where
   pub topic : List ℕ
   pub pair : Pair
   pub recorded : Recorded
-  pub arrived : Option ArrivedNumbers
+  pub arrived : Arrived
 
 -- that of the code, as a value
 abbrev pub counted_value : Counted → CountedValue
@@ -83,19 +85,19 @@ none_arrived = record { arrived = 0; lacking = kept [] }
 
 -- what is told of a pair that is held
 abbrev pub held_of : CountedValue → HeldValue
-held_of one = record { topic = one.topic; pair = one.pair; numbers = one.recorded.numbers; arrived = unwrap_or one.arrived none_arrived }
+held_of one = record { topic = one.topic; pair = one.pair; numbers = one.recorded.numbers; arrived = unwrap_or one.arrived.numbers none_arrived }
 
 -- the same of each of these pairs that is held
 abbrev pub held_among : List CountedValue → List HeldValue
-held_among counted = map held_of (filter (λ one. is_some one.arrived) counted)
+held_among counted = map held_of (filter (λ one. is_some one.arrived.numbers) counted)
 
 -- a pair that is held, counted by what arrived of its numbers
 abbrev pub by_arrived : CountedValue → CountedValue
-by_arrived one = record one { recorded = record { numbers = one.recorded.numbers; recorded = (unwrap_or one.arrived none_arrived).arrived } }
+by_arrived one = record one { recorded = record { numbers = one.recorded.numbers; recorded = (unwrap_or one.arrived.numbers none_arrived).arrived } }
 
 -- the same of each of these pairs that is held
 abbrev pub arrived_among : List CountedValue → List CountedValue
-arrived_among counted = map by_arrived (filter (λ one. is_some one.arrived) counted)
+arrived_among counted = map by_arrived (filter (λ one. is_some one.arrived.numbers) counted)
 
 -- ---- one pair after another
 

@@ -2,6 +2,7 @@
 -- own: a report of no row, or of a recording of which something was left out, is no good news, though each row is clean.
 use Rattle.std.specs.Prelude.{ℕ, Bool, false, ◌==◌, ◌&&◌, not, nat_le, nat_lt, if◌then◌else◌, is_none, Option, None, Some}
 use Rattle.rtps_report.specs.Asked.{AskedValue}
+use Rattle.rtps_report.specs.Order.{is_given_twice, swapped}
 use Rattle.rtps_report.specs.Recording.{known}
 use Rattle.rtps_report.specs.declared.best_effort.BestEffortNumbers.{BestEffortNumbers}
 use Rattle.rtps_report.specs.Vocabulary.{Clean, Ending, Facts, FewRows, Findings, Unclean, Unmet}
@@ -27,18 +28,33 @@ findings_of asked facts =
       cut = (known facts.reasons).cut;
       links = (known facts.reasons).links;
       unmatched = facts.unmatched;
+      swapped = swapped facts.order;
+      twice = is_given_twice facts.order;
     }
 
 -- nothing
 abbrev pub no_findings : Findings
-no_findings = record { few = None; empty = false; lossy = None; unsettled = 0; pieces = 0; cut = 0; links = (known None).links; unmatched = 0 }
+no_findings =
+    record {
+      few = None;
+      empty = false;
+      lossy = None;
+      unsettled = 0;
+      pieces = 0;
+      cut = 0;
+      links = (known None).links;
+      unmatched = 0;
+      swapped = 0;
+      twice = false;
+    }
 
 -- nothing is found
 abbrev pub are_none : Findings → Bool
 are_none findings =
     is_none findings.few
     && (not findings.empty
-    && (is_none findings.lossy && ((findings.unsettled == 0) && ((findings.pieces == 0) && ((findings.cut == 0) && ((findings.links.number == 0) && (findings.unmatched == 0)))))))
+    && (is_none findings.lossy && ((findings.unsettled == 0) && ((findings.pieces == 0) && ((findings.cut == 0) && ((findings.links.number == 0)
+    && ((findings.unmatched == 0) && ((findings.swapped == 0) && not findings.twice))))))))
 
 -- how a run ends by what is found, and by whether each row is what it has to be
 abbrev pub ending_by : Findings → Bool → Ending

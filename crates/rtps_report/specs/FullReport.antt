@@ -12,6 +12,7 @@ use Rattle.rtps_report.specs.Vocabulary.{Counts, DirectoryValue, Ending, Evidenc
 pub use Rattle.rtps_report.specs.Asked.{AskedValue, asked_value}
 use Rattle.rtps_report.specs.BestEfforts.{numbers_told}
 use Rattle.rtps_report.specs.Findings.{ending_as}
+use Rattle.rtps_report.specs.Order.{order_by}
 pub use Rattle.rtps_report.specs.Recording.{RecordingValue}
 use Rattle.rtps_report.specs.ReaderSide.{arrived_value, beside_of, other_by}
 use Rattle.rtps_report.specs.RowFacts.{is_certain, is_clean}
@@ -19,15 +20,16 @@ use Rattle.rtps_report.specs.RowPairs.{AreRowPairs}
 use Rattle.rtps_report.specs.Talk.{IsTalkAs, TalkValue, talk_value, traffic_of}
 use Rattle.rtps_report.specs.declared.best_effort.BestEffortNumbers.{BestEffortNumbers}
 use Rattle.rtps_report.specs.declared.full_report.FullReport.{FullReport}
+use Rattle.rtps_report.specs.declared.order.Order.{Order}
 
 -- a row is what it has to be: clean, and each of its numbers certain where that is asked
 abbrev pub is_met : AskedValue → EvidenceValue → Bool
 is_met asked evidence = is_clean asked.tail evidence && (not asked.certain || is_certain asked.from evidence)
 
--- what is known of a report with these rows and counts, where so many writers and readers do not match, and pairs of best effort have so many
--- numbers
-abbrev pub facts_with : ℕ → BestEffortNumbers → AskedValue → List ExplanationValue → Counts → RecordingValue → Facts
-facts_with unmatched best_effort asked rows counts recording =
+-- what is known of a report with these rows and counts, where so many writers and readers do not match, pairs of best effort have so many
+-- numbers, and two recordings were given in this order
+abbrev pub facts_with : ℕ → BestEffortNumbers → Order → AskedValue → List ExplanationValue → Counts → RecordingValue → Facts
+facts_with unmatched best_effort order asked rows counts recording =
     record {
       rows = length rows;
       met = list_all (λ row. is_met asked row.evidence) rows;
@@ -35,6 +37,7 @@ facts_with unmatched best_effort asked rows counts recording =
       reasons = recording.reasons;
       unmatched = unmatched;
       best_effort = best_effort;
+      order = order;
     }
 
 -- each pair that has a row is explained in its span, by writer and then by reader, and the counts are those of an audit. Another recording
@@ -47,17 +50,25 @@ pub record AreRowsOf (asked : AskedValue) (intake : Intake) (beside : Beside) (t
   pub rows : AreExplained true asked.from beside intake pairs explained.rows.items
   pub counts : explained.counts ≡ counts_of intake (length (unsettled_in directory.endpoints))
 
--- what is told of a recording: the other one against which rows are held, the rows that are asked for, who does not talk, and how the run
--- ends
+-- what is told of a recording: the other one against which rows are held, the rows that are asked for, who does not talk, in which order
+-- the two recordings were given, and how the run ends
 pub record ReportValue : Type 0 where
   pub arrived : Option RecordingValue
   pub explained : Explained
   pub talk : TalkValue
+  pub order : Order
   pub ending : Ending
 
 -- what the code knows, as a value
 abbrev pub report_value : FullReport → ReportValue
-report_value report = record { arrived = arrived_value report.arrived; explained = report.explained; talk = talk_value report.talk; ending = report.ending }
+report_value report =
+    record {
+      arrived = arrived_value report.arrived;
+      explained = report.explained;
+      talk = talk_value report.talk;
+      order = report.order;
+      ending = report.ending;
+    }
 
 -- the rows of a report that are asked for, as values
 abbrev pub rows_of : ReportValue → List ExplanationValue
@@ -66,7 +77,7 @@ rows_of report = map explanation_value report.explained.rows.items
 -- what is known of this report
 abbrev pub facts_of : AskedValue → RecordingValue → ReportValue → Facts
 facts_of asked recording report =
-    facts_with (length report.talk.unmatched) (numbers_told report.talk.best_effort_total) asked (rows_of report) report.explained.counts recording
+    facts_with (length report.talk.unmatched) (numbers_told report.talk.best_effort_total) report.order asked (rows_of report) report.explained.counts recording
 
 -- What is told of this recording, of what is asked. Samples that come in fragments are read. Rows are held against another recording,
 -- where there is one, and waits are by the times of the recording's own datagrams.
@@ -74,6 +85,7 @@ pub record IsFullReport (asked : AskedValue) (other : Option RecordingValue) (re
   pub beside : report.arrived ≡ other
   pub talks : IsTalkAs asked (other_by other) recording report.talk
   pub rows : AreRowsOf asked (intake_as Read recording.datagrams) (beside_of other recording) (traffic_of recording.datagrams) report.explained
+  pub order : report.order ≡ order_by other recording (rows_of report) report.talk.ways
   pub ends : report.ending ≡ ending_as asked (facts_of asked recording report)
 
 -- the code has it, beside what it is of and the index that it is by

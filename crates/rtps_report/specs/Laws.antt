@@ -1,9 +1,13 @@
 -- What one would ask of what is told of a recording. own: a text can be trusted only if nothing but the recording decides it.
 use Rattle.std.specs.Prelude.{ℕ, ◌≡◌, ◌↔◌, ◌⊎◌, Bool, true, false, All, Contains, List, Option, map}
 use Rattle.rtps_audit.specs.Delivered.{IsExactVerdictFrom}
+use Rattle.rtps_audit.specs.Placed.{placed_in}
 use Rattle.rtps_audit.specs.Said.{datagrams_until}
 use Rattle.rtps_audit.specs.Speech.{acts_by_datagram, speech_of}
 use Rattle.rtps_evidence.specs.Evidence.{IsBeside, IsShown}
+use Rattle.rtps_evidence.specs.Outcomes.{is_unanswered}
+use Rattle.rtps_evidence.specs.UnansweredLaw.{IsUnanswered}
+use Rattle.rtps_evidence.specs.declared.location.Location.{Location}
 use Rattle.rtps_evidence.specs.OtherSide.{Beside, alone, is_there}
 use Rattle.rtps_evidence.specs.Spans.{IsExtent, since_of}
 use Rattle.rtps_evidence.specs.declared.span.Span.{Span}
@@ -50,6 +54,17 @@ abbrev pub first_acts : Fragments → Option ℕ → List (List ℕ) → List (L
 first_acts fragments.Skipped until recording = acts_by_datagram (datagrams_until until recording)
 first_acts fragments.Read until recording = first_acts_with_samples until recording
 
+-- An unanswered number is what its words say, of the acts of the first datagrams of a recording; where fragments are read, of these and the
+-- samples that they tell.
+abbrev pub UnansweredIsByItsWordsIn : Fragments → Option ℕ → List (List ℕ) → Type 0
+UnansweredIsByItsWordsIn fragments until recording =
+    (times : List (Option ℕ)) (since : Option Location) (pair : Pair) (n : ℕ)
+    → (is_unanswered times since pair (placed_in (first_acts fragments until recording)) n ≡ true) ↔ IsUnanswered times since pair (placed_in (first_acts fragments until recording)) n
+
+-- it is so in each report
+abbrev pub ReportedUnansweredIsByItsWords : Type 0
+ReportedUnansweredIsByItsWords = (fragments : Fragments) (until : Option ℕ) (recording : List (List ℕ)) → UnansweredIsByItsWordsIn fragments until recording
+
 -- An explained row has the verdict of the recording that ends before the datagram in which its reader leaves, by the numbers from its first
 -- one on, and the evidence of their acts. Both are those of the span of its pair; where rows are in no span, the row is by the whole
 -- recording and all numbers that are asked about.
@@ -59,8 +74,8 @@ pub record IsExactRow (spans : Bool) (asked : AskedAudit) (beside : Beside) (rec
   pub extent : IsExtent spans asked.from row.pair (intake_as asked.fragments recording) span
   pub first : row_from asked.from row.evidence.in_span ≡ span.from
   pub until : left_in row.evidence.in_span ≡ span.until
-  pub shown : IsShown (is_there beside.other row.pair) span.from (since_of span) row.pair (first_acts asked.fragments span.until recording) row.evidence
-  pub in_span : IsBeside spans beside span row.pair (first_acts asked.fragments span.until recording) row.evidence.in_span
+  pub shown : IsShown (is_there (intake_as asked.fragments recording).acts beside.other row.pair) span.from (since_of span) row.pair (first_acts asked.fragments span.until recording) row.evidence
+  pub in_span : IsBeside spans beside span row.pair (intake_as asked.fragments recording).acts (first_acts asked.fragments span.until recording) row.evidence.in_span
 
 -- each explained row of an audit is such a row, in no span
 abbrev pub AuditedRowsAreExact : Type 0
@@ -97,6 +112,7 @@ pub record TellSame (one other : TalkValue) : Type 0 where
   pub held : one.held ≡ other.held
   pub held_sums : one.held_sums ≡ other.held_sums
   pub held_total : one.held_total ≡ other.held_total
+  pub ways : one.ways ≡ other.ways
   pub participants : one.participants ≡ other.participants
 
 -- two reports tell the same
@@ -104,6 +120,7 @@ pub record AreSame (one other : ReportValue) : Type 0 where
   pub arrived : one.arrived ≡ other.arrived
   pub rows : rows_of one ≡ rows_of other
   pub counts : one.explained.counts ≡ other.explained.counts
+  pub order : one.order ≡ other.order
   pub ending : one.ending ≡ other.ending
   pub talk : TellSame one.talk other.talk
 

@@ -8,6 +8,7 @@ pub mod Findings
 pub mod FullReport
 pub mod Laws
 pub mod NoteFacts
+pub mod Order
 pub mod Participants
 pub mod Patterns
 pub mod ReaderSide
@@ -21,4 +22,6 @@ pub mod Silences
 pub mod Stays
 pub mod Talk
 pub mod Totals
+pub mod Twice
 pub mod Vocabulary
+pub mod Ways

@@ -2,6 +2,7 @@
 -- own: what is not asked for is not told: of a row that is in no span, what is received and what is missed, and no more.
 use Rattle.std.specs.Prelude.{ℕ, ◌+◌, ◌-◌, Bool, false, ◌&&◌, ◌==◌, is_some, nat_le, nat_lt, not, Option, None, Some}
 use Rattle.rtps_evidence.specs.Clean.{is_clean as is_clean_in, is_tail as is_tail_in}
+use Rattle.rtps_evidence.specs.declared.way.Way.{Way}
 use Rattle.rtps_receiver.specs.Said.{natural}
 use Rattle.rtps_report.specs.Reported.{is_complete}
 use Rattle.rtps_report.specs.Silences.{are_heard}
@@ -32,6 +33,11 @@ is_joined_in (Some in_span) = in_span.is_joined_here
 abbrev pub is_held_in : Option InSpan → Bool
 is_held_in None = false
 is_held_in (Some in_span) = in_span.is_held
+
+-- which way round the two recordings are by its pair; None where there is one alone, or the other one has nothing of the pair
+abbrev pub way_in : Option InSpan → Option Way
+way_in None = None
+way_in (Some in_span) = in_span.way
 
 -- how many numbers are received for certain though the other recording has none of them
 abbrev pub absent_in : Option InSpan → ℕ

@@ -36,10 +36,12 @@ use Rattle.rtps_report.specs.BestEfforts.{AreSumsOf, BestEffortValue, CountedVal
 use Rattle.rtps_report.specs.Participants.{participant_told}
 use Rattle.rtps_report.specs.Recording.{RecordingValue}
 use Rattle.rtps_report.specs.Rows.{fits_one, is_named_by}
+use Rattle.rtps_report.specs.Ways.{ways_of_counted}
 use Rattle.rtps_report.specs.declared.participant.Participant.{Participant}
 use Rattle.rtps_report.specs.declared.talk.Heard.{Heard}
 use Rattle.rtps_report.specs.declared.talk.LeftOut.{LeftOut}
 use Rattle.rtps_report.specs.declared.talk.Talk.{Talk}
+use Rattle.rtps_report.specs.declared.ways.Ways.{Ways}
 
 -- a match that is left out, and its topic
 pub record LeftOutValue : Type 0 where
@@ -52,7 +54,7 @@ left_out_value one = record { topic = one.topic.now; pair = one.pair }
 
 -- who does not talk: the host of each participant, why pairs are silent, which writers and readers do not match, which of them talk all the
 -- same, which matches are left out, who talks one way, the pairs of best effort by topic, those of them that are held against another
--- recording, what arrived of these by topic, and the participants
+-- recording, what arrived of these by topic, by how many pairs of best effort the two recordings are which way round, and the participants
 pub record TalkValue : Type 0 where
   pub hosts : GuidPrefix → Host
   pub silence : Pair → Silence
@@ -65,6 +67,7 @@ pub record TalkValue : Type 0 where
   pub held : List HeldValue
   pub held_sums : List BestEffortValue
   pub held_total : BestEffortValue
+  pub ways : Ways
   pub participants : List Participant
 
 -- that of the code, as a value
@@ -82,6 +85,7 @@ talk_value talk =
       held = map held_value talk.held.items;
       held_sums = map best_effort_value talk.held_sums.items;
       held_total = best_effort_value talk.held_total;
+      ways = talk.ways;
       participants = talk.participants.items;
     }
 
@@ -161,7 +165,8 @@ AreCounted asked other intake entries (found ∷ matches) (one ∷ counted) =
     (one.topic ≡ topic_of (settled_at entries found.pair.writer)) × IsPairCounted asked other intake found.pair one
     × AreCounted asked other intake entries matches counted
 
--- the sums of those that are counted, those of them that are held, and the sums of these by what arrived
+-- the sums of those that are counted, those of them that are held, the sums of these by what arrived, and which way round the two recordings
+-- are
 pub record AreBestEffortIn (asked : AskedValue) (other : Option OtherRecording) (intake : Intake) (traffic : Traffic) (entries : Entries) (talk : TalkValue) : Type 0 where
   pub counted : List CountedValue
   pub are_counted : AreCounted asked other intake entries (filter (is_counted asked traffic (unfit_in asked traffic entries) entries) (matches_among (settled_in entries))) counted
@@ -170,6 +175,7 @@ pub record AreBestEffortIn (asked : AskedValue) (other : Option OtherRecording) 
   pub are_held : talk.held ≡ held_among counted
   pub are_held_sums : AreSumsOf (arrived_among counted) talk.held_sums
   pub is_held_total : talk.held_total ≡ total_of (arrived_among counted)
+  pub are_ways : talk.ways ≡ ways_of_counted counted
 
 -- ---- all of it
 

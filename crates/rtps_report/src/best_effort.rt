@@ -2,7 +2,7 @@ ghost use Rattle.std.specs.Prelude.{◌≡◌, IfOk, OnOk, map};
 ghost use Rattle.rtps_report.specs.BestEfforts.{AreSumsOf, AreWithin, IsSmall, IsWithin, added_to, arrived_among as arrived_among_lem, best_effort_value, counted_value, held_among as held_among_lem, held_value, total_of as total_of_lem, with_counted as with_counted_lem};
 
 use rtps_discovery::Pair;
-use rtps_evidence::{ArrivedNumbers, Recorded};
+use rtps_evidence::{Arrived, ArrivedNumbers, Recorded};
 use rtps_ids::Memory;
 use std::alloc::Global;
 
@@ -12,8 +12,8 @@ pub(crate) struct Counted<'a> {
     pub(crate) topic: &'a [u8],
     pub(crate) pair: Pair,
     pub(crate) recorded: Recorded,
-    /// What arrived of its numbers by another recording; None where it is not held against one.
-    pub(crate) arrived: Option<ArrivedNumbers>,
+    /// What another recording has of it.
+    pub(crate) arrived: Arrived,
 }
 
 /// A pair of best effort that is held against another recording.
@@ -145,7 +145,7 @@ pub(crate) fn held_among<'a>(
 {
     let mut held = Vec::new(alloc);
     for one in counted {
-        if let Some(arrived) = one.arrived {
+        if let Some(arrived) = one.arrived.numbers {
             held.push(HeldPair {
                 topic: one.topic,
                 pair: one.pair,
@@ -166,7 +166,7 @@ pub(crate) fn arrived_among<'a>(
 {
     let mut held = Vec::new(alloc);
     for one in counted {
-        if let Some(arrived) = one.arrived {
+        if let Some(arrived) = one.arrived.numbers {
             let recorded = Recorded {
                 numbers: one.recorded.numbers,
                 recorded: arrived.arrived,

@@ -4,6 +4,7 @@ ghost use Rattle.rtps_report.specs.Findings.{are_none, ending_by, few_of as few_
 
 use crate::asked::Asked;
 use crate::best_effort::BestEffortNumbers;
+use crate::order::Order;
 use crate::recording::{Links, Reasons, known, no_links};
 use rtps_audit::Counts;
 
@@ -42,6 +43,10 @@ pub struct Findings {
     pub links: Links,
     /// Writers and readers of one topic that do not match.
     pub unmatched: u64,
+    /// Pairs that are the wrong way round, where the two recordings look swapped.
+    pub swapped: u128,
+    /// One recording was given twice.
+    pub twice: bool,
 }
 
 /// What is known of a report, to hold it against what was asked.
@@ -56,6 +61,8 @@ pub struct Facts {
     pub unmatched: u64,
     /// Its pairs of best effort.
     pub best_effort: BestEffortNumbers,
+    /// In which order two recordings were given.
+    pub order: Order,
 }
 
 impl Findings {
@@ -72,6 +79,8 @@ impl Findings {
             cut: 0,
             links: no_links(),
             unmatched: 0,
+            swapped: 0,
+            twice: false,
         }
     }
 
@@ -87,6 +96,8 @@ impl Findings {
             && self.cut == 0
             && self.links.number == 0
             && self.unmatched == 0
+            && self.swapped == 0
+            && !self.twice
     }
 }
 
@@ -122,6 +133,8 @@ fn findings_of(asked: &Asked<'_>, facts: &Facts) -> Findings
         cut: reasons.cut,
         links: reasons.links,
         unmatched: facts.unmatched,
+        swapped: facts.order.swapped(),
+        twice: facts.order.is_given_twice(),
     }
 }
 

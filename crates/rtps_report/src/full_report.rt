@@ -12,6 +12,7 @@ ghost use Rattle.rtps_report.specs.Talk.{IsKeptOf, IsTalkAs, talk_value, traffic
 
 use crate::asked::Asked;
 use crate::findings::{Ending, ending_of};
+use crate::order::{Order, order_by};
 use crate::reader_side::{beside, side_by};
 use crate::recording::{Recording, datagrams_of};
 use crate::row_facts::facts_of;
@@ -46,6 +47,8 @@ pub struct FullReport<'a> {
     pub explained: Explained<'a>,
     /// Who does not talk.
     pub talk: Talk<'a>,
+    /// In which order the two recordings were given.
+    pub order: Order,
     /// How a run ends that tells of it.
     pub ending: Ending,
 }
@@ -153,7 +156,8 @@ pub fn report_on<'a, P: Watch>(
         times: recording.times(),
     };
     let explained = explained_of(alloc, &sides, asked, &talk, watch)?;
-    let told = (talk.unmatched.len(), talk.best_effort_total.told());
+    let order = order_by(alloc, subject, &explained.rows, talk.ways)?;
+    let told = (talk.unmatched.len(), talk.best_effort_total.told(), order);
     let facts = facts_of(asked, &explained, recording, told);
     let ending = ending_of(asked, &facts);
     Ok(FullReport {
@@ -163,6 +167,7 @@ pub fn report_on<'a, P: Watch>(
         index,
         explained,
         talk,
+        order,
         ending,
     })
 }

@@ -1,11 +1,11 @@
 //! Laws of the definitions, each the contract of a function that does nothing.
 
-ghost use Rattle.rtps_report.specs.Laws.{AuditedRowsAreExact, EachMatchIsTold, ExplainedRowsAreExact, HasOneFullReport, ReportedRowsAreExact};
+ghost use Rattle.rtps_report.specs.Laws.{AuditedRowsAreExact, EachMatchIsTold, ExplainedRowsAreExact, HasOneFullReport, ReportedRowsAreExact, ReportedUnansweredIsByItsWords};
 ghost use Rattle.rtps_report.specs.Patterns.{FitsAsFilled};
 
 use rtps_audit::laws::first_datagrams_say_the_same;
 use rtps_discovery::laws::{matches_and_pairs, one_map};
-use rtps_evidence::laws::pairs_have_one_explanation;
+use rtps_evidence::laws::{pairs_have_one_explanation, unanswered_is_by_its_words};
 use rtps_fragments::laws::{first_datagrams_decide, first_datagrams_tell_the_same};
 
 /// A topic fits a pattern exactly where it is the pattern with some octets in the place of each `*`.
@@ -24,6 +24,14 @@ pub fn rows_are_exact()
     first_datagrams_say_the_same();
     first_datagrams_decide();
     first_datagrams_tell_the_same();
+}
+
+/// An unanswered number of a report is what its words say, with no walk: of the acts of a recording, or of its first datagrams, and where
+/// fragments are read of the samples among them.
+pub fn reported_unanswered_is_by_its_words()
+    ensures { ReportedUnansweredIsByItsWords }
+{
+    unanswered_is_by_its_words();
 }
 
 /// What is told of a recording is decided by the recording and by what is asked.

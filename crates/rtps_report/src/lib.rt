@@ -14,6 +14,7 @@ mod full_report;
 pub mod laws;
 mod naming_walk;
 mod note_facts;
+mod order;
 mod participant;
 mod pattern;
 mod presence;
@@ -27,6 +28,8 @@ mod silences;
 mod talk;
 mod topics;
 mod totals;
+mod twice;
+mod ways;
 
 pub use advice::{Advice, Scope, advice_of};
 pub use asked::Asked;
@@ -37,13 +40,14 @@ pub use datagram_span::{DatagramSpan, make_room, push_octets};
 pub use findings::{Ending, Facts, FewRows, Findings, ending_of};
 pub use full_report::{FullReport, Subject, report_on};
 pub use note_facts::{NoteFacts, notes_on, scope_of};
+pub use order::Order;
 pub use participant::{Participant, are_on_one_host};
 pub use pattern::fits;
 pub use presence::Stay;
 pub use recording::{Links, Reasons, Recording, datagrams_of};
 pub use row_facts::{
     absent_of, asked_about, is_clean, is_clean_tail, is_complete, is_held, is_late, is_noted,
-    is_tail_alone, left_at, number_of, outcomes_of, row_from,
+    is_tail_alone, left_at, number_of, outcomes_of, row_from, way_of,
 };
 pub use rtps_audit::{Unwatched, Watch};
 pub use rtps_evidence::{Seconds, Times};

@@ -129,6 +129,13 @@ impl Recording {
         self.list.datagrams()
     }
 
+    /// How many datagrams it has.
+    pub(crate) fn len(&self) -> usize
+        ensures { result ≡ length self.now.datagrams }
+    {
+        self.list.len()
+    }
+
     /// When its datagrams came; there are no times of a text.
     pub fn times(&self) -> &Times
         ensures { result.now ≡ self.now.times }

@@ -5,15 +5,16 @@ ghost use Rattle.rtps_evidence.specs.Explanation.{evidence_value, explanation_va
 ghost use Rattle.rtps_report.specs.Asked.{asked_value};
 ghost use Rattle.rtps_report.specs.FullReport.{facts_with, is_met as is_met_lem};
 ghost use Rattle.rtps_report.specs.Reported.{is_complete as completes, number_of as number_of_lem};
-ghost use Rattle.rtps_report.specs.RowFacts.{absent_in, asked_about as asked_about_lem, is_certain as is_certain_lem, is_clean as is_clean_lem, is_clean_tail as is_clean_tail_lem, is_held_in, is_joined_in, is_late as is_late_lem, is_noted as is_noted_lem, is_tail as is_tail_lem, is_tail_alone as is_tail_alone_lem, left_in, outcomes_of as outcomes_of_lem, row_from as row_from_lem, wrote_before_in};
+ghost use Rattle.rtps_report.specs.RowFacts.{absent_in, asked_about as asked_about_lem, is_certain as is_certain_lem, is_clean as is_clean_lem, is_clean_tail as is_clean_tail_lem, is_held_in, is_joined_in, is_late as is_late_lem, is_noted as is_noted_lem, is_tail as is_tail_lem, is_tail_alone as is_tail_alone_lem, left_in, outcomes_of as outcomes_of_lem, row_from as row_from_lem, way_in, wrote_before_in};
 
 use crate::asked::Asked;
 use crate::best_effort::BestEffortNumbers;
 use crate::findings::Facts;
+use crate::order::Order;
 use crate::recording::Recording;
 use crate::silences::Silences;
 use rtps_audit::Verdict;
-use rtps_evidence::{Announcement, Evidence, Explained, Explanation, Outcomes};
+use rtps_evidence::{Announcement, Evidence, Explained, Explanation, Outcomes, Way};
 
 /// Whether each number that is asked about is acknowledged.
 pub fn is_complete(verdict: &Verdict) -> bool
@@ -88,6 +89,16 @@ pub fn is_held(evidence: &Evidence<'_>) -> bool
     match &evidence.in_span {
         Some(in_span) => in_span.is_held,
         None => false,
+    }
+}
+
+/// Which way round the two recordings are by the pair of a row; None where there is one alone, or the other one has nothing of it.
+pub fn way_of(evidence: &Evidence<'_>) -> Option<Way>
+    ensures { result ≡ way_in evidence.now.in_span }
+{
+    match &evidence.in_span {
+        Some(in_span) => in_span.way,
+        None => None,
     }
 }
 
@@ -199,16 +210,17 @@ fn are_met(asked: &Asked<'_>, rows: &[Explanation<'_>]) -> bool
     true
 }
 
-/// What is known of a report, and that so many writers and readers do not match, and pairs of best effort have so many numbers.
+/// What is known of a report, and that so many writers and readers do not match, pairs of best effort have so many numbers, and two
+/// recordings were given in this order.
 pub(crate) fn facts_of(
     asked: &Asked<'_>,
     explained: &Explained<'_>,
     recording: &Recording,
-    told: (usize, BestEffortNumbers),
+    told: (usize, BestEffortNumbers, Order),
 ) -> Facts
-    ensures { result ≡ facts_with told.0 told.1 (asked_value asked.now) (map explanation_value explained.now.rows.items) explained.now.counts recording.now }
+    ensures { result ≡ facts_with told.0 told.1 told.2 (asked_value asked.now) (map explanation_value explained.now.rows.items) explained.now.counts recording.now }
 {
-    let (unmatched, best_effort) = told;
+    let (unmatched, best_effort, order) = told;
     Facts {
         rows: explained.rows.len() as u64,
         met: are_met(asked, &explained.rows),
@@ -216,5 +228,6 @@ pub(crate) fn facts_of(
         reasons: recording.reasons(),
         unmatched: unmatched as u64,
         best_effort,
+        order,
     }
 }

@@ -4,14 +4,15 @@ ghost use Rattle.rtps_report.specs.FullReport.{report_value};
 ghost use Rattle.rtps_report.specs.SideFacts.{facts_beside as facts_beside_lem, numbers_absent as numbers_absent_lem, rows_absent as rows_absent_lem, rows_alone as rows_alone_lem, side_facts};
 
 use crate::full_report::FullReport;
+use crate::order::Order;
 use crate::recording::{Links, Recording, known};
-use crate::row_facts::{absent_of, is_held};
+use crate::row_facts::{absent_of, way_of};
 use rtps_evidence::Explanation;
 
 /// What is told of another recording against which rows are held, in numbers.
 #[derive(Clone, Copy)]
 pub struct SideFacts {
-    /// The rows that are not held against it.
+    /// The rows of which it has nothing.
     pub alone: u64,
     /// The rows of which numbers are received for certain though it has none of them.
     pub absent_pairs: u64,
@@ -21,15 +22,17 @@ pub struct SideFacts {
     pub pieces: u64,
     pub cut: u64,
     pub links: Links,
+    /// In which order the two were given.
+    pub order: Order,
 }
 
-/// How many rows are not held.
+/// Of how many rows the other recording has nothing.
 fn rows_alone(rows: &[Explanation<'_>]) -> u64
     ensures { result ≡ rows_alone_lem (map explanation_value rows.now) }
 {
     let mut alone = 0;
     for row in rows {
-        if !is_held(&row.evidence) {
+        if way_of(&row.evidence).is_none() {
             alone += 1;
         }
     }
@@ -60,9 +63,9 @@ fn numbers_absent(rows: &[Explanation<'_>]) -> u128
     absent
 }
 
-/// What is told of these rows, and of the recording against which they are held.
-fn facts_beside(rows: &[Explanation<'_>], other: &Recording) -> SideFacts
-    ensures { result ≡ facts_beside_lem (map explanation_value rows.now) other.now }
+/// What is told of these rows, and of the recording against which they are held, where the two were given in this order.
+fn facts_beside(rows: &[Explanation<'_>], order: Order, other: &Recording) -> SideFacts
+    ensures { result ≡ facts_beside_lem (map explanation_value rows.now) order other.now }
 {
     let reasons = known(other.reasons());
     SideFacts {
@@ -72,6 +75,7 @@ fn facts_beside(rows: &[Explanation<'_>], other: &Recording) -> SideFacts
         pieces: reasons.pieces,
         cut: reasons.cut,
         links: reasons.links,
+        order,
     }
 }
 
@@ -80,7 +84,7 @@ pub fn facts_of_side(report: &FullReport<'_>) -> Option<SideFacts>
     ensures { result ≡ side_facts (report_value report.now) }
 {
     match report.arrived {
-        Some(other) => Some(facts_beside(&report.explained.rows, other)),
+        Some(other) => Some(facts_beside(&report.explained.rows, report.order, other)),
         None => None,
     }
 }

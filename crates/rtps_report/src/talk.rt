@@ -27,6 +27,7 @@ use crate::participant::{Participant, is_silent, joined_of};
 use crate::presence::Presences;
 use crate::rows::{are_observed, fits_one};
 use crate::topics::topic_of;
+use crate::ways::{Ways, ways_of_counted};
 use rtps_audit::{Index, Placed};
 use rtps_discovery::{Directory, Match, Pair};
 use rtps_evidence::{
@@ -66,6 +67,8 @@ pub struct Talk<'a> {
     pub held_sums: Vec<BestEffort<'a>>,
     /// What arrived of all of them.
     pub held_total: BestEffort<'a>,
+    /// By how many pairs of best effort the two recordings are which way round.
+    pub(crate) ways: Ways,
     /// Those that are announced, by GUID.
     pub participants: Vec<Participant>,
 }
@@ -347,6 +350,7 @@ pub(crate) fn talk_in<'a>(alloc: Global, heard: &Heard<'_, 'a, '_, '_>) -> Resul
         held: Vec::new(alloc),
         held_sums: Vec::new(alloc),
         held_total: total_of(&[]),
+        ways: Ways::none(),
         announced,
         namings,
         participants,
@@ -358,6 +362,7 @@ pub(crate) fn talk_in<'a>(alloc: Global, heard: &Heard<'_, 'a, '_, '_>) -> Resul
     talk.left_out = left_out_of(alloc, &talk, heard, &matched)?;
     let mut counted = counted_of(alloc, &talk, heard, &matched)?;
     talk.best_effort_total = total_of(&counted);
+    talk.ways = ways_of_counted(&counted);
     talk.held = held_among(alloc, &counted)?;
     let mut arrived = arrived_among(alloc, &counted)?;
     talk.held_total = total_of(&arrived);

@@ -1,4 +1,4 @@
-use Rattle.std.proofs.Common.{◌≡◌, ◌++◌, ◌∙◌, ℕ, List, Option, ap, ap₂, filter, map, refl, subst, sym}
+use Rattle.std.proofs.Common.{◌≡◌, ◌++◌, ◌∙◌, ℕ, List, ap, ap₂, filter, map, refl, subst, sym}
 use Rattle.std.specs.Cmp.{IsTotalOrder}
 use Rattle.std.specs.Cmp.Lexicographic.{slice_cmp}
 use Rattle.std.specs.Ordering.{nat_cmp, ordering_then}
@@ -86,7 +86,7 @@ text_once asked recording one other text last same is also =
     let scope : scope_of asked recording one ≡ scope_of asked recording other = ap scope_by same.counts in
     let facts : note_facts asked recording one ≡ note_facts asked recording other =
     ap₂ (λ (rows : List ExplanationValue) (counts : Counts). facts_by rows (scope_by counts) counts recording) same.rows same.counts in
-    let side : side_facts one ≡ side_facts other = ap₂ (λ (rows : List ExplanationValue) (arrived : Option RecordingValue). facts_if rows arrived) same.rows same.arrived in
+    let side : side_facts one ≡ side_facts other = λ i. facts_if (same.rows i) (same.order i) (same.arrived i) in
     let talk = same_talk one.talk other.talk same.talk in
     let beside : beside_of asked recording one (talking_names is.talking) is.left_out ≡ beside_of asked recording other (talking_names also.talking) also.left_out =
     λ i. record (beside_of asked recording one (talking_names is.talking) is.left_out) { facts = facts i; side = side i; talking = talking_names (talking i); left_out = left_out i; talk = talk i; ending = same.ending i } in

@@ -17,7 +17,8 @@ use Rattle.rtps_report.specs.declared.findings.FewRows.{FewRows}
 use Rattle.rtps_report.specs.declared.findings.Findings.{Findings}
 use Rattle.rtps_report.specs.declared.advice.Scope.{Scope}
 use Rattle.rtps_report.specs.declared.totals.Totals.{Totals}
-use Rattle.rtps_lines.specs.Causes.{cause, causes_of, empty_cause, few_cause, findings_in, incomplete_words, lossy_cause, lost_cause, lost_words, missed_words, row_causes, unanswered_words, uncertain_of, uncertain_words, unsent_words}
+use Rattle.rtps_lines.specs.Causes.{cause, causes_of, empty_cause, few_cause, findings_in, incomplete_words, lossy_cause, lost_cause, lost_words, missed_words, order_causes, row_causes, unanswered_words, uncertain_of, uncertain_words, unsent_words}
+use Rattle.rtps_lines.specs.WayNotes.{swapped_cause, twice_cause}
 use Rattle.rtps_parts.specs.Parts.{WordsValue}
 use Rattle.rtps_check.specs.CheckText.{TellsWhyUnclean}
 use Rattle.rtps_check.proofs.laws.unclean_has_a_reason.Goals as goal
@@ -324,13 +325,19 @@ not_few : (few : Option FewRows) → few_cause few ≡ [] → is_none few ≡ tr
 not_few None e = refl
 not_few (Some few) e = absurd (omega (arith, ap length e))
 
+not_twice : (twice : Bool) → twice_cause twice ≡ [] → not twice ≡ true
+not_twice true e = absurd (omega (arith, ap length e))
+not_twice false e = refl
+
 -- no reason: nothing is found, and the rows give none
 nothing_found : (certain : Bool) (totals : Totals) (findings : Findings) → causes_of certain totals findings ≡ [] → are_none findings ≡ true
 nothing_found certain totals findings e =
     let empty = both_empty (empty_cause findings.empty) _ e in
     let rows = both_empty (row_causes totals certain) _ empty.1 in
     let unmatched = both_empty _ _ rows.1 in
-    let lossy = both_empty (lossy_cause findings.lossy) _ unmatched.1 in
+    let order = both_empty (order_causes findings) _ unmatched.1 in
+    let swapped = both_empty (swapped_cause findings.swapped) _ order.0 in
+    let lossy = both_empty (lossy_cause findings.lossy) _ order.1 in
     let few = both_empty (few_cause findings.few) _ lossy.1 in
     let unsettled = both_empty _ _ few.1 in
     let pieces = both_empty _ _ unsettled.1 in
@@ -341,7 +348,9 @@ nothing_found certain totals findings e =
     (and_from _ _ (if_some (findings.unsettled == 0) _ unsettled.0)
     (and_from _ _ (if_some (findings.pieces == 0) _ pieces.0)
     (and_from _ _ (if_some (findings.cut == 0) _ cut.0)
-    (and_from _ _ (if_some (findings.links.number == 0) _ cut.1) (if_some (findings.unmatched == 0) _ unmatched.0)))))))
+    (and_from _ _ (if_some (findings.links.number == 0) _ cut.1)
+    (and_from _ _ (if_some (findings.unmatched == 0) _ unmatched.0)
+    (and_from _ _ (if_some (findings.swapped == 0) _ swapped.0) (not_twice findings.twice swapped.1)))))))))
 
 -- ---- the law
 
@@ -360,8 +369,8 @@ by_found certain totals findings met false is all some found = (
 )
 
 clean_without_reasons : TellsWhyUnclean
-clean_without_reasons unmatched best_effort asked unread rows counts recording =
-    let findings = findings_of asked (facts_with unmatched best_effort asked rows counts recording) in
+clean_without_reasons unmatched best_effort order asked unread rows counts recording =
+    let findings = findings_of asked (facts_with unmatched best_effort order asked rows counts recording) in
     let totals = totals_of (record { from = asked.from; tail = asked.tail; unread = unread }) rows in
     by_found asked.certain totals findings (list_all (λ (row : ExplanationValue). is_met_by asked.from asked.tail asked.certain row.evidence) rows) (are_none findings) refl
     (met_without_reasons asked.certain asked.tail asked.from unread rows) (not_met_has_a_reason asked.certain asked.tail asked.from unread rows)

@@ -33,7 +33,7 @@ loop-row-preserved g c =
             span = judgement.span;
             extent = subst (λ (p : Pair). IsExtent extent.in_spans extent.from p intake judgement.span) (sym c.in_ok-judgement.ensures.pair) (c.in_ok-judgement.ensures.extent intake are.index);
             shown = c.in_ok-evidence.ensures.shown intake beside are (known intake are.index) its_verdict;
-            in_span = subst (λ b. IsBeside b beside judgement.span judgement.pair (datagrams_until judgement.span.until intake.acts) evidence.in_span) c.in_ok-judgement.ensures.in_spans (c.in_ok-evidence.ensures.beside intake beside are (known intake are.index) its_verdict);
+            in_span = subst (λ b. IsBeside b beside judgement.span judgement.pair intake.acts (datagrams_until judgement.span.until intake.acts) evidence.in_span) c.in_ok-judgement.ensures.in_spans (c.in_ok-evidence.ensures.beside intake beside are (known intake are.index) its_verdict);
           })));
       known = known;
     }

@@ -18,7 +18,7 @@ returns c = λ intake beside are.
     let said = c.until-said.ensures intake are.index in
     let arrivals = c.in_ok-arrivals.arrivals in
     let stretches = arrivals.numbers.items in
-    let there = c.in_ok-arrivals.ensures beside.other are.other in
+    let there = c.in_ok-arrivals.ensures intake beside are in
     let asked = c.sent_from-asked.result in
     let begins : c.get-from.result ≡ asked.from = c.get-from.ensures.value in
     let last : asked.last ≡ max (greatest_sent pair.writer own) (asked.from - 1) =
@@ -28,9 +28,10 @@ returns c = λ intake beside are.
     record {
       span = span;
       is_extent = c.span_of-span.ensures intake are.index;
+      way = there.way_is;
       arrived = (
         sym there.holds ∙ c.if-not-arrivals.false,
-        arrived_among pair.writer (placed_in (datagrams_until span.until intake.acts)) own stretches (is_there beside.other pair) span.from asked.from asked.last
+        arrived_among pair.writer (placed_in (datagrams_until span.until intake.acts)) own stretches (is_there intake.acts beside.other pair) span.from asked.from asked.last
             (record { arrived = c.in_ok-arrived.arrived; lacking = c.in_ok-lacking.lacking }) said.acts c.sent_from-asked.ensures.from asked.in_range.0 last there.numbers
             (c.in_ok-arrived.ensures.count ∙ ap (λ n. count_in (stretches_have stretches) n (asked.last + 1)) begins) (c.in_ok-lacking.ensures ∙ ap kept same),
       );

@@ -33,12 +33,12 @@ acts_are say tell Read until recording = tell until recording
 
 -- the first number and the datagram of a row are those of its span
 row_first : (spans : Bool) (from : ℕ) (beside : Beside) (pair : Pair) (intake : Intake) (span : Span) (acts : List (List ActValue)) (found : Option InSpan)
-    → IsExtent spans from pair intake span → IsBeside spans beside span pair acts found → row_from from found ≡ span.from
+    → IsExtent spans from pair intake span → IsBeside spans beside span pair intake.acts acts found → row_from from found ≡ span.from
 row_first true from beside pair intake span acts found extent (in_span, is, shown) = ap (row_from from) is ∙ shown.first
 row_first false from beside pair intake span acts found extent is = ap (row_from from) is ∙ sym extent.first
 
 row_until : (spans : Bool) (from : ℕ) (beside : Beside) (pair : Pair) (intake : Intake) (span : Span) (acts : List (List ActValue)) (found : Option InSpan)
-    → IsExtent spans from pair intake span → IsBeside spans beside span pair acts found → left_in found ≡ span.until
+    → IsExtent spans from pair intake span → IsBeside spans beside span pair intake.acts acts found → left_in found ≡ span.until
 row_until true from beside pair intake span acts found extent (in_span, is, shown) = ap left_in is ∙ shown.until
 row_until false from beside pair intake span acts found extent is = ap left_in is ∙ sym extent.until
 
@@ -57,8 +57,8 @@ module _ (say : FirstDatagramsSayTheSame) (tell : FirstDatagramsTellTheSame) (pl
         extent = is.extent;
         first = first;
         until = until;
-        shown = subst (λ (those : List (List ActValue)). IsShown (is_there beside.other row.pair) is.span.from (since_of is.span) row.pair those row.evidence) same is.shown;
-        in_span = subst (λ (those : List (List ActValue)). IsBeside spans beside is.span row.pair those row.evidence.in_span) same is.in_span;
+        shown = subst (λ (those : List (List ActValue)). IsShown (is_there intake.acts beside.other row.pair) is.span.from (since_of is.span) row.pair those row.evidence) same is.shown;
+        in_span = subst (λ (those : List (List ActValue)). IsBeside spans beside is.span row.pair intake.acts those row.evidence.in_span) same is.in_span;
       }
 
   exact_rows : (spans : Bool) (asked : AskedAudit) (beside : Beside) (recording : List (List ℕ)) (rows : List Explanation)

@@ -6,7 +6,8 @@ use Rattle.rtps_policies.specs.declared.unmatched.Unmatched.{Unmatched}
 use Rattle.rtps_discovery.specs.declared.matching.Match.{Match}
 use Rattle.rtps_report.specs.Asked.{asked_value}
 use Rattle.rtps_report.specs.BestEfforts.{AreSumsOf, CountedValue, arrived_among, best_effort_value, counted_value, held_among, total_of}
-use Rattle.rtps_report.specs.Talk.{AreCounted, AreUnfit, IsKeptOf, is_counted_of, is_left_out_of, left_out_of, talks, traffic_of}
+use Rattle.rtps_report.specs.Talk.{AreCounted, AreUnfit, IsHeardIn, IsKeptOf, is_counted_of, is_left_out_of, left_out_of, left_out_value, talks, traffic_of, unfit_in}
+use Rattle.rtps_report.specs.Ways.{ways_of_counted}
 use Rattle.rtps_report.specs.declared.best_effort.Counted.{Counted}
 use Rattle.rtps_report.specs.declared.talk.Talk.{Talk}
 use Rattle.rtps_report.proofs.TalkLemmas.{heard_announced, kept_is, talk_is}
@@ -26,7 +27,7 @@ returns-clause-talks c = λ other is.
     let parted = c.in_ok-parted.ensures intake is.index in
     let counted = map counted_value c.in_ok-counted.counted.items in
     let arrived : map counted_value c.in_ok-arrived.arrived.items ≡ arrived_among counted =
-    c.in_ok-arrived.ensures ∙ ap (λ (items : List Counted). arrived_among (map counted_value items)) c.deref-6.ensures.value in
+    c.in_ok-arrived.ensures ∙ ap (λ (items : List Counted). arrived_among (map counted_value items)) c.deref-7.ensures.value in
     let talk : Talk = record {
       announced = c.in_ok-announced.announced;
       namings = c.in_ok-namings.namings;
@@ -40,6 +41,7 @@ returns-clause-talks c = λ other is.
       held = c.in_ok-talk-2.field-0;
       held_sums = c.in_ok-talk-3.field-0;
       held_total = c.total_of-talk-2.result;
+      ways = c.ways_of_counted-talk.result;
       participants = c.in_ok-participants.participants;
     } in
     let kept : IsKeptOf asked intake traffic entries talk =
@@ -53,9 +55,10 @@ returns-clause-talks c = λ other is.
     (c.in_ok-counted.ensures intake other is.index is.beside))
     c.in_ok-talk-4.ensures
     (c.total_of-talk.ensures ∙ ap (λ (items : List Counted). total_of (map counted_value items)) c.deref-4.ensures.value)
-    (c.in_ok-talk-2.ensures ∙ ap (λ (items : List Counted). held_among (map counted_value items)) c.deref-5.ensures.value)
+    (c.in_ok-talk-2.ensures ∙ ap (λ (items : List Counted). held_among (map counted_value items)) c.deref-6.ensures.value)
     (subst (λ (counted : List CountedValue). AreSumsOf counted (map best_effort_value c.in_ok-talk-3.field-0.items)) arrived c.in_ok-talk-3.ensures)
-    (c.total_of-talk-2.ensures ∙ ap (λ (items : List Counted). total_of (map counted_value items)) c.deref-7.ensures.value ∙ ap total_of arrived)
+    (c.total_of-talk-2.ensures ∙ ap (λ (items : List Counted). total_of (map counted_value items)) c.deref-8.ensures.value ∙ ap total_of arrived)
+    (c.ways_of_counted-talk.ensures ∙ ap (λ (items : List Counted). ways_of_counted (map counted_value items)) c.deref-5.ensures.value)
     (c.in_ok-participants.ensures intake is.index is.announcements announced)
 
 pub returns-clause-kept : goal.returns-clause-kept

@@ -1,5 +1,8 @@
-use Rattle.rtps_audit.proofs.ExactVerdicts.{exact_row}
+use Rattle.std.proofs.Common.{subst}
+use Rattle.std.specs.Prelude.{IfOk}
+use Rattle.rtps_audit.specs.Delivered.{IsExactVerdictFrom}
+use Rattle.rtps_audit.specs.Speech.{speech_by}
 use Rattle.rtps_audit.proofs.index.Index.judge_from.Goals as goal
 
 pub returns : goal.returns
-returns c = λ intake is. exact_row c.args.from intake.acts c.args.pair c.in_ok-rows.rows.items c.index.result.now c.index.ensures c.in_ok-rows.ensures.pairs (c.in_ok-rows.ensures.judged intake is)
+returns c = λ intake is. subst (λ from. IfOk c.judge_until.result (IsExactVerdictFrom from (speech_by c.args.pair.writer c.args.pair.reader intake.acts))) c.of.ensures (c.judge_until.ensures intake is)

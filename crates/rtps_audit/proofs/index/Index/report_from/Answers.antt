@@ -9,7 +9,7 @@ returns g c = λ intake is.
     (record {
       directory = _;
       is_map = is.directory;
-      pairs = c.in_ok-rows.ensures.pairs ∙ c.deref.ensures.value ∙ c.in_ok-pairs.ensures;
-      judged = c.in_ok-rows.ensures.judged intake is;
+      pairs = (c.in_ok-rows.ensures intake is).pairs_are ∙ c.deref.ensures.value ∙ c.in_ok-pairs.ensures;
+      judged = (c.in_ok-rows.ensures intake is).judged;
       counts = c.counts_with.ensures ∙ is.counts _ ∙ ap (counts_of intake) c.unsettled.ensures;
     })

@@ -7,11 +7,11 @@ use Rattle.rtps_audit.proofs.payload_conflict.PayloadConflicts.least_for.Goals a
 use Rattle.rtps_audit.proofs.payload_conflict.PayloadConflicts.least_for.Goals.{then-has+else-is_another, else-has}
 
 pub returns-then-is_another-clause-conflict : goal.returns-then-is_another-clause-conflict
-returns-then-is_another-clause-conflict c = λ from writer placed known writers.
+returns-then-is_another-clause-conflict c = λ from wanted writer placed known writers asks two_wanted.
     let xs = c.args.self.now.payloads.items in
     let within : c.loop-place.place < length xs = omega (arith, c.loop-place-test.true, c.len-place-end.ensures) in
     let least = heard_least xs c.loop-place.place c.args.reader c.loop-place.before c.index-here.result.now c.args.self.now.sorted within c.index-here.ensures (sym c.has.ensures ∙ c.if-has.true) (c.is_another.ensures.0 (search rules)) c.loop-place.invariant in
-    record { holds = two_heard from xs writer c.args.reader placed _ known writers least.holds; least = λ m two. least.least m (two_kept from xs writer c.args.reader placed m known two) }
+    record { holds = two_heard from wanted xs writer c.args.reader placed _ known writers asks least.holds; least = λ m two. least.least m (two_kept from wanted xs writer c.args.reader placed m known (two_wanted m two) two) }
 
 pub loop-place-preserved : goal.loop-place-preserved
 loop-place-preserved c =
@@ -30,8 +30,8 @@ loop-place-preserved c =
     ]
 
 pub returns-clause-conflict : goal.returns-clause-conflict
-returns-clause-conflict c = λ from writer placed known writers n two.
+returns-clause-conflict c = λ from wanted writer placed known writers asks two_wanted n two.
     let xs = c.args.self.now.payloads.items in
     let all : take c.loop-place.place xs ≡ xs = take_all c.loop-place.place xs (omega (arith, c.loop-place-test.false, c.len-place-end.ensures)) in
     let agree = subst (λ l. IsHeardSoFar l c.args.reader c.loop-place.before) all c.loop-place.invariant in
-    agree.agree n (two_kept from xs writer c.args.reader placed n known two)
+    agree.agree n (two_kept from wanted xs writer c.args.reader placed n known (two_wanted n two) two)

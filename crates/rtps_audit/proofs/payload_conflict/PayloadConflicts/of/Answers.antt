@@ -2,7 +2,7 @@ use Rattle.std.proofs.Common.{map, rules, subst, sym}
 use Rattle.std.specs.List.{All}
 use Rattle.std.specs.List.Sorted.{IsNonDecreasingBy}
 use Rattle.std.proofs.lemmas.List.Sorted.{All-permutation, IsNonDecreasingBy-from_sort_by_key}
-use Rattle.rtps_audit.specs.PayloadConflict.{AreConflictsAmong, IsInRange, number_in}
+use Rattle.rtps_audit.specs.PayloadConflict.{asks_for, AreConflictsAmong, IsInRange, number_in}
 use Rattle.rtps_audit.specs.Placed.{placed_value}
 use Rattle.rtps_audit.proofs.PayloadHearing.{sent_moved}
 use Rattle.rtps_audit.proofs.payload_conflict.PayloadConflicts.of.Goals as goal
@@ -13,9 +13,9 @@ among-requires-clause-sorted c = subst (IsNonDecreasingBy number_in) (sym c.dere
 pub among-requires-clause-in_range : goal.among-requires-clause-in_range
 among-requires-clause-in_range c = subst (All IsInRange) (sym c.deref.ensures.value) (All-permutation IsInRange _ _ c.in_ok-sort_by_key.ensures.permutation c.in_ok-entries.ensures.in_range)
 
-pub returns-clause-conflicts : goal.returns-clause-conflicts
-returns-clause-conflicts c = record {
+pub returns : goal.returns
+returns c = record {
   entries = c.sort_by_key.new.self.items;
-  sent = sent_moved c.args.from (map placed_value c.args.acts.now) _ _ c.in_ok-sort_by_key.ensures.permutation c.in_ok-entries.ensures.sent;
+  sent = sent_moved (asks_for c.args.questions) (map placed_value c.args.acts.now) _ _ c.in_ok-sort_by_key.ensures.permutation c.in_ok-entries.ensures.sent;
   conflicts = subst (λ l. AreConflictsAmong l c.in_ok-conflicts.conflicts.payloads.items) c.deref.ensures.value c.in_ok-conflicts.ensures;
 }

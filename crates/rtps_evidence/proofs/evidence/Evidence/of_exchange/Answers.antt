@@ -74,8 +74,8 @@ returns c =
             missed = subst (λ n. AreMissed there asked.from n since writer reader all c.in_ok-missed-2.missed) (last recording summary) (c.in_ok-missed-2.ensures recording there is has (missed recording is summary judged));
             grounds = c.grounds_of.ensures recording is;
           });
-      beside = λ recording beside is summary judged there times.
-          c.in_ok-in_span.ensures recording beside is there times (last recording summary)
+      beside = λ whole recording beside is summary judged there times.
+          c.in_ok-in_span.ensures whole recording beside is there times (last recording summary)
           (λ n low high. ap (λ l. stretches_have l n) c.deref-2.ensures.value ∙ lacking recording is summary judged n low high)
           (λ n low high. ap (λ l. stretches_have l n) c.deref-3.ensures.value ∙ missed recording is summary judged n low high);
     }

@@ -19,8 +19,8 @@ returns c = λ intake is.
     record {
       span = judgement.span;
       extent = c.in_ok-judgement.ensures.extent intake is;
-      shown = subst (λ (p : Pair). IsShown (is_there alone.other p) judgement.span.from (since_of judgement.span) p recording evidence) same (c.in_ok-evidence.ensures.shown intake alone (record { index = is; other = tt; times = ap (λ (t : TimesValue). t.of_datagrams) c.none-times.ensures }) summed verdict);
-      in_span = subst (λ (p : Pair). IsBeside false alone judgement.span p recording evidence.in_span) same
-          (subst (λ b. IsBeside b alone judgement.span judgement.pair recording evidence.in_span) c.in_ok-judgement.ensures.in_spans
+      shown = subst (λ (p : Pair). IsShown (is_there intake.acts alone.other p) judgement.span.from (since_of judgement.span) p recording evidence) same (c.in_ok-evidence.ensures.shown intake alone (record { index = is; other = tt; times = ap (λ (t : TimesValue). t.of_datagrams) c.none-times.ensures }) summed verdict);
+      in_span = subst (λ (p : Pair). IsBeside false alone judgement.span p intake.acts recording evidence.in_span) same
+          (subst (λ b. IsBeside b alone judgement.span judgement.pair intake.acts recording evidence.in_span) c.in_ok-judgement.ensures.in_spans
           (c.in_ok-evidence.ensures.beside intake alone (record { index = is; other = tt; times = ap (λ (t : TimesValue). t.of_datagrams) c.none-times.ensures }) summed verdict));
     }

@@ -1,0 +1,188 @@
+ghost use Rattle.std.specs.Prelude.{◌≡◌, ◌≤◌, ◌<◌, ◌^◌, length};
+ghost use Rattle.std.specs.List.{AllWithin, HoldsAt};
+
+use crate::account::Account;
+use crate::ask::Ask;
+use crate::first_asked::FirstAsked;
+use crate::payload_conflict::{PayloadConflicts, Questions};
+use crate::placed::Placed;
+use crate::report::Row;
+use crate::word::{add_range, announced_number};
+use rtps_coverage::{Coverage, MergedRanges};
+use rtps_discovery::Pair;
+use rtps_ids::{Guid, Memory};
+use rtps_receiver::Spoken;
+use std::alloc::Global;
+
+/// The accounts of pairs of one writer, as far as a recording has come, and what of the writer is for all of them.
+#[derive(Drop)]
+pub(crate) struct Accounts<C> {
+    pub(crate) writer: Guid,
+    /// The first number that is asked for.
+    pub(crate) from: u64,
+    pub(crate) accounts: Vec<Account<C>>,
+    /// The numbers of which a payload came to some reader that was told of them before: of these payloads are compared.
+    pub(crate) again: MergedRanges,
+    /// The last number that the writer announces, whoever hears it, or 0.
+    pub(crate) last: u64,
+    alloc: Global,
+    ghost in_range: { last < 2 ^ 63 },
+}
+
+/// The first place from this one on whose act stands in the datagram or behind it; the end, where none does.
+fn end_before(acts: &[Placed<'_>], start: usize, datagram: usize) -> usize
+    requires { start ≤ length acts.now }
+    ensures onward { start ≤ result }
+    ensures within { result ≤ length acts.now }
+    ensures before { AllWithin (λ at. at.datagram < datagram) acts.now start result }
+    ensures end { result < length acts.now → HoldsAt (λ at. datagram ≤ at.datagram) acts.now result }
+{
+    for place in start..acts.len() {
+        if acts[place].datagram >= datagram {
+            return place;
+        }
+    }
+    acts.len()
+}
+
+impl<C: Coverage> Accounts<C> {
+    ghost use Rattle.std.specs.Prelude.{ℕ, ◌≡◌, ◌≤◌, ◌<◌, ◌++◌, ◌∷◌, [], true, length, map, slice_index_or, List, IfOk, OnOk};
+    ghost use Rattle.std.specs.List.{All};
+    ghost use Rattle.std.specs.List.Sorted.{IsNonDecreasingBy};
+    ghost use Rattle.rtps_ids.specs.declared.identity.Guid.{Guid as GuidValue};
+    ghost use Rattle.rtps_receiver.specs.Values.{ActValue, spoken_value};
+    ghost use Rattle.rtps_audit.specs.Account.{AllHear, AllStand, AreRowsOf, AreSaid, ComesAgain, IsSince, TakesIn};
+    ghost use Rattle.rtps_audit.specs.Placed.{PlacedValue, placed_value};
+    ghost use Rattle.rtps_audit.specs.declared.account.Account.{Account as AccountValue};
+    ghost use Rattle.rtps_audit.specs.declared.ask.Ask.{Ask as AskValue};
+    ghost use Rattle.rtps_discovery.specs.declared.matching.Pair.{Pair as PairValue};
+
+    /// Before all datagrams. The numbers from `from` on are asked for.
+    pub(crate) fn new(
+        alloc: Global,
+        writer: Guid,
+        pairs: &[Pair],
+        from: FirstAsked,
+    ) -> Result<Self, Memory>
+        ensures { IfOk result (AllStand C.covered from writer pairs.now [] []) }
+    {
+        let mut accounts = Vec::with_capacity(alloc, pairs.len())?;
+        for pair in pairs {
+            accounts.push(Account::new(alloc, *pair, from)?)?;
+        }
+        Ok(Accounts {
+            writer,
+            from: from.get(),
+            accounts,
+            again: MergedRanges::empty(alloc),
+            last: 0,
+            alloc,
+        })
+    }
+
+    /// Tells each reader that hears it what an act of the writer says. The result is whether one of them is told the payload
+    /// of a number that it was told of before. After `Memory` the accounts are of no use.
+    fn tell(&mut self, act: &Spoken<'_>) -> Result<bool, Memory>
+        ensures writer { self.new.writer ≡ self.old.writer }
+        ensures from { self.new.from ≡ self.old.from }
+        ensures set { self.new.again ≡ self.old.again }
+        ensures last { self.new.last ≡ self.old.last }
+        ensures heard { OnOk result (AllHear C.covered (spoken_value act.now) self.old.accounts.items self.new.accounts.items) }
+        ensures again { IfOk result (λ again. (place : ℕ) (d : AccountValue C) (n : ℕ) → place < length self.old.accounts.items
+            → ComesAgain C.covered (spoken_value act.now) (slice_index_or self.old.accounts.items place d) n → again ≡ true) }
+    {
+        let mut again = false;
+        for place in 0..self.accounts.len() {
+            if self.accounts[place].hear(act)? {
+                again = true;
+            }
+        }
+        Ok(again)
+    }
+
+    /// Takes in the next act of the writer. After `Memory` the accounts are of no use.
+    fn hear(&mut self, act: &Spoken<'_>) -> Result<(), Memory>
+        ensures { OnOk result (TakesIn C.covered (spoken_value act.now) self.old self.new) }
+    {
+        self.last = self.last.max(announced_number(act, self.writer));
+        if !self.tell(act)? {
+            return Ok(());
+        }
+        if let Some(number) = act.said().told {
+            add_range(&mut self.again, number, number + 1)?;
+        }
+        Ok(())
+    }
+
+    /// Takes in the next acts of the writer. After `Memory` the accounts are of no use.
+    fn hear_all(&mut self, acts: &[Placed<'_>]) -> Result<(), Memory>
+        ensures counted { OnOk result (length self.new.accounts.items ≡ length self.old.accounts.items) }
+        ensures stand { OnOk result ((from since : ℕ) (writer : GuidValue) (pairs : List PairValue) (placed : List PlacedValue) (asks : List AskValue)
+            → All (IsSince writer since) acts.now → All (λ ask. ask.answer.datagram ≤ since) asks
+            → AllStand C.covered from writer pairs placed asks self.old
+            → AllStand C.covered from writer pairs (placed ++ map placed_value acts.now) asks self.new) }
+    {
+        for placed in acts {
+            self.hear(&placed.act)?;
+        }
+        Ok(())
+    }
+    /// Notes an answer, where all acts in earlier datagrams are heard and none in that of the answer.
+    fn note(&mut self, ask: Ask)
+        requires { ask.place < length self.old.accounts.items }
+        ensures counted { length self.new.accounts.items ≡ length self.old.accounts.items }
+        ensures stand { (from : ℕ) (writer : GuidValue) (pairs : List PairValue) (placed : List PlacedValue) (asks : List AskValue)
+            → 1 ≤ ask.answer.datagram → All (λ at. at.datagram < ask.answer.datagram) placed
+            → AllStand C.covered from writer pairs placed asks self.old
+            → AllStand C.covered from writer pairs placed (asks ++ ask ∷ []) self.new }
+    {
+        self.accounts[ask.place].note(ask.answer);
+    }
+
+    /// Takes in all that the writer and the readers said: the acts of the writer, and the answers in the order of their
+    /// datagrams. After `Memory` the accounts are of no use.
+    pub(crate) fn take_in(&mut self, acts: &[Placed<'_>], asks: &[Ask]) -> Result<(), Memory>
+        requires { All (λ ask. ask.place < length self.old.accounts.items) asks.now }
+        ensures counted { OnOk result (length self.new.accounts.items ≡ length self.old.accounts.items) }
+        ensures stand { OnOk result ((from : ℕ) (writer : GuidValue) (pairs : List PairValue)
+            → All (IsSince writer 0) acts.now → IsNonDecreasingBy (λ at. at.datagram) acts.now
+            → All (λ ask. 1 ≤ ask.answer.datagram) asks.now → IsNonDecreasingBy (λ ask. ask.answer.datagram) asks.now
+            → AllStand C.covered from writer pairs [] [] self.old
+            → AllStand C.covered from writer pairs (map placed_value acts.now) asks.now self.new) }
+    {
+        let mut place = 0;
+        for ask in asks {
+            let end = end_before(acts, place, ask.answer.datagram);
+            self.hear_all(&acts[place..end])?;
+            self.note(*ask);
+            place = end;
+        }
+        self.hear_all(&acts[place..])?;
+        Ok(())
+    }
+
+    /// The rows of the pairs, where all that the writer and the readers said is taken in, and these are the acts of the writer.
+    pub(crate) fn rows(&self, acts: &[Placed<'_>]) -> Result<Vec<Row>, Memory>
+        ensures counted { IfOk result (λ rows. length rows.items ≡ length self.now.accounts.items) }
+        ensures rows { IfOk result (λ rows. (from : ℕ) (writer : GuidValue) (pairs : List PairValue) (asks : List AskValue) (recording : List (List ActValue))
+            → 1 ≤ from → AreSaid writer recording pairs acts.now asks
+            → AllStand C.covered from writer pairs (map placed_value acts.now) asks self.now
+            → AreRowsOf from recording pairs rows.items) }
+    {
+        let questions = Questions {
+            from: self.from,
+            again: &self.again,
+        };
+        let conflicts = PayloadConflicts::of(self.alloc, acts, questions)?;
+        let mut rows = Vec::with_capacity(self.alloc, self.accounts.len())?;
+        for account in &self.accounts {
+            rows.push(Row {
+                pair: account.pair,
+                verdict: account
+                    .claims
+                    .verdict_on(account.pair, &conflicts, self.last),
+            })?;
+        }
+        Ok(rows)
+    }
+}

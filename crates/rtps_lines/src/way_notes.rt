@@ -1,0 +1,141 @@
+ghost use Rattle.std.specs.Prelude.{◌≡◌, ◌++◌, OnOk, map};
+ghost use Rattle.std.specs.String.{string_bytes};
+ghost use Rattle.rtps_parts.specs.Parts.{part_text, words_value};
+ghost use Rattle.rtps_lines.specs.WayNotes.{mixed_note, mixed_words as mixed_words_lem, swapped_cause, swapped_note, swapped_parts as swapped_parts_lem, twice_cause, untold_note, way_notes, wrong_words as wrong_words_lem};
+
+use rtps_parts::{Part, Words, push_rendered};
+use rtps_report::Order;
+use std::alloc::{AllocError, Global};
+
+/// The words for pairs that are the wrong way round.
+fn wrong_words() -> Words
+    ensures { words_value result ≡ wrong_words_lem }
+{
+    Words {
+        one: "pair is the wrong way round",
+        many: "pairs are the wrong way round",
+    }
+}
+
+/// That the two recordings look swapped, by so many pairs.
+fn swapped_parts(pairs: u128) -> [Part<'static>; 2]
+    ensures { map part_text result ≡ swapped_parts_lem pairs }
+{
+    [
+        Part::Text("the two recordings look swapped: "),
+        Part::Amount(pairs, wrong_words()),
+    ]
+}
+
+/// Appends the same as a reason; nothing where there is no such pair.
+pub(crate) fn push_swapped_cause(
+    alloc: Global,
+    causes: &mut Vec<String>,
+    pairs: u128,
+) -> Result<(), AllocError>
+    ensures { OnOk result (map string_bytes causes.new.items ≡ map string_bytes causes.old.items ++ swapped_cause pairs) }
+{
+    if pairs == 0 {
+        return Ok(());
+    }
+    let swapped = swapped_parts(pairs);
+    push_rendered(alloc, causes, &[swapped[0], swapped[1]])
+}
+
+/// Appends that one recording was given twice, as a reason, if it was.
+pub(crate) fn push_twice_cause(
+    alloc: Global,
+    causes: &mut Vec<String>,
+    twice: bool,
+) -> Result<(), AllocError>
+    ensures { OnOk result (map string_bytes causes.new.items ≡ map string_bytes causes.old.items ++ twice_cause twice) }
+{
+    if twice {
+        push_rendered(
+            alloc,
+            causes,
+            &[Part::Text("one recording was given twice")],
+        )
+    } else {
+        Ok(())
+    }
+}
+
+/// Appends that the two recordings look swapped, and what to do; nothing where no pair tells that.
+fn push_swapped(
+    alloc: Global,
+    notes: &mut Vec<String>,
+    pairs: u128,
+    arrow: &str,
+) -> Result<(), AllocError>
+    ensures { OnOk result (map string_bytes notes.new.items ≡ map string_bytes notes.old.items ++ swapped_note arrow.now pairs) }
+{
+    if pairs == 0 {
+        return Ok(());
+    }
+    let swapped = swapped_parts(pairs);
+    let parts = [
+        swapped[0],
+        swapped[1],
+        Part::Text(arrow),
+        Part::Text("give the other one first"),
+    ];
+    push_rendered(alloc, notes, &parts)
+}
+
+/// The words for pairs that are the wrong way round, where others are the right way round.
+fn mixed_words() -> Words
+    ensures { words_value result ≡ mixed_words_lem }
+{
+    Words {
+        one: "pair is judged by the first recording alone: it is the wrong way round",
+        many: "pairs are judged by the first recording alone: they are the wrong way round",
+    }
+}
+
+/// Appends how many such pairs there are, and what to do; nothing where there is none.
+fn push_mixed(
+    alloc: Global,
+    notes: &mut Vec<String>,
+    pairs: u128,
+    arrow: &str,
+) -> Result<(), AllocError>
+    ensures { OnOk result (map string_bytes notes.new.items ≡ map string_bytes notes.old.items ++ mixed_note arrow.now pairs) }
+{
+    if pairs == 0 {
+        return Ok(());
+    }
+    let parts = [
+        Part::Amount(pairs, mixed_words()),
+        Part::Text(arrow),
+        Part::Text("the other order judges them"),
+    ];
+    push_rendered(alloc, notes, &parts)
+}
+
+/// Appends that nothing tells the two recordings apart, if it is so.
+fn push_untold(alloc: Global, notes: &mut Vec<String>, untold: bool) -> Result<(), AllocError>
+    ensures { OnOk result (map string_bytes notes.new.items ≡ map string_bytes notes.old.items ++ untold_note untold) }
+{
+    if !untold {
+        return Ok(());
+    }
+    let parts = [Part::Text(
+        "nothing tells the two recordings apart: nothing was lost, or both were made at one place",
+    )];
+    push_rendered(alloc, notes, &parts)
+}
+
+/// Appends what is told of the order in which two recordings were given.
+pub(crate) fn push_ways(
+    alloc: Global,
+    notes: &mut Vec<String>,
+    order: &Order,
+    arrow: &str,
+) -> Result<(), AllocError>
+    ensures { OnOk result (map string_bytes notes.new.items ≡ map string_bytes notes.old.items ++ way_notes arrow.now order.now) }
+{
+    push_swapped(alloc, notes, order.swapped(), arrow)?;
+    push_mixed(alloc, notes, order.mixed(), arrow)?;
+    push_untold(alloc, notes, order.is_untold())
+}
