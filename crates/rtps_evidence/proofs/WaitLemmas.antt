@@ -153,14 +153,10 @@ questions_same since pair acts = grind (arith, nat_tests, common_steps, filter_f
 untimed : (times : List (Option ℕ)) (number : ℕ) → are_there times ≡ false → time_of times number ≡ None
 untimed times number lacks = grind (arith, nat_tests, common_steps)
 
-no_waits : (times : List (Option ℕ)) (end : Option ℕ) (answers : List Answer) (questions : List PlacedValue) → are_there times ≡ false → waits_of times end answers questions ≡ []
+pub no_waits : (times : List (Option ℕ)) (end : Option ℕ) (answers : List Answer) (questions : List PlacedValue) → are_there times ≡ false → waits_of times end answers questions ≡ []
 no_waits times end answers [] lacks = refl
 no_waits times end answers (question ∷ questions) lacks =
     let asked = location_of question in
     let answered = answered_at asked answers in
     ap (λ since. cons_option (wait_of asked answered since (ended_at times end answered)) (waits_of times end answers questions)) (untimed times asked.datagram lacks)
     ∙ no_waits times end answers questions lacks
-
--- no wait is told there
-pub none_told : (times : List (Option ℕ)) (end : Option ℕ) (answers : List Answer) (questions : List PlacedValue) → are_there times ≡ false → told_of (longest (waits_of times end answers questions)) ≡ None
-none_told times end answers questions lacks = ap (λ (l : List Wait). told_of (longest l)) (no_waits times end answers questions lacks)

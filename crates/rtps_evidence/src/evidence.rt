@@ -14,8 +14,8 @@ use crate::grounds::{Grounds, grounds_of};
 use crate::in_span::InSpan;
 use crate::judgement::Judgement;
 use crate::last_announcement::Announcement;
+use crate::ledger::Ledger;
 use crate::missed::count_missed;
-use crate::missed_numbers::find_missed;
 use crate::not_received::NotReceived;
 use crate::other_side::{Arrivals, Sides};
 use crate::outcome::Unreceived;
@@ -145,10 +145,12 @@ impl<'a> Evidence<'a> {
         let mut heard = summary.heard_by(alloc, exchange.said.acts, exchange.pair.reader)?;
         let mut lacking = heard.lacking(alloc, exchange, &verdict, asked)?;
         let mut lacking = rising(alloc, &mut lacking)?;
-        let mut missed = find_missed(alloc, exchange, &lacking)?;
+        let ledger = Ledger::of(alloc, exchange, &lacking)?;
+        let mut missed = ledger.missed(alloc)?;
         let unreceived = Unreceived {
             numbers: &lacking,
             missed: &missed,
+            ledger: &ledger,
         };
         let in_span = InSpan::of(alloc, exchange, &unreceived, asked)?;
         let missed = count_missed(alloc, &mut missed, exchange, asked)?;

@@ -1,12 +1,13 @@
-ghost use Rattle.std.specs.Prelude.{ℕ, ◌≡◌, ◌≤◌, is_some, IfOk, List};
+ghost use Rattle.std.specs.Prelude.{ℕ, ◌≡◌, ◌≤◌, is_some, map, IfOk, List};
 ghost use Rattle.rtps_receiver.specs.Values.{ActValue};
 ghost use Rattle.rtps_audit.specs.Delivery.{last_announced_from};
-ghost use Rattle.rtps_audit.specs.Placed.{placed_in};
+ghost use Rattle.rtps_audit.specs.Placed.{placed_in, placed_value};
 ghost use Rattle.rtps_audit.specs.Said.{IsSaid};
 ghost use Rattle.rtps_audit.specs.Speech.{speech_by};
 ghost use Rattle.rtps_coverage.specs.Stretches.{stretches_have};
 ghost use Rattle.rtps_evidence.specs.Claimed.{AreLacking};
 ghost use Rattle.rtps_evidence.specs.Clean.{has_all as has_all_lem, is_clean as is_clean_lem, is_complete as is_complete_lem, is_open as is_open_lem, is_tail as is_tail_lem, is_whole as is_whole_lem, loses_none as loses_none_lem};
+ghost use Rattle.rtps_evidence.specs.Ledger.{Stands};
 ghost use Rattle.rtps_evidence.specs.Missed.{is_missed};
 ghost use Rattle.rtps_coverage.specs.Rising.{AreRising};
 ghost use Rattle.rtps_evidence.specs.Spans.{since_of, wrote_before as wrote_before_lem};
@@ -18,7 +19,7 @@ use crate::first_numbers::FirstNumbers;
 use crate::last_announcement::greatest_number;
 use crate::location::Location;
 use crate::outcome::{Outcomes, Unreceived};
-use crate::waits::{Wait, told_wait};
+use crate::waits::Wait;
 use crate::way::Way;
 use rtps_audit::Verdict;
 use rtps_ids::Memory;
@@ -103,7 +104,7 @@ impl InSpan {
     pub(crate) fn of(
         alloc: Global,
         exchange: &Exchange<'_, '_>,
-        unreceived: &Unreceived<'_>,
+        unreceived: &Unreceived<'_, '_>,
         asked: &AskedNumbers,
     ) -> Result<Option<InSpan>, Memory>
         requires rising { AreRising unreceived.now.numbers.now }
@@ -114,6 +115,7 @@ impl InSpan {
             → AreLacking asked.now.from asked.now.last exchange.now.pair (placed_in recording) unreceived.now.numbers.now
             → ((n : ℕ) → asked.now.from ≤ n → n ≤ asked.now.last → stretches_have unreceived.now.missed.now n
             ≡ is_missed (since_of exchange.now.span) exchange.now.pair.writer exchange.now.pair.reader (placed_in recording) n)
+            → Stands exchange.now (stretches_have unreceived.now.numbers.now) (map placed_value exchange.now.said.acts.now) unreceived.now.ledger.now
             → IfOk result (IsBeside exchange.now.in_spans beside exchange.now.span exchange.now.pair all recording) }
     {
         if !exchange.in_spans {
@@ -134,7 +136,7 @@ impl InSpan {
             is_held: exchange.is_held,
             absent,
             lacking,
-            wait: told_wait(exchange),
+            wait: unreceived.ledger.wait.told(),
         }))
     }
 

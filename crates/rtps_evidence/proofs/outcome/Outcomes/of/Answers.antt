@@ -3,20 +3,21 @@ use Rattle.std.specs.List.{list_any}
 use Rattle.std.specs.Prelude.{is_some}
 use Rattle.std.proofs.lemmas.Bool.Decides.{nat_tests}
 use Rattle.rtps_audit.specs.Delivery.{greatest}
-use Rattle.rtps_audit.specs.Placed.{placed_in, placed_value}
+use Rattle.rtps_audit.specs.Placed.{answers_among, placed_in, placed_value}
 use Rattle.rtps_receiver.specs.Said.{natural}
 use Rattle.rtps_audit.specs.declared.answer.Answer.{Answer}
-use Rattle.rtps_discovery.specs.declared.matching.Pair.{Pair}
 use Rattle.rtps_coverage.specs.Counts.{count_in}
 use Rattle.rtps_coverage.specs.Stretches.{stretches_have}
 use Rattle.rtps_evidence.specs.Locations.{greatest_base}
 use Rattle.rtps_evidence.specs.Missed.{brings_behind, is_wanting}
-use Rattle.rtps_evidence.specs.Outcomes.{is_brought, is_unanswered}
+use Rattle.rtps_evidence.specs.Outcomes.{is_brought, is_silent, is_unanswered, walked_all}
+use Rattle.rtps_evidence.specs.Outcomes.Silence.{Unasked}
 use Rattle.rtps_evidence.specs.Received.{first_claiming, is_received}
 use Rattle.rtps_evidence.specs.Spans.{since_of}
 use Rattle.rtps_coverage.specs.declared.stretch.Stretch.{Stretch}
 use Rattle.rtps_evidence.proofs.AnswerLemmas.{bases_same}
 use Rattle.rtps_evidence.proofs.MissedLemmas.{brought_same}
+use Rattle.rtps_evidence.proofs.QuestionedLemmas.{silent_kept}
 use Rattle.rtps_evidence.proofs.OutcomeCounts.{claimed_below, missed_put, outcomes_counted, unanswered_put, unsent_put, with_arrived, with_likely, with_missed, with_unanswered, with_unsent}
 use Rattle.rtps_evidence.proofs.outcome.Outcomes.of.Goals as goal
 
@@ -27,7 +28,7 @@ not_not : (b : Bool) → not (not b) ≡ b
 not_not b = grind (arith, nat_tests)
 
 pub returns : goal.returns
-returns c = λ recording there is at_host are missed.
+returns c = λ recording there is at_host are missed stands.
     let exchange = c.args.exchange.now in
     let pair = exchange.pair in
     let since = since_of exchange.span in
@@ -60,16 +61,19 @@ returns c = λ recording there is at_host are missed.
     λ n low high. missed_put (stretches_have c.count_with-2.new.numbers.items n) (r n) (there n) (w n) (stretches_have c.args.unreceived.now.missed.now n) (three n) (c.in_ok-arrived.ensures.numbers n ∙ second n low high) (missed n low (omega arith)) refl in
     let brought : (n : ℕ) → lacks n ≡ true → stretches_have c.in_ok-brought.brought.items n ≡ b n =
     λ n lacking.
-    c.in_ok-brought.ensures n lacking
-    ∙ ap (λ s. list_any (brings_behind s c.listener.result.pair.writer c.listener.result.pair.reader n) (map placed_value exchange.said.acts.now)) c.listener.ensures.since
-    ∙ ap (λ (p : Pair). list_any (brings_behind since p.writer p.reader n) (map placed_value exchange.said.acts.now)) c.listener.ensures.pair
+    ap (λ l. stretches_have l n) (c.in_ok-brought.ensures ∙ c.deref.ensures.value) ∙ stands.brought n lacking
     ∙ ap (list_any (brings_behind since pair.writer pair.reader n)) is.acts ∙ brought_same since pair.writer pair.reader n all in
+    let silent : (n : ℕ) → lacks n ≡ true → stretches_have c.args.unreceived.now.ledger.now.silent.numbers.items n ≡ u n =
+    λ n lacking.
+    silent_kept n _ c.args.unreceived.now.ledger.now.silent.questioned _ ((stands.silent n lacking).at n).so
+    ∙ ap (λ l. is_silent (walked_all times since pair n (record { answers = l; silence = Unasked }) (map placed_value exchange.said.acts.now)).silence) is.answers
+    ∙ ap (λ l. is_silent (walked_all times since pair n (record { answers = answers_among pair all; silence = Unasked }) l).silence) is.acts in
     let fourth : (n : ℕ) → from ≤ n → n < last + 1 → four n ≡ with_unsent (r n) (there n) (w n) (b n) =
     λ n low high. unsent_put (stretches_have c.count_with-3.new.numbers.items n) (r n) (there n) (w n) (b n) (stretches_have c.deref-2.result.now n) (four n) (c.in_ok-missed.ensures.numbers n ∙ third n low high)
     (λ out. ap (λ l. stretches_have l n) c.deref-2.ensures.value ∙ c.in_ok-unsent.ensures n low (omega arith) ∙ ap not (brought n (lacking_too n low high out))) refl in
     let fifth : (n : ℕ) → from ≤ n → n < last + 1 → five n ≡ with_unanswered (r n) (there n) (w n) (b n) (u n) =
     λ n low high. unanswered_put (stretches_have c.count_with-4.new.numbers.items n) (r n) (there n) (w n) (b n) (stretches_have c.deref-3.result.now n) (u n) (five n) (c.in_ok-unsent-2.ensures.numbers n ∙ fourth n low high)
-    (λ out is_brought. ap (λ l. stretches_have l n) c.deref-3.ensures.value ∙ c.in_ok-silent.ensures recording is n (ap (λ l. stretches_have l n) c.deref.ensures.value ∙ brought n (lacking_too n low high out) ∙ is_brought)) refl in
+    (λ out is_brought. ap (λ l. stretches_have l n) c.deref-3.ensures.value ∙ silent n (lacking_too n low high out)) refl in
     let below : (n : ℕ) → stretches_have claimed n ≡ k n =
     λ n.
     let zero : nat_le 0 n ≡ true = grind (arith, nat_tests) in
