@@ -169,6 +169,7 @@ topic     pairs  clean  before  received  missed
   writer {WRITER}
   reader {READER}, from 1
   complete 2, received 1, missed 1
+    missed 2 (0.700 s)
     number 2 asked for in datagram 10 at 36, 0.899 s, sent again in datagram 11 at 36, 1.000 s, told gone by heartbeat in datagram 12 at 20, 1.100 s
     -> it was sent again, and nothing shows that it arrived: look at the network; a recording at the reader's side tells
 
@@ -185,6 +186,7 @@ pair {WRITER} {READER} complete 2
   missed 1
     number 2 asked for in datagram 10 at 36, 0.899 s, sent again in datagram 11 at 36, 1.000 s, told gone by heartbeat in datagram 12 at 20, 1.100 s
   number 2 may not be received: told gone by heartbeat in datagram 12 at 20, 1.100 s, acknowledged in datagram 13 at 36, 1.200 s
+    missed 2 (0.700 s)
   -> it was sent again, and nothing shows that it arrived: look at the network; a recording at the reader's side tells
 datagrams 13 refused 0 skipped 0 fragments 0 undirected 0 unsettled 0 ignored 0
 not clean: 1 number was missed in 1 pair
@@ -198,20 +200,22 @@ PLACES = (
     '"again":{"datagram":11,"at":36,"time":1.000}',
     '"gone":{"by":"heartbeat","datagram":12,"at":20,"time":1.100}',
 )
+SENT = '"sent":{"datagram":8,"at":20,"time":0.700}'
+NO_SECOND = r', \d\.\d{3} s| \(\d\.\d{3} s\)'
 
 
 def places(tests):
     octets = timed(lost(), STEADY)
     tests.says('each place', 'check', octets, SAID)
-    for name, view, words in (('each place', 'json', ()), ('of check', 'check', ('--json',))):
-        tests.says(name, view, octets, list(PLACES), lambda text: re.findall(r'"\w+":{[^{}]*"at"[^{}]*}', text), words)
+    for name, view, words, more in (('each place', 'json', (), []), ('of check', 'check', ('--json',), [SENT])):
+        tests.says(name, view, octets, [*PLACES, *more], lambda text: re.findall(r'"\w+":{[^{}]*"at"[^{}]*}', text), words)
     tests.tells('the row', octets, r'"from":1,.*?"outcomes"|"clean":false,.*"advice":', '"from":1,"until":null,"until_time":null,"outcomes"',
-                '"clean":false,"wait":null,"silence":[],"advice":')
-    tests.says('places with no time', 'check', text_of(lost()), re.sub(r', \d\.\d{3} s', '', SAID))
+                f'"clean":false,"wait":null,"numbers":{{"missed":{{"ranges":[{{"first":2,"last":2,{SENT}}}],"more":0}}}},"silence":[],"advice":')
+    tests.says('places with no time', 'check', text_of(lost()), re.sub(NO_SECOND, '', SAID))
     for view in ('show', 'list', 'audit'):
         tests.says('no seconds', view, octets, [], of_times)
     tests.says('each place', 'why', octets, WHY)
-    tests.says('places with no time', 'why', text_of(lost()), re.sub(r', \d\.\d{3} s| ignored 0', '', WHY))
+    tests.says('places with no time', 'why', text_of(lost()), re.sub(NO_SECOND + '| ignored 0', '', WHY))
     for name, (datagrams, *lines) in verdicts().items():
         tests.checks(name, timed(datagrams, STEADY[:9][:len(datagrams)]), *lines)
     print(f'places: {len(verdicts()) + 10}')

@@ -1,6 +1,6 @@
 -- Ranges by their ends, with one taken out, and with one more.
 use Rattle.std.specs.BTreeMap as tree
-use Rattle.std.proofs.Common.{ℕ, Bool, true, false, cond, ◌≡◌, ◌≤◌, ◌<◌, ◌⊎◌, ◌==◌, ◌∙◌, Option, Some, None, refl, sym, ap, subst, inl, inr, arith}
+use Rattle.std.proofs.Common.{ℕ, Bool, true, false, cond, ◌≡◌, ◌≤◌, ◌<◌, ◌⊎◌, ◌==◌, ◌∙◌, Some, None, refl, sym, ap, inl, inr, arith}
 use Rattle.std.specs.BTreeMap.{BTreeMap, Updates}
 use Rattle.std.specs.Ordering.{nat_cmp, is_eq}
 use Rattle.std.proofs.lemmas.Bool.{cases_lt}

@@ -34,5 +34,8 @@ pub mod WaitLemmas
 pub mod LedgerLemmas
 pub mod PlaceOrder
 pub mod KeptLemmas
+pub mod KindLemmas
+pub mod SendingLemmas
+pub mod LostLemmas
 pub mod WayLemmas
 pub mod Offered

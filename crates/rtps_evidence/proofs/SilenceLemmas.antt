@@ -1,8 +1,6 @@
 -- How far a walk over what a pair said came, for one number, step by step.
-use Rattle.std.proofs.Common.{◌≡◌, ◌∙◌, ℕ, ◌+◌, ◌<◌, ◌≤◌, ◌&&◌, ◌||◌, Bool, true, false, cond, max, nat_le, nat_lt, List, [], ◌∷◌, ◌++◌, refl, sym, ap, subst, arith, inl, inr, Option, Some, None}
-use Rattle.std.specs.Prelude.{if◌then◌else◌, is_some, unwrap_or}
-use Rattle.std.specs.BTreeMap.{get}
-use Rattle.std.specs.Ordering.{nat_cmp}
+use Rattle.std.proofs.Common.{◌≡◌, ◌∙◌, ℕ, ◌+◌, ◌&&◌, ◌||◌, Bool, true, false, cond, nat_le, nat_lt, List, [], ◌∷◌, ◌++◌, refl, ap, arith, inl, inr, Option, Some, None}
+use Rattle.std.specs.Prelude.{if◌then◌else◌, unwrap_or}
 use Rattle.std.proofs.lemmas.Bool.{cases_lt}
 use Rattle.std.proofs.lemmas.Bool.Decides.{nat_tests}
 use Rattle.rtps_discovery.specs.declared.matching.Pair.{Pair}
@@ -16,7 +14,6 @@ use Rattle.rtps_audit.specs.Speech.{word_of}
 use Rattle.rtps_evidence.specs.Locations.{is_behind, said_to}
 use Rattle.rtps_evidence.specs.Outcomes.{Silence, Walk, asked_about, heard, is_offered, told_gone, walked, walked_all}
 use Rattle.rtps_evidence.specs.Questions.{is_question, questions_behind}
-use Rattle.rtps_evidence.specs.Outcomes.Silence.{Unasked, Once, Again, Answered, Silent, Ended}
 use Rattle.rtps_evidence.specs.Received.{is_gone, withdraws}
 use Rattle.rtps_evidence.specs.declared.location.Location.{Location}
 

@@ -11,13 +11,12 @@ use Rattle.std.proofs.lemmas.List.Elements.{filter_map-append}
 use Rattle.std.proofs.lemmas.List.Folds.{find-append}
 use Rattle.rtps_discovery.specs.declared.matching.Pair.{Pair}
 use Rattle.rtps_audit.specs.Delivery.{greatest}
-use Rattle.rtps_audit.specs.Placed.{PlacedValue, is_from, placed_value}
+use Rattle.rtps_audit.specs.Placed.{PlacedValue, is_from}
 use Rattle.rtps_audit.specs.declared.answer.Answer.{Answer}
-use Rattle.rtps_audit.specs.declared.placed.Placed.{Placed}
 use Rattle.rtps_audit.proofs.Offered.{greatest-append, speaker_is_origin}
 use Rattle.rtps_evidence.specs.Locations.{location_of}
 use Rattle.rtps_evidence.specs.Times.{are_there, time_of}
-use Rattle.rtps_evidence.specs.Waits.{HasPassed, answered_at, answers_behind, ended_at, length_of, longer_of, longest, precedes, questions_of, told_of, wait_from, wait_of, waits_of}
+use Rattle.rtps_evidence.specs.Waits.{HasPassed, answered_at, answers_behind, ended_at, length_of, longer_of, longest, precedes, questions_of, wait_from, wait_of, waits_of}
 use Rattle.rtps_evidence.specs.declared.location.Location.{Location}
 use Rattle.rtps_evidence.specs.declared.waits.Wait.{Wait}
 use Rattle.rtps_evidence.proofs.QuestionLemmas.{filter_filter}
@@ -139,10 +138,6 @@ pub waits_more : (times : List (Option ℕ)) (end : Option ℕ) (answers : List 
 waits_more times end answers questions question = grind (arith, nat_tests, common_steps, filter_map-append, longest_more)
 
 -- ---- the questions, one after another
-
-pub questions_more : (test : PlacedValue → Bool) (acts : List Placed) (i : ℕ) (x : Placed) → i < length acts → x ≡ get_or acts i x → (b : Bool) → test (placed_value x) ≡ b
-    → filter test (map placed_value (take (i + 1) acts)) ≡ filter test (map placed_value (take i acts)) ++ cond b (placed_value x ∷ []) []
-questions_more test acts i x lt at b is = grind (arith, nat_tests, common_steps)
 
 -- those of the writer's acts are those of all acts
 pub questions_same : (since : Option Location) (pair : Pair) (acts : List PlacedValue) → questions_of since pair (filter (is_from pair.writer) acts) ≡ questions_of since pair acts

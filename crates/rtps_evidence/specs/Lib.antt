@@ -13,6 +13,9 @@ pub mod UnansweredLaw
 pub mod GoneRanges
 pub mod Silences
 pub mod SilentNumbers
+pub mod Kinds
+pub mod KindRuns
+pub mod Runs
 pub mod Clean
 pub mod Questions
 pub mod Grounds

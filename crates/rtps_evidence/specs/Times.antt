@@ -55,11 +55,6 @@ is_long (Some earlier) (Some later) = nat_le (earlier + 10 ^ 8) later
 abbrev pub is_long_between : List (Option ℕ) → ℕ → ℕ → Bool
 is_long_between times earlier later = is_long (time_of times earlier) (time_of times later)
 
--- the same behind a datagram, if there is one
-abbrev pub is_long_since : List (Option ℕ) → Option ℕ → ℕ → Bool
-is_long_since times None later = true
-is_long_since times (Some earlier) later = is_long_between times earlier later
-
 -- ---- times that go back
 
 -- how much the time of a later datagram is before that of an earlier one; 0 where it is not

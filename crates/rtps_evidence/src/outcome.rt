@@ -1,12 +1,11 @@
-ghost use Rattle.std.specs.Prelude.{ℕ, Bool, true, ◌≡◌, ◌≤◌, ◌+◌, ◌||◌, map, IfOk, OnOk, List};
+ghost use Rattle.std.specs.Prelude.{ℕ, Bool, ◌≡◌, ◌+◌, ◌||◌, IfOk, OnOk, List};
 ghost use Rattle.rtps_receiver.specs.Values.{ActValue};
-ghost use Rattle.rtps_audit.specs.Placed.{PlacedValue, placed_in, placed_value};
+ghost use Rattle.rtps_audit.specs.Placed.{PlacedValue, placed_in};
 ghost use Rattle.rtps_audit.specs.Said.{IsSaid};
 ghost use Rattle.rtps_coverage.specs.Counts.{count_in};
 ghost use Rattle.rtps_coverage.specs.Stretches.{stretches_have};
 ghost use Rattle.rtps_evidence.specs.Claimed.{AreLacking};
-ghost use Rattle.rtps_evidence.specs.Missed.{is_missed};
-ghost use Rattle.rtps_evidence.specs.Ledger.{Stands};
+ghost use Rattle.rtps_evidence.specs.KindRuns.{AreSets};
 ghost use Rattle.rtps_coverage.specs.Rising.{AreRising};
 ghost use Rattle.rtps_evidence.specs.Spans.{since_of};
 
@@ -14,8 +13,8 @@ use crate::acknowledgement::greatest_base;
 use crate::amount::AskedNumbers;
 use crate::exchange::Exchange;
 use crate::first_numbers::FirstNumbers;
-use crate::lacking::others_of;
 use crate::ledger::Ledger;
+use crate::outcome_sets::OutcomeSets;
 use rtps_coverage::Stretch;
 use rtps_coverage::stretches::{count_of, outside};
 use rtps_ids::Memory;
@@ -59,15 +58,6 @@ pub(crate) struct Unreceived<'n, 's> {
     pub(crate) missed: &'n [Stretch],
     /// What became of them.
     pub(crate) ledger: &'n Ledger<'s>,
-}
-
-/// The same stretches once more.
-fn copied(alloc: Global, stretches: &[Stretch]) -> Result<Vec<Stretch>, Memory>
-    ensures { IfOk result (λ copy. copy.items ≡ stretches.now) }
-{
-    let mut copy = Vec::new(alloc);
-    copy.extend_from_slice(stretches)?;
-    Ok(copy)
 }
 
 /// Adds numbers to others, and says how many of those that are asked for are among all of them. After `Memory` the numbers are of
@@ -121,33 +111,27 @@ impl Outcomes {
     pub(crate) fn of(
         alloc: Global,
         exchange: &Exchange<'_, '_>,
-        unreceived: &Unreceived<'_, '_>,
+        sets: &OutcomeSets<'_, '_>,
         asked: &AskedNumbers,
     ) -> Result<Outcomes, Memory>
-        requires { AreRising unreceived.now.numbers.now }
+        requires { AreRising sets.now.unreceived.numbers.now }
         ensures { (recording : List (List ActValue)) (there : ℕ → Bool) → IsSaid exchange.now.pair recording exchange.now.said
             → ((n : ℕ) → stretches_have exchange.now.there.now n ≡ there n)
-            → AreLacking asked.now.from asked.now.last exchange.now.pair (placed_in recording) unreceived.now.numbers.now
-            → ((n : ℕ) → asked.now.from ≤ n → n ≤ asked.now.last → stretches_have unreceived.now.missed.now n
-            ≡ is_missed (since_of exchange.now.span) exchange.now.pair.writer exchange.now.pair.reader (placed_in recording) n)
-            → Stands exchange.now (stretches_have unreceived.now.numbers.now) (map placed_value exchange.now.said.acts.now) unreceived.now.ledger.now
+            → AreSets asked.now.from asked.now.last exchange.now.times.now.of_datagrams (since_of exchange.now.span) exchange.now.pair (placed_in recording) sets.now
             → IfOk result (AreOutcomes there asked.now.from asked.now.last exchange.now.times.now.of_datagrams (since_of exchange.now.span) exchange.now.pair (placed_in recording)) }
     {
-        let lacking = unreceived.numbers;
-        let mut brought = copied(alloc, &unreceived.ledger.brought)?;
-        let unsent = others_of(alloc, &mut brought, asked)?;
         let claimed = [Stretch {
             lo: 0,
             hi: greatest_base(exchange.said.answers),
         }];
         let from = asked.from.get();
         let end = asked.last + 1;
-        let mut numbers = outside(alloc, lacking, from, end)?;
+        let mut numbers = outside(alloc, sets.unreceived.numbers, from, end)?;
         let received = count_with(&mut numbers, &[], asked)?;
         let arrived = count_with(&mut numbers, exchange.there, asked)?;
-        let missed = count_with(&mut numbers, unreceived.missed, asked)?;
-        let unsent = count_with(&mut numbers, &unsent, asked)?;
-        let unanswered = count_with(&mut numbers, &unreceived.ledger.silent.numbers, asked)?;
+        let missed = count_with(&mut numbers, sets.unreceived.missed, asked)?;
+        let unsent = count_with(&mut numbers, &sets.unsent, asked)?;
+        let unanswered = count_with(&mut numbers, sets.silent, asked)?;
         let likely = count_with(&mut numbers, &claimed, asked)?;
         Ok(Outcomes {
             received,

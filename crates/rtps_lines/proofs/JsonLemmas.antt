@@ -27,7 +27,10 @@ use Rattle.rtps_report.specs.Recording.{RecordingValue}
 use Rattle.rtps_report.specs.Silences.{silences_of}
 use Rattle.rtps_report.specs.Talk.{TalkValue}
 use Rattle.rtps_lines.specs.Lines.{advice_text, silence_lines}
-use Rattle.rtps_lines.specs.JsonText.{Member, TellingValue, advice_json, advice_member, announcement_json, array_of, claim_json, count_json, counts_members, delivery_members, evidence_members, first_missed_members, further_members, ignored_members, items_of, lacking_members, members_of, not_received_json, numbers_json, object_of, outcomes_json, pair_members, payload_members, place_json, place_members, reasons_members, report_json, row_json, rows_members, second_at, second_json, sent_json, shown_members, silence_member, silence_members, span_by, span_members, spanned_members, teller_json, timed_members, tokens_of, tokens_of_member, until_json, until_members, verdict_members, wait_json, wait_member, wait_members}
+use Rattle.rtps_evidence.specs.Explanation.{lost_at}
+use Rattle.rtps_evidence.specs.Kinds.{KindValue, LostValue}
+use Rattle.rtps_evidence.specs.declared.kinds.NumberRange.{NumberRange}
+use Rattle.rtps_lines.specs.JsonText.{Member, TellingValue, advice_json, advice_member, announcement_json, array_of, claim_json, count_json, counts_members, delivery_members, evidence_members, first_missed_members, further_members, ignored_members, items_of, kind_json, kind_members, kinds_members, lacking_members, lost_member, members_of, not_received_json, numbers_json, object_of, outcomes_json, pair_members, payload_members, place_json, place_members, range_json, reasons_members, report_json, row_json, rows_members, second_at, second_json, sent_json, shown_members, silence_member, silence_members, span_by, span_members, spanned_members, teller_json, timed_members, tokens_of, tokens_of_member, until_json, until_members, verdict_members, wait_json, wait_member, wait_members}
 use Rattle.rtps_lines.proofs.PartLemmas.{four_parts}
 
 -- ---- tokens
@@ -56,6 +59,11 @@ pub audit_tokens : (a : Member) (b c d : List Member) → tokens_of (a ∷ (b ++
 audit_tokens a b c d =
     ap (λ rest. tokens_of_member a ++ rest)
     (flat_map-append tokens_of_member b (c ++ d) ∙ ap (λ rest. tokens_of b ++ rest) (flat_map-append tokens_of_member c d))
+
+-- a list of members, a member, and two lists more
+pub spanned_tokens : (a c d : List Member) (b : Member) → tokens_of (a ++ b ∷ (c ++ d)) ≡ tokens_of a ++ (tokens_of_member b ++ (tokens_of c ++ tokens_of d))
+spanned_tokens a c d b =
+    flat_map-append tokens_of_member a (b ∷ (c ++ d)) ∙ ap (λ rest. tokens_of a ++ (tokens_of_member b ++ rest)) (flat_map-append tokens_of_member c d)
 
 -- three lists of members
 pub tokens_of_three : (a b c : List Member) → tokens_of (a ++ (b ++ c)) ≡ tokens_of a ++ (tokens_of b ++ tokens_of c)
@@ -239,32 +247,57 @@ advice_within : (telling : TellingValue) (times : TimesValue) (row : Explanation
 advice_within telling times row =
     omega (arith, sentence_within (is_clean telling.scope.tail row.evidence) (advice_text times (advice_of times (silences_of telling.talk row.pair) telling.scope row.evidence)))
 
-spanned_within : (telling : TellingValue) (times : TimesValue) (row : ExplanationValue) → members_depth (members_of (spanned_members telling times row)) ≤ 2
+range_within : (times : TimesValue) (range : NumberRange) → depth (range_json times range) ≤ 2
+range_within times range = omega (arith, place_within times range.sent)
+
+kind_within : (times : TimesValue) (kind : KindValue) → depth (kind_json times kind) ≤ 4
+kind_within times kind = omega (arith, items_within (range_json times) 2 kind.ranges (range_within times))
+
+unless_within : (most : ℕ) (none : Bool) (members : List Member) → members_depth (members_of members) ≤ most → members_depth (members_of (if none then [] else members)) ≤ most
+unless_within most true members h = omega arith
+unless_within most false members h = h
+
+named_within : (name : List ℕ) (times : TimesValue) (kind : KindValue) → members_depth (members_of (kind_members name times kind)) ≤ 4
+named_within name times kind = unless_within 4 (length kind.ranges == 0) ((name, kind_json times kind) ∷ []) (omega (arith, kind_within times kind))
+
+kinds_within : (times : TimesValue) (lost : LostValue) → members_depth (members_of (kinds_members times lost)) ≤ 4
+kinds_within times lost =
+    let missed = kind_members (codes "missed") times lost.missed in
+    let unsent = kind_members (codes "unsent") times lost.unsent in
+    let unanswered = kind_members (codes "unanswered") times lost.unanswered in
+    let not_arrived = kind_members (codes "not_arrived") times lost.not_arrived in
+    let last = joined 4 unanswered not_arrived (named_within (codes "unanswered") times lost.unanswered) (named_within (codes "not_arrived") times lost.not_arrived) in
+    let behind = joined 4 unsent (unanswered ++ not_arrived) (named_within (codes "unsent") times lost.unsent) last in
+    joined 4 missed (unsent ++ (unanswered ++ not_arrived)) (named_within (codes "missed") times lost.missed) behind
+
+spanned_within : (telling : TellingValue) (times : TimesValue) (row : ExplanationValue) → members_depth (members_of (spanned_members telling times row)) ≤ 5
 spanned_within telling times row =
     let silence = silence_members telling.talk times row in
     let advice : List Member = advice_member telling times row ∷ [] in
+    let lost = lost_at telling.lost row.place in
     let end = joined 1 silence advice (silences_within telling.talk times row) (omega (arith, advice_within telling times row)) in
-    joined 2 (span_members telling times row.evidence) (silence ++ advice) (span_by_within telling times row.evidence row.evidence.in_span) (omega (arith, end))
+    joined 5 (span_members telling times row.evidence) (lost_member times lost ∷ (silence ++ advice)) (omega (arith, span_by_within telling times row.evidence row.evidence.in_span))
+    (omega (arith, kinds_within times lost, end))
 
-further_within : (telling : Option TellingValue) (times : TimesValue) (row : ExplanationValue) → members_depth (members_of (further_members telling times row)) ≤ 2
+further_within : (telling : Option TellingValue) (times : TimesValue) (row : ExplanationValue) → members_depth (members_of (further_members telling times row)) ≤ 5
 further_within None times row = omega arith
 further_within (Some telling) times row = spanned_within telling times row
 
-row_within : (telling : Option TellingValue) (times : TimesValue) (row : ExplanationValue) → depth (row_json telling times row) ≤ 3
+row_within : (telling : Option TellingValue) (times : TimesValue) (row : ExplanationValue) → depth (row_json telling times row) ≤ 6
 row_within telling times row =
     let evidence = row.evidence in
     let told = evidence_members times evidence in
     let delivered = delivery_members times evidence in
     let grounds = shown_members times evidence.grounds in
     let spanned = further_members telling times row in
-    let shown = joined 2 grounds spanned (shown_within times evidence.grounds) (further_within telling times row) in
-    let last = joined 2 delivered (grounds ++ spanned) (delivery_within times evidence) shown in
-    let late = joined 2 told (delivered ++ (grounds ++ spanned)) (evidence_within times evidence) last in
-    let later = joined 2 (verdict_members evidence.verdict) (told ++ (delivered ++ (grounds ++ spanned))) (verdict_within evidence.verdict) late in
-    let all = joined 2 (pair_members row) (verdict_members evidence.verdict ++ (told ++ (delivered ++ (grounds ++ spanned)))) (omega arith) later in
+    let shown = joined 5 grounds spanned (omega (arith, shown_within times evidence.grounds)) (further_within telling times row) in
+    let last = joined 5 delivered (grounds ++ spanned) (omega (arith, delivery_within times evidence)) shown in
+    let late = joined 5 told (delivered ++ (grounds ++ spanned)) (omega (arith, evidence_within times evidence)) last in
+    let later = joined 5 (verdict_members evidence.verdict) (told ++ (delivered ++ (grounds ++ spanned))) (omega (arith, verdict_within evidence.verdict)) late in
+    let all = joined 5 (pair_members row) (verdict_members evidence.verdict ++ (told ++ (delivered ++ (grounds ++ spanned)))) (omega arith) later in
     omega (arith, all)
 
-rows_within : (telling : Option TellingValue) (times : TimesValue) (rows : List ExplanationValue) → items_depth (items_of (map (row_json telling times) rows)) ≤ 3
+rows_within : (telling : Option TellingValue) (times : TimesValue) (rows : List ExplanationValue) → items_depth (items_of (map (row_json telling times) rows)) ≤ 6
 rows_within telling times [] = omega arith
 rows_within telling times (row ∷ rows) = omega (arith, row_within telling times row, rows_within telling times rows)
 
@@ -276,13 +309,13 @@ reasons_within : (reasons : Option Reasons) → members_depth (members_of (reaso
 reasons_within None = omega arith
 reasons_within (Some reasons) = omega arith
 
-pub rows_depth : (telling : Option TellingValue) (rows : List ExplanationValue) (counts : Counts) (recording : RecordingValue) → members_depth (members_of (rows_members telling rows counts recording)) ≤ 4
+pub rows_depth : (telling : Option TellingValue) (rows : List ExplanationValue) (counts : Counts) (recording : RecordingValue) → members_depth (members_of (rows_members telling rows counts recording)) ≤ 7
 rows_depth telling rows counts recording =
     let frames = joined 0 (ignored_members recording.ignored) (reasons_members recording.reasons) (ignored_within recording.ignored) (reasons_within recording.reasons) in
     let last = joined 0 (counts_members counts) (ignored_members recording.ignored ++ reasons_members recording.reasons) (omega arith) frames in
     omega (arith, rows_within telling recording.times rows, last)
 
-pub report_depth : (rows : List ExplanationValue) (counts : Counts) (recording : RecordingValue) → depth (report_json rows counts recording) ≤ 5
+pub report_depth : (rows : List ExplanationValue) (counts : Counts) (recording : RecordingValue) → depth (report_json rows counts recording) ≤ 8
 report_depth rows counts recording = omega (arith, rows_depth None rows counts recording)
 
 pub report_within : (rows : List ExplanationValue) (counts : Counts) (recording : RecordingValue) → depth (report_json rows counts recording) ≤ max_depth

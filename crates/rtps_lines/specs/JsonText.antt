@@ -3,15 +3,18 @@
 -- and numbers are integers in decimal, but seconds have three places. Names are strings of what `list` writes between the quotes, and places
 -- are as `why` writes them. Where some datagram of the recording has a time, each place has a second, and so has each datagram that stands
 -- alone.
-use Rattle.std.specs.Prelude.{ℕ, ℤ, ◌≡◌, ◌++◌, Bool, if◌then◌else◌, List, [], ◌∷◌, codes, length, map, Option, None, Some}
+use Rattle.std.specs.Prelude.{ℕ, ℤ, ◌≡◌, ◌++◌, ◌==◌, Bool, if◌then◌else◌, List, [], ◌∷◌, codes, length, map, Option, None, Some}
 use Rattle.std.specs.Fmt.{decimal, signed_decimal}
 use Rattle.std.specs.List.{flat_map}
 use Rattle.json.specs.Json.{Json, null, boolean, number, string, array, object, Items, no_items, item, Members, no_members, member, document}
 use Rattle.json.specs.Print.{print}
 use Rattle.json.specs.Token.{Token, key}
 use Rattle.json.specs.Tree.{json_tokens}
+use Rattle.rtps_evidence.specs.Explanation.{lost_at}
 use Rattle.rtps_evidence.specs.FirstNumbers.{numbers_of}
+use Rattle.rtps_evidence.specs.Kinds.{KindValue, LostValue, lost_value}
 use Rattle.rtps_evidence.specs.Times.{TimesValue, are_there, seconds_of}
+use Rattle.rtps_evidence.specs.declared.kinds.NumberRange.{NumberRange}
 use Rattle.rtps_evidence.specs.declared.times.Seconds.{Seconds}
 use Rattle.rtps_evidence.specs.declared.waits.Wait.{Wait}
 use Rattle.rtps_report.specs.Vocabulary.{Absent, Announcement, Claim, Complete, CompleteGrounds, Conflict, ConflictGrounds, Counts, EvidenceValue, ExplanationValue, FirstMissed, GroundsValue, InSpan, Key, Location, NotReceived, Open, OpenGrounds, Outcomes, PayloadValue, SentValue, Teller, Unfounded, UnfoundedGrounds, Verdict, Whole}
@@ -237,15 +240,42 @@ wait_member times wait = (codes "wait", wait_json times wait)
 abbrev pub wait_members : TimesValue → Option Wait → List Member
 wait_members times wait = timed_members times (wait_member times wait ∷ [])
 
--- by what the objects of the rows of a report are told: their scope, who does not talk, and whether there is another recording
+-- a range of numbers, and where the first one was sent first
+abbrev pub range_json : TimesValue → NumberRange → Json
+range_json times range =
+    object_of ((codes "first", count_json range.first) ∷ (codes "last", count_json range.last) ∷ (codes "sent", place_json times range.sent) ∷ [])
+
+-- the ranges of a kind, and how many more there are
+abbrev pub kind_json : TimesValue → KindValue → Json
+kind_json times kind = object_of ((codes "ranges", array_of (map (range_json times) kind.ranges)) ∷ (codes "more", count_json kind.more) ∷ [])
+
+-- the same under its name; nothing of a kind that has no number
+abbrev pub kind_members : List ℕ → TimesValue → KindValue → List Member
+kind_members name times kind = if length kind.ranges == 0 then [] else (name, kind_json times kind) ∷ []
+
+-- those of a row
+abbrev pub kinds_members : TimesValue → LostValue → List Member
+kinds_members times lost =
+    kind_members (codes "missed") times lost.missed
+    ++ (kind_members (codes "unsent") times lost.unsent
+    ++ (kind_members (codes "unanswered") times lost.unanswered ++ kind_members (codes "not_arrived") times lost.not_arrived))
+
+-- an object of these
+abbrev pub lost_member : TimesValue → LostValue → Member
+lost_member times lost = (codes "numbers", object_of (kinds_members times lost))
+
+-- by what the objects of the rows of a report are told: their scope, who does not talk, which numbers of each are lost, and whether there is
+-- another recording
 pub record TellingValue : Type 0 where
   pub scope : Scope
   pub talk : TalkValue
+  pub lost : List LostValue
   pub has_other : Bool
 
 -- that of the code, as a value
 abbrev pub telling_value : Telling → TellingValue
-telling_value telling = record { scope = telling.scope; talk = talk_value telling.talk.now; has_other = telling.has_other }
+telling_value telling =
+    record { scope = telling.scope; talk = talk_value telling.talk.now; lost = map lost_value telling.lost.now; has_other = telling.has_other }
 
 -- of a row in a span: its first number, the datagram in which its reader leaves, what became of its numbers, the first that did not
 -- arrive, whether it is clean, and the longest wait
@@ -284,7 +314,8 @@ advice_member telling times row = (codes "advice", advice_json telling times row
 -- what is told of a row of a report beside its evidence
 abbrev pub spanned_members : TellingValue → TimesValue → ExplanationValue → List Member
 spanned_members telling times row =
-    span_members telling times row.evidence ++ (silence_members telling.talk times row ++ advice_member telling times row ∷ [])
+    span_members telling times row.evidence
+    ++ lost_member times (lost_at telling.lost row.place) ∷ (silence_members telling.talk times row ++ advice_member telling times row ∷ [])
 
 -- the same; nothing of a row of an audit, which is in no span
 abbrev pub further_members : Option TellingValue → TimesValue → ExplanationValue → List Member

@@ -88,6 +88,7 @@ fn telling_of<'t, 'a>(report: &'t FullReport<'a>) -> Telling<'t, 'a>
     Telling {
         scope: scope_of(report),
         talk: &report.talk,
+        lost: &report.explained.lost,
         has_other: has_other(report),
     }
 }

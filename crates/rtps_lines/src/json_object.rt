@@ -15,10 +15,11 @@ use crate::json_members::{
     push_name, push_number, push_numbers, push_optional, push_sent, push_teller, push_text,
     push_texts, push_timed, push_total, push_wait,
 };
+use crate::number_members::push_lost_of;
 use crate::silent_participants::silence_lines;
 use json::Writer;
 use rtps_audit::{Counts, Verdict};
-use rtps_evidence::{Evidence, Explained, Explanation, Grounds, InSpan, Outcomes};
+use rtps_evidence::{Evidence, Explained, Explanation, Grounds, InSpan, LostNumbers, Outcomes};
 use rtps_report::{Reasons, Recording, Scope, Talk, advice_of, is_clean, row_from};
 use std::alloc::{AllocError, Global};
 
@@ -38,6 +39,8 @@ pub fn json_line(writer: Writer) -> Result<String, AllocError>
 pub(crate) struct Telling<'t, 'a> {
     pub(crate) scope: Scope,
     pub(crate) talk: &'t Talk<'a>,
+    /// Which numbers of each row are lost, or look so.
+    pub(crate) lost: &'t [LostNumbers],
     /// Whether there is another recording, against which rows are held.
     pub(crate) has_other: bool,
 }
@@ -171,6 +174,7 @@ fn push_spanned(
     ensures before { writer.new.before ≡ writer.old.before }
 {
     push_span(writer, &row.evidence, telling, clock)?;
+    push_lost_of(writer, telling.lost, row.place, clock)?;
     push_silence(writer, row, telling, clock)?;
     push_advice(writer, row, telling, clock)
 }

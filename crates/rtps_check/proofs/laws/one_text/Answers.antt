@@ -89,7 +89,7 @@ text_once asked recording one other text last same is also =
     let side : side_facts one ≡ side_facts other = λ i. facts_if (same.rows i) (same.order i) (same.arrived i) in
     let talk = same_talk one.talk other.talk same.talk in
     let beside : beside_of asked recording one (talking_names is.talking) is.left_out ≡ beside_of asked recording other (talking_names also.talking) also.left_out =
-    λ i. record (beside_of asked recording one (talking_names is.talking) is.left_out) { facts = facts i; side = side i; talking = talking_names (talking i); left_out = left_out i; talk = talk i; ending = same.ending i } in
+    λ i. record (beside_of asked recording one (talking_names is.talking) is.left_out) { lost = same.lost i; facts = facts i; side = side i; talking = talking_names (talking i); left_out = left_out i; talk = talk i; ending = same.ending i } in
     let told : Told = (scope_of asked recording one, beside_of asked recording one (talking_names is.talking) is.left_out, map explanation_value is.rows) in
     let told' : Told = (scope_of asked recording other, beside_of asked recording other (talking_names also.talking) also.left_out, map explanation_value also.rows) in
     let path : told ≡ told' = λ i. (scope i, beside i, rows i) in

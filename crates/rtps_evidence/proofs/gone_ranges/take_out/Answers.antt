@@ -1,6 +1,5 @@
-use Rattle.std.proofs.Common.{ℕ, ◌≡◌, ◌≤◌, ◌<◌, ◌⊎◌, min, inl, inr, arith}
+use Rattle.std.proofs.Common.{◌≤◌, inl, inr, arith}
 use Rattle.std.proofs.lemmas.Bool.{cases_lt}
-use Rattle.rtps_evidence.specs.GoneRanges.{IsIn}
 use Rattle.rtps_evidence.proofs.GoneLemmas.{in_left, kept_after}
 use Rattle.rtps_evidence.proofs.gone_ranges.take_out.Goals as goal
 

@@ -58,7 +58,7 @@ returns c =
       missed = c.in_ok-missed-2.missed.count;
       first_missed = c.in_ok-missed-2.missed.first;
       grounds = c.grounds_of.result;
-      in_span = c.in_ok-in_span.in_span;
+      in_span = c.in_ok-spanned.spanned.in_span;
     } in
     record {
       judged = refl;
@@ -76,7 +76,7 @@ returns c =
             grounds = c.grounds_of.ensures recording is;
           });
       beside = λ whole recording beside is summary judged there times.
-          c.in_ok-in_span.ensures whole recording beside is there times (last recording summary)
+          c.in_ok-spanned.ensures whole recording beside is there times (last recording summary)
           (λ n low high. ap (λ l. stretches_have l n) c.deref-2.ensures.value ∙ lacking recording is summary judged n low high)
           (λ n low high. ap (λ l. stretches_have l n) c.deref-3.ensures.value ∙ missed recording is summary judged n low high)
           (subst (λ l. Stands exchange (stretches_have l) acts c.in_ok-ledger.ledger) (c.deref.ensures.value ∙ sym c.deref-2.ensures.value) c.in_ok-ledger.ensures);

@@ -1,4 +1,4 @@
-use Rattle.std.proofs.Common.{◌≡◌, ◌∙◌, ap, filter, map}
+use Rattle.std.proofs.Common.{◌∙◌, ap, filter, map}
 use Rattle.std.specs.Option.{option_map}
 use Rattle.std.proofs.lemmas.Result.{IfOk-weaker}
 use Rattle.rtps_audit.specs.Placed.{is_from, placed_in, placed_value}

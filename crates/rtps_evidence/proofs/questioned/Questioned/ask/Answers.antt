@@ -1,4 +1,4 @@
-use Rattle.std.proofs.Common.{◌≡◌, arith, max, min, refl}
+use Rattle.std.proofs.Common.{arith, refl}
 use Rattle.rtps_evidence.specs.declared.questioned.Questioned.{Questioned}
 use Rattle.rtps_evidence.proofs.QuestionedLemmas.{asked_so}
 use Rattle.rtps_evidence.proofs.questioned.Questioned.ask.Goals as goal

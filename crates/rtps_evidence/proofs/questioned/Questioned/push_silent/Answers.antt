@@ -1,4 +1,4 @@
-use Rattle.std.proofs.Common.{◌≡◌, ◌≤◌, ◌∙◌, ◌&&◌, ◌||◌, ℕ, ap, arith, nat_le, nat_lt}
+use Rattle.std.proofs.Common.{◌≤◌, ◌∙◌, ◌&&◌, ◌||◌, ap, arith, nat_le, nat_lt}
 use Rattle.rtps_coverage.specs.Stretches.{stretches_have}
 use Rattle.rtps_evidence.proofs.QuestionedLemmas.{hushed_more}
 use Rattle.rtps_evidence.proofs.questioned.Questioned.push_silent.Goals as goal

@@ -1,8 +1,7 @@
-use Rattle.std.proofs.Common.{◌≡◌, ◌≤◌, ◌<◌, ◌⊎◌, ℕ, arith, max, min, refl, subst, sym}
+use Rattle.std.proofs.Common.{◌≡◌, ◌≤◌, ◌<◌, ◌⊎◌, arith, max, min, refl, subst}
 use Rattle.std.specs.Prelude.{◌↔◌}
 use Rattle.std.proofs.lemmas.Result.{on_ok_weaker}
 use Rattle.rtps_coverage.specs.Stretches.{stretches_have}
-use Rattle.rtps_evidence.specs.GoneRanges.{IsIn}
 use Rattle.rtps_evidence.specs.Silences.{AreHushed, IsGone}
 use Rattle.rtps_evidence.specs.declared.questioned.Questioned.{Questioned}
 use Rattle.rtps_evidence.proofs.QuestionedLemmas.{told_so}

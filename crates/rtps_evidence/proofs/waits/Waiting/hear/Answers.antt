@@ -1,4 +1,4 @@
-use Rattle.std.proofs.Common.{◌≡◌, ◌∙◌, List, append-nil, ap, false, filter, sym, true}
+use Rattle.std.proofs.Common.{◌≡◌, ◌∙◌, List, append-nil, ap, false, sym, true}
 use Rattle.rtps_audit.specs.Placed.{PlacedValue, placed_value}
 use Rattle.rtps_audit.specs.Said.{datagrams_until}
 use Rattle.rtps_discovery.specs.declared.matching.Pair.{Pair}
