@@ -8,8 +8,8 @@ that is not of the kind. With each range stands where its first number was sent 
 a DATA or a DATA_FRAG of it from the writer, whether it had joined or not; none where there is no such act.
 
 **What is printed.** In the block of a row of `check`, before the line of the least missed number, each kind that has numbers has a line: its name, and
-the first ten ranges, with commas between them: `missed 20-21 (6.380 s), 37 (6.721 s)`. A range of one number is that number. In brackets
-stands the second of the datagram in which its first number was sent first, where it has one; else there are no brackets. Where there are more than
+the first ten ranges, with commas between them: `missed 20-21 (6.380 s, frame 66), 37 (6.721 s, frame 71)`. A range of one number is that number. In brackets
+stand the second and the frame of the datagram in which its first number was sent first, of these what it has; without any there are no brackets. Where there are more than
 ten ranges, ` and N more` says how many. In `why` the same lines, with as many spaces, stand behind the evidence of a row that is not clean, before its
 longest wait. In
 JSON a row has behind `clean`, and behind `wait`, where there is one, `numbers`: an object with a member of each kind that has numbers: `ranges`, the
@@ -54,8 +54,9 @@ def ranges_by_kind(row):
 
 def range_text(row, first, last):
     place = sent_first(row, first)
-    second = None if place is None else row.times.second(place[0])
-    return (f'{first}' if first == last else f'{first}-{last}') + ('' if second is None else f' ({second} s)')
+    second, frame = (row.times.second(place[0]), row.times.frame(place[0])) if place else (None, None)
+    known = ([] if second is None else [f'{second} s']) + ([] if frame is None else [f'frame {frame}'])
+    return (f'{first}' if first == last else f'{first}-{last}') + (f" ({', '.join(known)})" if known else '')
 
 
 def lines(row):

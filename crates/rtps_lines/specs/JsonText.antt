@@ -2,7 +2,8 @@
 -- own: other programs read the rows, what each rests on, and the counts. Members stand in this order, no space stands between tokens,
 -- and numbers are integers in decimal, but seconds have three places. Names are strings of what `list` writes between the quotes, and places
 -- are as `why` writes them. Where some datagram of the recording has a time, each place has a second, and so has each datagram that stands
--- alone.
+-- alone. Of a capture each place has the number of the frame that gave or completed its datagram, and so has each datagram that stands alone,
+-- where there are times; what `audit` tells has none.
 use Rattle.std.specs.Prelude.{ℕ, ℤ, ◌≡◌, ◌++◌, ◌==◌, Bool, if◌then◌else◌, List, [], ◌∷◌, codes, length, map, Option, None, Some}
 use Rattle.std.specs.Fmt.{decimal, signed_decimal}
 use Rattle.std.specs.List.{flat_map}
@@ -13,7 +14,7 @@ use Rattle.json.specs.Tree.{json_tokens}
 use Rattle.rtps_evidence.specs.Explanation.{lost_at}
 use Rattle.rtps_evidence.specs.FirstNumbers.{numbers_of}
 use Rattle.rtps_evidence.specs.Kinds.{KindValue, LostValue, lost_value}
-use Rattle.rtps_evidence.specs.Times.{TimesValue, are_there, seconds_of}
+use Rattle.rtps_evidence.specs.Times.{TimesValue, are_there, frame_of, seconds_of}
 use Rattle.rtps_evidence.specs.declared.kinds.NumberRange.{NumberRange}
 use Rattle.rtps_evidence.specs.declared.times.Seconds.{Seconds}
 use Rattle.rtps_evidence.specs.declared.waits.Wait.{Wait}
@@ -26,6 +27,7 @@ use Rattle.rtps_report.specs.Recording.{RecordingValue}
 use Rattle.rtps_report.specs.Silences.{silences_of}
 use Rattle.rtps_report.specs.Talk.{TalkValue, talk_value}
 use Rattle.rtps_lines.specs.Lines.{advice_text, kind_text, second_in, seconds_text, silence_lines}
+use Rattle.rtps_lines.specs.declared.json_members.Clock.{Clock}
 use Rattle.rtps_lines.specs.declared.json_object.Telling.{Telling}
 use Rattle.rtps_parts.specs.Names.{guid_text, octet_text}
 
@@ -77,10 +79,25 @@ timed_members times members = if are_there times.of_datagrams then members else 
 abbrev pub second_member : List ℕ → TimesValue → Option ℕ → Member
 second_member name times datagram = (name, second_json (second_at times datagram))
 
--- where a submessage stands, and when its datagram came
+-- what a clock tells: frames, where these are told
+abbrev pub clock_times : Clock → TimesValue
+clock_times clock =
+    record {
+      start = clock.times.now.start;
+      end = clock.times.now.end;
+      of_datagrams = clock.times.now.of_datagrams;
+      frames = if clock.framed then clock.times.now.frames else [];
+    }
+
+-- a frame; nothing where there is none
+abbrev pub frame_members : Option ℕ → List Member
+frame_members None = []
+frame_members (Some frame) = (codes "frame", count_json frame) ∷ []
+
+-- where a submessage stands, when its datagram came, and in which frame
 abbrev pub place_members : TimesValue → Location → List Member
 place_members times place = (codes "datagram", count_json place.datagram) ∷ (codes "at", count_json place.at)
-    ∷ timed_members times (second_member (codes "time") times (Some place.datagram) ∷ [])
+    ∷ (timed_members times (second_member (codes "time") times (Some place.datagram) ∷ []) ++ frame_members (frame_of times.frames place.datagram))
 
 -- the last number that the writer announced, and the submessage that did so first; null where there is none
 abbrev pub announcement_json : TimesValue → Option Announcement → Json
@@ -218,9 +235,19 @@ abbrev pub until_json : Option ℕ → Json
 until_json None = null
 until_json (Some datagram) = count_json datagram
 
--- the same as a member, and when that datagram came
+-- the frame of a datagram, if there is one
+abbrev pub frame_at : TimesValue → Option ℕ → Option ℕ
+frame_at times None = None
+frame_at times (Some datagram) = frame_of times.frames datagram
+
+-- that under a name; null where there is none
+abbrev pub frame_member : List ℕ → TimesValue → Option ℕ → Member
+frame_member name times datagram = (name, until_json (frame_at times datagram))
+
+-- the same as a member, when that datagram came, and in which frame
 abbrev pub until_members : TimesValue → Option ℕ → List Member
-until_members times until = (codes "until", until_json until) ∷ timed_members times (second_member (codes "until_time") times until ∷ [])
+until_members times until = (codes "until", until_json until)
+    ∷ timed_members times (second_member (codes "until_time") times until ∷ frame_member (codes "until_frame") times until ∷ [])
 
 -- for how long the reader let the writer wait, where the writer asked, and where the reader answered
 abbrev pub waited_json : TimesValue → Wait → Json
@@ -347,6 +374,15 @@ abbrev pub counts_members : Counts → List Member
 counts_members counts = (codes "datagrams", count_json counts.datagrams) ∷ (codes "refused", count_json counts.refused) ∷ (codes "skipped", count_json counts.skipped)
     ∷ (codes "fragments", count_json counts.fragments) ∷ (codes "undirected", count_json counts.undirected) ∷ (codes "unsettled", count_json counts.unsettled) ∷ []
 
+-- the frames that are told: those of a report, and none of an audit
+abbrev pub frames_told : Option TellingValue → List ℕ → List ℕ
+frames_told None frames = []
+frames_told (Some telling) frames = frames
+
+-- times, with these
+abbrev pub times_told : Option TellingValue → TimesValue → TimesValue
+times_told telling times = record { start = times.start; end = times.end; of_datagrams = times.of_datagrams; frames = frames_told telling times.frames }
+
 -- the rows, under their name
 abbrev pub pairs_member : Option TellingValue → TimesValue → List ExplanationValue → Member
 pairs_member telling times rows = (codes "pairs", array_of (map (row_json telling times) rows))
@@ -354,7 +390,7 @@ pairs_member telling times rows = (codes "pairs", array_of (map (row_json tellin
 -- what is told of these rows and counts, and of the frames of this recording
 abbrev pub rows_members : Option TellingValue → List ExplanationValue → Counts → RecordingValue → List Member
 rows_members telling rows counts recording =
-    pairs_member telling recording.times rows ∷ (counts_members counts ++ (ignored_members recording.ignored ++ reasons_members recording.reasons))
+    pairs_member telling (times_told telling recording.times) rows ∷ (counts_members counts ++ (ignored_members recording.ignored ++ reasons_members recording.reasons))
 
 -- the whole report, as an object of `audit --json`
 abbrev pub report_json : List ExplanationValue → Counts → RecordingValue → Json

@@ -1,9 +1,9 @@
--- The numbers of a row that are lost, or look so, in lines. own: ten ranges of a kind are enough to look at; a range has the second in
--- which its first number was sent first, where that is known, so that it leads to the moment.
+-- The numbers of a row that are lost, or look so, in lines. own: ten ranges of a kind are enough to look at; a range has the second and
+-- the frame in which its first number was sent first, where these are known, so that it leads to the moment.
 use Rattle.std.specs.Prelude.{ℕ, ◌+◌, ◌-◌, ◌++◌, ◌==◌, if◌then◌else◌, List, [], ◌∷◌, codes, decimal, flat_map, length, take, Option, None, Some}
 use Rattle.std.specs.List.{concat}
 use Rattle.rtps_evidence.specs.Kinds.{KindValue, LostValue}
-use Rattle.rtps_evidence.specs.Times.{TimesValue}
+use Rattle.rtps_evidence.specs.Times.{TimesValue, frame_of}
 use Rattle.rtps_evidence.specs.declared.kinds.NumberRange.{NumberRange}
 use Rattle.rtps_evidence.specs.declared.times.Seconds.{Seconds}
 use Rattle.rtps_report.specs.Vocabulary.{Location}
@@ -14,23 +14,30 @@ use Rattle.rtps_lines.specs.Lines.{second_in, seconds_text}
 abbrev pub more_text : ℕ → List ℕ
 more_text more = if more == 0 then [] else concat (codes " and " ∷ grouped more ∷ codes " more" ∷ [])
 
--- a second in brackets; nothing where there is none
-unfoldable pub bracketed : Option Seconds → List ℕ
-bracketed None = []
-bracketed (Some second) = codes " (" ++ (seconds_text second ++ codes " s)")
+-- a second and a frame in brackets; nothing where there is none
+unfoldable pub bracketed : Option Seconds → Option ℕ → List ℕ
+bracketed None None = []
+bracketed None (Some frame) = codes " (frame " ++ (decimal frame ++ codes ")")
+bracketed (Some second) None = codes " (" ++ (seconds_text second ++ codes " s)")
+bracketed (Some second) (Some frame) = codes " (" ++ (seconds_text second ++ (codes " s, frame " ++ (decimal frame ++ codes ")")))
 
 -- the second of a place, if there is one
 abbrev pub place_second : TimesValue → Option Location → Option Seconds
 place_second times None = None
 place_second times (Some place) = second_in times place.datagram
 
+-- the frame of a place, if there is one
+abbrev pub place_frame : TimesValue → Option Location → Option ℕ
+place_frame times None = None
+place_frame times (Some place) = frame_of times.frames place.datagram
+
 -- the last number of a range; nothing where it is the first one
 abbrev pub to_text : ℕ → ℕ → List ℕ
 to_text first last = if first == last then [] else codes "-" ++ decimal last
 
--- a range, and when its first number was sent first
+-- a range, and when and in which frame its first number was sent first
 abbrev pub range_text : TimesValue → NumberRange → List ℕ
-range_text times range = decimal range.first ++ (to_text range.first range.last ++ bracketed (place_second times range.sent))
+range_text times range = decimal range.first ++ (to_text range.first range.last ++ bracketed (place_second times range.sent) (place_frame times range.sent))
 
 -- ranges, with a comma between each two
 abbrev pub ranges_text : TimesValue → List NumberRange → List ℕ

@@ -2,7 +2,7 @@ ghost use Rattle.std.specs.Prelude.{◌≡◌, ◌++◌, OnOk, Some, map, take};
 ghost use Rattle.std.specs.String.{string_bytes};
 ghost use Rattle.rtps_evidence.specs.Explanation.{lost_at};
 ghost use Rattle.rtps_evidence.specs.Kinds.{kind_value, lost_value};
-ghost use Rattle.rtps_lines.specs.NumberRanges.{bracketed, kind_line, lost_lines as lost_lines_lem, more_ranges as more_ranges_lem, more_text, place_second as place_second_lem, ranges_text, range_text, to_text};
+ghost use Rattle.rtps_lines.specs.NumberRanges.{bracketed, kind_line, lost_lines as lost_lines_lem, more_ranges as more_ranges_lem, more_text, place_frame as place_frame_lem, place_second as place_second_lem, ranges_text, range_text, to_text};
 
 use crate::fields::{SecondsText, push_decimal, push_field};
 use rtps_evidence::{KindNumbers, Location, LostNumbers, NumberRange, Seconds, Times};
@@ -28,18 +28,22 @@ pub fn push_more(text: &mut String, more: u128) -> Result<(), AllocError>
     render(text, &parts)
 }
 
-/// A second in brackets; nothing where there is none.
+/// A second and a frame in brackets; nothing where there is none.
 #[derive(Drop)]
-struct Bracketed(Option<Seconds>);
+struct Bracketed(Option<Seconds>, Option<u64>);
 
 impl fmt::Display for Bracketed {
-    ghost output = { λ text. Some (bracketed text.0) };
+    ghost output = { λ text. Some (bracketed text.0 text.1) };
 
     #[tactic(auto, unfolding(crate::specs::NumberRanges::bracketed))]
     fn fmt<W: fmt::Write>(&self, f: &mut fmt::Formatter<W>) -> fmt::Result {
-        match self.0 {
-            Some(second) => write!(f, " ({} s)", SecondsText(second)),
-            None => Ok(()),
+        match (self.0, self.1) {
+            (Some(second), Some(frame)) => {
+                write!(f, " ({} s, frame {frame})", SecondsText(second))
+            }
+            (Some(second), None) => write!(f, " ({} s)", SecondsText(second)),
+            (None, Some(frame)) => write!(f, " (frame {frame})"),
+            (None, None) => Ok(()),
         }
     }
 }
@@ -50,6 +54,16 @@ fn place_second(times: &Times, place: Option<Location>) -> Option<Seconds>
 {
     match place {
         Some(place) => times.second(place.datagram),
+        None => None,
+    }
+}
+
+/// The frame of a place, if there is one.
+fn place_frame(times: &Times, place: Option<Location>) -> Option<u64>
+    ensures { result ≡ place_frame_lem times.now place }
+{
+    match place {
+        Some(place) => times.frame(place.datagram),
         None => None,
     }
 }
@@ -68,8 +82,9 @@ fn push_range(text: &mut String, range: NumberRange, times: &Times) -> Result<()
 {
     push_decimal(text, range.first)?;
     push_to(text, range.first, range.last)?;
-    let second = Bracketed(place_second(times, range.sent));
-    write!(text, "{second}")
+    let second = place_second(times, range.sent);
+    let frame = place_frame(times, range.sent);
+    write!(text, "{}", Bracketed(second, frame))
 }
 
 /// Appends ranges, with a comma between each two.

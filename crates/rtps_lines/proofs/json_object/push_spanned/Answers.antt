@@ -2,7 +2,7 @@ use Rattle.std.proofs.Common.{◌++◌, ◌∷◌, [], ◌∙◌, List, ap, appe
 use Rattle.std.proofs.lemmas.Result.{on_ok_weaker}
 use Rattle.json.specs.Token.{Token}
 use Rattle.rtps_evidence.specs.Explanation.{explanation_value, lost_at}
-use Rattle.rtps_lines.specs.JsonText.{advice_member, lost_member, silence_members, span_members, telling_value, tokens_of, tokens_of_member}
+use Rattle.rtps_lines.specs.JsonText.{clock_times, advice_member, lost_member, silence_members, span_members, telling_value, tokens_of, tokens_of_member}
 use Rattle.rtps_lines.proofs.JsonLemmas.{spanned_tokens}
 use Rattle.rtps_lines.proofs.PartLemmas.{four_parts}
 use Rattle.rtps_lines.proofs.json_object.push_spanned.Goals as goal
@@ -11,7 +11,7 @@ pub returns-clause-tokens : goal.returns-clause-tokens
 returns-clause-tokens c =
     let start : List Token = c.args.writer.now.tokens in
     let telling = telling_value c.args.telling in
-    let times = c.args.clock.times.now in
+    let times = (clock_times c.args.clock) in
     let row = explanation_value c.args.row.now in
     let span = span_members telling times row.evidence in
     let lost = lost_member times (lost_at telling.lost row.place) in

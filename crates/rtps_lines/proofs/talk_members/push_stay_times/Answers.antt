@@ -2,7 +2,7 @@ use Rattle.std.proofs.Common.{◌++◌, ◌∷◌, [], ◌∙◌, List, ℕ, Opt
 use Rattle.std.proofs.lemmas.Result.{on_ok_weaker}
 use Rattle.json.specs.Json.{boolean}
 use Rattle.json.specs.Token.{Token}
-use Rattle.rtps_lines.specs.JsonText.{Member, second_member, timed_members, tokens_of}
+use Rattle.rtps_lines.specs.JsonText.{clock_times, Member, second_member, timed_members, tokens_of}
 use Rattle.rtps_lines.specs.TalkMembers.{first_of, last_of}
 use Rattle.rtps_lines.proofs.PartLemmas.{four_parts}
 use Rattle.rtps_lines.proofs.TalkLemmas.{timed_tokens}
@@ -11,7 +11,7 @@ use Rattle.rtps_lines.proofs.talk_members.push_stay_times.Goals as goal
 pub returns-clause-tokens : goal.returns-clause-tokens
 returns-clause-tokens c =
     let participant = c.args.participant.now in
-    let times = c.args.clock.times.now in
+    let times = (clock_times c.args.clock) in
     let start : List Token = c.args.writer.now.tokens in
     let written : List ℕ → Option ℕ → List Token = λ name datagram. tokens_of (timed_members times (second_member name times datagram ∷ [])) in
     let first : Member = second_member (codes "first_time") times (first_of participant) in

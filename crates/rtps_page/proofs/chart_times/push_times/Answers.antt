@@ -11,7 +11,7 @@ pub returns-clause-tokens : goal.returns-clause-tokens
 returns-clause-tokens c = λ intake is.
     let start : List Token = c.args.writer.now.tokens in
     let begun : List Token = c.begin_array.new.self.tokens in
-    let times = c.args.clock.times.now in
+    let times = (clock_times c.args.clock) in
     let acts = placed_in intake.acts in
     let shown = datagrams_shown acts c.args.pairs.now in
     let values = times_json times shown in

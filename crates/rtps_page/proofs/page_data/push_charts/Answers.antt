@@ -5,7 +5,7 @@ use Rattle.rtps_page.proofs.page_data.push_charts.Goals as goal
 pub returns-clause-tokens : goal.returns-clause-tokens
 returns-clause-tokens c = λ intake is.
     let start : List Token = c.args.writer.now.tokens in
-    let times = c.args.clock.times.now in
+    let times = (clock_times c.args.clock) in
     let acts = placed_in intake.acts in
     let pairs = c.args.pairs.now in
     let one : List Token = key (codes "writers") ∷ json_tokens (array_of (map (writer_json acts) (writers_behind None pairs))) in
