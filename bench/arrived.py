@@ -52,7 +52,7 @@ Pairs of best effort
 
 What is printed
 - The first line says how many numbers arrived beside those that are received. The table has a column `arrived` behind `received`.
-  A row that is told has the first ten numbers that lack, and so has each best-effort pair of which some lack.
+  A row that is told has the ranges of the numbers that lack (kinds.py), and each best-effort pair of which some lack the first ten.
 - In JSON `"outcomes"` has a member `"arrived"` behind `"received"`, null in a row that is not held. Behind `"outcomes"` stands
   `"not_arrived"`: the first ten numbers that lack, or null. The object has behind `"best_effort"` the member `"arrived"`: of each
   best-effort pair that is held its topic, writer and reader, its numbers, how many of them arrived, and the first ten that lack. Before
@@ -149,13 +149,6 @@ def first_named(numbers):
 def listed(named, count):
     """some numbers, and how many more there are"""
     return ', '.join(map(str, named)) + (f' and {grouped(count - len(named))} more' if count > len(named) else '')
-
-
-def lacking_lines(row):
-    """the line of a row with the first numbers that did not arrive"""
-    if not row.held or not row.lacking_count():
-        return []
-    return [f'not arrived {listed(first_named(row.lacking()), row.lacking_count())}']
 
 
 def more_arrived(rows):

@@ -379,12 +379,12 @@ def packets_of(arrivals):
 # ---- a capture
 
 class Reading:
-    """The datagrams of a capture and their times, in nanoseconds since 1970 or None, the time of the first frame that has one, and the
-    greatest time of a frame; and of the frames that gave no datagram how many there are for each reason, and the link type of the first
+    """The datagrams of a capture, their times, in nanoseconds since 1970 or None, the frames that gave or completed them, counted from 1
+    with all frames of the file, the time of the first frame that has one, and the greatest time of a frame; and of the frames that gave no datagram how many there are for each reason, and the link type of the first
     one of a link that is not read."""
 
     def __init__(self, mode):
-        self.mode, self.datagrams, self.times, self.start, self.end = mode, [], [], None, None
+        self.mode, self.datagrams, self.times, self.frames, self.start, self.end = mode, [], [], [], None, None
         self.pieces = self.cut = self.other = self.links = 0
         self.link = None
 
@@ -440,6 +440,7 @@ def read_frames(frames, mode):
     for number in sorted(given):
         reading.datagrams.append(given[number])
         reading.times.append(frames[number].time)
+        reading.frames.append(number + 1)
     return reading
 
 

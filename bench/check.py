@@ -5,6 +5,7 @@ what is meant, and not from the program. The guide prints the table ADVICE. A re
 who talks (`talk.Talk`), counts, what another recording shows (`arrived.BothSides`), where there is one, and what is asked.
 """
 import arrived
+import kinds
 from times import behind, order_notes, timed_line, wait_line
 from told import (best_effort_shares, best_effort_totals, hosted, one_way_lines, talk_notes, topic_text, type_text, unmatched_amount,
                   unmatched_lines)
@@ -220,7 +221,7 @@ def beginning(line):
 def shown(row):
     """the lines that explain a row, of which the one on missed numbers is the first"""
     lines = [line for line in row.lines if beginning(line) in SHOWN[row.kind]]
-    return arrived.lacking_lines(row) + [line.strip() for line in sorted(lines, key=lambda line: not line.startswith('  '))]
+    return kinds.lines(row) + [line.strip() for line in sorted(lines, key=lambda line: not line.startswith('  '))]
 
 
 def said_lines(row):

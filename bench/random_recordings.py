@@ -589,6 +589,31 @@ def some_outage(rng):
     return datagrams + [by_writer(told.heartbeat()) for _ in range(rng.choice([0, 0, 1, 2]))]
 
 
+def set_of_any(base, numbers):
+    """a number set of numbers up to 255 above its base"""
+    count = max([n - base + 1 for n in numbers], default=0)
+    words = [sum(1 << 31 - (n - base) % 32 for n in numbers if (n - base) // 32 == k) for k in range((count + 31) // 32)]
+    return sn('be', base) + u('be', 4, count) + b''.join(u('be', 4, word) for word in words)
+
+
+def some_ranges(rng):
+    """many numbers, of which some are not sent, and of the others some are asked for in vain, or about in vain until they are dropped: many ranges"""
+    told, last = Told(rng), rng.randrange(20, 120)
+    sent = [n for n in range(1, last + 1) if rng.random() < 0.7]
+    lacked = [n for n in range(1, last + 1) if rng.random() < rng.choice([0.1, 0.5])]
+    datagrams = [START[0], announced(b'\0\0\4\xc2', B, b'\0\0\1\4', RELIABLE + rng.choice([b'', DURABLE]))]
+    datagrams += [by_writer(told.data(n)) for n in sent]
+    told.last = last
+    datagrams += [by_writer(told.heartbeat()) for _ in range(rng.randrange(3))]
+    base = rng.randrange(1, 4)
+    datagrams.append(answered(told.submessage(0x06, 0, set_of_any(base, [n for n in lacked if n >= base]), told.counted())))
+    datagrams += [by_writer(told.data(n)) for n in lacked if rng.random() < 0.5]
+    told.first = rng.randrange(1, last + 2)
+    datagrams.append(by_writer(told.heartbeat()))
+    base = rng.choice([told.first, last + 1])
+    return datagrams + ([answered(told.submessage(0x06, 0, set_of_any(base, []), told.counted()))] if rng.random() < 0.7 else [])
+
+
 def some_two_ways(rng):
     """two participants with a writer and a reader each, which say what they have to say at one time"""
     ends = [(A, B, b'\0\0\1\3', b'\0\0\1\4'), (B, A, b'\0\0\2\3', b'\0\0\2\4')]

@@ -310,7 +310,7 @@ def input_of(octets, limits=USUAL, any_form=False):
 def times_of(octets, limits=USUAL, any_form=False):
     """the times of the datagrams of an input; there are none where it is no capture, or is refused"""
     reading = capture_of(octets, limits, any_form)
-    return Times(reading.start, reading.times, reading.end) if isinstance(reading, capture_reader.Reading) else NO_TIMES
+    return Times(reading.start, reading.times, reading.end, reading.frames) if isinstance(reading, capture_reader.Reading) else NO_TIMES
 
 
 def first_link(octets, limits=USUAL):
@@ -1051,7 +1051,7 @@ def answer_as(view, text, asked, limits=USUAL, any_form=False, name='-'):
     if isinstance(read, str):
         return '', told_of(name, text, limits, any_form, f'{words_of(view)[0]} -'), 2
     datagrams, ignored = read
-    lines = lines_of(view, datagrams, asked, ignored, times_of(text, limits, any_form))
+    lines = lines_of(view, datagrams, asked, ignored, times_of(text, limits, any_form).without_frames())
     unclean = view in AUDITS and any(' complete ' not in line for line in audit(datagrams, asked)[1:-1])
     return ''.join(line + '\n' for line in lines), [], int(unclean)
 

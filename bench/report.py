@@ -19,6 +19,7 @@ import sys
 
 import arrived
 import check
+import kinds
 import reference
 from asked import PLAIN, asked_by
 from random_recordings import some_asked, some_life, text_of_datagrams
@@ -72,7 +73,8 @@ def why_lines(row, counts):
     until = f' until datagram {row.until[0]}{behind(row.times, row.until[0])}' if row.until else ''
     lines = [f"pair {names['writer']} {names['reader']} {row.verdict}", f"  topic \"{names['topic']}\" type \"{names['type']}\"",
              f'  from {row.first}{until}', *('  ' + timed_line(row.times, line) for line in with_outcomes(row))]
-    return lines + ['  ' + line for line in check.said_lines(row)] + ([] if row.is_clean() else ['  -> ' + row.advice(counts)])
+    lost = [] if row.is_clean() else ['    ' + line for line in kinds.lines(row)]
+    return lines + lost + ['  ' + line for line in check.said_lines(row)] + ([] if row.is_clean() else ['  -> ' + row.advice(counts)])
 
 
 def with_outcomes(row):

@@ -5,6 +5,7 @@ that is asked about is in one of seven kinds, the first of KINDS that fits; in `
 recording.
 """
 import arrived
+import kinds
 import reference
 from check import KINDS, advice_of
 from life import Life, Span
@@ -162,9 +163,9 @@ class Row:
         """all members; `counts` are those of the whole recording"""
         until = self.until and self.until[0]
         not_arrived = {'not_arrived': self.first_lacking() if self.held else None} if self.beside else {}
-        said = {'wait': wait_values(self.times, self.wait), 'silence': self.silence_lines()} if self.times.are_there() else {}
+        wait, said = ({'wait': wait_values(self.times, self.wait)}, {'silence': self.silence_lines()}) if self.times.are_there() else ({}, {})
         return self.names() | self.evidence() | {'from': self.first, 'until': until} | alone(self.times, until=until) | {
-            'outcomes': self.outcomes(), **not_arrived, 'clean': self.is_clean(), **said, 'advice': self.advice(counts)}
+            'outcomes': self.outcomes(), **not_arrived, 'clean': self.is_clean(), **wait, 'numbers': kinds.values(self), **said, 'advice': self.advice(counts)}
 
     def first_lacking(self):
         return arrived.first_named(self.lacking())

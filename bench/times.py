@@ -14,6 +14,14 @@ in a Simple Packet Block, where its time is before 1970, and where it needs more
 **The second** of a datagram that has a time is the time from the start to it in milliseconds, cut off towards zero, said with three places:
 `12.345`. Where it is before the start a `-` stands in front, but not in front of 0.000. Another time that is said is cut off so, too.
 
+**The frame of a datagram** of a capture is the number of the frame that gave it; of a packet in pieces of the one that completed it. Records of
+packets count from 1, and so do packet blocks (Enhanced, Simple and old), whatever they carry and whether they gave a datagram or not: this is
+the number that other programs give them. A text has no frames.
+
+**Where frames stand.** In the text of `check`, `page` and `why` a frame stands before the second, wherever that does or would: `in datagram 412
+at 36, frame 431, 12.345 s`. In JSON, but not in that of `audit`, a place has it as its last member, `frame`, and a datagram that stands alone, where it has a
+member for its second, another for its frame (`until_frame`, `first_frame`, `last_frame`, `left_frame`), null where the datagram is.
+
 **Where seconds stand.** In the text of `check`, and so of `page`, and in that of `why`, a place of a datagram that has a time is followed by a comma and the second:
 `in datagram 412 at 36, 12.345 s`, and so is the datagram in which a reader left. In JSON, and so in the data of `page`, each place has
 behind `at` a member `time`: the second as a number with three places, or null. A datagram that stands alone (`until` of a row, `first`, `last`
@@ -82,10 +90,19 @@ class Seconds:
 
 
 class Times:
-    """of a recording: the time of each of its datagrams, the start, and the greatest time of any frame, each None where there is none"""
+    """of a recording: the time of each of its datagrams, the start, and the greatest time of any frame, each None where there is none; and
+    the number of the frame of each datagram, of which a text has none"""
 
-    def __init__(self, start=None, of_datagrams=(), last=None):
-        self.start, self.of_datagrams, self.last = start, list(of_datagrams), last
+    def __init__(self, start=None, of_datagrams=(), last=None, frames=()):
+        self.start, self.of_datagrams, self.last, self.frames = start, list(of_datagrams), last, list(frames)
+
+    def frame(self, datagram):
+        """the frame of a datagram, counted from 1; None of none, and of a text"""
+        return self.frames[datagram - 1] if self.frames and datagram is not None else None
+
+    def without_frames(self):
+        """what an audit tells"""
+        return Times(self.start, self.of_datagrams, self.last)
 
     def are_there(self):
         return any(time is not None for time in self.of_datagrams)
@@ -131,8 +148,8 @@ NO_TIMES = Times()
 
 def behind(times, datagram):
     """what is said behind a datagram or a place in it"""
-    second = times.second(datagram)
-    return '' if second is None else f', {second} s'
+    frame, second = times.frame(datagram), times.second(datagram)
+    return ('' if frame is None else f', frame {frame}') + ('' if second is None else f', {second} s')
 
 
 def timed_line(times, line):
@@ -141,18 +158,27 @@ def timed_line(times, line):
 
 
 def timed_values(times, value):
-    """a value of JSON with the second of each place in it"""
+    """a value of JSON with the second and the frame of each place in it"""
     if isinstance(value, list):
         return [timed_values(times, one) for one in value]
-    if not isinstance(value, dict) or not times.are_there():
+    if not isinstance(value, dict):
         return value
     timed = {name: timed_values(times, one) for name, one in value.items()}
-    return timed | {'time': times.second(value['datagram'])} if 'at' in value else timed
+    return timed | place_members(times, value['datagram']) if 'at' in value else timed
+
+
+def place_members(times, datagram):
+    """what a place has behind `at`"""
+    second = {'time': times.second(datagram)} if times.are_there() else {}
+    return second | ({'frame': times.frame(datagram)} if times.frames else {})
 
 
 def alone(times, **datagrams):
-    """the members with the seconds of datagrams that stand alone"""
-    return {f'{name}_time': times.second(datagram) for name, datagram in datagrams.items()} if times.are_there() else {}
+    """the members with the seconds and the frames of datagrams that stand alone"""
+    if not times.are_there():
+        return {}
+    seconds = {f'{name}_time': times.second(datagram) for name, datagram in datagrams.items()}
+    return seconds | {f'{name}_frame': times.frame(datagram) for name, datagram in datagrams.items()}
 
 
 def json_text(value, **words):

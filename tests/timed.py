@@ -19,6 +19,8 @@ from program import answer_of, text_of
 from recorded import Participant, Topic, parameter
 
 SECOND, MILLISECOND = 10 ** 9, 10 ** 6
+# How a frame is told: in lines, and in JSON.
+FRAME = r', frame \d+|,"(\w+_)?frame":(\d+|null)'
 TCP = packet(b'', protocol=6)          # a frame that gives no datagram
 
 
@@ -37,6 +39,10 @@ class Timed(program.Counts):
         self.runs = {'bench/times.py': Answers().run} | ({path: program.Tests(path).run} if path else {})
 
     def says(self, name, view, octets, wanted, seen=lambda text: text, words=()):
+        """what is seen in the answer, without the frames in it, is what is wanted"""
+        self.shows(name, view, octets, wanted, lambda text: seen(re.sub(FRAME, '', text)), words)
+
+    def shows(self, name, view, octets, wanted, seen, words=()):
         """what is seen in the answer is what is wanted"""
         for by, run in self.runs.items():
             self.holds(f'{view}: {name}, by {by}', wanted, seen(run(view, octets, words)[0]))
@@ -169,6 +175,7 @@ topic     pairs  clean  before  received  missed
   writer {WRITER}
   reader {READER}, from 1
   complete 2, received 1, missed 1
+    missed 2 (0.700 s)
     number 2 asked for in datagram 10 at 36, 0.899 s, sent again in datagram 11 at 36, 1.000 s, told gone by heartbeat in datagram 12 at 20, 1.100 s
     -> it was sent again, and nothing shows that it arrived: look at the network; a recording at the reader's side tells
 
@@ -185,6 +192,7 @@ pair {WRITER} {READER} complete 2
   missed 1
     number 2 asked for in datagram 10 at 36, 0.899 s, sent again in datagram 11 at 36, 1.000 s, told gone by heartbeat in datagram 12 at 20, 1.100 s
   number 2 may not be received: told gone by heartbeat in datagram 12 at 20, 1.100 s, acknowledged in datagram 13 at 36, 1.200 s
+    missed 2 (0.700 s)
   -> it was sent again, and nothing shows that it arrived: look at the network; a recording at the reader's side tells
 datagrams 13 refused 0 skipped 0 fragments 0 undirected 0 unsettled 0 ignored 0
 not clean: 1 number was missed in 1 pair
@@ -198,23 +206,57 @@ PLACES = (
     '"again":{"datagram":11,"at":36,"time":1.000}',
     '"gone":{"by":"heartbeat","datagram":12,"at":20,"time":1.100}',
 )
+SENT = '"sent":{"datagram":8,"at":20,"time":0.700}'
+NO_SECOND = r', \d\.\d{3} s| \(\d\.\d{3} s\)'
 
 
 def places(tests):
     octets = timed(lost(), STEADY)
     tests.says('each place', 'check', octets, SAID)
-    for name, view, words in (('each place', 'json', ()), ('of check', 'check', ('--json',))):
-        tests.says(name, view, octets, list(PLACES), lambda text: re.findall(r'"\w+":{[^{}]*"at"[^{}]*}', text), words)
+    for name, view, words, more in (('each place', 'json', (), []), ('of check', 'check', ('--json',), [SENT])):
+        tests.says(name, view, octets, [*PLACES, *more], lambda text: re.findall(r'"\w+":{[^{}]*"at"[^{}]*}', text), words)
     tests.tells('the row', octets, r'"from":1,.*?"outcomes"|"clean":false,.*"advice":', '"from":1,"until":null,"until_time":null,"outcomes"',
-                '"clean":false,"wait":null,"silence":[],"advice":')
-    tests.says('places with no time', 'check', text_of(lost()), re.sub(r', \d\.\d{3} s', '', SAID))
+                f'"clean":false,"wait":null,"numbers":{{"missed":{{"ranges":[{{"first":2,"last":2,{SENT}}}],"more":0}}}},"silence":[],"advice":')
+    tests.says('places with no time', 'check', text_of(lost()), re.sub(NO_SECOND, '', SAID))
     for view in ('show', 'list', 'audit'):
         tests.says('no seconds', view, octets, [], of_times)
     tests.says('each place', 'why', octets, WHY)
-    tests.says('places with no time', 'why', text_of(lost()), re.sub(r', \d\.\d{3} s| ignored 0', '', WHY))
+    tests.says('places with no time', 'why', text_of(lost()), re.sub(NO_SECOND + '| ignored 0', '', WHY))
     for name, (datagrams, *lines) in verdicts().items():
         tests.checks(name, timed(datagrams, STEADY[:9][:len(datagrams)]), *lines)
     print(f'places: {len(verdicts()) + 10}')
+
+
+def frames(tests):
+    """the frame of each datagram: the frame that gave or completed it, counted with all frames of the file"""
+    datagrams = lost()
+    inner = udp_4(datagrams[0])
+    head, rest = fragment(inner, 0, 40), fragment(inner, 40, len(inner))
+    given = [packet(d) for d in datagrams]
+    usb = section() + interface(189) + interface()
+    rows = {
+        'one frame each': (nanoseconds(zip(STEADY, given)), 8),
+        'frames in front that give nothing': (nanoseconds([(STEADY[0], TCP), (STEADY[0], TCP), *zip(STEADY, given)]), 10),
+        'a packet in pieces': (nanoseconds([(STEADY[0], head), (STEADY[0], TCP), (STEADY[0], rest), *zip(STEADY[1:], given[1:])]), 10),
+        'Simple Packets': (section() + interface() + b''.join(simple(frame) for frame in given), 8),
+        'old blocks': (section() + interface() + b''.join(old(frame, time=k) for k, frame in enumerate(given)), 8),
+        'a link that is not read': (usb + enhanced(b'usb', 0) + b''.join(enhanced(frame, 1, time=k) for k, frame in enumerate(given)), 9),
+        'two sections': (section() + interface() + enhanced(TCP) + section() + interface() + b''.join(enhanced(frame, time=k) for k, frame in enumerate(given)), 9),
+    }
+    for name, (octets, frame) in rows.items():
+        tests.shows(name, 'check', octets, [str(frame), str(frame + 2), str(frame + 3), str(frame + 4)], lambda text: re.findall(r'frame (\d+)', text))
+        tests.shows(name, 'why', octets, [str(frame), str(frame + 5)], lambda text: re.findall(r'(?:announced 2|acknowledged below 3).*?frame (\d+)', text))
+        tests.shows(name, 'check', octets, [str(frame)], lambda text: re.findall(r'"announced":{"number":2,[^{}]*"frame":(\d+)}', text), ('--json',))
+        for view in ('show', 'list', 'audit', 'json'):
+            tests.shows(name, view, octets, [], lambda text: re.findall('frame"?[ :][0-9]', text))
+    octets = rows['a packet in pieces'][0]
+    tests.shows('alone', 'check', octets, ['"first_frame":3,"last_frame":14,"left_frame":null', '"first_frame":4,"last_frame":15,"left_frame":null'],
+                lambda text: re.findall(r'"first_frame":.*?"left_frame":\w+', text), ('--json',))
+    tests.shows('alone', 'check', octets, ['"until":null,"until_time":null,"until_frame":null'], lambda text: re.findall(r'"until":.*?_frame":\w+', text), ('--json',))
+    tests.shows('without times', 'check', rows['Simple Packets'][0], [], lambda text: re.findall(r'_frame', text), ('--json',))
+    tests.shows('without times', 'check', rows['Simple Packets'][0], ['    missed 2 (frame 8)'], lambda text: re.findall(r'    missed 2.*', text))
+    tests.shows('a text', 'check', text_of(datagrams), [], lambda text: re.findall('frame', text))
+    print(f'frames: {7 * len(rows) + 5}')
 
 
 def verdicts():
@@ -547,7 +589,7 @@ def main():
     if len(sys.argv) > 2:
         raise SystemExit(__doc__)
     tests = Timed(sys.argv[1] if len(sys.argv) == 2 else None)
-    for group in (units, places, page_data, going_back, waiting, silence, silence_by_headers, silence_by_leases, silence_to_the_last_frame, outages,
+    for group in (units, places, frames, page_data, going_back, waiting, silence, silence_by_headers, silence_by_leases, silence_to_the_last_frame, outages,
                   asked_at_the_end, given_twice):
         group(tests)
     return tests.told()

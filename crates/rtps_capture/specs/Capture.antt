@@ -1,4 +1,4 @@
--- The datagrams of a capture, with their times, its start and its end, and its ignored frames by the reason.
+-- The datagrams of a capture, with their times and frames, its start and its end, and its ignored frames by the reason.
 -- own: a frame is ignored that gives no datagram, is no fragment of a packet that gives one, and is no repeat. Faults stand at their
 -- places in the file: the first one is told. A file that ends within a record or a block is no fault: a recorder that is stopped
 -- leaves such a file, and what was not recorded cannot be told from what was not sent. Of classic captures alone it is one.
@@ -26,12 +26,13 @@ use Rattle.rtps_capture.specs.declared.packet.Contents.{Contents}
 use Rattle.rtps_capture.specs.declared.packet.Contents.TheVariants as contents
 use Rattle.rtps_capture.specs.declared.fragment.FragmentKey.{FragmentKey}
 
--- what was read so far: the fragments by their keys, the datagrams and their times, the first and the greatest time of a frame, the
+-- what was read so far: the fragments by their keys, the datagrams, their times and the numbers of their frames, the first and the greatest time of a frame, the
 -- octets behind the file, and the numbers of frames
 pub record Collected : Type 0 where
   pub making : FragmentKey → Making
   pub datagrams : List ByteRange
   pub times : List (Option ℕ)
+  pub frames : List ℕ
   pub start : Option ℕ
   pub end : Option ℕ
   pub behind : List ℕ
@@ -43,6 +44,7 @@ nothing = record {
   making = λ key. fresh_making;
   datagrams = [];
   times = [];
+  frames = [];
   start = None;
   end = None;
   behind = [];
@@ -61,6 +63,7 @@ with_fragment file time so_far key joined = record {
   making = λ other. if is_eq (key_cmp key other) then joined.making else so_far.making other;
   datagrams = so_far.datagrams ++ option_to_list (option_map (moved_range (length file + length so_far.behind)) joined.taken.datagram);
   times = so_far.times ++ option_to_list (option_map (λ datagram. time) joined.taken.datagram);
+  frames = so_far.frames ++ option_to_list (option_map (λ datagram. so_far.counts.frames) joined.taken.datagram);
   start = so_far.start;
   end = so_far.end;
   behind = so_far.behind ++ joined.packet;
@@ -70,10 +73,11 @@ with_fragment file time so_far key joined = record {
   };
 }
 
--- with the contents of a frame more, which has this time
+-- With the contents of a frame more, which has this time and is the last one that was counted. own: a datagram has the number of the frame
+-- that gave or completed it, by which other programs name it.
 abbrev pub with_contents : List ℕ → Option ℕ → Collected → Contents → Collected
 with_contents file time so_far (contents.Datagram range) =
-    record so_far { datagrams = so_far.datagrams ++ range ∷ []; times = so_far.times ++ time ∷ [] }
+    record so_far { datagrams = so_far.datagrams ++ range ∷ []; times = so_far.times ++ time ∷ []; frames = so_far.frames ++ so_far.counts.frames ∷ [] }
 with_contents file time so_far (contents.Fragment fragment) =
     with_fragment file time so_far fragment.key (taken_piece file fragment.key (so_far.making fragment.key) (piece_of fragment))
 with_contents file time so_far contents.Cut = record so_far { counts = record so_far.counts { cut = so_far.counts.cut + 1 } }
@@ -142,6 +146,7 @@ all_noted captures file most so_far (frame ∷ frames) = or_fault (noted capture
 pub record Answer : Type 0 where
   pub datagrams : List ByteRange
   pub times : List (Option ℕ)
+  pub frames : List ℕ
   pub start : Option ℕ
   pub end : Option ℕ
   pub behind : List ℕ
@@ -156,6 +161,7 @@ abbrev pub answer_of : Collected → Answer
 answer_of so_far = record {
   datagrams = so_far.datagrams;
   times = so_far.times;
+  frames = so_far.frames;
   start = so_far.start;
   end = so_far.end;
   behind = so_far.behind;
@@ -207,6 +213,7 @@ abbrev pub reading_value : List ℕ → CaptureReading → Answer
 reading_value behind reading = record {
   datagrams = reading.datagrams.items;
   times = reading.times.items;
+  frames = reading.frames.items;
   start = reading.start;
   end = reading.end;
   behind = behind;
@@ -237,6 +244,7 @@ collected_of so_far = record {
   making = making_of so_far.assembly.makings;
   datagrams = so_far.datagrams.items;
   times = so_far.times.items;
+  frames = so_far.frames.items;
   start = so_far.start;
   end = so_far.end;
   behind = so_far.octets.behind;

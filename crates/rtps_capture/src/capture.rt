@@ -27,6 +27,8 @@ pub struct CaptureReading {
     /// When the frame was captured that gave each of them, or completed its packet: in nanoseconds since 1970 began (UTC). None
     /// where the file does not tell it.
     pub times: Vec<Option<u64>>,
+    /// The number of that frame, counted from 1: of all frames of the file, whatever they carry.
+    pub frames: Vec<u64>,
     /// When the first frame of the file was captured that has a time, whether it gave a datagram or not: in nanoseconds since
     /// 1970 began (UTC). None where no frame has one.
     pub start: Option<u64>,
@@ -79,6 +81,7 @@ struct Collected {
     packet: Vec<u8>,
     datagrams: Vec<ByteRange>,
     times: Vec<Option<u64>>,
+    frames: Vec<u64>,
     /// The first time of a frame.
     start: Option<u64>,
     /// The greatest time of a frame.
@@ -135,6 +138,7 @@ impl Collected {
             packet: Vec::new(alloc),
             datagrams: Vec::new(alloc),
             times: Vec::new(alloc),
+            frames: Vec::new(alloc),
             start: None,
             end: None,
             counts: Counts::default(),
@@ -205,6 +209,7 @@ impl Collected {
             Contents::Datagram(range) => {
                 self.datagrams.push(range)?;
                 self.times.push(time)?;
+                self.frames.push(self.counts.frames)?;
             }
             Contents::Fragment(fragment) => self.take_fragment(&fragment, time)?,
             Contents::Cut => self.counts.cut += 1,
@@ -237,6 +242,7 @@ impl Collected {
                 to: at + range.to,
             })?;
             self.times.push(time)?;
+            self.frames.push(self.counts.frames)?;
         }
         Ok(())
     }
@@ -253,6 +259,7 @@ impl Collected {
             octets: self.octets.into_octets(),
             datagrams: self.datagrams,
             times: self.times,
+            frames: self.frames,
             start: self.start,
             end: self.end,
             pieces: u128::from(self.counts.fresh).saturating_sub(self.counts.settled) as u64,

@@ -1,6 +1,6 @@
--- What `check` prints of numbers that did not arrive at the reader's host, by another recording. own: the first ten of them are enough to
--- look at, and how many more there are tells the rest. A reader of best effort never asks again, so what it lacks is in no row.
-use Rattle.std.specs.Prelude.{ℕ, ◌≡◌, ◌+◌, ◌-◌, ◌++◌, ◌==◌, Bool, nat_lt, if◌then◌else◌, List, [], ◌∷◌, codes, decimal, filter, length, sum_by, IsPermutation, IsSorted, Option, None, Some}
+-- What `check` prints of best-effort numbers that did not arrive at the reader's host, by another recording. own: the first ten of them are
+-- enough to look at, and how many more there are tells the rest. A reader of best effort never asks again, so what it lacks is in no row.
+use Rattle.std.specs.Prelude.{ℕ, ◌≡◌, ◌-◌, ◌++◌, Bool, nat_lt, List, [], ◌∷◌, codes, decimal, filter, length, sum_by, IsPermutation, IsSorted, Option, None, Some}
 use Rattle.std.specs.Cmp.Lexicographic.{slice_cmp}
 use Rattle.std.specs.List.{concat, join_by}
 use Rattle.std.specs.List.Sorted.{IsStable}
@@ -10,35 +10,18 @@ use Rattle.rtps_discovery.specs.declared.matching.Pair.{Pair}
 use Rattle.rtps_ids.specs.declared.identity.GuidPrefix.{GuidPrefix}
 use Rattle.rtps_evidence.specs.FirstNumbers.{numbers_of}
 use Rattle.rtps_lines.specs.Notes.{number_words}
-use Rattle.rtps_parts.specs.Parts.{WordsValue, amount, grouped, share}
+use Rattle.rtps_lines.specs.NumberRanges.{more_text}
+use Rattle.rtps_parts.specs.Parts.{WordsValue, amount, share}
 use Rattle.rtps_policies.specs.declared.host.Host.{Host}
 use Rattle.rtps_report.specs.BestEfforts.{HeldValue}
 use Rattle.rtps_report.specs.Talk.{TalkValue}
-use Rattle.rtps_report.specs.Vocabulary.{InSpan, Outcomes}
 use Rattle.rtps_check.specs.TalkText.{hosted, topic_line}
 
 -- ---- numbers
 
--- that there are so many more; nothing where there is none
-abbrev pub more_text : ℕ → List ℕ
-more_text more = if more == 0 then [] else concat (codes " and " ∷ grouped more ∷ codes " more" ∷ [])
-
 -- the first of so many numbers, with a comma between each two, and how many more there are
 abbrev pub listed : List ℕ → ℕ → List ℕ
 listed numbers count = join_by decimal (codes ", ") numbers ++ more_text (count - length numbers)
-
--- how many numbers are neither received nor arrived
-abbrev pub lacking_count : Outcomes → ℕ
-lacking_count outcomes = outcomes.missed + (outcomes.unsent + (outcomes.unanswered + (outcomes.likely + outcomes.unconfirmed)))
-
--- the line of the first of so many numbers that did not arrive; nothing where there is none
-abbrev pub lacking_line : List ℕ → ℕ → List ℕ
-lacking_line numbers count = if count == 0 then [] else codes "    not arrived " ++ (listed numbers count ++ codes "\n")
-
--- that of a row that is held against the other recording; nothing for another
-abbrev pub not_arrived_line : Option InSpan → List ℕ
-not_arrived_line None = []
-not_arrived_line (Some in_span) = if in_span.is_held then lacking_line (numbers_of in_span.lacking) (lacking_count in_span.outcomes) else []
 
 -- ---- pairs of best effort
 

@@ -4,8 +4,10 @@
 -- recording is clean, or why not. A pair that is not clean has the lines of `why` that explain it, and in a last
 -- line what to do; those that lack only a tail share a line, since a system that is stopped while it publishes leaves one with each.
 -- Other programs read the outcome and its reasons without taking lines apart.
-use Rattle.std.specs.Prelude.{ℕ, ◌≡◌, ◌++◌, ◌==◌, not, if◌then◌else◌, nat_lt, List, [], ◌∷◌, Bool, codes, filter, map, ℤ, decimal, length, Option, None, Some, flat_map, ◌↔◌, true}
+use Rattle.std.specs.Prelude.{ℕ, ◌≡◌, ◌++◌, ◌==◌, if◌then◌else◌, nat_lt, List, [], ◌∷◌, Bool, codes, filter, map, ℤ, decimal, length, Option, None, Some, flat_map, ◌↔◌, true}
 use Rattle.std.specs.List.{concat}
+use Rattle.rtps_evidence.specs.Explanation.{lost_at}
+use Rattle.rtps_evidence.specs.Kinds.{LostValue, lost_value}
 use Rattle.rtps_evidence.specs.Times.{TimesValue}
 use Rattle.rtps_report.specs.Vocabulary.{CompleteGrounds, ConflictGrounds, Counts, EvidenceValue, Explanation, explanation_value, ExplanationValue, FirstMissed, GroundsValue, InSpan, OpenGrounds, Outcomes, SentValue, UnfoundedGrounds}
 use Rattle.rtps_report.specs.declared.findings.Ending.TheVariants.{Clean}
@@ -15,7 +17,7 @@ use Rattle.rtps_report.specs.declared.totals.Totals.{Totals}
 use Rattle.rtps_parts.specs.Parts.{amount, share, words_for, grouped}
 use Rattle.rtps_report.specs.Asked.{AskedValue}
 use Rattle.rtps_report.specs.ByTopic.{AreByTopic, topics_of}
-use Rattle.rtps_report.specs.FullReport.{IsTold, ReportValue, facts_with}
+use Rattle.rtps_report.specs.FullReport.{IsTold, ReportValue, facts_with, lost_of}
 use Rattle.rtps_report.specs.NoteFacts.{note_facts, scope_of}
 use Rattle.rtps_report.specs.Recording.{RecordingValue}
 use Rattle.rtps_report.specs.Totals.{totals_of}
@@ -32,6 +34,7 @@ use Rattle.rtps_report.specs.declared.note_facts.NoteFacts.{NoteFacts}
 use Rattle.rtps_report.specs.declared.order.Order.{Order}
 use Rattle.rtps_lines.specs.Causes.{causes_of, findings_in, last_line}
 use Rattle.rtps_lines.specs.Notes.{NotedValue, joined_names, notes, number_words, talking_names, topic_name}
+use Rattle.rtps_lines.specs.NumberRanges.{lost_lines}
 use Rattle.rtps_lines.specs.TailNames.{longest_tail}
 use Rattle.rtps_parts.specs.RosNames.{topic_text, type_text}
 use Rattle.rtps_policies.specs.Unmatched.{UnmatchedValue}
@@ -43,7 +46,7 @@ use Rattle.rtps_parts.specs.Table.{table}
 use Rattle.rtps_lines.specs.CheckMembers.{check_members}
 use Rattle.rtps_lines.specs.JsonText.{IsJsonLine, object_of}
 use Rattle.rtps_report.specs.Findings.{ending_as}
-use Rattle.rtps_check.specs.ArrivedText.{AreByTopic as LossyByTopic, is_lossy, lossy_lines, not_arrived_line}
+use Rattle.rtps_check.specs.ArrivedText.{AreByTopic as LossyByTopic, is_lossy, lossy_lines}
 use Rattle.rtps_check.specs.TalkText.{AreByTopic as UnmatchedByTopic, AreLeftByTopic as LeftOutByTopic, hosted, one_way_block, unmatched_lines}
 use Rattle.rtps_check.specs.declared.checked_text.Told.{Told}
 use Rattle.rtps_check.specs.declared.sections.RowTelling.{RowTelling}
@@ -82,11 +85,12 @@ no_pair_remedy talk left_out =
 abbrev pub no_pair_lines : TalkValue → List LeftOutValue → List ℕ
 no_pair_lines talk left_out = concat (codes "there is no pair to judge\n  -> " ∷ no_pair_remedy talk left_out ∷ codes "\n" ∷ [])
 
--- what is told beside the rows: when datagrams came, what weakens the report, what is told of the other recording, if there is one, the
+-- what is told beside the rows: when datagrams came, which numbers of each row are lost, what weakens the report, what is told of the other recording, if there is one, the
 -- names of pairs that talk though they do not match, the pairs that it cannot speak of, by topic, who does not talk, whether each number has
 -- to be certain, and how the run ends
 pub record Beside : Type 0 where
   pub times : TimesValue
+  pub lost : List LostValue
   pub facts : NoteFacts
   pub side : Option SideFacts
   pub talking : List ℕ
@@ -137,15 +141,16 @@ topic_table scope totals (topic ∷ topics) = codes "\n" ++ table (shown_places 
 
 -- ---- the pairs that someone has to look at
 
--- by what rows are told beside themselves: what is asked, who does not talk, and when datagrams came
+-- by what rows are told beside themselves: what is asked, who does not talk, which numbers of each are lost, and when datagrams came
 pub record RowTold : Type 0 where
   pub scope : Scope
   pub talk : TalkValue
+  pub lost : List LostValue
   pub times : TimesValue
 
 -- that of the code, as a value
 abbrev pub row_told : RowTelling → RowTold
-row_told told = record { scope = told.scope; talk = talk_value told.talk.now; times = told.times.now }
+row_told told = record { scope = told.scope; talk = talk_value told.talk.now; lost = map lost_value told.lost.rows.now; times = told.lost.times.now }
 
 -- since when the participants of a row are silent
 abbrev pub silences_in : RowTold → ExplanationValue → Silences
@@ -221,11 +226,11 @@ abbrev pub wait_line : TimesValue → Option InSpan → List ℕ
 wait_line times None = []
 wait_line times (Some in_span) = wait_by times in_span.wait
 
--- the lines that explain a row: which numbers did not arrive, what it missed, what its verdict rests on, how long its reader let the writer
+-- the lines that explain a row: which numbers are lost, what it missed, what its verdict rests on, how long its reader let the writer
 -- wait, and who is silent
 abbrev pub reason_lines : RowTold → ExplanationValue → List ℕ
 reason_lines told row =
-    not_arrived_line row.evidence.in_span
+    lost_lines told.times (lost_at told.lost row.place)
     ++ (missed_line told.times row.evidence
     ++ (verdict_lines told.times row.evidence
     ++ (wait_line told.times row.evidence.in_span ++ flat_map sentence_line (silence_lines told.times (silences_in told row)))))
@@ -310,7 +315,7 @@ ending_text scope beside totals rows =
 
 -- by what rows are told, where this is told beside them
 abbrev pub told_beside : Scope → Beside → RowTold
-told_beside scope beside = record { scope = scope; talk = beside.talk; times = beside.times }
+told_beside scope beside = record { scope = scope; talk = beside.talk; lost = beside.lost; times = beside.times }
 
 -- the text of what is told, of rows by topic: those that do not match stand by topic, too, and so do those of best effort of which not all
 -- numbers arrived
@@ -328,7 +333,8 @@ pub record IsTextBy (scope : Scope) (beside : Beside) (rows : List ExplanationVa
 abbrev pub beside_value : Told → Beside
 beside_value told =
     record {
-      times = told.times.now;
+      times = told.lost.times.now;
+      lost = map lost_value told.lost.rows.now;
       facts = told.facts;
       side = told.side;
       talking = told.talking.now;
@@ -343,6 +349,7 @@ abbrev pub beside_of : AskedValue → RecordingValue → ReportValue → List �
 beside_of asked recording report talking left_out =
     record {
       times = recording.times;
+      lost = lost_of report;
       facts = note_facts asked recording report;
       side = side_facts report;
       talking = talking;

@@ -13,9 +13,10 @@ use crate::tails::{clean_tails_among, late_among, push_tail_block};
 use crate::topic_table::push_topic_table;
 use crate::unmatched_block::{left_by_topic, push_unmatched_block, unmatched_by_topic};
 use json::Writer;
-use rtps_evidence::{Explanation, Times};
+use rtps_evidence::Explanation;
 use rtps_lines::{
-    Judged, NotedRows, causes_of, json_line, notes_of, push_check_members, push_last, talking_names,
+    Judged, LostRows, NotedRows, causes_of, json_line, notes_of, push_check_members, push_last,
+    talking_names,
 };
 use rtps_parts::{Part, Words, render, words_for};
 use rtps_report::{
@@ -28,7 +29,7 @@ use std::alloc::{AllocError, Global};
 #[derive(Clone, Copy)]
 struct Told<'r, 'a> {
     scope: Scope,
-    times: &'r Times,
+    lost: LostRows<'r>,
     facts: NoteFacts,
     /// What is told of the other recording; None where there is none.
     side: Option<SideFacts>,
@@ -149,7 +150,7 @@ fn push_topics(
     let telling = RowTelling {
         scope: told.scope,
         talk: told.talk,
-        times: told.times,
+        lost: told.lost,
     };
     let topics = topics_of(alloc, told.rows)?;
     push_topic_table(alloc, text, &topics, (totals, told.scope))?;
@@ -221,7 +222,10 @@ pub fn check_text(alloc: Global, report: &FullReport<'_>) -> Result<String, Allo
     let left_out = left_by_topic(alloc, &report.talk.left_out)?;
     let told = Told {
         scope: scope_of(report),
-        times: report.recording.times(),
+        lost: LostRows {
+            rows: &report.explained.lost,
+            times: report.recording.times(),
+        },
         facts: notes_on(report),
         side: facts_of_side(report),
         rows: &rows,

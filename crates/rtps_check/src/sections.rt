@@ -5,12 +5,12 @@ ghost use Rattle.rtps_lines.specs.Lines.{silence_lines as silence_lines_lem};
 ghost use Rattle.rtps_parts.specs.Parts.{part_text};
 ghost use Rattle.rtps_check.specs.CheckText.{advice_line, headed, kind_text, kinds_text, left_text, missed_line, noted_lines, pair_lines, payload_line, reason_lines, row_head, row_lines, row_told, section, sentence_line, topic_head as topic_head_lem, verdict_lines, wait_line};
 
-use crate::not_arrived::push_not_arrived;
 use crate::unmatched_block::hosted_by;
 use rtps_evidence::{Evidence, Explanation, Grounds, InSpan, Outcomes, Sent, Times};
 use rtps_lines::{
-    AcknowledgedLine, AdviceText, AnnouncedLine, AskedLine, ClaimedLine, QuestionsLine, SecondText,
-    ToldLine, VerdictText, WaitText, push_field, push_sent, silence_lines,
+    AcknowledgedLine, AdviceText, AnnouncedLine, AskedLine, ClaimedLine, LostRows, QuestionsLine,
+    SecondText, ToldLine, VerdictText, WaitText, push_field, push_lost_lines, push_sent,
+    silence_lines,
 };
 use rtps_parts::{Part, render};
 use rtps_report::{
@@ -24,8 +24,8 @@ pub(crate) struct RowTelling<'t, 'a> {
     pub(crate) scope: Scope,
     /// Where participants are.
     pub(crate) talk: &'t Talk<'a>,
-    /// When datagrams came.
-    pub(crate) times: &'t Times,
+    /// Which numbers of each row are lost, and when datagrams came.
+    pub(crate) lost: LostRows<'t>,
 }
 
 fn push_kind(text: &mut String, name: &str, count: u64) -> Result<(), AllocError>
@@ -134,7 +134,7 @@ fn push_pair(
     let writer = hosted_by(told.talk, row.pair.writer);
     let reader = hosted_by(told.talk, row.pair.reader);
     write!(text, "  writer {writer}\n  reader {reader}, from {first}")?;
-    push_left(text, left_at(&row.evidence), told.times)?;
+    push_left(text, left_at(&row.evidence), told.lost.times)?;
     text.push_str("\n")
 }
 
@@ -198,11 +198,11 @@ fn push_reasons(
 ) -> Result<(), AllocError>
     ensures { OnOk result (string_bytes text.new ≡ string_bytes text.old ++ reason_lines (row_told told.entry) (explanation_value row.now)) }
 {
-    push_not_arrived(text, row.evidence.in_span.as_ref())?;
-    push_missed(text, &row.evidence, told.times)?;
-    push_verdict(text, &row.evidence, told.times)?;
-    push_wait(text, row.evidence.in_span.as_ref(), told.times)?;
-    push_silences(alloc, text, told.talk.silences(row.pair), told.times)
+    push_lost_lines(text, told.lost, row.place)?;
+    push_missed(text, &row.evidence, told.lost.times)?;
+    push_verdict(text, &row.evidence, told.lost.times)?;
+    push_wait(text, row.evidence.in_span.as_ref(), told.lost.times)?;
+    push_silences(alloc, text, told.talk.silences(row.pair), told.lost.times)
 }
 
 fn push_advice(
@@ -213,8 +213,8 @@ fn push_advice(
     ensures { OnOk result (string_bytes text.new ≡ string_bytes text.old ++ advice_line (row_told told.entry) (explanation_value row.now)) }
 {
     let silences = told.talk.silences(row.pair);
-    let advice = advice_of(told.scope, &row.evidence, silences, told.times);
-    writeln!(text, "    -> {}", AdviceText(told.times, advice))
+    let advice = advice_of(told.scope, &row.evidence, silences, told.lost.times);
+    writeln!(text, "    -> {}", AdviceText(told.lost.times, advice))
 }
 
 fn push_row(

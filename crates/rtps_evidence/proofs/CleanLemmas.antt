@@ -21,7 +21,7 @@ use Rattle.rtps_evidence.specs.declared.outcome.Outcomes.{Outcomes}
 use Rattle.rtps_coverage.proofs.Offered.{count_all, count_none, count_same, count_split}
 
 -- where no number has it, each has not
-none_has : (has : ℕ → Bool) (lo hi n : ℕ) → count_in has lo hi ≡ 0 → lo ≤ n → n < hi → has n ≡ false
+pub none_has : (has : ℕ → Bool) (lo hi n : ℕ) → count_in has lo hi ≡ 0 → lo ≤ n → n < hi → has n ≡ false
 none_has has lo hi n none le lt = by (has n) refl
   where
     same_number : (k m : ℕ) → m ≤ k → k < m + 1 → has m ≡ true → has k ≡ true

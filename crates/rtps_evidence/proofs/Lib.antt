@@ -18,6 +18,8 @@ pub mod QuestionLemmas
 pub mod AskingLemmas
 pub mod MissedLemmas
 pub mod RequestLemmas
+pub mod GoneLemmas
+pub mod QuestionedLemmas
 pub mod SilenceLemmas
 pub mod SpanLemmas
 pub mod OutcomeLemmas
@@ -29,7 +31,11 @@ pub mod UnansweredLemmas
 pub mod RecordedLemmas
 pub mod TimeLemmas
 pub mod WaitLemmas
+pub mod LedgerLemmas
 pub mod PlaceOrder
 pub mod KeptLemmas
+pub mod KindLemmas
+pub mod SendingLemmas
+pub mod LostLemmas
 pub mod WayLemmas
 pub mod Offered

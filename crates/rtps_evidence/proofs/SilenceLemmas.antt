@@ -1,8 +1,6 @@
 -- How far a walk over what a pair said came, for one number, step by step.
-use Rattle.std.proofs.Common.{◌≡◌, ◌∙◌, ℕ, ◌+◌, ◌<◌, ◌≤◌, ◌&&◌, ◌||◌, Bool, true, false, cond, max, nat_le, nat_lt, List, [], ◌∷◌, ◌++◌, refl, sym, ap, subst, arith, inl, inr, Option, Some, None}
-use Rattle.std.specs.Prelude.{if◌then◌else◌, is_some, unwrap_or}
-use Rattle.std.specs.BTreeMap.{get}
-use Rattle.std.specs.Ordering.{nat_cmp}
+use Rattle.std.proofs.Common.{◌≡◌, ◌∙◌, ℕ, ◌+◌, ◌&&◌, ◌||◌, Bool, true, false, cond, nat_le, nat_lt, List, [], ◌∷◌, ◌++◌, refl, ap, arith, inl, inr, Option, Some, None}
+use Rattle.std.specs.Prelude.{if◌then◌else◌, unwrap_or}
 use Rattle.std.proofs.lemmas.Bool.{cases_lt}
 use Rattle.std.proofs.lemmas.Bool.Decides.{nat_tests}
 use Rattle.rtps_discovery.specs.declared.matching.Pair.{Pair}
@@ -16,10 +14,7 @@ use Rattle.rtps_audit.specs.Speech.{word_of}
 use Rattle.rtps_evidence.specs.Locations.{is_behind, said_to}
 use Rattle.rtps_evidence.specs.Outcomes.{Silence, Walk, asked_about, heard, is_offered, told_gone, walked, walked_all}
 use Rattle.rtps_evidence.specs.Questions.{is_question, questions_behind}
-use Rattle.rtps_evidence.specs.Outcomes.Silence.{Unasked, Once, Again, Answered, Silent, Ended}
 use Rattle.rtps_evidence.specs.Received.{is_gone, withdraws}
-use Rattle.rtps_evidence.specs.Silences.{IsAt}
-use Rattle.rtps_evidence.specs.declared.silence.Walk.{Walk as CodeWalk}
 use Rattle.rtps_evidence.specs.declared.location.Location.{Location}
 
 -- ---- the writer tells numbers gone
@@ -84,72 +79,6 @@ heard_question times since pair n x s end asks ends =
     told_stays : (b : Bool) → cond b (asked_about x.datagram (told_gone times x.datagram s)) (told_gone times x.datagram s) ≡ told_gone times x.datagram s
     told_stays true = stays_told times x.datagram x.datagram s
     told_stays false = refl
-
--- ---- what is left, from a number on
-
--- what is noted up to a number, from which on nothing is left below hi, is noted up to hi
-pub noted_all : (left old : ℕ → Option (Option ℕ)) (lo at hi datagram : ℕ) → lo ≤ at → at ≤ max lo hi → ((n : ℕ) → left n ≡ cond ((nat_le lo n && nat_lt n at) && is_some (old n)) (Some (Some datagram)) (old n))
-    → ((n : ℕ) → at ≤ n → n < hi → left n ≡ None) → (n : ℕ) → left n ≡ cond ((nat_le lo n && nat_lt n hi) && is_some (old n)) (Some (Some datagram)) (old n)
-noted_all left old lo at hi datagram on within noted none n = elim (cases_lt n at) [
-  | inl lt ↦ elim (cases_lt n lo) [
-    | inl below ↦
-        let no : nat_le lo n ≡ false = grind (arith, nat_tests) in
-        noted n ∙ ap (λ b. cond ((b && nat_lt n at) && is_some (old n)) (Some (Some datagram)) (old n)) no ∙ sym (ap (λ b. cond ((b && nat_lt n hi) && is_some (old n)) (Some (Some datagram)) (old n)) no)
-    | inr from ↦
-        let yes : nat_lt n at ≡ true = grind (arith, nat_tests) in
-        let also : nat_lt n hi ≡ true = grind (arith, nat_tests) in
-        noted n ∙ ap (λ b. cond ((nat_le lo n && b) && is_some (old n)) (Some (Some datagram)) (old n)) (yes ∙ sym also)
-  ]
-  | inr past ↦
-      let out : nat_lt n at ≡ false = grind (arith, nat_tests) in
-      let same : left n ≡ old n = noted n ∙ ap (λ b. cond ((nat_le lo n && b) && is_some (old n)) (Some (Some datagram)) (old n)) out ∙ ap (λ b. cond (b && is_some (old n)) (Some (Some datagram)) (old n)) (and_no (nat_le lo n)) in
-      elim (cases_lt n hi) [
-        | inl lt ↦ same ∙ unkept (nat_le lo n && nat_lt n hi) (old n) (sym same ∙ none n past lt)
-        | inr beyond ↦
-            let no : nat_lt n hi ≡ false = grind (arith, nat_tests) in
-            same ∙ sym (ap (λ b. cond ((nat_le lo n && b) && is_some (old n)) (Some (Some datagram)) (old n)) no ∙ ap (λ b. cond (b && is_some (old n)) (Some (Some datagram)) (old n)) (and_no (nat_le lo n)))
-      ]
-]
-  where
-    unkept : (b : Bool) (o : Option (Option ℕ)) → o ≡ None → o ≡ cond (b && is_some o) (Some (Some datagram)) o
-    unkept b None is = sym (ap (λ d. cond d (Some (Some datagram)) None) (and_no b))
-    unkept b (Some value) is = absurd (let no : Some value ≡ None = is in cc)
-
--- a number of which nothing is left was told gone
-told_already : (times : List (Option ℕ)) (datagram n : ℕ) (s : Silence) (walk : CodeWalk) → get nat_cmp walk.left n ≡ None → IsAt n s walk → told_gone times datagram s ≡ s
-told_already times datagram n Unasked walk none at = absurd (let is = at.so.0 in let no : Some None ≡ None = sym is ∙ none in cc)
-told_already times datagram n (Once asked) walk none at = absurd (let is = at.so.0 in let no : Some (Some asked) ≡ None = sym is ∙ none in cc)
-told_already times datagram n (Again asked) walk none at = absurd (let is = at.so.0 in let no : Some (Some asked) ≡ None = sym is ∙ none in cc)
-told_already times datagram n Answered walk none at = absurd (let is = at.so.0 in let no : false ≡ true = sym (ap is_some none) ∙ is in cc)
-told_already times datagram n Silent walk none at = refl
-told_already times datagram n Ended walk none at = refl
-
--- what is told gone up to a number, from which on nothing is left below hi, is told gone up to hi
-pub told_all : (times : List (Option ℕ)) (datagram n lo at hi : ℕ) (s : Silence) (walk : CodeWalk) → lo ≤ at → at ≤ max lo hi → (at ≤ n → n < hi → get nat_cmp walk.left n ≡ None)
-    → IsAt n (cond (nat_le lo n && nat_lt n at) (told_gone times datagram s) s) walk → IsAt n (cond (nat_le lo n && nat_lt n hi) (told_gone times datagram s) s) walk
-told_all times datagram n lo at hi s walk on within none is = elim (cases_lt n at) [
-  | inl lt ↦ elim (cases_lt n lo) [
-    | inl below ↦
-        let no : (nat_le lo n && nat_lt n at) ≡ false = grind (arith, nat_tests) in
-        let also : (nat_le lo n && nat_lt n hi) ≡ false = grind (arith, nat_tests) in
-        subst (λ b. IsAt n (cond b (told_gone times datagram s) s) walk) (no ∙ sym also) is
-    | inr from ↦
-        let yes : (nat_le lo n && nat_lt n at) ≡ true = grind (arith, nat_tests) in
-        let also : (nat_le lo n && nat_lt n hi) ≡ true = grind (arith, nat_tests) in
-        subst (λ b. IsAt n (cond b (told_gone times datagram s) s) walk) (yes ∙ sym also) is
-  ]
-  | inr past ↦
-      let out : (nat_le lo n && nat_lt n at) ≡ false = grind (arith, nat_tests) in
-      let here : IsAt n s walk = subst (λ b. IsAt n (cond b (told_gone times datagram s) s) walk) out is in
-      elim (cases_lt n hi) [
-        | inl lt ↦
-            let yes : (nat_le lo n && nat_lt n hi) ≡ true = grind (arith, nat_tests) in
-            subst (λ b. IsAt n (cond b (told_gone times datagram s) s) walk) (sym yes) (subst (λ t. IsAt n t walk) (sym (told_already times datagram n s walk (none past lt) here)) here)
-        | inr beyond ↦
-            let no : (nat_le lo n && nat_lt n hi) ≡ false = grind (arith, nat_tests) in
-            subst (λ b. IsAt n (cond b (told_gone times datagram s) s) walk) (sym no) here
-      ]
-]
 
 -- ---- one act more
 

@@ -11,13 +11,12 @@ use Rattle.std.proofs.lemmas.List.Elements.{filter_map-append}
 use Rattle.std.proofs.lemmas.List.Folds.{find-append}
 use Rattle.rtps_discovery.specs.declared.matching.Pair.{Pair}
 use Rattle.rtps_audit.specs.Delivery.{greatest}
-use Rattle.rtps_audit.specs.Placed.{PlacedValue, is_from, placed_value}
+use Rattle.rtps_audit.specs.Placed.{PlacedValue, is_from}
 use Rattle.rtps_audit.specs.declared.answer.Answer.{Answer}
-use Rattle.rtps_audit.specs.declared.placed.Placed.{Placed}
 use Rattle.rtps_audit.proofs.Offered.{greatest-append, speaker_is_origin}
 use Rattle.rtps_evidence.specs.Locations.{location_of}
 use Rattle.rtps_evidence.specs.Times.{are_there, time_of}
-use Rattle.rtps_evidence.specs.Waits.{HasPassed, answered_at, answers_behind, ended_at, length_of, longer_of, longest, precedes, questions_of, told_of, wait_from, wait_of, waits_of}
+use Rattle.rtps_evidence.specs.Waits.{HasPassed, answered_at, answers_behind, ended_at, length_of, longer_of, longest, precedes, questions_of, wait_from, wait_of, waits_of}
 use Rattle.rtps_evidence.specs.declared.location.Location.{Location}
 use Rattle.rtps_evidence.specs.declared.waits.Wait.{Wait}
 use Rattle.rtps_evidence.proofs.QuestionLemmas.{filter_filter}
@@ -140,10 +139,6 @@ waits_more times end answers questions question = grind (arith, nat_tests, commo
 
 -- ---- the questions, one after another
 
-pub questions_more : (test : PlacedValue → Bool) (acts : List Placed) (i : ℕ) (x : Placed) → i < length acts → x ≡ get_or acts i x → (b : Bool) → test (placed_value x) ≡ b
-    → filter test (map placed_value (take (i + 1) acts)) ≡ filter test (map placed_value (take i acts)) ++ cond b (placed_value x ∷ []) []
-questions_more test acts i x lt at b is = grind (arith, nat_tests, common_steps)
-
 -- those of the writer's acts are those of all acts
 pub questions_same : (since : Option Location) (pair : Pair) (acts : List PlacedValue) → questions_of since pair (filter (is_from pair.writer) acts) ≡ questions_of since pair acts
 questions_same since pair acts = grind (arith, nat_tests, common_steps, filter_filter, speaker_is_origin, and_parts)
@@ -153,14 +148,10 @@ questions_same since pair acts = grind (arith, nat_tests, common_steps, filter_f
 untimed : (times : List (Option ℕ)) (number : ℕ) → are_there times ≡ false → time_of times number ≡ None
 untimed times number lacks = grind (arith, nat_tests, common_steps)
 
-no_waits : (times : List (Option ℕ)) (end : Option ℕ) (answers : List Answer) (questions : List PlacedValue) → are_there times ≡ false → waits_of times end answers questions ≡ []
+pub no_waits : (times : List (Option ℕ)) (end : Option ℕ) (answers : List Answer) (questions : List PlacedValue) → are_there times ≡ false → waits_of times end answers questions ≡ []
 no_waits times end answers [] lacks = refl
 no_waits times end answers (question ∷ questions) lacks =
     let asked = location_of question in
     let answered = answered_at asked answers in
     ap (λ since. cons_option (wait_of asked answered since (ended_at times end answered)) (waits_of times end answers questions)) (untimed times asked.datagram lacks)
     ∙ no_waits times end answers questions lacks
-
--- no wait is told there
-pub none_told : (times : List (Option ℕ)) (end : Option ℕ) (answers : List Answer) (questions : List PlacedValue) → are_there times ≡ false → told_of (longest (waits_of times end answers questions)) ≡ None
-none_told times end answers questions lacks = ap (λ (l : List Wait). told_of (longest l)) (no_waits times end answers questions lacks)

@@ -1,17 +1,21 @@
 -- Why each pair of a recording has its verdict. own: the pairs and the counts are those of the report; each pair has the
 -- topic and the type of its two, and its evidence.
-use Rattle.std.specs.Prelude.{ℕ, Bool, false, ◌≡◌, List, [], All, map, Option, Some, None}
+use Rattle.std.specs.Prelude.{ℕ, Bool, false, ⊤, ◌≡◌, List, [], ◌∷◌, All, length, map, slice_get, Option, Some, None}
+use Rattle.std.specs.List.{range_with_len}
 use Rattle.rtps_discovery.specs.Directory.{DirectoryValue, Entries, IsMapOf, settled_at}
 use Rattle.rtps_discovery.specs.Endpoint.{EndpointValue}
 use Rattle.rtps_discovery.specs.declared.matching.Pair.{Pair}
 use Rattle.rtps_audit.specs.Intake.{Intake, acts_together, intake_of}
 use Rattle.rtps_audit.specs.Report.{IsReportBy}
+use Rattle.rtps_audit.specs.Said.{datagrams_until}
 use Rattle.rtps_audit.specs.declared.report.Report.{Report}
 use Rattle.rtps_audit.specs.declared.report.Row.{Row}
 use Rattle.rtps_audit.specs.declared.verdict.Verdict.{Verdict}
 use Rattle.rtps_evidence.specs.Evidence.{IsEvidenceBy}
 use Rattle.rtps_evidence.specs.Grounds.{GroundsValue, grounds_value}
+use Rattle.rtps_evidence.specs.Kinds.{IsLostIn, LostValue, lost_value, none_lost}
 use Rattle.rtps_evidence.specs.OtherSide.{Beside, alone}
+use Rattle.rtps_evidence.specs.Spans.{IsExtent}
 use Rattle.rtps_evidence.specs.declared.last_announcement.Announcement.{Announcement}
 use Rattle.rtps_evidence.specs.declared.acknowledgement.Claim.{Claim}
 use Rattle.rtps_evidence.specs.declared.explanation.Explained.{Explained}
@@ -20,6 +24,7 @@ use Rattle.rtps_evidence.specs.declared.first_missed.FirstMissed.{FirstMissed}
 use Rattle.rtps_evidence.specs.declared.not_received.NotReceived.{NotReceived}
 use Rattle.rtps_evidence.specs.declared.evidence.Evidence.{Evidence}
 use Rattle.rtps_evidence.specs.declared.in_span.InSpan.{InSpan}
+use Rattle.rtps_evidence.specs.declared.span.Span.{Span}
 
 -- evidence, with lists of octets where the type holds parts of the caller's datagrams
 pub record EvidenceValue : Type 0 where
@@ -60,6 +65,7 @@ pub record ExplanationValue : Type 0 where
   pub topic : List ℕ
   pub type_name : List ℕ
   pub evidence : EvidenceValue
+  pub place : ℕ
 
 -- a row of the code, as a value
 abbrev pub explanation_value : Explanation → ExplanationValue
@@ -69,6 +75,7 @@ explanation_value explanation =
       topic = explanation.topic.now;
       type_name = explanation.type_name.now;
       evidence = evidence_value explanation.evidence;
+      place = explanation.place;
     }
 
 -- the topic of an endpoint, empty where there is no endpoint
@@ -90,10 +97,35 @@ pub record IsNamed (entries : Entries) (explanation : Explanation) : Type 0 wher
 abbrev pub row_of : Explanation → Row
 row_of explanation = record { pair = explanation.pair; verdict = explanation.evidence.verdict }
 
--- These are rows of these pairs, of whatever writers and readers: each has its names, and its evidence by the numbers from `from` on. Another
--- recording and times may stand beside.
-pub record AreExplained (spans : Bool) (from : ℕ) (beside : Beside) (intake : Intake) (pairs : List Pair) (rows : List Explanation) : Type 0 where
+-- These are the numbers of a row that are lost, or look so, by the numbers from `from` on: where rows are in spans, those of the datagrams of
+-- the span, by the span's numbers. Another recording and times may stand beside.
+pub record IsLostBy (spans : Bool) (from : ℕ) (beside : Beside) (intake : Intake) (pair : Pair) (lost : LostValue) : Type 0 where
+  pub span : Span
+  pub extent : IsExtent spans from pair intake span
+  pub losses : IsLostIn spans beside span pair intake.acts (datagrams_until span.until intake.acts) lost
+
+-- those of the rows of these pairs, one after another
+abbrev pub AreLostOf : Bool → ℕ → Beside → Intake → List Pair → List LostValue → Type 0
+AreLostOf spans from beside intake [] [] = ⊤
+AreLostOf spans from beside intake (pair ∷ pairs) (lost ∷ others) = IsLostBy spans from beside intake pair lost × AreLostOf spans from beside intake pairs others
+AreLostOf spans from beside intake [] (lost ∷ others) = ⊥
+AreLostOf spans from beside intake (pair ∷ pairs) [] = ⊥
+
+-- those that there are; none, where there are none
+abbrev pub lost_or : Option LostValue → LostValue
+lost_or None = none_lost
+lost_or (Some lost) = lost
+
+-- those of the row of this place, if there is one
+abbrev pub lost_at : List LostValue → ℕ → LostValue
+lost_at losts place = lost_or (slice_get losts place)
+
+-- These are rows of these pairs, of whatever writers and readers: each has its names, its evidence by the numbers from `from` on, and its
+-- place among them, by which its lost numbers are found. Another recording and times may stand beside.
+pub record AreExplained (spans : Bool) (from : ℕ) (beside : Beside) (intake : Intake) (pairs : List Pair) (rows : List Explanation) (lost : List LostValue) : Type 0 where
   pub of_pairs : map (λ row. row.pair) rows ≡ pairs
+  pub places : map (λ row. row.place) rows ≡ range_with_len 0 (length rows)
+  pub losses : AreLostOf spans from beside intake pairs lost
   pub directory : DirectoryValue
   pub is_map : IsMapOf (acts_together intake.announcing) directory
   pub named : All (IsNamed directory.endpoints) rows
@@ -106,6 +138,8 @@ pub record IsExplainedBy (spans : Bool) (from : ℕ) (beside : Beside) (intake :
   pub reports : IsReportBy from intake report
   pub pairs : map (λ row. row.pair) explained.rows.items ≡ map (λ row. row.pair) report.rows.items
   pub rows : spans ≡ false → map row_of explained.rows.items ≡ report.rows.items
+  pub places : map (λ row. row.place) explained.rows.items ≡ range_with_len 0 (length explained.rows.items)
+  pub losses : AreLostOf spans from beside intake (map (λ row. row.pair) report.rows.items) (map lost_value explained.lost.items)
   pub counts : explained.counts ≡ report.counts
   pub directory : DirectoryValue
   pub is_map : IsMapOf (acts_together intake.announcing) directory
@@ -123,8 +157,9 @@ HasOneExplanation =
     → IsExplainedBy spans from beside intake one → IsExplainedBy spans from beside intake other
     → (map explanation_value one.rows.items ≡ map explanation_value other.rows.items) × (one.counts ≡ other.counts)
 
--- so are pairs of what is taken in
+-- so are pairs of what is taken in, and their lost numbers
 abbrev pub PairsHaveOneExplanation : Type 0
 PairsHaveOneExplanation =
-    (spans : Bool) (from : ℕ) (beside : Beside) (intake : Intake) (pairs : List Pair) (one other : List Explanation)
-    → AreExplained spans from beside intake pairs one → AreExplained spans from beside intake pairs other → map explanation_value one ≡ map explanation_value other
+    (spans : Bool) (from : ℕ) (beside : Beside) (intake : Intake) (pairs : List Pair) (one other : List Explanation) (lost losses : List LostValue)
+    → AreExplained spans from beside intake pairs one lost → AreExplained spans from beside intake pairs other losses
+    → (map explanation_value one ≡ map explanation_value other) × (lost ≡ losses)

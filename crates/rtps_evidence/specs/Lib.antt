@@ -10,7 +10,12 @@ pub mod Requests
 pub mod Spans
 pub mod Outcomes
 pub mod UnansweredLaw
+pub mod GoneRanges
 pub mod Silences
+pub mod SilentNumbers
+pub mod Kinds
+pub mod KindRuns
+pub mod Runs
 pub mod Clean
 pub mod Questions
 pub mod Grounds
@@ -20,4 +25,5 @@ pub mod Explanation
 pub mod WriterSummary
 pub mod Times
 pub mod Waits
+pub mod Ledger
 pub mod WayRound

@@ -1,48 +1,48 @@
--- How far a walk over what a pair said came, for many numbers at once. own: of a number that was not told gone, each HEARTBEAT that its reader
--- heard began up to it, so that which numbers were asked about is told by how far the HEARTBEATs went.
-use Rattle.std.specs.Prelude.{ℕ, Bool, true, false, ◌≡◌, ◌≤◌, ◌<◌, IsSome, map, Option, Some, None}
-use Rattle.std.specs.BTreeMap.{BTreeMap, get}
-use Rattle.std.specs.Ordering.{nat_cmp}
-use Rattle.rtps_audit.specs.Placed.{placed_value}
-use Rattle.rtps_coverage.specs.Stretches.{stretches_have}
-use Rattle.rtps_evidence.specs.Outcomes.{Silence, walked_all}
+-- How far a walk over what a pair said came, for all numbers at once. own: of a number that was not told gone, each HEARTBEAT that its reader
+-- heard began up to it, so that which numbers were asked about is told by how far the HEARTBEATs went; and what was answered matters no more.
+use Rattle.std.specs.Prelude.{ℕ, Bool, true, false, ◌≡◌, ◌≤◌, ◌<◌, ◌⊎◌, ◌||◌, max}
+use Rattle.std.specs.BTreeMap.{BTreeMap}
+use Rattle.rtps_evidence.specs.GoneRanges.{HasNonePast, IsFirstPast, IsIn}
+use Rattle.rtps_evidence.specs.Outcomes.{Silence}
 use Rattle.rtps_evidence.specs.Outcomes.Silence.{Unasked, Once, Again, Answered, Silent, Ended}
-use Rattle.rtps_evidence.specs.Spans.{since_of}
-use Rattle.rtps_evidence.specs.declared.exchange.Exchange.{Exchange}
-use Rattle.rtps_evidence.specs.declared.silence.Walk.{Walk}
+use Rattle.rtps_evidence.specs.Times.{is_long_between}
+use Rattle.rtps_evidence.specs.declared.questioned.Moment.{Moment}
+use Rattle.rtps_evidence.specs.declared.questioned.Questioned.{Questioned}
 
--- ---- numbers that were not told gone, each with the datagram in which it was asked about first, if it was
+-- the number was told gone, as far as that matters
+abbrev pub IsGone : Questioned → ℕ → Type 0
+IsGone questioned n = IsIn questioned.gone.by_end n
 
--- such a number, the least from one on
-pub record IsFirstFrom (left : BTreeMap ℕ (Option ℕ)) (at number : ℕ) (asked : Option ℕ) : Type 0 where
-  pub here : get nat_cmp left number ≡ Some asked
-  pub onward : at ≤ number
-  pub least : (n : ℕ) → at ≤ n → n < number → get nat_cmp left n ≡ None
+-- the number was asked about first in this datagram, and no answer stands behind that
+abbrev pub IsAskedFirst : Questioned → ℕ → ℕ → Type 0
+IsAskedFirst questioned n datagram = (end : ℕ) × IsFirstPast questioned.asked n end datagram
 
--- there is none from a number on
-abbrev pub HasNoneFrom : BTreeMap ℕ (Option ℕ) → ℕ → Type 0
-HasNoneFrom left at = (n : ℕ) → at ≤ n → get nat_cmp left n ≡ None
+-- It came so far with n: whether n was told gone in silence is kept beside.
+abbrev pub IsSo : ℕ → Silence → Questioned → Bool → Type 0
+IsSo n Unasked questioned silent = (silent ≡ false) × ¬ IsGone questioned n × (questioned.once ≤ n)
+IsSo n (Once asked) questioned silent = (silent ≡ false) × ¬ IsGone questioned n × (questioned.answered ≤ n) × (n < questioned.once) × (questioned.again ≤ n) × IsAskedFirst questioned n asked
+IsSo n (Again asked) questioned silent = (silent ≡ false) × ¬ IsGone questioned n × (questioned.answered ≤ n) × (n < questioned.again) × IsAskedFirst questioned n asked
+IsSo n Answered questioned silent = (silent ≡ false) × (n < questioned.answered)
+IsSo n Silent questioned silent = (silent ≡ true) × ((n < questioned.answered) ⊎ IsGone questioned n)
+IsSo n Ended questioned silent = (silent ≡ false) × ((n < questioned.answered) ⊎ IsGone questioned n)
 
--- ---- the walk
+-- it did; what was answered, or asked about again, was asked about
+pub record IsAt (n : ℕ) (silence : Silence) (questioned : Questioned) (silent : Bool) : Type 0 where
+  pub answered : questioned.answered ≤ questioned.once
+  pub again : questioned.again ≤ questioned.once
+  pub ends : HasNonePast questioned.asked questioned.once
+  pub so : IsSo n silence questioned silent
 
--- It came so far with n, where this is kept of n, the numbers below these ends were asked about, asked about again, and asked about and
--- answered behind that, and where n was told gone in silence.
-abbrev pub IsSo : ℕ → Silence → Option (Option ℕ) → ℕ → ℕ → ℕ → Bool → Type 0
-IsSo n Unasked left once again answered silent = (left ≡ Some None) × (silent ≡ false) × (once ≤ n)
-IsSo n (Once asked) left once again answered silent = (left ≡ Some (Some asked)) × (silent ≡ false) × (answered ≤ n) × (n < once) × (again ≤ n)
-IsSo n (Again asked) left once again answered silent = (left ≡ Some (Some asked)) × (silent ≡ false) × (answered ≤ n) × (n < again)
-IsSo n Answered left once again answered silent = IsSome left × (silent ≡ false) × (n < answered)
-IsSo n Silent left once again answered silent = (left ≡ None) × (silent ≡ true)
-IsSo n Ended left once again answered silent = (left ≡ None) × (silent ≡ false)
+-- of the numbers from lo on and below hi those are added to a set that were not told gone, and were asked about first long ago
+pub record AreHushed (questioned : Questioned) (moment : Moment) (lo hi : ℕ) (old new : ℕ → Bool) : Type 0 where
+  pub before : (n : ℕ) → n < lo → new n ≡ old n
+  pub behind : (n : ℕ) → hi ≤ n → new n ≡ old n
+  pub gone : (n : ℕ) → IsGone questioned n → new n ≡ old n
+  pub hushed : (n asked : ℕ) → lo ≤ n → n < hi → ¬ IsGone questioned n → IsAskedFirst questioned n asked
+      → new n ≡ (old n || is_long_between moment.times.now.of_datagrams asked moment.datagram)
 
--- the walk did; what was answered, or asked about again, was asked about
-pub record IsAt (n : ℕ) (silence : Silence) (walk : Walk) : Type 0 where
-  pub answered : walk.answered ≤ walk.once
-  pub again : walk.again ≤ walk.once
-  pub so : IsSo n silence (get nat_cmp walk.left n) walk.once walk.again walk.answered (stretches_have walk.silent.items n)
-
--- the walk is over what a pair said, for each of these numbers
-abbrev pub IsAfter : Exchange → (ℕ → Bool) → Walk → Type 0
-IsAfter exchange among walk =
-    (n : ℕ) → among n ≡ true
-    → IsAt n (walked_all exchange.times.now.of_datagrams (since_of exchange.span) exchange.pair n (record { answers = exchange.said.answers.now; silence = Unasked }) (map placed_value exchange.said.acts.now)).silence walk
+-- the HEARTBEATs by where their numbers end, with one more in a datagram, which asks about the numbers below an end
+pub record IsAskedMore (old new : BTreeMap ℕ ℕ) (once end datagram : ℕ) : Type 0 where
+  pub ends : HasNonePast new (max once end)
+  pub earlier : (n key first : ℕ) → IsFirstPast old n key first → IsFirstPast new n key first
+  pub later : (n : ℕ) → once ≤ n → n < end → IsFirstPast new n end datagram

@@ -1,25 +1,30 @@
 -- When the datagrams of a recording came. own: DDSI-RTPS 2.5 gives a datagram no time of its own, but a capture has the time at which
 -- it took each frame. Times are nanoseconds since 1970 began. A list of them has the time of each datagram in the order of sending,
 -- None where it has none; datagrams count from 1.
-use Rattle.std.specs.Prelude.{ℕ, Bool, true, false, ◌+◌, ◌-◌, ◌/◌, ◌^◌, ◌≡◌, ◌<◌, ◌&&◌, nat_le, nat_lt, if◌then◌else◌, is_some, length, map, max, slice_index_or, take, List, [], ◌∷◌, Option, Some, None}
+use Rattle.std.specs.Prelude.{ℕ, Bool, true, false, ◌+◌, ◌-◌, ◌/◌, ◌^◌, ◌≡◌, ◌<◌, ◌&&◌, nat_le, nat_lt, if◌then◌else◌, is_some, length, map, max, slice_get, slice_index_or, take, List, [], ◌∷◌, Option, Some, None}
 use Rattle.std.specs.List.{list_any}
 use Rattle.rtps_audit.specs.Delivery.{greatest}
 use Rattle.rtps_evidence.specs.declared.times.Seconds.{Seconds}
 
--- the start of a capture, which is the time of the first frame that has one, its end, which is the greatest time of a frame, and the
--- time of each datagram. A frame counts whether it gave a datagram or not
+-- the start of a capture, which is the time of the first frame that has one, its end, which is the greatest time of a frame, the time of
+-- each datagram, and the number of the frame that gave or completed each. A frame counts whether it gave a datagram or not
 pub record TimesValue : Type 0 where
   pub start : Option ℕ
   pub end : Option ℕ
   pub of_datagrams : List (Option ℕ)
+  pub frames : List ℕ
 
 -- those of a text
 abbrev pub no_times : TimesValue
-no_times = record { start = None; end = None; of_datagrams = [] }
+no_times = record { start = None; end = None; of_datagrams = []; frames = [] }
 
 -- the time of a datagram; None of 0, and past the last
 abbrev pub time_of : List (Option ℕ) → ℕ → Option ℕ
 time_of times number = if nat_lt 0 number then slice_index_or times (number - 1) None else None
+
+-- the frame of a datagram; None of 0, past the last, and of a text
+abbrev pub frame_of : List ℕ → ℕ → Option ℕ
+frame_of frames number = if nat_lt 0 number then slice_get frames (number - 1) else None
 
 -- some datagram has a time
 abbrev pub are_there : List (Option ℕ) → Bool
@@ -54,11 +59,6 @@ is_long (Some earlier) (Some later) = nat_le (earlier + 10 ^ 8) later
 -- the same of the times of two datagrams
 abbrev pub is_long_between : List (Option ℕ) → ℕ → ℕ → Bool
 is_long_between times earlier later = is_long (time_of times earlier) (time_of times later)
-
--- the same behind a datagram, if there is one
-abbrev pub is_long_since : List (Option ℕ) → Option ℕ → ℕ → Bool
-is_long_since times None later = true
-is_long_since times (Some earlier) later = is_long_between times earlier later
 
 -- ---- times that go back
 

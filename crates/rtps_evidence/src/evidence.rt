@@ -13,13 +13,15 @@ use crate::first_missed::FirstMissed;
 use crate::grounds::{Grounds, grounds_of};
 use crate::in_span::InSpan;
 use crate::judgement::Judgement;
+use crate::kinds::LostNumbers;
 use crate::last_announcement::Announcement;
+use crate::ledger::Ledger;
 use crate::missed::count_missed;
-use crate::missed_numbers::find_missed;
 use crate::not_received::NotReceived;
 use crate::other_side::{Arrivals, Sides};
 use crate::outcome::Unreceived;
 use crate::received::count_received;
+use crate::spanned::Spanned;
 use crate::times::Times;
 use crate::writer_summary::WriterSummary;
 use rtps_audit::{Index, Row, Said, Verdict};
@@ -59,8 +61,17 @@ pub struct Evidence<'a> {
     pub in_span: Option<InSpan>,
 }
 
+/// The evidence of a pair, and which of its numbers are lost.
+#[derive(Drop)]
+pub(crate) struct Found<'a> {
+    pub(crate) evidence: Evidence<'a>,
+    /// None of a row by the whole recording.
+    pub(crate) lost: LostNumbers,
+}
+
 impl<'a> Evidence<'a> {
     ghost use Rattle.rtps_evidence.specs.Evidence.{IsBeside, IsEvidence, IsEvidenceFrom, IsShown, IsVerdictIn};
+    ghost use Rattle.rtps_evidence.specs.Kinds.{IsLostIn, lost_value};
     ghost use Rattle.rtps_evidence.specs.OtherSide.{AreSides, AreThere, Beside, is_there};
     ghost use Rattle.rtps_evidence.specs.Spans.{since_of};
     ghost use Rattle.rtps_evidence.specs.WriterSummary.{IsSummary, IsSummaryOf};
@@ -84,8 +95,8 @@ impl<'a> Evidence<'a> {
             other: None,
             times: &times,
         };
-        let evidence = Evidence::of_judged(alloc, &sides, &summary, &judgement)?;
-        Ok(evidence)
+        let found = Evidence::of_judged(alloc, &sides, &summary, &judgement)?;
+        Ok(found.evidence)
     }
 
     /// The evidence for a judgement, where this is what the pair's writer says. `Memory` as of [`Evidence::of_from`].
@@ -94,17 +105,18 @@ impl<'a> Evidence<'a> {
         sides: &Sides<'_, 'a, '_, '_>,
         summary: &WriterSummary,
         judgement: &Judgement,
-    ) -> Result<Evidence<'a>, Memory>
+    ) -> Result<Found<'a>, Memory>
         requires writer { summary.now.writer ≡ judgement.now.pair.writer }
         requires from { summary.now.asked.from ≡ judgement.now.span.from }
         requires until { summary.now.until ≡ judgement.now.span.until }
-        ensures judged { IfOk result (λ evidence. evidence.verdict ≡ judgement.now.verdict) }
+        ensures judged { IfOk result (λ found. found.evidence.verdict ≡ judgement.now.verdict) }
         ensures shown { (intake : Intake) (beside : Beside) → AreSides intake beside sides.now → IsSummaryOf intake.acts summary.now
             → IsVerdictIn judgement.now.span judgement.now.pair intake.acts judgement.now.verdict
-            → IfOk result (IsShown (is_there intake.acts beside.other judgement.now.pair) judgement.now.span.from (since_of judgement.now.span) judgement.now.pair (datagrams_until judgement.now.span.until intake.acts)) }
+            → IfOk result (λ found. IsShown (is_there intake.acts beside.other judgement.now.pair) judgement.now.span.from (since_of judgement.now.span) judgement.now.pair (datagrams_until judgement.now.span.until intake.acts) found.evidence) }
         ensures beside { (intake : Intake) (beside : Beside) → AreSides intake beside sides.now → IsSummaryOf intake.acts summary.now
             → IsVerdictIn judgement.now.span judgement.now.pair intake.acts judgement.now.verdict
-            → IfOk result (λ evidence. IsBeside judgement.now.in_spans beside judgement.now.span judgement.now.pair intake.acts (datagrams_until judgement.now.span.until intake.acts) evidence.in_span) }
+            → IfOk result (λ found. IsBeside judgement.now.in_spans beside judgement.now.span judgement.now.pair intake.acts (datagrams_until judgement.now.span.until intake.acts) found.evidence.in_span
+            × IsLostIn judgement.now.in_spans beside judgement.now.span judgement.now.pair intake.acts (datagrams_until judgement.now.span.until intake.acts) (lost_value found.lost)) }
     {
         let arrivals = Arrivals::of(alloc, sides, judgement.pair)?;
         let exchange = Exchange {
@@ -117,8 +129,8 @@ impl<'a> Evidence<'a> {
             there: &arrivals.numbers,
             times: sides.times,
         };
-        let evidence = Evidence::of_exchange(alloc, &exchange, summary, judgement.verdict)?;
-        Ok(evidence)
+        let found = Evidence::of_exchange(alloc, &exchange, summary, judgement.verdict)?;
+        Ok(found)
     }
 
     /// The evidence for what a pair said, where this is what its writer says. `Memory` as of [`Evidence::of_from`].
@@ -127,34 +139,37 @@ impl<'a> Evidence<'a> {
         exchange: &Exchange<'_, 'a>,
         summary: &WriterSummary,
         verdict: Verdict,
-    ) -> Result<Evidence<'a>, Memory>
+    ) -> Result<Found<'a>, Memory>
         requires writer { summary.now.writer ≡ exchange.now.pair.writer }
         requires from { summary.now.asked.from ≡ exchange.now.span.from }
-        ensures judged { IfOk result (λ evidence. evidence.verdict ≡ verdict) }
+        ensures judged { IfOk result (λ found. found.evidence.verdict ≡ verdict) }
         ensures shown { (recording : List (List ActValue)) (there : ℕ → Bool) → IsSaid exchange.now.pair recording exchange.now.said → IsSummary recording summary.now
             → IsVerdictFrom exchange.now.span.from (speech_by exchange.now.pair.writer exchange.now.pair.reader recording) verdict
             → ((n : ℕ) → stretches_have exchange.now.there.now n ≡ there n)
-            → IfOk result (IsShown there exchange.now.span.from (since_of exchange.now.span) exchange.now.pair recording) }
+            → IfOk result (λ found. IsShown there exchange.now.span.from (since_of exchange.now.span) exchange.now.pair recording found.evidence) }
         ensures beside { (all recording : List (List ActValue)) (beside : Beside) → IsSaid exchange.now.pair recording exchange.now.said
             → IsSummary recording summary.now
             → IsVerdictFrom exchange.now.span.from (speech_by exchange.now.pair.writer exchange.now.pair.reader recording) verdict
             → AreThere all beside.other exchange.now.pair exchange.now.way exchange.now.is_held exchange.now.there.now → exchange.now.times.now.of_datagrams ≡ beside.times
-            → IfOk result (λ evidence. IsBeside exchange.now.in_spans beside exchange.now.span exchange.now.pair all recording evidence.in_span) }
+            → IfOk result (λ found. IsBeside exchange.now.in_spans beside exchange.now.span exchange.now.pair all recording found.evidence.in_span
+            × IsLostIn exchange.now.in_spans beside exchange.now.span exchange.now.pair all recording (lost_value found.lost)) }
     {
         let asked = &summary.asked;
         let mut heard = summary.heard_by(alloc, exchange.said.acts, exchange.pair.reader)?;
         let mut lacking = heard.lacking(alloc, exchange, &verdict, asked)?;
         let mut lacking = rising(alloc, &mut lacking)?;
-        let mut missed = find_missed(alloc, exchange, &lacking)?;
+        let ledger = Ledger::of(alloc, exchange, &lacking)?;
+        let mut missed = ledger.missed(alloc)?;
         let unreceived = Unreceived {
             numbers: &lacking,
             missed: &missed,
+            ledger: &ledger,
         };
-        let in_span = InSpan::of(alloc, exchange, &unreceived, asked)?;
+        let spanned = Spanned::of(alloc, exchange, unreceived, asked)?;
         let missed = count_missed(alloc, &mut missed, exchange, asked)?;
         let received = count_received(&mut lacking, exchange, asked)?;
         let amounts = heard.amounts(asked)?;
-        Ok(Evidence {
+        let evidence = Evidence {
             verdict,
             announcement: summary.announcement,
             acknowledgement: find_acknowledgement(exchange.said.answers, asked.from),
@@ -166,7 +181,11 @@ impl<'a> Evidence<'a> {
             missed: missed.count,
             first_missed: missed.first,
             grounds: grounds_of(exchange, &verdict),
-            in_span,
+            in_span: spanned.in_span,
+        };
+        Ok(Found {
+            evidence,
+            lost: spanned.lost,
         })
     }
 

@@ -1,16 +1,19 @@
-ghost use Rattle.std.specs.Prelude.{false, ◌≡◌, map, All, IfOk};
+ghost use Rattle.std.specs.Prelude.{false, ◌≡◌, length, map, All, IfOk};
+ghost use Rattle.std.specs.List.{range_with_len};
 ghost use Rattle.rtps_discovery.specs.Directory.{settled_at};
 ghost use Rattle.rtps_audit.specs.Index.{IsIndexBy};
 ghost use Rattle.rtps_audit.specs.Intake.{Intake};
 ghost use Rattle.rtps_audit.specs.Report.{IsJudgedFrom};
 ghost use Rattle.rtps_evidence.specs.Evidence.{IsEvidenceBy};
-ghost use Rattle.rtps_evidence.specs.Explanation.{AreExplained, IsExplainedBy, IsExplainedFrom, IsNamed, row_of, topic_of, type_of};
+ghost use Rattle.rtps_evidence.specs.Explanation.{AreExplained, AreLostOf, IsExplainedBy, IsExplainedFrom, IsNamed, row_of, topic_of, type_of};
+ghost use Rattle.rtps_evidence.specs.Kinds.{lost_value};
 ghost use Rattle.rtps_evidence.specs.OtherSide.{AreSides, Beside};
 
 use crate::evidence::Evidence;
 use crate::exchange::Extent;
 use crate::judged_pairs::judged_rows;
 use crate::judgement::Judgement;
+use crate::kinds::LostNumbers;
 use crate::other_side::Sides;
 use crate::times::Times;
 use crate::writer_summary::WriterSummary;
@@ -28,6 +31,8 @@ pub struct Explanation<'a> {
     /// The type of the writer.
     pub type_name: &'a [u8],
     pub evidence: Evidence<'a>,
+    /// Which of the rows it is, from 0 on.
+    pub place: usize,
 }
 
 /// The rows of a report, by writer and then by reader, each explained, and its counts. Names and payloads are parts of the
@@ -35,7 +40,16 @@ pub struct Explanation<'a> {
 #[derive(Drop)]
 pub struct Explained<'a> {
     pub rows: Vec<Explanation<'a>>,
+    /// Which numbers of each row are lost, or look so, in the order of the rows; none of a row by the whole recording.
+    pub lost: Vec<LostNumbers>,
     pub counts: Counts,
+}
+
+/// Rows that are explained, and which numbers of each are lost, or look so.
+#[derive(Drop)]
+pub struct ExplainedRows<'a> {
+    pub rows: Vec<Explanation<'a>>,
+    pub lost: Vec<LostNumbers>,
 }
 
 /// The topic of a GUID's endpoint and its type; empty where it has none.
@@ -57,34 +71,44 @@ fn explain_rows<'a, P: Watch>(
     rows: &[Row],
     extent: Extent,
     watch: &mut P,
-) -> Result<Vec<Explanation<'a>>, Memory>
-    ensures pairs { IfOk result (λ explained. map (λ row. row.pair) explained.items ≡ map (λ row. row.pair) rows.now) }
-    ensures rows { (intake : Intake) → IsIndexBy intake sides.now.index.now → extent.in_spans ≡ false → IfOk result (λ explained. map row_of explained.items ≡ rows.now) }
-    ensures named { IfOk result (λ explained. All (IsNamed directory.now.endpoints) explained.items) }
+) -> Result<ExplainedRows<'a>, Memory>
+    ensures pairs { IfOk result (λ explained. map (λ row. row.pair) explained.rows.items ≡ map (λ row. row.pair) rows.now) }
+    ensures places { IfOk result (λ explained. map (λ row. row.place) explained.rows.items ≡ range_with_len 0 (length explained.rows.items)) }
+    ensures rows { (intake : Intake) → IsIndexBy intake sides.now.index.now → extent.in_spans ≡ false → IfOk result (λ explained. map row_of explained.rows.items ≡ rows.now) }
+    ensures named { IfOk result (λ explained. All (IsNamed directory.now.endpoints) explained.rows.items) }
     ensures shown { (intake : Intake) (beside : Beside) → AreSides intake beside sides.now
         → All (IsJudgedFrom extent.from intake.acts) rows.now
-        → IfOk result (λ explained. All (λ row. IsEvidenceBy extent.in_spans extent.from beside row.pair intake row.evidence) explained.items) }
+        → IfOk result (λ explained. All (λ row. IsEvidenceBy extent.in_spans extent.from beside row.pair intake row.evidence) explained.rows.items) }
+    ensures lost { (intake : Intake) (beside : Beside) → AreSides intake beside sides.now
+        → All (IsJudgedFrom extent.from intake.acts) rows.now
+        → IfOk result (λ explained. AreLostOf extent.in_spans extent.from beside intake (map (λ row. row.pair) rows.now) (map lost_value explained.lost.items)) }
 {
     let index = sides.index;
     let from = extent.from;
     let in_spans = extent.in_spans;
     let mut explained = Vec::with_capacity(alloc, rows.len())?;
+    let mut lost = Vec::with_capacity(alloc, rows.len())?;
     let mut before = None;
     for row in rows {
         let (topic, type_name) = names_of(directory, row.pair.writer);
         let judgement = Judgement::of(index, *row, from, in_spans)?;
         let summary = WriterSummary::turned_to(alloc, index, before, &judgement)?;
-        let evidence = Evidence::of_judged(alloc, sides, &summary, &judgement)?;
+        let found = Evidence::of_judged(alloc, sides, &summary, &judgement)?;
         before = Some(summary);
         explained.push(Explanation {
             pair: row.pair,
             topic,
             type_name,
-            evidence,
+            evidence: found.evidence,
+            place: explained.len(),
         })?;
+        lost.push(found.lost)?;
         watch.explained(explained.len(), rows.len());
     }
-    Ok(explained)
+    Ok(ExplainedRows {
+        rows: explained,
+        lost,
+    })
 }
 
 /// Explains each of these pairs, of whatever writers and readers, in their order, by the numbers of an extent, as [`explain_index`] explains
@@ -97,10 +121,10 @@ pub fn explain_pairs<'a, P: Watch>(
     known: &[Row],
     extent: Extent,
     watch: &mut P,
-) -> Result<Vec<Explanation<'a>>, Memory>
+) -> Result<ExplainedRows<'a>, Memory>
     ensures { (intake : Intake) (beside : Beside) → AreSides intake beside sides.now
         → All (IsJudgedFrom extent.from intake.acts) known.now
-        → IfOk result (λ found. AreExplained extent.in_spans extent.from beside intake pairs.now found.items) }
+        → IfOk result (λ found. AreExplained extent.in_spans extent.from beside intake pairs.now found.rows.items (map lost_value found.lost.items)) }
 {
     let rows = judged_rows(alloc, sides.index, pairs, known, extent.from)?;
     let explained = explain_rows(alloc, sides, sides.index.directory(), &rows, extent, watch)?;
@@ -121,9 +145,10 @@ pub fn explain_index<'a, P: Watch>(
 {
     let index = sides.index;
     let report = index.report_from(extent.from, watch)?;
-    let rows = explain_rows(alloc, sides, index.directory(), &report.rows, extent, watch)?;
+    let found = explain_rows(alloc, sides, index.directory(), &report.rows, extent, watch)?;
     Ok(Explained {
-        rows,
+        rows: found.rows,
+        lost: found.lost,
         counts: report.counts,
     })
 }

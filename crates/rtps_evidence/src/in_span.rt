@@ -1,13 +1,11 @@
-ghost use Rattle.std.specs.Prelude.{ℕ, ◌≡◌, ◌≤◌, is_some, IfOk, List};
+ghost use Rattle.std.specs.Prelude.{ℕ, ◌≡◌, is_some, map, IfOk, List};
 ghost use Rattle.rtps_receiver.specs.Values.{ActValue};
 ghost use Rattle.rtps_audit.specs.Delivery.{last_announced_from};
-ghost use Rattle.rtps_audit.specs.Placed.{placed_in};
+ghost use Rattle.rtps_audit.specs.Placed.{placed_in, placed_value};
 ghost use Rattle.rtps_audit.specs.Said.{IsSaid};
 ghost use Rattle.rtps_audit.specs.Speech.{speech_by};
-ghost use Rattle.rtps_coverage.specs.Stretches.{stretches_have};
-ghost use Rattle.rtps_evidence.specs.Claimed.{AreLacking};
 ghost use Rattle.rtps_evidence.specs.Clean.{has_all as has_all_lem, is_clean as is_clean_lem, is_complete as is_complete_lem, is_open as is_open_lem, is_tail as is_tail_lem, is_whole as is_whole_lem, loses_none as loses_none_lem};
-ghost use Rattle.rtps_evidence.specs.Missed.{is_missed};
+ghost use Rattle.rtps_evidence.specs.Ledger.{IsLongest};
 ghost use Rattle.rtps_coverage.specs.Rising.{AreRising};
 ghost use Rattle.rtps_evidence.specs.Spans.{since_of, wrote_before as wrote_before_lem};
 
@@ -15,10 +13,12 @@ use crate::acknowledgement::greatest_base;
 use crate::amount::AskedNumbers;
 use crate::exchange::Exchange;
 use crate::first_numbers::FirstNumbers;
+use crate::kinds::LostNumbers;
 use crate::last_announcement::greatest_number;
 use crate::location::Location;
-use crate::outcome::{Outcomes, Unreceived};
-use crate::waits::{Wait, told_wait};
+use crate::outcome::Outcomes;
+use crate::outcome_sets::OutcomeSets;
+use crate::waits::Wait;
 use crate::way::Way;
 use rtps_audit::Verdict;
 use rtps_ids::Memory;
@@ -96,33 +96,34 @@ impl Outcomes {
 }
 
 impl InSpan {
-    ghost use Rattle.rtps_evidence.specs.Evidence.{IsBeside};
+    ghost use Rattle.std.specs.Prelude.{Bool};
+    ghost use Rattle.rtps_coverage.specs.Stretches.{stretches_have};
+    ghost use Rattle.rtps_evidence.specs.Evidence.{IsInSpan};
+    ghost use Rattle.rtps_evidence.specs.KindRuns.{AreSets};
+    ghost use Rattle.rtps_evidence.specs.Kinds.{AreLost, lost_value};
+    ghost use Rattle.rtps_evidence.specs.Outcomes.{AreOutcomes};
     ghost use Rattle.rtps_evidence.specs.OtherSide.{AreThere, Beside};
 
     /// What a row has beside, where rows are in spans, by what its pair said.
     pub(crate) fn of(
         alloc: Global,
         exchange: &Exchange<'_, '_>,
-        unreceived: &Unreceived<'_>,
+        sets: &OutcomeSets<'_, '_>,
         asked: &AskedNumbers,
-    ) -> Result<Option<InSpan>, Memory>
-        requires rising { AreRising unreceived.now.numbers.now }
+    ) -> Result<InSpan, Memory>
+        requires rising { AreRising sets.now.unreceived.numbers.now }
         requires from { asked.now.from ≡ exchange.now.span.from }
         ensures { (all recording : List (List ActValue)) (beside : Beside) → IsSaid exchange.now.pair recording exchange.now.said
             → AreThere all beside.other exchange.now.pair exchange.now.way exchange.now.is_held exchange.now.there.now → exchange.now.times.now.of_datagrams ≡ beside.times
             → asked.now.last ≡ last_announced_from asked.now.from (speech_by exchange.now.pair.writer exchange.now.pair.reader recording)
-            → AreLacking asked.now.from asked.now.last exchange.now.pair (placed_in recording) unreceived.now.numbers.now
-            → ((n : ℕ) → asked.now.from ≤ n → n ≤ asked.now.last → stretches_have unreceived.now.missed.now n
-            ≡ is_missed (since_of exchange.now.span) exchange.now.pair.writer exchange.now.pair.reader (placed_in recording) n)
-            → IfOk result (IsBeside exchange.now.in_spans beside exchange.now.span exchange.now.pair all recording) }
+            → AreSets asked.now.from asked.now.last exchange.now.times.now.of_datagrams (since_of exchange.now.span) exchange.now.pair (placed_in recording) sets.now
+            → IsLongest exchange.now (map placed_value exchange.now.said.acts.now) sets.now.unreceived.ledger.now.wait
+            → IfOk result (IsInSpan exchange.now.span beside exchange.now.pair all recording) }
     {
-        if !exchange.in_spans {
-            return Ok(None);
-        }
-        let outcomes = Outcomes::of(alloc, exchange, unreceived, asked)?;
+        let outcomes = Outcomes::of(alloc, exchange, sets, asked)?;
         let absent = outcomes.absent(alloc, exchange, asked)?;
-        let lacking = unreceived.lacking(alloc, exchange, asked)?;
-        Ok(Some(InSpan {
+        let lacking = sets.unreceived.lacking(alloc, exchange, asked)?;
+        Ok(InSpan {
             joined: exchange.span.joined,
             is_joined_here: exchange.span.is_joined_here,
             from: exchange.span.from.get(),
@@ -134,8 +135,29 @@ impl InSpan {
             is_held: exchange.is_held,
             absent,
             lacking,
-            wait: told_wait(exchange),
-        }))
+            wait: sets.unreceived.ledger.wait.told(),
+        })
+    }
+
+    /// Which numbers of the row are lost, or look so, by the same sets. Where none is counted, none is looked for.
+    pub(crate) fn lost(
+        &self,
+        alloc: Global,
+        exchange: &Exchange<'_, '_>,
+        sets: &OutcomeSets<'_, '_>,
+        asked: &AskedNumbers,
+    ) -> Result<LostNumbers, Memory>
+        ensures { (recording : List (List ActValue)) (there : ℕ → Bool) → IsSaid exchange.now.pair recording exchange.now.said
+            → ((n : ℕ) → stretches_have exchange.now.there.now n ≡ there n)
+            → self.now.is_held ≡ exchange.now.is_held
+            → AreOutcomes there asked.now.from asked.now.last exchange.now.times.now.of_datagrams (since_of exchange.now.span) exchange.now.pair (placed_in recording) self.now.outcomes
+            → AreSets asked.now.from asked.now.last exchange.now.times.now.of_datagrams (since_of exchange.now.span) exchange.now.pair (placed_in recording) sets.now
+            → IfOk result (λ lost. AreLost exchange.now.is_held there asked.now.from asked.now.last exchange.now.times.now.of_datagrams (since_of exchange.now.span) exchange.now.pair (placed_in recording) (lost_value lost)) }
+    {
+        if !self.is_held && self.outcomes.has_all() {
+            return Ok(LostNumbers::none(alloc));
+        }
+        LostNumbers::of(alloc, exchange, sets, asked)
     }
 
     /// Whether no number is lost, or looks so. Of a pair that is held, a likely one is lost too: it did not arrive.

@@ -25,7 +25,7 @@ pub(crate) struct Missed {
 
 /// Of the numbers that are asked for: those of these that are not there. Other numbers may be among them. It puts these in another
 /// order.
-fn not_there(
+pub(crate) fn not_there(
     alloc: Global,
     numbers: &mut Vec<Stretch>,
     there: &[Stretch],

@@ -1,18 +1,14 @@
-ghost use Rattle.std.specs.Prelude.{ℕ, ◌≡◌, ◌==◌, ◌≤◌, ◌<◌, ◌^◌, ◌&&◌, not, nat_le, nat_lt, if◌then◌else◌, map, IfOk, OnOk, List, Some, None};
+ghost use Rattle.std.specs.Prelude.{ℕ, ◌≡◌, ◌==◌, ◌≤◌, ◌<◌, ◌^◌, ◌&&◌, nat_le, nat_lt, if◌then◌else◌, map, IfOk, OnOk, Some, None};
 ghost use Rattle.std.specs.BTreeMap.{get};
 ghost use Rattle.std.specs.Ordering.{nat_cmp};
 ghost use Rattle.std.specs.Option.{option_map};
 ghost use Rattle.rtps_receiver.specs.Said.{numbers_have};
-ghost use Rattle.rtps_receiver.specs.Values.{ActValue};
-ghost use Rattle.rtps_audit.specs.Placed.{placed_in, placed_value};
-ghost use Rattle.rtps_audit.specs.Said.{IsSaid};
+ghost use Rattle.rtps_audit.specs.Placed.{placed_value};
 ghost use Rattle.rtps_coverage.specs.Stretches.{stretches_have};
 ghost use Rattle.rtps_evidence.specs.Locations.{location_of as location_of_lem};
-ghost use Rattle.rtps_evidence.specs.Missed.{asks_for, is_missed};
-ghost use Rattle.rtps_evidence.specs.Received.{is_received};
-ghost use Rattle.rtps_evidence.specs.Requests.{is_in_vain as is_in_vain_lem, met_among, met_by, new_request as new_request_lem, requested};
+ghost use Rattle.rtps_evidence.specs.Missed.{asks_for};
+ghost use Rattle.rtps_evidence.specs.Requests.{is_in_vain as is_in_vain_lem, met_by, new_request as new_request_lem, requested};
 ghost use Rattle.rtps_coverage.specs.Rising.{AreRising};
-ghost use Rattle.rtps_evidence.specs.Spans.{since_of};
 ghost use Rattle.rtps_evidence.specs.WriterSummary.{option_any};
 
 use crate::exchange::Exchange;
@@ -31,7 +27,7 @@ use std::ops::Range;
 
 /// What became of the last request for a number.
 #[derive(Clone, Copy, Drop)]
-struct Request {
+pub(crate) struct Request {
     /// Where it stands.
     place: Location,
     /// The number is sent behind it.
@@ -127,7 +123,7 @@ fn note_asking(
 }
 
 /// The last request for each number that the pair's reader asks for and lacks.
-fn requests_of(
+pub(crate) fn requests_of(
     alloc: Global,
     exchange: &Exchange<'_, '_>,
     lacking: &[Stretch],
@@ -166,7 +162,7 @@ impl Request {
 }
 
 /// Notes what an act brings of these requests. After `Memory` they are of no use.
-fn note_bringing(
+pub(crate) fn note_bringing(
     requests: &mut BTreeMap<u64, Request>,
     placed: &Placed<'_>,
     listener: &Listener,
@@ -185,23 +181,11 @@ fn note_bringing(
     Ok(())
 }
 
-/// Notes what these acts bring of these requests. After `Memory` they are of no use.
-fn note_brought(
-    requests: &mut BTreeMap<u64, Request>,
-    acts: &[Placed<'_>],
-    listener: &Listener,
-) -> Result<(), Memory>
-    ensures { OnOk result ((n : ℕ) → get nat_cmp requests.new n
-        ≡ option_map (met_among listener.now.since listener.now.pair n (map placed_value acts.now)) (get nat_cmp requests.old n)) }
-{
-    for placed in acts {
-        note_bringing(requests, placed, listener)?;
-    }
-    Ok(())
-}
-
 /// The numbers that are asked for in vain.
-fn in_vain(alloc: Global, requests: &BTreeMap<u64, Request>) -> Result<Vec<Stretch>, Memory>
+pub(crate) fn in_vain(
+    alloc: Global,
+    requests: &BTreeMap<u64, Request>,
+) -> Result<Vec<Stretch>, Memory>
     ensures { IfOk result (λ missed. (n : ℕ) → n < 2 ^ 63 → stretches_have missed.items n ≡ option_any is_in_vain_lem (get nat_cmp requests.now n)) }
 {
     let mut missed = Vec::new(alloc);
@@ -211,29 +195,5 @@ fn in_vain(alloc: Global, requests: &BTreeMap<u64, Request>) -> Result<Vec<Stret
             push(&mut missed, Stretch { lo: *number, hi })?;
         }
     }
-    Ok(missed)
-}
-
-/// The numbers that a pair's reader missed, of those that it lacks.
-pub(crate) fn find_missed(
-    alloc: Global,
-    exchange: &Exchange<'_, '_>,
-    lacking: &[Stretch],
-) -> Result<Vec<Stretch>, Memory>
-    requires { AreRising lacking.now }
-    ensures { (recording : List (List ActValue)) → IsSaid exchange.now.pair recording exchange.now.said → (n : ℕ) → n < 2 ^ 63
-        → stretches_have lacking.now n ≡ not (is_received exchange.now.pair.writer exchange.now.pair.reader (placed_in recording) n)
-        → IfOk result (λ missed. stretches_have missed.items n
-        ≡ is_missed (since_of exchange.now.span) exchange.now.pair.writer exchange.now.pair.reader (placed_in recording) n) }
-{
-    if lacking.is_empty() {
-        return Ok(Vec::new(alloc));
-    }
-    let mut requests = requests_of(alloc, exchange, lacking)?;
-    if requests.is_empty() {
-        return Ok(Vec::new(alloc));
-    }
-    note_brought(&mut requests, exchange.said.acts, &exchange.listener())?;
-    let missed = in_vain(alloc, &requests)?;
     Ok(missed)
 }

@@ -1,12 +1,11 @@
-ghost use Rattle.std.specs.Prelude.{ℕ, Bool, true, ◌≡◌, ◌≤◌, ◌+◌, ◌||◌, map, IfOk, OnOk, List};
-ghost use Rattle.std.specs.List.{list_any};
+ghost use Rattle.std.specs.Prelude.{ℕ, Bool, ◌≡◌, ◌+◌, ◌||◌, IfOk, OnOk, List};
 ghost use Rattle.rtps_receiver.specs.Values.{ActValue};
-ghost use Rattle.rtps_audit.specs.Placed.{PlacedValue, placed_in, placed_value};
+ghost use Rattle.rtps_audit.specs.Placed.{PlacedValue, placed_in};
 ghost use Rattle.rtps_audit.specs.Said.{IsSaid};
 ghost use Rattle.rtps_coverage.specs.Counts.{count_in};
 ghost use Rattle.rtps_coverage.specs.Stretches.{stretches_have};
 ghost use Rattle.rtps_evidence.specs.Claimed.{AreLacking};
-ghost use Rattle.rtps_evidence.specs.Missed.{brings_behind, is_missed};
+ghost use Rattle.rtps_evidence.specs.KindRuns.{AreSets};
 ghost use Rattle.rtps_coverage.specs.Rising.{AreRising};
 ghost use Rattle.rtps_evidence.specs.Spans.{since_of};
 
@@ -14,13 +13,10 @@ use crate::acknowledgement::greatest_base;
 use crate::amount::AskedNumbers;
 use crate::exchange::Exchange;
 use crate::first_numbers::FirstNumbers;
-use crate::lacking::others_of;
-use crate::listener::{Listener, number_behind};
-use crate::silence::find_silent;
-use rtps_audit::Placed;
+use crate::ledger::Ledger;
+use crate::outcome_sets::OutcomeSets;
 use rtps_coverage::Stretch;
-use rtps_coverage::rising::end_at;
-use rtps_coverage::stretches::{count_of, outside, push};
+use rtps_coverage::stretches::{count_of, outside};
 use rtps_ids::Memory;
 use std::alloc::Global;
 
@@ -57,52 +53,11 @@ pub struct Outcomes {
 
 /// The numbers that a reader may not have received, and those of them that it missed. Other numbers may be among them.
 #[derive(Clone, Copy)]
-pub(crate) struct Unreceived<'n> {
+pub(crate) struct Unreceived<'n, 's> {
     pub(crate) numbers: &'n [Stretch],
     pub(crate) missed: &'n [Stretch],
-}
-
-/// Appends the number that an act brings the reader since it is there, where it lacks it. After `Memory` the numbers are of no
-/// use.
-fn push_brought(
-    brought: &mut Vec<Stretch>,
-    placed: &Placed<'_>,
-    listener: &Listener,
-    lacking: &[Stretch],
-) -> Result<(), Memory>
-    requires { AreRising lacking.now }
-    ensures { OnOk result ((n : ℕ) → stretches_have lacking.now n ≡ true → stretches_have brought.new.items n ≡ (stretches_have brought.old.items n
-        || brings_behind listener.now.since listener.now.pair.writer listener.now.pair.reader n (placed_value placed.now))) }
-{
-    let Some(number) = number_behind(placed, listener) else {
-        return Ok(());
-    };
-    if number < end_at(lacking, number) {
-        let hi = number + 1;
-        push(brought, Stretch { lo: number, hi })?;
-    }
-    Ok(())
-}
-
-/// The numbers that these acts bring the reader since it is there, of those that it lacks. Other numbers may be among them.
-fn brought_among(
-    alloc: Global,
-    acts: &[Placed<'_>],
-    listener: &Listener,
-    lacking: &[Stretch],
-) -> Result<Vec<Stretch>, Memory>
-    requires { AreRising lacking.now }
-    ensures { IfOk result (λ brought. (n : ℕ) → stretches_have lacking.now n ≡ true → stretches_have brought.items n
-        ≡ list_any (brings_behind listener.now.since listener.now.pair.writer listener.now.pair.reader n) (map placed_value acts.now)) }
-{
-    let mut brought = Vec::new(alloc);
-    if lacking.is_empty() {
-        return Ok(brought);
-    }
-    for placed in acts {
-        push_brought(&mut brought, placed, listener, lacking)?;
-    }
-    Ok(brought)
+    /// What became of them.
+    pub(crate) ledger: &'n Ledger<'s>,
 }
 
 /// Adds numbers to others, and says how many of those that are asked for are among all of them. After `Memory` the numbers are of
@@ -119,7 +74,7 @@ fn count_with(
     count_of(numbers, asked.from.get(), asked.last + 1)
 }
 
-impl Unreceived<'_> {
+impl Unreceived<'_, '_> {
     ghost use Rattle.rtps_evidence.specs.FirstNumbers.{kept};
     ghost use Rattle.rtps_evidence.specs.Outcomes.{lacking_of};
 
@@ -156,34 +111,27 @@ impl Outcomes {
     pub(crate) fn of(
         alloc: Global,
         exchange: &Exchange<'_, '_>,
-        unreceived: &Unreceived<'_>,
+        sets: &OutcomeSets<'_, '_>,
         asked: &AskedNumbers,
     ) -> Result<Outcomes, Memory>
-        requires { AreRising unreceived.now.numbers.now }
+        requires { AreRising sets.now.unreceived.numbers.now }
         ensures { (recording : List (List ActValue)) (there : ℕ → Bool) → IsSaid exchange.now.pair recording exchange.now.said
             → ((n : ℕ) → stretches_have exchange.now.there.now n ≡ there n)
-            → AreLacking asked.now.from asked.now.last exchange.now.pair (placed_in recording) unreceived.now.numbers.now
-            → ((n : ℕ) → asked.now.from ≤ n → n ≤ asked.now.last → stretches_have unreceived.now.missed.now n
-            ≡ is_missed (since_of exchange.now.span) exchange.now.pair.writer exchange.now.pair.reader (placed_in recording) n)
+            → AreSets asked.now.from asked.now.last exchange.now.times.now.of_datagrams (since_of exchange.now.span) exchange.now.pair (placed_in recording) sets.now
             → IfOk result (AreOutcomes there asked.now.from asked.now.last exchange.now.times.now.of_datagrams (since_of exchange.now.span) exchange.now.pair (placed_in recording)) }
     {
-        let acts = exchange.said.acts;
-        let lacking = unreceived.numbers;
-        let mut brought = brought_among(alloc, acts, &exchange.listener(), lacking)?;
-        let silent = find_silent(alloc, exchange, &brought)?;
-        let unsent = others_of(alloc, &mut brought, asked)?;
         let claimed = [Stretch {
             lo: 0,
             hi: greatest_base(exchange.said.answers),
         }];
         let from = asked.from.get();
         let end = asked.last + 1;
-        let mut numbers = outside(alloc, lacking, from, end)?;
+        let mut numbers = outside(alloc, sets.unreceived.numbers, from, end)?;
         let received = count_with(&mut numbers, &[], asked)?;
         let arrived = count_with(&mut numbers, exchange.there, asked)?;
-        let missed = count_with(&mut numbers, unreceived.missed, asked)?;
-        let unsent = count_with(&mut numbers, &unsent, asked)?;
-        let unanswered = count_with(&mut numbers, &silent, asked)?;
+        let missed = count_with(&mut numbers, sets.unreceived.missed, asked)?;
+        let unsent = count_with(&mut numbers, &sets.unsent, asked)?;
+        let unanswered = count_with(&mut numbers, sets.silent, asked)?;
         let likely = count_with(&mut numbers, &claimed, asked)?;
         Ok(Outcomes {
             received,

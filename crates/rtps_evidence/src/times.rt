@@ -1,6 +1,6 @@
-ghost use Rattle.std.specs.Prelude.{◌≡◌, [], take, IfOk, None};
+ghost use Rattle.std.specs.Prelude.{◌≡◌, take, IfOk, None};
 ghost use Rattle.rtps_audit.specs.Said.{datagrams_until};
-ghost use Rattle.rtps_evidence.specs.Times.{AreEnds, are_there as are_there_lem, back_from, end_of, is_long_between, later_of, second_of, seconds_between, seconds_of, step_back as step_back_lem, time_of};
+ghost use Rattle.rtps_evidence.specs.Times.{AreEnds, are_there as are_there_lem, back_from, end_of, frame_of, is_long_between, later_of, no_times, second_of, seconds_between, seconds_of, step_back as step_back_lem, time_of};
 
 use rtps_ids::Memory;
 use std::alloc::Global;
@@ -53,6 +53,8 @@ pub struct Times {
     of_datagrams: Vec<Option<u64>>,
     /// The greatest time among the first datagrams, up to each.
     ends: Vec<Option<u64>>,
+    /// The number of the frame that gave or completed each datagram, counted from 1. There are none of a text.
+    frames: Vec<u64>,
 }
 
 impl Model for Times {
@@ -60,7 +62,7 @@ impl Model for Times {
 
     ghost Value = { TimesValue };
 
-    ghost view = { λ times. record { start = times.start; end = times.end; of_datagrams = times.of_datagrams.items } };
+    ghost view = { λ times. record { start = times.start; end = times.end; of_datagrams = times.of_datagrams.items; frames = times.frames.items } };
 
     ghost invariant = { λ times. AreEnds times.of_datagrams.items times.ends.items };
 }
@@ -103,33 +105,45 @@ fn ends_of(alloc: Global, times: &[Option<u64>]) -> Result<Vec<Option<u64>>, Mem
 impl Times {
     /// No times, as of a text. It takes no memory.
     pub fn none(alloc: Global) -> Times
-        ensures { result ≡ record { start = None; end = None; of_datagrams = [] } }
+        ensures { result ≡ no_times }
     {
         Times {
             start: None,
             end: None,
             of_datagrams: Vec::new(alloc),
             ends: Vec::new(alloc),
+            frames: Vec::new(alloc),
         }
     }
 
-    /// The start and the end of a capture, and the time of each of its datagrams, in the order of sending. `Memory` is answered where
-    /// what is kept of them cannot grow.
+    /// The start and the end of a capture, and the time and the frame of each of its datagrams, in the order of sending. `Memory` is
+    /// answered where what is kept of them cannot grow.
     pub fn of(
         alloc: Global,
-        start: Option<u64>,
-        end: Option<u64>,
+        bounds: (Option<u64>, Option<u64>),
         of_datagrams: Vec<Option<u64>>,
+        frames: Vec<u64>,
     ) -> Result<Times, Memory>
-        ensures { IfOk result (λ times. times ≡ record { start = start; end = end; of_datagrams = of_datagrams.items }) }
+        ensures { IfOk result (λ times. times ≡ record { start = bounds.0; end = bounds.1; of_datagrams = of_datagrams.items; frames = frames.items }) }
     {
         let ends = ends_of(alloc, &of_datagrams)?;
         Ok(Times {
-            start,
-            end,
+            start: bounds.0,
+            end: bounds.1,
             of_datagrams,
             ends,
+            frames,
         })
+    }
+
+    /// The number of the frame that gave or completed a datagram. Both count from 1: it is None of 0, past the last, and of a text.
+    pub fn frame(&self, datagram: u64) -> Option<u64>
+        ensures { result ≡ frame_of self.now.frames datagram }
+    {
+        if datagram == 0 {
+            return None;
+        }
+        self.frames.get(datagram as usize - 1).copied()
     }
 
     /// The greatest time of a frame of the capture. None of a text, and where no frame has a time.

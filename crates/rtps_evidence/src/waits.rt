@@ -1,16 +1,13 @@
-ghost use Rattle.std.specs.Prelude.{◌≡◌, find, map, slice_get, List};
-ghost use Rattle.rtps_receiver.specs.Values.{ActValue};
+ghost use Rattle.std.specs.Prelude.{◌≡◌, find, slice_get, List, None};
 ghost use Rattle.rtps_audit.specs.Placed.{placed_value};
-ghost use Rattle.rtps_audit.specs.Said.{IsSaid};
 ghost use Rattle.rtps_evidence.specs.Questions.{place_of as place_of_lem};
-ghost use Rattle.rtps_evidence.specs.Waits.{HasPassed, answered_at, answers_behind, is_told as is_told_lem, longer_of, longest, precedes as precedes_lem, questions_of, told_of, told_wait as told_wait_lem, wait_between as wait_between_lem, waits_of};
+ghost use Rattle.rtps_evidence.specs.Waits.{HasPassed, answered_at, answers_behind, is_told as is_told_lem, longer_of, precedes as precedes_lem, told_of, wait_between as wait_between_lem};
 
 use crate::exchange::Exchange;
-use crate::listener::Listener;
 use crate::location::{Location, location_of};
 use crate::questions::asks_behind;
 use crate::times::Times;
-use rtps_audit::{Answer, Placed, Said};
+use rtps_audit::{Answer, Placed};
 use std::marker::Model;
 
 /// A wait that is not longer than this is not told.
@@ -167,39 +164,48 @@ fn wait_between(
     })
 }
 
-/// The longest wait by what a pair said, up to the end at this time.
-fn longest_among(
-    said: &Said<'_, '_>,
-    listener: &Listener,
-    times: &Times,
-    end: Option<u64>,
-) -> Option<Wait>
-    ensures { result ≡ longest (waits_of times.now.of_datagrams end said.now.answers.now
-        (questions_of listener.now.since listener.now.pair (map placed_value said.now.acts.now))) }
-{
-    let mut walk = AnswerWalk::new(said.answers);
-    let mut found = None;
-    for placed in said.acts {
-        if asks_behind(placed, listener.pair, listener.since) {
-            let asked = location_of(placed);
-            let answered = walk.first_behind(asked);
-            found = longer(found, wait_between(times, end, asked, answered));
-        }
-    }
-    found
+/// The longest that a reader let its writer wait, as far as a recording has come.
+#[derive(Drop)]
+pub(crate) struct Waiting<'s> {
+    answers: AnswerWalk<'s>,
+    longest: Option<Wait>,
 }
 
-/// The longest wait of an exchange, up to the end of what was said, where it is longer than a second. It takes no memory, and no
-/// step where there are no times. Where acts stand in the order of their places, as those of octets do, it takes steps in
-/// proportion to the acts of the writer and the answers.
-pub(crate) fn told_wait(exchange: &Exchange<'_, '_>) -> Option<Wait>
-    ensures { (recording : List (List ActValue)) → IsSaid exchange.now.pair recording exchange.now.said
-        → result ≡ told_wait_lem exchange.now.span exchange.now.pair exchange.now.times.now.of_datagrams recording }
-{
-    let times = exchange.times;
-    if !times.are_there() {
-        return None;
+impl<'s> Waiting<'s> {
+    ghost use Rattle.std.specs.Prelude.{◌++◌, ◌∷◌, []};
+    ghost use Rattle.rtps_audit.specs.Placed.{PlacedValue};
+    ghost use Rattle.rtps_evidence.specs.Ledger.{IsLongest};
+
+    /// Nothing was said, but for these answers of the reader.
+    pub(crate) fn new(answers: &'s [Answer]) -> Waiting<'s>
+        ensures answers { result.answers ≡ answers.now }
+        ensures none { result.longest ≡ None }
+    {
+        Waiting {
+            answers: AnswerWalk::new(answers),
+            longest: None,
+        }
     }
-    let end = times.end_until(exchange.span.until);
-    told(longest_among(&exchange.said, &exchange.listener(), times, end))
+
+    /// The reader hears an act of the writer.
+    pub(crate) fn hear(&mut self, placed: &Placed<'_>, exchange: &Exchange<'_, '_>)
+        ensures { (acts : List PlacedValue) → IsLongest exchange.now acts self.old → IsLongest exchange.now (acts ++ placed_value placed.now ∷ []) self.new }
+    {
+        let listener = exchange.listener();
+        if !asks_behind(placed, listener.pair, listener.since) {
+            return;
+        }
+        let asked = location_of(placed);
+        let answered = self.answers.first_behind(asked);
+        let times = exchange.times;
+        let end = times.end_until(exchange.span.until);
+        self.longest = longer(self.longest, wait_between(times, end, asked, answered));
+    }
+
+    /// The longest wait, where it is longer than a second.
+    pub(crate) fn told(&self) -> Option<Wait>
+        ensures { result ≡ told_of self.now.longest }
+    {
+        told(self.longest)
+    }
 }

@@ -9,11 +9,11 @@ use Rattle.rtps_lines.specs.TalkMembers.{talk_members}
 use Rattle.rtps_lines.proofs.JsonLemmas.{joined, rows_depth, strings_within}
 use Rattle.rtps_lines.proofs.TalkLemmas.{talk_depth}
 
-wrong_within : (has_other : Bool) (wrong : ℕ) → members_depth (members_of (wrong_way_members has_other wrong)) ≤ 4
+wrong_within : (has_other : Bool) (wrong : ℕ) → members_depth (members_of (wrong_way_members has_other wrong)) ≤ 7
 wrong_within true wrong = omega arith
 wrong_within false wrong = omega arith
 
-pub check_depth : (asked : AskedValue) (recording : RecordingValue) (report : ReportValue) → members_depth (members_of (check_members asked recording report)) ≤ 4
+pub check_depth : (asked : AskedValue) (recording : RecordingValue) (report : ReportValue) → members_depth (members_of (check_members asked recording report)) ≤ 7
 check_depth asked recording report =
     let causes = report_causes asked recording report in
     let notes = report_notes asked recording report in
@@ -24,10 +24,10 @@ check_depth asked recording report =
     let talk = talk_members recording.times report in
     let wrong = wrong_way_members (is_some report.arrived) report.order.wrong in
     let ends = last_members (is_some report.arrived) report.order.wrong notes in
-    let behind_talk = joined 4 wrong (notes_members notes) (wrong_within (is_some report.arrived) report.order.wrong) (omega (arith, last)) in
-    let end = joined 4 talk ends (omega (arith, talk_depth recording.times report)) behind_talk in
-    let behind = joined 4 rows (talk ++ ends) (rows_depth telling (rows_of report) report.explained.counts recording) end in
-    joined 4 (status_members report.ending causes) (rows ++ (talk ++ ends)) (omega (arith, few)) behind
+    let behind_talk = joined 7 wrong (notes_members notes) (wrong_within (is_some report.arrived) report.order.wrong) (omega (arith, last)) in
+    let end = joined 7 talk ends (omega (arith, talk_depth recording.times report)) behind_talk in
+    let behind = joined 7 rows (talk ++ ends) (rows_depth telling (rows_of report) report.explained.counts recording) end in
+    joined 7 (status_members report.ending causes) (rows ++ (talk ++ ends)) (omega (arith, few)) behind
 
 pub check_within : (asked : AskedValue) (recording : RecordingValue) (report : ReportValue) → depth (object_of (check_members asked recording report)) ≤ max_depth
 check_within asked recording report = omega (arith, check_depth asked recording report)

@@ -1,5 +1,5 @@
 -- Facts on the tokens of a report as JSON, on how deep it nests, and on numbers.
-use Rattle.std.proofs.Common.{◌≡◌, ◌++◌, ◌∷◌, [], ◌∙◌, ◌+◌, ◌<◌, ◌≤◌, ◌^◌, ◌%◌, ◌==◌, ℕ, Bool, true, if◌then◌else◌, List, Option, None, Some, ap, append_assoc, append-nil, arith, codes, cond, decimal, drop, false, get_or, length, map, option_and_then, refl, suc, sym, zero}
+use Rattle.std.proofs.Common.{◌≡◌, ◌++◌, ◌∷◌, [], ◌∙◌, ◌+◌, ◌<◌, ◌≤◌, ◌^◌, ◌%◌, ◌==◌, ℕ, Bool, true, if◌then◌else◌, List, Option, None, Some, ap, append_assoc, append-nil, arith, codes, cond, decimal, drop, false, get_or, is_some, length, map, option_and_then, option_map, refl, suc, sym, zero}
 use Rattle.std.proofs.lemmas.Bool.{and_from, le-leb, ne_eqb}
 use Rattle.std.proofs.lemmas.Fmt.{decimal_by_steps_wide, decimal_digit, decimal_is_IsNumeral_wide}
 use Rattle.std.proofs.lemmas.List.Concat.{flat_map-append}
@@ -16,7 +16,7 @@ use Rattle.json.specs.Token.{Token, begin_array, begin_object, end_array, end_ob
 use Rattle.json.specs.Tree.{depth, items_depth, items_tokens, json_tokens, members_depth, members_tokens}
 use Rattle.json.specs.Word.{after_exponent, after_fraction, after_number, after_whole, head}
 use Rattle.rtps_evidence.specs.FirstNumbers.{numbers_of}
-use Rattle.rtps_evidence.specs.Times.{TimesValue, are_there, seconds_of}
+use Rattle.rtps_evidence.specs.Times.{TimesValue, are_there, frame_of, seconds_of}
 use Rattle.rtps_evidence.specs.declared.times.Seconds.{Seconds}
 use Rattle.rtps_evidence.specs.declared.waits.Wait.{Wait}
 use Rattle.rtps_report.specs.Vocabulary.{Absent, Announcement, Claim, Complete, CompleteGrounds, Conflict, ConflictGrounds, Counts, EvidenceValue, Explanation, ExplanationValue, FirstMissed, GroundsValue, InSpan, Key, Location, NotReceived, Open, OpenGrounds, PayloadValue, SentValue, Teller, Unfounded, UnfoundedGrounds, Verdict, Whole, explanation_value}
@@ -25,9 +25,12 @@ use Rattle.rtps_report.specs.Advice.{advice_of}
 use Rattle.rtps_report.specs.RowFacts.{is_clean}
 use Rattle.rtps_report.specs.Recording.{RecordingValue}
 use Rattle.rtps_report.specs.Silences.{silences_of}
-use Rattle.rtps_report.specs.Talk.{TalkValue}
+use Rattle.rtps_lines.specs.declared.json_object.Telling.{Telling}
 use Rattle.rtps_lines.specs.Lines.{advice_text, silence_lines}
-use Rattle.rtps_lines.specs.JsonText.{Member, TellingValue, advice_json, advice_member, announcement_json, array_of, claim_json, count_json, counts_members, delivery_members, evidence_members, first_missed_members, further_members, ignored_members, items_of, lacking_members, members_of, not_received_json, numbers_json, object_of, outcomes_json, pair_members, payload_members, place_json, place_members, reasons_members, report_json, row_json, rows_members, second_at, second_json, sent_json, shown_members, silence_member, silence_members, span_by, span_members, spanned_members, teller_json, timed_members, tokens_of, tokens_of_member, until_json, until_members, verdict_members, wait_json, wait_member, wait_members}
+use Rattle.rtps_evidence.specs.Explanation.{lost_at}
+use Rattle.rtps_evidence.specs.Kinds.{KindValue, LostValue}
+use Rattle.rtps_evidence.specs.declared.kinds.NumberRange.{NumberRange}
+use Rattle.rtps_lines.specs.JsonText.{Member, TellingValue, advice_json, advice_member, announcement_json, array_of, claim_json, count_json, counts_members, delivery_members, evidence_members, first_missed_members, frame_at, frame_members, further_members, ignored_members, items_of, kind_json, kind_members, kinds_members, lacking_members, lost_member, members_of, not_received_json, numbers_json, object_of, outcomes_json, pair_members, payload_members, place_json, place_members, range_json, reasons_members, report_json, row_json, rows_members, second_at, second_json, sent_json, shown_members, silence_member, silence_members, span_by, span_members, spanned_members, teller_json, telling_value, timed_members, times_told, tokens_of, tokens_of_member, until_json, until_members, verdict_members, wait_json, wait_member, wait_members}
 use Rattle.rtps_lines.proofs.PartLemmas.{four_parts}
 
 -- ---- tokens
@@ -57,6 +60,11 @@ audit_tokens a b c d =
     ap (λ rest. tokens_of_member a ++ rest)
     (flat_map-append tokens_of_member b (c ++ d) ∙ ap (λ rest. tokens_of b ++ rest) (flat_map-append tokens_of_member c d))
 
+-- a list of members, a member, and two lists more
+pub spanned_tokens : (a c d : List Member) (b : Member) → tokens_of (a ++ b ∷ (c ++ d)) ≡ tokens_of a ++ (tokens_of_member b ++ (tokens_of c ++ tokens_of d))
+spanned_tokens a c d b =
+    flat_map-append tokens_of_member a (b ∷ (c ++ d)) ∙ ap (λ rest. tokens_of a ++ (tokens_of_member b ++ rest)) (flat_map-append tokens_of_member c d)
+
 -- three lists of members
 pub tokens_of_three : (a b c : List Member) → tokens_of (a ++ (b ++ c)) ≡ tokens_of a ++ (tokens_of b ++ tokens_of c)
 tokens_of_three a b c = flat_map-append tokens_of_member a (b ++ c) ∙ ap (λ rest. tokens_of a ++ rest) (flat_map-append tokens_of_member b c)
@@ -73,6 +81,44 @@ span_tokens a c e b d f =
 -- an object
 pub object_tokens : (members : List Member) → json_tokens (object_of members) ≡ begin_object ∷ (tokens_of members ++ end_object ∷ [])
 object_tokens members = ap (λ rest. begin_object ∷ rest) (whole members)
+
+-- four lists of members
+pub tokens_of_four : (a b c d : List Member) → tokens_of a ++ (tokens_of b ++ (tokens_of c ++ tokens_of d)) ≡ tokens_of (a ++ (b ++ (c ++ d)))
+tokens_of_four a b c d =
+    ap (λ rest. tokens_of a ++ (tokens_of b ++ rest)) (sym (flat_map-append tokens_of_member c d))
+    ∙ ap (λ rest. tokens_of a ++ rest) (sym (flat_map-append tokens_of_member b (c ++ d)))
+    ∙ sym (flat_map-append tokens_of_member a (b ++ (c ++ d)))
+
+-- members that stand only where there are times: the first one by itself
+pub timed_front : (times : TimesValue) (a : Member) (others : List Member)
+    → tokens_of (timed_members times (a ∷ [])) ++ tokens_of (timed_members times others) ≡ tokens_of (timed_members times (a ∷ others))
+timed_front times a others = go (are_there times.of_datagrams)
+  where
+    go : (timed : Bool) → tokens_of (if timed then a ∷ [] else []) ++ tokens_of (if timed then others else []) ≡ tokens_of (if timed then a ∷ others else [])
+    go true = ap (λ first. first ++ tokens_of others) (append-nil (tokens_of_member a))
+    go false = refl
+
+none_timed : (timed : Bool) → tokens_of (if timed then [] else []) ≡ []
+none_timed true = refl
+none_timed false = refl
+
+-- each by itself
+pub timed_each : (times : TimesValue) (members : List Member) → flat_map (λ a. tokens_of (timed_members times (a ∷ []))) members ≡ tokens_of (timed_members times members)
+timed_each times [] = sym (none_timed (are_there times.of_datagrams))
+timed_each times (a ∷ others) = ap (λ rest. tokens_of (timed_members times (a ∷ [])) ++ rest) (timed_each times others) ∙ timed_front times a others
+
+-- times with frames, or without them
+abbrev times_with : Bool → TimesValue → TimesValue
+times_with framed times = record { start = times.start; end = times.end; of_datagrams = times.of_datagrams; frames = if framed then times.frames else [] }
+
+-- a clock has the frames that are told: those of a report, and none of an audit
+pub clock_told : (telling : Option Telling) (framed : Bool) (mine times : TimesValue) → framed ≡ is_some telling → mine ≡ times
+    → times_with framed mine ≡ times_told (option_map telling_value telling) times
+clock_told telling framed mine times flag same = (λ i. times_with (flag i) (same i)) ∙ by_case telling
+  where
+    by_case : (one : Option Telling) → times_with (is_some one) times ≡ times_told (option_map telling_value one) times
+    by_case None = refl
+    by_case (Some one) = refl
 
 -- an object that is written in two parts
 pub object_written : {one two three four : List Token} (start : List Token) (a b : List Member)
@@ -125,9 +171,16 @@ strings_within texts = items_within string 0 texts (λ text. omega arith)
 pub numbers_within : (numbers : List ℕ) → depth (numbers_json numbers) ≤ 1
 numbers_within numbers = omega (arith, items_within count_json 0 numbers (λ n. omega arith))
 
+frames_within : (frame : Option ℕ) → members_depth (members_of (frame_members frame)) ≤ 0
+frames_within None = omega arith
+frames_within (Some frame) = omega arith
+
 places_within : (times : TimesValue) (place : Location) → members_depth (members_of (place_members times place)) ≤ 0
 places_within times place =
-    omega (arith, timed_within 0 times ((codes "time", second_json (second_at times (Some place.datagram))) ∷ []) (omega (arith, second_within (second_at times (Some place.datagram)))))
+    let seconds : List Member = (codes "time", second_json (second_at times (Some place.datagram))) ∷ [] in
+    let frame : Option ℕ = frame_of times.frames place.datagram in
+    let timed = timed_within 0 times seconds (omega (arith, second_within (second_at times (Some place.datagram)))) in
+    omega (arith, joined 0 (timed_members times seconds) (frame_members frame) timed (frames_within frame))
 
 announcement_within : (times : TimesValue) (announcement : Option Announcement) → depth (announcement_json times announcement) ≤ 1
 announcement_within times None = omega arith
@@ -196,7 +249,8 @@ untils_within times until =
     omega (
       arith,
       until_within until,
-      timed_within 0 times ((codes "until_time", second_json (second_at times until)) ∷ []) (omega (arith, second_within (second_at times until))),
+      timed_within 0 times ((codes "until_time", second_json (second_at times until)) ∷ (codes "until_frame", until_json (frame_at times until)) ∷ [])
+          (omega (arith, second_within (second_at times until), until_within (frame_at times until))),
     )
 
 held_within : (most : ℕ) (is_held : Bool) (json : Json) → depth json ≤ most → depth (if is_held then json else null) ≤ most
@@ -231,40 +285,65 @@ span_by_within telling times evidence (Some in_span) =
     (omega (arith, outcomes_within telling.has_other in_span, end)) in
     omega (arith, members)
 
-silences_within : (talk : TalkValue) (times : TimesValue) (row : ExplanationValue) → members_depth (members_of (silence_members talk times row)) ≤ 1
-silences_within talk times row =
-    timed_within 1 times (silence_member talk times row ∷ []) (omega (arith, strings_within (silence_lines times (silences_of talk row.pair))))
+silences_within : (telling : TellingValue) (row : ExplanationValue) → members_depth (members_of (silence_members telling row)) ≤ 1
+silences_within telling row =
+    timed_within 1 telling.times (silence_member telling row ∷ []) (omega (arith, strings_within (silence_lines telling.times (silences_of telling.talk row.pair))))
 
-advice_within : (telling : TellingValue) (times : TimesValue) (row : ExplanationValue) → depth (advice_json telling times row) ≤ 0
-advice_within telling times row =
-    omega (arith, sentence_within (is_clean telling.scope.tail row.evidence) (advice_text times (advice_of times (silences_of telling.talk row.pair) telling.scope row.evidence)))
+advice_within : (telling : TellingValue) (row : ExplanationValue) → depth (advice_json telling row) ≤ 0
+advice_within telling row =
+    omega (arith, sentence_within (is_clean telling.scope.tail row.evidence) (advice_text telling.times (advice_of telling.times (silences_of telling.talk row.pair) telling.scope row.evidence)))
 
-spanned_within : (telling : TellingValue) (times : TimesValue) (row : ExplanationValue) → members_depth (members_of (spanned_members telling times row)) ≤ 2
+range_within : (times : TimesValue) (range : NumberRange) → depth (range_json times range) ≤ 2
+range_within times range = omega (arith, place_within times range.sent)
+
+kind_within : (times : TimesValue) (kind : KindValue) → depth (kind_json times kind) ≤ 4
+kind_within times kind = omega (arith, items_within (range_json times) 2 kind.ranges (range_within times))
+
+unless_within : (most : ℕ) (none : Bool) (members : List Member) → members_depth (members_of members) ≤ most → members_depth (members_of (if none then [] else members)) ≤ most
+unless_within most true members h = omega arith
+unless_within most false members h = h
+
+named_within : (name : List ℕ) (times : TimesValue) (kind : KindValue) → members_depth (members_of (kind_members name times kind)) ≤ 4
+named_within name times kind = unless_within 4 (length kind.ranges == 0) ((name, kind_json times kind) ∷ []) (omega (arith, kind_within times kind))
+
+kinds_within : (times : TimesValue) (lost : LostValue) → members_depth (members_of (kinds_members times lost)) ≤ 4
+kinds_within times lost =
+    let missed = kind_members (codes "missed") times lost.missed in
+    let unsent = kind_members (codes "unsent") times lost.unsent in
+    let unanswered = kind_members (codes "unanswered") times lost.unanswered in
+    let not_arrived = kind_members (codes "not_arrived") times lost.not_arrived in
+    let last = joined 4 unanswered not_arrived (named_within (codes "unanswered") times lost.unanswered) (named_within (codes "not_arrived") times lost.not_arrived) in
+    let behind = joined 4 unsent (unanswered ++ not_arrived) (named_within (codes "unsent") times lost.unsent) last in
+    joined 4 missed (unsent ++ (unanswered ++ not_arrived)) (named_within (codes "missed") times lost.missed) behind
+
+spanned_within : (telling : TellingValue) (times : TimesValue) (row : ExplanationValue) → members_depth (members_of (spanned_members telling times row)) ≤ 5
 spanned_within telling times row =
-    let silence = silence_members telling.talk times row in
-    let advice : List Member = advice_member telling times row ∷ [] in
-    let end = joined 1 silence advice (silences_within telling.talk times row) (omega (arith, advice_within telling times row)) in
-    joined 2 (span_members telling times row.evidence) (silence ++ advice) (span_by_within telling times row.evidence row.evidence.in_span) (omega (arith, end))
+    let silence = silence_members telling row in
+    let advice : List Member = advice_member telling row ∷ [] in
+    let lost = lost_at telling.lost row.place in
+    let end = joined 1 silence advice (silences_within telling row) (omega (arith, advice_within telling row)) in
+    joined 5 (span_members telling times row.evidence) (lost_member times lost ∷ (silence ++ advice)) (omega (arith, span_by_within telling times row.evidence row.evidence.in_span))
+    (omega (arith, kinds_within times lost, end))
 
-further_within : (telling : Option TellingValue) (times : TimesValue) (row : ExplanationValue) → members_depth (members_of (further_members telling times row)) ≤ 2
+further_within : (telling : Option TellingValue) (times : TimesValue) (row : ExplanationValue) → members_depth (members_of (further_members telling times row)) ≤ 5
 further_within None times row = omega arith
 further_within (Some telling) times row = spanned_within telling times row
 
-row_within : (telling : Option TellingValue) (times : TimesValue) (row : ExplanationValue) → depth (row_json telling times row) ≤ 3
+row_within : (telling : Option TellingValue) (times : TimesValue) (row : ExplanationValue) → depth (row_json telling times row) ≤ 6
 row_within telling times row =
     let evidence = row.evidence in
     let told = evidence_members times evidence in
     let delivered = delivery_members times evidence in
     let grounds = shown_members times evidence.grounds in
     let spanned = further_members telling times row in
-    let shown = joined 2 grounds spanned (shown_within times evidence.grounds) (further_within telling times row) in
-    let last = joined 2 delivered (grounds ++ spanned) (delivery_within times evidence) shown in
-    let late = joined 2 told (delivered ++ (grounds ++ spanned)) (evidence_within times evidence) last in
-    let later = joined 2 (verdict_members evidence.verdict) (told ++ (delivered ++ (grounds ++ spanned))) (verdict_within evidence.verdict) late in
-    let all = joined 2 (pair_members row) (verdict_members evidence.verdict ++ (told ++ (delivered ++ (grounds ++ spanned)))) (omega arith) later in
+    let shown = joined 5 grounds spanned (omega (arith, shown_within times evidence.grounds)) (further_within telling times row) in
+    let last = joined 5 delivered (grounds ++ spanned) (omega (arith, delivery_within times evidence)) shown in
+    let late = joined 5 told (delivered ++ (grounds ++ spanned)) (omega (arith, evidence_within times evidence)) last in
+    let later = joined 5 (verdict_members evidence.verdict) (told ++ (delivered ++ (grounds ++ spanned))) (omega (arith, verdict_within evidence.verdict)) late in
+    let all = joined 5 (pair_members row) (verdict_members evidence.verdict ++ (told ++ (delivered ++ (grounds ++ spanned)))) (omega arith) later in
     omega (arith, all)
 
-rows_within : (telling : Option TellingValue) (times : TimesValue) (rows : List ExplanationValue) → items_depth (items_of (map (row_json telling times) rows)) ≤ 3
+rows_within : (telling : Option TellingValue) (times : TimesValue) (rows : List ExplanationValue) → items_depth (items_of (map (row_json telling times) rows)) ≤ 6
 rows_within telling times [] = omega arith
 rows_within telling times (row ∷ rows) = omega (arith, row_within telling times row, rows_within telling times rows)
 
@@ -276,13 +355,13 @@ reasons_within : (reasons : Option Reasons) → members_depth (members_of (reaso
 reasons_within None = omega arith
 reasons_within (Some reasons) = omega arith
 
-pub rows_depth : (telling : Option TellingValue) (rows : List ExplanationValue) (counts : Counts) (recording : RecordingValue) → members_depth (members_of (rows_members telling rows counts recording)) ≤ 4
+pub rows_depth : (telling : Option TellingValue) (rows : List ExplanationValue) (counts : Counts) (recording : RecordingValue) → members_depth (members_of (rows_members telling rows counts recording)) ≤ 7
 rows_depth telling rows counts recording =
     let frames = joined 0 (ignored_members recording.ignored) (reasons_members recording.reasons) (ignored_within recording.ignored) (reasons_within recording.reasons) in
     let last = joined 0 (counts_members counts) (ignored_members recording.ignored ++ reasons_members recording.reasons) (omega arith) frames in
-    omega (arith, rows_within telling recording.times rows, last)
+    omega (arith, rows_within telling (times_told telling recording.times) rows, last)
 
-pub report_depth : (rows : List ExplanationValue) (counts : Counts) (recording : RecordingValue) → depth (report_json rows counts recording) ≤ 5
+pub report_depth : (rows : List ExplanationValue) (counts : Counts) (recording : RecordingValue) → depth (report_json rows counts recording) ≤ 8
 report_depth rows counts recording = omega (arith, rows_depth None rows counts recording)
 
 pub report_within : (rows : List ExplanationValue) (counts : Counts) (recording : RecordingValue) → depth (report_json rows counts recording) ≤ max_depth

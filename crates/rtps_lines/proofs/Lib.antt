@@ -5,6 +5,7 @@ mod PartLemmas
 mod TalkLemmas
 mod SecondLemmas
 mod JoinLemmas
+mod LostLemmas
 mod NoteLemmas
 mod OneMembers
 mod TailLemmas

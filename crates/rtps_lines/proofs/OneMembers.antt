@@ -2,6 +2,7 @@
 use Rattle.std.proofs.Common.{◌≡◌, ◌++◌, List, [], ◌∷◌, Option, Some, codes, false, is_some}
 use Rattle.rtps_audit.specs.declared.report.Counts.{Counts}
 use Rattle.rtps_evidence.specs.Explanation.{ExplanationValue}
+use Rattle.rtps_evidence.specs.Kinds.{LostValue}
 use Rattle.rtps_report.specs.Asked.{AskedValue}
 use Rattle.rtps_report.specs.FullReport.{ReportValue}
 use Rattle.rtps_report.specs.Laws.{AreSame}
@@ -21,11 +22,11 @@ use Rattle.rtps_lines.specs.TalkMembers.{best_effort_member, held_members, one_w
 use Rattle.rtps_report.proofs.Offered.{same_talk}
 
 -- the members of these rows and counts, and of who does not talk, beside another recording, if there is one, given in this order
-abbrev members_with : AskedValue → RecordingValue → Option RecordingValue → Order → Ending → Counts → List ExplanationValue → TalkValue → List Member
-members_with asked recording arrived order ending counts rows talk =
+abbrev members_with : AskedValue → RecordingValue → Option RecordingValue → Order → Ending → Counts → List ExplanationValue → List LostValue → TalkValue → List Member
+members_with asked recording arrived order ending counts rows lost talk =
     let scope : Scope = record { from = asked.from; tail = asked.tail; unread = is_unread counts recording.reasons } in
     status_members ending (causes_of asked.certain (totals_of scope rows) (findings_in ending))
-    ++ (rows_members (Some (record { scope = scope; talk = talk; has_other = is_some arrived })) rows counts recording
+    ++ (rows_members (Some (record { scope = scope; talk = talk; lost = lost; times = recording.times; has_other = is_some arrived })) rows counts recording
     ++ ((unmatched_member talk.unmatched ∷ talking_member talk.talking ∷ unobserved_member talk.silence talk.left_out ∷ one_way_member talk.one_way
     ∷ best_effort_member talk.best_effort ∷ (held_members (is_some arrived) talk.held ++ participants_member recording.times talk.participants ∷ []))
     ++ last_members (is_some arrived) order.wrong (notes (codes " -> ") (facts_by rows scope counts recording)
@@ -35,4 +36,4 @@ members_with asked recording arrived order ending counts rows talk =
 pub same_members : (asked : AskedValue) (recording : RecordingValue) (one other : ReportValue) → AreSame one other → check_members asked recording one ≡ check_members asked recording other
 same_members asked recording one other same =
     let talk = same_talk one.talk other.talk same.talk in
-    λ i. members_with asked recording (same.arrived i) (same.order i) (same.ending i) (same.counts i) (same.rows i) (talk i)
+    λ i. members_with asked recording (same.arrived i) (same.order i) (same.ending i) (same.counts i) (same.rows i) (same.lost i) (talk i)

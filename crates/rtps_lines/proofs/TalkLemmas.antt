@@ -17,7 +17,7 @@ use Rattle.rtps_report.specs.BestEfforts.{HeldValue}
 use Rattle.rtps_report.specs.FullReport.{ReportValue}
 use Rattle.rtps_report.specs.Talk.{LeftOutValue}
 use Rattle.rtps_report.specs.declared.participant.Participant.{Participant}
-use Rattle.rtps_lines.specs.JsonText.{Member, array_of, members_of, second_at, second_json, timed_members, tokens_of, tokens_of_member, until_json}
+use Rattle.rtps_lines.specs.JsonText.{Member, array_of, frame_at, members_of, second_at, second_json, timed_members, tokens_of, tokens_of_member, until_json}
 use Rattle.rtps_lines.specs.PolicyValues.{value_text}
 use Rattle.rtps_lines.specs.TalkMembers.{address_json, best_effort_json, first_of, held_json, held_members, last_of, one_way_json, participant_json, participants_member, reasons_json, stay_times, talk_members, talking_json, unmatched_json, unobserved_json, values_json}
 use Rattle.rtps_lines.specs.declared.policy_values.Naming.TheVariants.{Dds}
@@ -47,33 +47,6 @@ views_written {X} {Y} {one} {two} f g xs taken start name all first second third
 pub three_tokens : (a b c : Member) → tokens_of_member a ++ (tokens_of_member b ++ tokens_of_member c) ≡ tokens_of (a ∷ b ∷ c ∷ [])
 three_tokens a b c = ap (λ last. tokens_of_member a ++ (tokens_of_member b ++ last)) (sym (append-nil (tokens_of_member c)))
 
--- four members that stand only where there are times, each by itself
-pub timed_tokens : (times : TimesValue) (a b c d : Member)
-    → tokens_of (timed_members times (a ∷ [])) ++ (tokens_of (timed_members times (b ∷ [])) ++ (tokens_of (timed_members times (c ∷ [])) ++ tokens_of (timed_members times (d ∷ []))))
-    ≡ tokens_of (timed_members times (a ∷ b ∷ c ∷ d ∷ []))
-timed_tokens times a b c d = go (are_there times.of_datagrams)
-  where
-    one : List Token
-    one = tokens_of_member a
-
-    two : List Token
-    two = tokens_of_member b
-
-    three : List Token
-    three = tokens_of_member c
-
-    four : List Token
-    four = tokens_of_member d
-
-    go : (timed : Bool)
-        → tokens_of (if timed then a ∷ [] else [])
-        ++ (tokens_of (if timed then b ∷ [] else []) ++ (tokens_of (if timed then c ∷ [] else []) ++ tokens_of (if timed then d ∷ [] else [])))
-        ≡ tokens_of (if timed then a ∷ b ∷ c ∷ d ∷ [] else [])
-    go true =
-        ap (λ first. first ++ ((two ++ []) ++ ((three ++ []) ++ (four ++ [])))) (append-nil one) ∙ ap (λ next. one ++ (next ++ ((three ++ []) ++ (four ++ [])))) (append-nil two)
-        ∙ ap (λ next. one ++ (two ++ (next ++ (four ++ [])))) (append-nil three)
-    go false = refl
-
 -- four members, some others, and a last one
 pub seven_tokens : (a b c d e : Member) (others : List Member) (last : Member)
     → tokens_of_member a ++ (tokens_of_member b ++ (tokens_of_member c ++ (tokens_of_member d ++ (tokens_of_member e ++ (tokens_of others ++ tokens_of_member last)))))
@@ -81,13 +54,6 @@ pub seven_tokens : (a b c d e : Member) (others : List Member) (last : Member)
 seven_tokens a b c d e others last =
     ap (λ (rest : List Token). tokens_of_member a ++ (tokens_of_member b ++ (tokens_of_member c ++ (tokens_of_member d ++ (tokens_of_member e ++ rest)))))
     (ap (λ (end : List Token). tokens_of others ++ end) (sym (append-nil (tokens_of_member last))) ∙ sym (flat_map-append tokens_of_member others (last ∷ [])))
-
--- four lists of members
-pub tokens_of_four : (a b c d : List Member) → tokens_of a ++ (tokens_of b ++ (tokens_of c ++ tokens_of d)) ≡ tokens_of (a ++ (b ++ (c ++ d)))
-tokens_of_four a b c d =
-    ap (λ rest. tokens_of a ++ (tokens_of b ++ rest)) (sym (flat_map-append tokens_of_member c d))
-    ∙ ap (λ rest. tokens_of a ++ rest) (sym (flat_map-append tokens_of_member b (c ++ d)))
-    ∙ sym (flat_map-append tokens_of_member a (b ++ (c ++ d)))
 
 -- ---- depth
 
@@ -113,12 +79,21 @@ until_within (Some datagram) = omega arith
 
 stay_times_within : (times : TimesValue) (participant : Participant) → members_depth (members_of (stay_times times participant)) ≤ 0
 stay_times_within times participant =
-    let first = second_at times (first_of participant) in
-    let last = second_at times (last_of participant) in
-    let left = second_at times participant.left in
-    timed_within 0 times ((codes "first_time", second_json first) ∷ (codes "last_time", second_json last) ∷ (codes "left_time", second_json left)
-    ∷ (codes "silent", boolean participant.silent) ∷ [])
-    (omega (arith, second_within first, second_within last, second_within left))
+    let first : Option ℕ = first_of participant in
+    let last : Option ℕ = last_of participant in
+    let left : Option ℕ = participant.left in
+    timed_within 0 times ((codes "first_time", second_json (second_at times first)) ∷ (codes "last_time", second_json (second_at times last))
+    ∷ (codes "left_time", second_json (second_at times left)) ∷ (codes "first_frame", until_json (frame_at times first)) ∷ (codes "last_frame", until_json (frame_at times last))
+    ∷ (codes "left_frame", until_json (frame_at times left)) ∷ (codes "silent", boolean participant.silent) ∷ [])
+    (omega (
+      arith,
+      second_within (second_at times first),
+      second_within (second_at times last),
+      second_within (second_at times left),
+      until_within (frame_at times first),
+      until_within (frame_at times last),
+      until_within (frame_at times left),
+    ))
 
 participant_within : (times : TimesValue) (participant : Participant) → depth (participant_json times participant) ≤ 1
 participant_within times participant =

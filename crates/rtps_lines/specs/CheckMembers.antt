@@ -3,7 +3,7 @@
 use Rattle.std.specs.Prelude.{◌++◌, ℕ, Bool, false, if◌then◌else◌, is_some, List, [], ◌∷◌, codes, map, Some}
 use Rattle.json.specs.Json.{string}
 use Rattle.rtps_report.specs.BestEfforts.{numbers_told}
-use Rattle.rtps_report.specs.FullReport.{AskedValue, RecordingValue, ReportValue, rows_of}
+use Rattle.rtps_report.specs.FullReport.{AskedValue, RecordingValue, ReportValue, lost_of, rows_of}
 use Rattle.rtps_report.specs.NoteFacts.{note_facts, scope_of}
 use Rattle.rtps_report.specs.SideFacts.{side_facts}
 use Rattle.rtps_report.specs.Totals.{totals_of}
@@ -56,7 +56,7 @@ report_notes asked recording report = notes (codes " -> ") (note_facts asked rec
 -- by what the objects of its rows are told
 abbrev pub check_telling : AskedValue → RecordingValue → ReportValue → TellingValue
 check_telling asked recording report =
-    record { scope = scope_of asked recording report; talk = report.talk; has_other = is_some report.arrived }
+    record { scope = scope_of asked recording report; talk = report.talk; lost = lost_of report; times = recording.times; has_other = is_some report.arrived }
 
 -- all members: between them those of `audit --json`, with the span of each row and what to do, and who does not talk
 abbrev pub check_members : AskedValue → RecordingValue → ReportValue → List Member

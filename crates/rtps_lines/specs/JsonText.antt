@@ -2,16 +2,20 @@
 -- own: other programs read the rows, what each rests on, and the counts. Members stand in this order, no space stands between tokens,
 -- and numbers are integers in decimal, but seconds have three places. Names are strings of what `list` writes between the quotes, and places
 -- are as `why` writes them. Where some datagram of the recording has a time, each place has a second, and so has each datagram that stands
--- alone.
-use Rattle.std.specs.Prelude.{ℕ, ℤ, ◌≡◌, ◌++◌, Bool, if◌then◌else◌, List, [], ◌∷◌, codes, length, map, Option, None, Some}
+-- alone. Of a capture each place has the number of the frame that gave or completed its datagram, and so has each datagram that stands alone,
+-- where there are times; what `audit` tells has none.
+use Rattle.std.specs.Prelude.{ℕ, ℤ, ◌≡◌, ◌++◌, ◌==◌, Bool, if◌then◌else◌, List, [], ◌∷◌, codes, length, map, Option, None, Some}
 use Rattle.std.specs.Fmt.{decimal, signed_decimal}
 use Rattle.std.specs.List.{flat_map}
 use Rattle.json.specs.Json.{Json, null, boolean, number, string, array, object, Items, no_items, item, Members, no_members, member, document}
 use Rattle.json.specs.Print.{print}
 use Rattle.json.specs.Token.{Token, key}
 use Rattle.json.specs.Tree.{json_tokens}
+use Rattle.rtps_evidence.specs.Explanation.{lost_at}
 use Rattle.rtps_evidence.specs.FirstNumbers.{numbers_of}
-use Rattle.rtps_evidence.specs.Times.{TimesValue, are_there, seconds_of}
+use Rattle.rtps_evidence.specs.Kinds.{KindValue, LostValue, lost_value}
+use Rattle.rtps_evidence.specs.Times.{TimesValue, are_there, frame_of, seconds_of}
+use Rattle.rtps_evidence.specs.declared.kinds.NumberRange.{NumberRange}
 use Rattle.rtps_evidence.specs.declared.times.Seconds.{Seconds}
 use Rattle.rtps_evidence.specs.declared.waits.Wait.{Wait}
 use Rattle.rtps_report.specs.Vocabulary.{Absent, Announcement, Claim, Complete, CompleteGrounds, Conflict, ConflictGrounds, Counts, EvidenceValue, ExplanationValue, FirstMissed, GroundsValue, InSpan, Key, Location, NotReceived, Open, OpenGrounds, Outcomes, PayloadValue, SentValue, Teller, Unfounded, UnfoundedGrounds, Verdict, Whole}
@@ -23,6 +27,7 @@ use Rattle.rtps_report.specs.Recording.{RecordingValue}
 use Rattle.rtps_report.specs.Silences.{silences_of}
 use Rattle.rtps_report.specs.Talk.{TalkValue, talk_value}
 use Rattle.rtps_lines.specs.Lines.{advice_text, kind_text, second_in, seconds_text, silence_lines}
+use Rattle.rtps_lines.specs.declared.json_members.Clock.{Clock}
 use Rattle.rtps_lines.specs.declared.json_object.Telling.{Telling}
 use Rattle.rtps_parts.specs.Names.{guid_text, octet_text}
 
@@ -74,10 +79,25 @@ timed_members times members = if are_there times.of_datagrams then members else 
 abbrev pub second_member : List ℕ → TimesValue → Option ℕ → Member
 second_member name times datagram = (name, second_json (second_at times datagram))
 
--- where a submessage stands, and when its datagram came
+-- what a clock tells: frames, where these are told
+abbrev pub clock_times : Clock → TimesValue
+clock_times clock =
+    record {
+      start = clock.times.now.start;
+      end = clock.times.now.end;
+      of_datagrams = clock.times.now.of_datagrams;
+      frames = if clock.framed then clock.times.now.frames else [];
+    }
+
+-- a frame; nothing where there is none
+abbrev pub frame_members : Option ℕ → List Member
+frame_members None = []
+frame_members (Some frame) = (codes "frame", count_json frame) ∷ []
+
+-- where a submessage stands, when its datagram came, and in which frame
 abbrev pub place_members : TimesValue → Location → List Member
 place_members times place = (codes "datagram", count_json place.datagram) ∷ (codes "at", count_json place.at)
-    ∷ timed_members times (second_member (codes "time") times (Some place.datagram) ∷ [])
+    ∷ (timed_members times (second_member (codes "time") times (Some place.datagram) ∷ []) ++ frame_members (frame_of times.frames place.datagram))
 
 -- the last number that the writer announced, and the submessage that did so first; null where there is none
 abbrev pub announcement_json : TimesValue → Option Announcement → Json
@@ -215,9 +235,19 @@ abbrev pub until_json : Option ℕ → Json
 until_json None = null
 until_json (Some datagram) = count_json datagram
 
--- the same as a member, and when that datagram came
+-- the frame of a datagram, if there is one
+abbrev pub frame_at : TimesValue → Option ℕ → Option ℕ
+frame_at times None = None
+frame_at times (Some datagram) = frame_of times.frames datagram
+
+-- that under a name; null where there is none
+abbrev pub frame_member : List ℕ → TimesValue → Option ℕ → Member
+frame_member name times datagram = (name, until_json (frame_at times datagram))
+
+-- the same as a member, when that datagram came, and in which frame
 abbrev pub until_members : TimesValue → Option ℕ → List Member
-until_members times until = (codes "until", until_json until) ∷ timed_members times (second_member (codes "until_time") times until ∷ [])
+until_members times until = (codes "until", until_json until)
+    ∷ timed_members times (second_member (codes "until_time") times until ∷ frame_member (codes "until_frame") times until ∷ [])
 
 -- for how long the reader let the writer wait, where the writer asked, and where the reader answered
 abbrev pub waited_json : TimesValue → Wait → Json
@@ -237,15 +267,43 @@ wait_member times wait = (codes "wait", wait_json times wait)
 abbrev pub wait_members : TimesValue → Option Wait → List Member
 wait_members times wait = timed_members times (wait_member times wait ∷ [])
 
--- by what the objects of the rows of a report are told: their scope, who does not talk, and whether there is another recording
+-- a range of numbers, and where the first one was sent first
+abbrev pub range_json : TimesValue → NumberRange → Json
+range_json times range =
+    object_of ((codes "first", count_json range.first) ∷ (codes "last", count_json range.last) ∷ (codes "sent", place_json times range.sent) ∷ [])
+
+-- the ranges of a kind, and how many more there are
+abbrev pub kind_json : TimesValue → KindValue → Json
+kind_json times kind = object_of ((codes "ranges", array_of (map (range_json times) kind.ranges)) ∷ (codes "more", count_json kind.more) ∷ [])
+
+-- the same under its name; nothing of a kind that has no number
+abbrev pub kind_members : List ℕ → TimesValue → KindValue → List Member
+kind_members name times kind = if length kind.ranges == 0 then [] else (name, kind_json times kind) ∷ []
+
+-- those of a row
+abbrev pub kinds_members : TimesValue → LostValue → List Member
+kinds_members times lost =
+    kind_members (codes "missed") times lost.missed
+    ++ (kind_members (codes "unsent") times lost.unsent
+    ++ (kind_members (codes "unanswered") times lost.unanswered ++ kind_members (codes "not_arrived") times lost.not_arrived))
+
+-- an object of these
+abbrev pub lost_member : TimesValue → LostValue → Member
+lost_member times lost = (codes "numbers", object_of (kinds_members times lost))
+
+-- by what the objects of the rows of a report are told: their scope, who does not talk, which numbers of each are lost, when datagrams came,
+-- and whether there is another recording
 pub record TellingValue : Type 0 where
   pub scope : Scope
   pub talk : TalkValue
+  pub lost : List LostValue
+  pub times : TimesValue
   pub has_other : Bool
 
 -- that of the code, as a value
 abbrev pub telling_value : Telling → TellingValue
-telling_value telling = record { scope = telling.scope; talk = talk_value telling.talk.now; has_other = telling.has_other }
+telling_value telling =
+    record { scope = telling.scope; talk = talk_value telling.talk.now; lost = map lost_value telling.lost.now; times = telling.times.now; has_other = telling.has_other }
 
 -- of a row in a span: its first number, the datagram in which its reader leaves, what became of its numbers, the first that did not
 -- arrive, whether it is clean, and the longest wait
@@ -260,31 +318,32 @@ abbrev pub span_members : TellingValue → TimesValue → EvidenceValue → List
 span_members telling times evidence = span_by telling times evidence evidence.in_span
 
 -- the sentences on who is silent of the two of a row
-abbrev pub silence_member : TalkValue → TimesValue → ExplanationValue → Member
-silence_member talk times row = (codes "silence", array_of (map string (silence_lines times (silences_of talk row.pair))))
+abbrev pub silence_member : TellingValue → ExplanationValue → Member
+silence_member telling row = (codes "silence", array_of (map string (silence_lines telling.times (silences_of telling.talk row.pair))))
 
 -- the same, where there are times
-abbrev pub silence_members : TalkValue → TimesValue → ExplanationValue → List Member
-silence_members talk times row = timed_members times (silence_member talk times row ∷ [])
+abbrev pub silence_members : TellingValue → ExplanationValue → List Member
+silence_members telling row = timed_members telling.times (silence_member telling row ∷ [])
 
 -- what to do for a row that is not clean
-abbrev pub sentence_json : TellingValue → TimesValue → ExplanationValue → Json
-sentence_json telling times row = string (advice_text times (advice_of times (silences_of telling.talk row.pair) telling.scope row.evidence))
+abbrev pub sentence_json : TellingValue → ExplanationValue → Json
+sentence_json telling row = string (advice_text telling.times (advice_of telling.times (silences_of telling.talk row.pair) telling.scope row.evidence))
 
 -- what to do for a row; null for a clean one
-abbrev pub advice_json : TellingValue → TimesValue → ExplanationValue → Json
-advice_json telling times row =
+abbrev pub advice_json : TellingValue → ExplanationValue → Json
+advice_json telling row =
     if is_clean telling.scope.tail row.evidence then null
-    else sentence_json telling times row
+    else sentence_json telling row
 
 -- that as a member
-abbrev pub advice_member : TellingValue → TimesValue → ExplanationValue → Member
-advice_member telling times row = (codes "advice", advice_json telling times row)
+abbrev pub advice_member : TellingValue → ExplanationValue → Member
+advice_member telling row = (codes "advice", advice_json telling row)
 
 -- what is told of a row of a report beside its evidence
 abbrev pub spanned_members : TellingValue → TimesValue → ExplanationValue → List Member
 spanned_members telling times row =
-    span_members telling times row.evidence ++ (silence_members telling.talk times row ++ advice_member telling times row ∷ [])
+    span_members telling times row.evidence
+    ++ lost_member times (lost_at telling.lost row.place) ∷ (silence_members telling row ++ advice_member telling row ∷ [])
 
 -- the same; nothing of a row of an audit, which is in no span
 abbrev pub further_members : Option TellingValue → TimesValue → ExplanationValue → List Member
@@ -316,6 +375,15 @@ abbrev pub counts_members : Counts → List Member
 counts_members counts = (codes "datagrams", count_json counts.datagrams) ∷ (codes "refused", count_json counts.refused) ∷ (codes "skipped", count_json counts.skipped)
     ∷ (codes "fragments", count_json counts.fragments) ∷ (codes "undirected", count_json counts.undirected) ∷ (codes "unsettled", count_json counts.unsettled) ∷ []
 
+-- the frames that are told: those of a report, and none of an audit
+abbrev pub frames_told : Option TellingValue → List ℕ → List ℕ
+frames_told None frames = []
+frames_told (Some telling) frames = frames
+
+-- times, with these
+abbrev pub times_told : Option TellingValue → TimesValue → TimesValue
+times_told telling times = record { start = times.start; end = times.end; of_datagrams = times.of_datagrams; frames = frames_told telling times.frames }
+
 -- the rows, under their name
 abbrev pub pairs_member : Option TellingValue → TimesValue → List ExplanationValue → Member
 pairs_member telling times rows = (codes "pairs", array_of (map (row_json telling times) rows))
@@ -323,7 +391,7 @@ pairs_member telling times rows = (codes "pairs", array_of (map (row_json tellin
 -- what is told of these rows and counts, and of the frames of this recording
 abbrev pub rows_members : Option TellingValue → List ExplanationValue → Counts → RecordingValue → List Member
 rows_members telling rows counts recording =
-    pairs_member telling recording.times rows ∷ (counts_members counts ++ (ignored_members recording.ignored ++ reasons_members recording.reasons))
+    pairs_member telling (times_told telling recording.times) rows ∷ (counts_members counts ++ (ignored_members recording.ignored ++ reasons_members recording.reasons))
 
 -- the whole report, as an object of `audit --json`
 abbrev pub report_json : List ExplanationValue → Counts → RecordingValue → Json

@@ -3,6 +3,7 @@ pub mod CheckMembers
 pub mod JsonText
 pub mod Lines
 pub mod Notes
+pub mod NumberRanges
 pub mod PolicyValues
 pub mod QosNames
 pub mod TailNames

@@ -1,6 +1,6 @@
 -- The lines that `why` and `check` print alike of a row. own: one space stands between fields, so that common tools can take a line
 -- apart. A place is the number of a datagram, from 1, and that of a submessage's first octet in it, from 0, as `show` writes them. Behind it
--- stands the second of its datagram, where that has a time: it is counted from the start of the capture.
+-- stand the frame of its datagram, where that has one, and its second, where it has a time: that is counted from the start of the capture.
 use Rattle.std.specs.Prelude.{ℕ, ℤ, ◌++◌, ◌/◌, ◌%◌, if◌then◌else◌, List, [], ◌∷◌, codes, length, Option, None, Some}
 use Rattle.std.specs.Fmt.{decimal, signed_decimal}
 use Rattle.rtps_report.specs.Vocabulary.{Absent, Announcement, Claim, Complete, Conflict, FirstMissed, Key, Location, Open, PayloadValue, SentValue, Teller, Unfounded, Verdict, Whole}
@@ -13,7 +13,7 @@ use Rattle.rtps_evidence.specs.declared.location.Kind.{Kind}
 use Rattle.rtps_evidence.specs.declared.location.Kind.TheVariants.{Data, Heartbeat, AckNack, Gap, DataFrag, NackFrag}
 use Rattle.rtps_evidence.specs.declared.times.Seconds.{Seconds}
 use Rattle.rtps_evidence.specs.declared.waits.Wait.{Wait}
-use Rattle.rtps_evidence.specs.Times.{TimesValue, second_of, seconds_of, time_of}
+use Rattle.rtps_evidence.specs.Times.{TimesValue, frame_of, second_of, seconds_of, time_of}
 use Rattle.rtps_report.specs.Advice.{ended_in, sentence_of}
 use Rattle.rtps_report.specs.declared.advice.Advice.{Advice}
 use Rattle.rtps_report.specs.declared.silences.Silences.{Silences}
@@ -71,9 +71,14 @@ unfoldable pub second_behind : Option Seconds → List ℕ
 second_behind None = []
 second_behind (Some second) = codes ", " ++ (seconds_text second ++ codes " s")
 
--- what is said behind a datagram: its second, where it has a time
+-- the number of a frame behind what it is of; nothing where there is none
+unfoldable pub frame_behind : Option ℕ → List ℕ
+frame_behind None = []
+frame_behind (Some frame) = codes ", frame " ++ decimal frame
+
+-- what is said behind a datagram: its frame, where it has one, and its second, where it has a time
 abbrev pub second_text : TimesValue → ℕ → List ℕ
-second_text times datagram = second_behind (second_in times datagram)
+second_text times datagram = frame_behind (frame_of times.frames datagram) ++ second_behind (second_in times datagram)
 
 -- where an act stands in the recording, and when its datagram came
 unfoldable pub place_text : TimesValue → Location → List ℕ

@@ -21,7 +21,7 @@ use Rattle.rtps_report.specs.BestEfforts.{BestEffortValue, HeldValue}
 use Rattle.rtps_report.specs.FullReport.{ReportValue}
 use Rattle.rtps_report.specs.Talk.{LeftOutValue}
 use Rattle.rtps_report.specs.declared.participant.Participant.{Participant}
-use Rattle.rtps_lines.specs.JsonText.{Member, array_of, count_json, name_json, numbers_json, object_of, second_member, timed_members, until_json}
+use Rattle.rtps_lines.specs.JsonText.{Member, array_of, count_json, frame_member, name_json, numbers_json, object_of, second_member, timed_members, until_json}
 use Rattle.rtps_lines.specs.PolicyValues.{value_text}
 use Rattle.rtps_lines.specs.declared.policy_values.Naming.TheVariants.{Dds}
 
@@ -118,11 +118,12 @@ first_of participant = option_map (λ stay. stay.first) participant.stay
 abbrev pub last_of : Participant → Option ℕ
 last_of participant = option_map (λ stay. stay.last) participant.stay
 
--- when these datagrams came, and the one in which it leaves; and whether it is silent
+-- when these datagrams came, and the one in which it leaves; their frames; and whether it is silent
 abbrev pub stay_times : TimesValue → Participant → List Member
 stay_times times participant =
     timed_members times (second_member (codes "first_time") times (first_of participant) ∷ second_member (codes "last_time") times (last_of participant)
-    ∷ second_member (codes "left_time") times participant.left ∷ (codes "silent", boolean participant.silent) ∷ [])
+    ∷ second_member (codes "left_time") times participant.left ∷ frame_member (codes "first_frame") times (first_of participant)
+    ∷ frame_member (codes "last_frame") times (last_of participant) ∷ frame_member (codes "left_frame") times participant.left ∷ (codes "silent", boolean participant.silent) ∷ [])
 
 -- from when to when there is something of a participant, and where it leaves
 abbrev pub stay_members : TimesValue → Participant → List Member

@@ -88,6 +88,8 @@ fn telling_of<'t, 'a>(report: &'t FullReport<'a>) -> Telling<'t, 'a>
     Telling {
         scope: scope_of(report),
         talk: &report.talk,
+        lost: &report.explained.lost,
+        times: report.recording.times(),
         has_other: has_other(report),
     }
 }

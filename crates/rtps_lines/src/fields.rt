@@ -4,7 +4,7 @@
 ghost use Rattle.std.specs.Prelude.{◌≡◌, ◌++◌, codes, OnOk, Some};
 ghost use Rattle.std.specs.String.{string_bytes};
 ghost use Rattle.rtps_wire.specs.Values.{payload_value};
-ghost use Rattle.rtps_lines.specs.Lines.{advice_text, ended_text, hosted_text, kind_text, payload_text, place_comma, place_text, second_text, seconds_text};
+ghost use Rattle.rtps_lines.specs.Lines.{advice_text, ended_text, hosted_text, kind_text, payload_text, place_comma, place_text, second_text, seconds_text, frame_behind, second_behind};
 ghost use Rattle.rtps_lines.specs.QosNames.{durability_text, reliability_text, side_text};
 
 use itoa::{Buffer, Integer};
@@ -39,19 +39,49 @@ impl fmt::Display for SecondsText {
     }
 }
 
-/// The second of a datagram, behind what is said of it; nothing where it has no time.
+/// A second behind what it is of; nothing where there is none.
+#[derive(Drop)]
+struct SecondBehind(Option<Seconds>);
+
+impl fmt::Display for SecondBehind {
+    ghost output = { λ text. Some (second_behind text.0) };
+
+    #[tactic(auto, unfolding(crate::specs::Lines::second_behind))]
+    fn fmt<W: fmt::Write>(&self, f: &mut fmt::Formatter<W>) -> fmt::Result {
+        match self.0 {
+            Some(second) => write!(f, ", {} s", SecondsText(second)),
+            None => Ok(()),
+        }
+    }
+}
+
+/// The number of a frame behind what it is of; nothing where there is none.
+#[derive(Drop)]
+struct FrameBehind(Option<u64>);
+
+impl fmt::Display for FrameBehind {
+    ghost output = { λ text. Some (frame_behind text.0) };
+
+    #[tactic(auto, unfolding(crate::specs::Lines::frame_behind))]
+    fn fmt<W: fmt::Write>(&self, f: &mut fmt::Formatter<W>) -> fmt::Result {
+        match self.0 {
+            Some(frame) => write!(f, ", frame {frame}"),
+            None => Ok(()),
+        }
+    }
+}
+
+/// The frame and the second of a datagram, behind what is said of it; nothing where it has none.
 #[derive(Drop)]
 pub struct SecondText<'t>(pub &'t Times, pub u64);
 
 impl fmt::Display for SecondText<'_> {
     ghost output = { λ text. Some (second_text text.0.now text.1) };
 
-    #[tactic(auto, unfolding(crate::specs::Lines::second_behind))]
     fn fmt<W: fmt::Write>(&self, f: &mut fmt::Formatter<W>) -> fmt::Result {
-        match self.0.second(self.1) {
-            Some(second) => write!(f, ", {} s", SecondsText(second)),
-            None => Ok(()),
-        }
+        let frame = FrameBehind(self.0.frame(self.1));
+        let second = SecondBehind(self.0.second(self.1));
+        write!(f, "{frame}{second}")
     }
 }
 

@@ -11,7 +11,7 @@ ghost use Rattle.json.specs.Tree.{json_tokens};
 ghost use Rattle.rtps_evidence.specs.Locations.{sent_value};
 ghost use Rattle.rtps_evidence.specs.Explanation.{evidence_value};
 ghost use Rattle.rtps_wire.specs.Values.{payload_value};
-ghost use Rattle.rtps_lines.specs.JsonText.{announcement_json, array_of, asked_members, carried_members, claim_json, delivery_members, evidence_members, first_missed_members, not_received_json, numbers_json, payload_members, place_json, place_members, second_at as second_at_lem, second_json, second_member, sent_json, teller_json, timed_members, tokens_of, tokens_of_member, until_json, wait_json, wait_member, wait_members, waited_json};
+ghost use Rattle.rtps_lines.specs.JsonText.{clock_times, announcement_json, array_of, asked_members, carried_members, claim_json, delivery_members, evidence_members, first_missed_members, frame_at as frame_at_lem, frame_member, frame_members, not_received_json, numbers_json, payload_members, place_json, place_members, second_at as second_at_lem, second_json, second_member, sent_json, teller_json, timed_members, tokens_of, tokens_of_member, until_json, wait_json, wait_member, wait_members, waited_json};
 ghost use Rattle.rtps_parts.specs.Names.{guid_text, octet_text};
 
 use crate::fields::{SecondsText, kind_name};
@@ -31,6 +31,8 @@ use std::alloc::{AllocError, Global};
 pub struct Clock<'t> {
     pub times: &'t Times,
     pub alloc: Global,
+    /// Whether frames are told.
+    pub framed: bool,
 }
 
 pub fn push_count(writer: &mut Writer, name: &str, count: u64) -> Result<(), AllocError>
@@ -174,7 +176,7 @@ fn push_second(
     clock: Clock<'_>,
 ) -> Result<(), AllocError>
     ensures tokens { OnOk result (writer.new.tokens
-        ≡ writer.old.tokens ++ tokens_of_member (second_member name.now clock.entry.times.now datagram)) }
+        ≡ writer.old.tokens ++ tokens_of_member (second_member name.now (clock_times clock.entry) datagram)) }
     ensures before { writer.new.before ≡ writer.old.before }
 {
     writer.key(name)?;
@@ -192,7 +194,7 @@ pub(crate) fn push_timed(
     clock: Clock<'_>,
 ) -> Result<(), AllocError>
     ensures tokens { OnOk result (writer.new.tokens
-        ≡ writer.old.tokens ++ tokens_of (timed_members clock.entry.times.now (second_member name.now clock.entry.times.now datagram ∷ []))) }
+        ≡ writer.old.tokens ++ tokens_of (timed_members (clock_times clock.entry) (second_member name.now (clock_times clock.entry) datagram ∷ []))) }
     ensures before { writer.new.before ≡ writer.old.before }
 {
     if clock.times.are_there() {
@@ -202,13 +204,56 @@ pub(crate) fn push_timed(
     }
 }
 
+/// The frame of a datagram, if there is one and frames are told.
+fn frame_at(clock: Clock<'_>, datagram: Option<u64>) -> Option<u64>
+    ensures { result ≡ frame_at_lem (clock_times clock.entry) datagram }
+{
+    if !clock.framed {
+        return None;
+    }
+    match datagram {
+        Some(datagram) => clock.times.frame(datagram),
+        None => None,
+    }
+}
+
+/// Appends the frame of a datagram, null where it has none, where the recording has times; nothing where it has none.
+pub(crate) fn push_framed(
+    writer: &mut Writer,
+    name: &str,
+    datagram: Option<u64>,
+    clock: Clock<'_>,
+) -> Result<(), AllocError>
+    ensures tokens { OnOk result (writer.new.tokens
+        ≡ writer.old.tokens ++ tokens_of (timed_members (clock_times clock.entry) (frame_member name.now (clock_times clock.entry) datagram ∷ []))) }
+    ensures before { writer.new.before ≡ writer.old.before }
+{
+    if clock.times.are_there() {
+        push_optional(writer, name, frame_at(clock, datagram))
+    } else {
+        Ok(())
+    }
+}
+
+/// Appends a frame, if there is one.
+fn push_frame(writer: &mut Writer, frame: Option<u64>) -> Result<(), AllocError>
+    ensures tokens { OnOk result (writer.new.tokens ≡ writer.old.tokens ++ tokens_of (frame_members frame)) }
+    ensures before { writer.new.before ≡ writer.old.before }
+{
+    match frame {
+        Some(frame) => push_count(writer, "frame", frame),
+        None => Ok(()),
+    }
+}
+
 fn push_place(writer: &mut Writer, place: Location, clock: Clock<'_>) -> Result<(), AllocError>
-    ensures tokens { OnOk result (writer.new.tokens ≡ writer.old.tokens ++ tokens_of (place_members clock.entry.times.now place)) }
+    ensures tokens { OnOk result (writer.new.tokens ≡ writer.old.tokens ++ tokens_of (place_members (clock_times clock.entry) place)) }
     ensures before { writer.new.before ≡ writer.old.before }
 {
     push_count(writer, "datagram", place.datagram)?;
     push_count(writer, "at", place.at as u64)?;
-    push_timed(writer, "time", Some(place.datagram), clock)
+    push_timed(writer, "time", Some(place.datagram), clock)?;
+    push_frame(writer, frame_at(clock, Some(place.datagram)))
 }
 
 fn push_announcement(
@@ -216,7 +261,7 @@ fn push_announcement(
     announcement: Option<Announcement>,
     clock: Clock<'_>,
 ) -> Result<(), AllocError>
-    ensures tokens { OnOk result (writer.new.tokens ≡ writer.old.tokens ++ json_tokens (announcement_json clock.entry.times.now announcement)) }
+    ensures tokens { OnOk result (writer.new.tokens ≡ writer.old.tokens ++ json_tokens (announcement_json (clock_times clock.entry) announcement)) }
     ensures before { writer.new.before ≡ writer.old.before }
 {
     let Some(announcement) = announcement else {
@@ -235,7 +280,7 @@ pub(crate) fn push_claim(
     claim: Option<Claim>,
     clock: Clock<'_>,
 ) -> Result<(), AllocError>
-    ensures tokens { OnOk result (writer.new.tokens ≡ writer.old.tokens ++ key name.now ∷ json_tokens (claim_json clock.entry.times.now claim)) }
+    ensures tokens { OnOk result (writer.new.tokens ≡ writer.old.tokens ++ key name.now ∷ json_tokens (claim_json (clock_times clock.entry) claim)) }
     ensures before { writer.new.before ≡ writer.old.before }
 {
     writer.key(name)?;
@@ -254,7 +299,7 @@ pub(crate) fn push_teller(
     teller: Option<Teller>,
     clock: Clock<'_>,
 ) -> Result<(), AllocError>
-    ensures tokens { OnOk result (writer.new.tokens ≡ writer.old.tokens ++ key name.now ∷ json_tokens (teller_json clock.entry.times.now teller)) }
+    ensures tokens { OnOk result (writer.new.tokens ≡ writer.old.tokens ++ key name.now ∷ json_tokens (teller_json (clock_times clock.entry) teller)) }
     ensures before { writer.new.before ≡ writer.old.before }
 {
     writer.key(name)?;
@@ -273,7 +318,7 @@ pub(crate) fn push_standing(
     place: Option<Location>,
     clock: Clock<'_>,
 ) -> Result<(), AllocError>
-    ensures tokens { OnOk result (writer.new.tokens ≡ writer.old.tokens ++ key name.now ∷ json_tokens (place_json clock.entry.times.now place)) }
+    ensures tokens { OnOk result (writer.new.tokens ≡ writer.old.tokens ++ key name.now ∷ json_tokens (place_json (clock_times clock.entry) place)) }
     ensures before { writer.new.before ≡ writer.old.before }
 {
     writer.key(name)?;
@@ -286,7 +331,7 @@ pub(crate) fn push_standing(
 }
 
 fn push_waited(writer: &mut Writer, wait: Wait, clock: Clock<'_>) -> Result<(), AllocError>
-    ensures tokens { OnOk result (writer.new.tokens ≡ writer.old.tokens ++ json_tokens (waited_json clock.entry.times.now wait)) }
+    ensures tokens { OnOk result (writer.new.tokens ≡ writer.old.tokens ++ json_tokens (waited_json (clock_times clock.entry) wait)) }
     ensures before { writer.new.before ≡ writer.old.before }
 {
     writer.begin_object()?;
@@ -302,7 +347,7 @@ fn push_wait_value(
     wait: Option<Wait>,
     clock: Clock<'_>,
 ) -> Result<(), AllocError>
-    ensures tokens { OnOk result (writer.new.tokens ≡ writer.old.tokens ++ json_tokens (wait_json clock.entry.times.now wait)) }
+    ensures tokens { OnOk result (writer.new.tokens ≡ writer.old.tokens ++ json_tokens (wait_json (clock_times clock.entry) wait)) }
     ensures before { writer.new.before ≡ writer.old.before }
 {
     match wait {
@@ -316,7 +361,7 @@ fn push_wait_member(
     wait: Option<Wait>,
     clock: Clock<'_>,
 ) -> Result<(), AllocError>
-    ensures tokens { OnOk result (writer.new.tokens ≡ writer.old.tokens ++ tokens_of_member (wait_member clock.entry.times.now wait)) }
+    ensures tokens { OnOk result (writer.new.tokens ≡ writer.old.tokens ++ tokens_of_member (wait_member (clock_times clock.entry) wait)) }
     ensures before { writer.new.before ≡ writer.old.before }
 {
     writer.key("wait")?;
@@ -329,7 +374,7 @@ pub(crate) fn push_wait(
     wait: Option<Wait>,
     clock: Clock<'_>,
 ) -> Result<(), AllocError>
-    ensures tokens { OnOk result (writer.new.tokens ≡ writer.old.tokens ++ tokens_of (wait_members clock.entry.times.now wait)) }
+    ensures tokens { OnOk result (writer.new.tokens ≡ writer.old.tokens ++ tokens_of (wait_members (clock_times clock.entry) wait)) }
     ensures before { writer.new.before ≡ writer.old.before }
 {
     if clock.times.are_there() {
@@ -364,7 +409,7 @@ pub(crate) fn push_sent(
     clock: Clock<'_>,
 ) -> Result<(), AllocError>
     ensures tokens { OnOk result (writer.new.tokens
-        ≡ writer.old.tokens ++ json_tokens (sent_json clock.entry.times.now (option_map sent_value sent.entry))) }
+        ≡ writer.old.tokens ++ json_tokens (sent_json (clock_times clock.entry) (option_map sent_value sent.entry))) }
     ensures before { writer.new.before ≡ writer.old.before }
 {
     let Some(sent) = sent else {
@@ -382,7 +427,7 @@ pub(crate) fn push_evidence(
     clock: Clock<'_>,
 ) -> Result<(), AllocError>
     ensures tokens { OnOk result (writer.new.tokens
-        ≡ writer.old.tokens ++ tokens_of (evidence_members clock.entry.times.now (evidence_value evidence.now))) }
+        ≡ writer.old.tokens ++ tokens_of (evidence_members (clock_times clock.entry) (evidence_value evidence.now))) }
     ensures before { writer.new.before ≡ writer.old.before }
 {
     writer.key("announced")?;
@@ -399,7 +444,7 @@ fn push_not_received(
     kept: Option<NotReceived>,
     clock: Clock<'_>,
 ) -> Result<(), AllocError>
-    ensures tokens { OnOk result (writer.new.tokens ≡ writer.old.tokens ++ key name.now ∷ json_tokens (not_received_json clock.entry.times.now kept)) }
+    ensures tokens { OnOk result (writer.new.tokens ≡ writer.old.tokens ++ key name.now ∷ json_tokens (not_received_json (clock_times clock.entry) kept)) }
     ensures before { writer.new.before ≡ writer.old.before }
 {
     writer.key(name)?;
@@ -418,7 +463,7 @@ fn push_first_missed(
     first: Option<FirstMissed>,
     clock: Clock<'_>,
 ) -> Result<(), AllocError>
-    ensures tokens { OnOk result (writer.new.tokens ≡ writer.old.tokens ++ tokens_of (first_missed_members clock.entry.times.now first)) }
+    ensures tokens { OnOk result (writer.new.tokens ≡ writer.old.tokens ++ tokens_of (first_missed_members (clock_times clock.entry) first)) }
     ensures before { writer.new.before ≡ writer.old.before }
 {
     let Some(first) = first else {
@@ -439,7 +484,7 @@ pub(crate) fn push_delivery(
     clock: Clock<'_>,
 ) -> Result<(), AllocError>
     ensures tokens { OnOk result (writer.new.tokens
-        ≡ writer.old.tokens ++ tokens_of (delivery_members clock.entry.times.now (evidence_value evidence.now))) }
+        ≡ writer.old.tokens ++ tokens_of (delivery_members (clock_times clock.entry) (evidence_value evidence.now))) }
     ensures before { writer.new.before ≡ writer.old.before }
 {
     push_count(writer, "received", evidence.received)?;
@@ -455,7 +500,7 @@ pub(crate) fn push_asked(
     last_asked: Option<Location>,
     clock: Clock<'_>,
 ) -> Result<(), AllocError>
-    ensures tokens { OnOk result (writer.new.tokens ≡ writer.old.tokens ++ tokens_of (asked_members clock.entry.times.now asked_since last_asked)) }
+    ensures tokens { OnOk result (writer.new.tokens ≡ writer.old.tokens ++ tokens_of (asked_members (clock_times clock.entry) asked_since last_asked)) }
     ensures before { writer.new.before ≡ writer.old.before }
 {
     push_count(writer, "asked_since", asked_since)?;

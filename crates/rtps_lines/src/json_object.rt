@@ -7,18 +7,21 @@ ghost use Rattle.json.specs.Token.{key, number as number_token, string as string
 ghost use Rattle.json.specs.Tree.{depth, json_tokens};
 ghost use Rattle.rtps_evidence.specs.Explanation.{evidence_value, explanation_value};
 ghost use Rattle.rtps_evidence.specs.Grounds.{grounds_value};
-ghost use Rattle.rtps_lines.specs.JsonText.{IsJsonLine, advice_member, arrived_member, arrived_members, counts_members, further_members, ignored_members, lacking_member, lacking_members, lost_members, outcome_members, outcomes_json, pair_members, pairs_member, reasons_members, report_json, row_json, rows_members, sentence_json, shown_members, silence_member, silence_members, span_members, spanned_members, telling_value, tokens_of, tokens_of_member, until_members, verdict_members};
+ghost use Rattle.rtps_lines.specs.JsonText.{clock_times, IsJsonLine, advice_member, arrived_member, arrived_members, counts_members, further_members, ignored_members, lacking_member, lacking_members, lost_members, outcome_members, outcomes_json, pair_members, pairs_member, reasons_members, report_json, row_json, rows_members, sentence_json, shown_members, silence_member, silence_members, span_members, spanned_members, telling_value, tokens_of, tokens_of_member, until_members, verdict_members};
 
 use crate::fields::AdviceText;
 use crate::json_members::{
-    Clock, push_asked, push_claim, push_count, push_delivery, push_evidence, push_flag, push_guid,
-    push_name, push_number, push_numbers, push_optional, push_sent, push_teller, push_text,
-    push_texts, push_timed, push_total, push_wait,
+    Clock, push_asked, push_claim, push_count, push_delivery, push_evidence, push_flag,
+    push_framed, push_guid, push_name, push_number, push_numbers, push_optional, push_sent,
+    push_teller, push_text, push_texts, push_timed, push_total, push_wait,
 };
+use crate::number_members::push_lost_of;
 use crate::silent_participants::silence_lines;
 use json::Writer;
 use rtps_audit::{Counts, Verdict};
-use rtps_evidence::{Evidence, Explained, Explanation, Grounds, InSpan, Outcomes};
+use rtps_evidence::{
+    Evidence, Explained, Explanation, Grounds, InSpan, LostNumbers, Outcomes, Times,
+};
 use rtps_report::{Reasons, Recording, Scope, Talk, advice_of, is_clean, row_from};
 use std::alloc::{AllocError, Global};
 
@@ -38,6 +41,10 @@ pub fn json_line(writer: Writer) -> Result<String, AllocError>
 pub(crate) struct Telling<'t, 'a> {
     pub(crate) scope: Scope,
     pub(crate) talk: &'t Talk<'a>,
+    /// Which numbers of each row are lost, or look so.
+    pub(crate) lost: &'t [LostNumbers],
+    /// When datagrams came.
+    pub(crate) times: &'t Times,
     /// Whether there is another recording, against which rows are held.
     pub(crate) has_other: bool,
 }
@@ -94,6 +101,7 @@ pub(crate) fn push_report_members(
     let clock = Clock {
         times: recording.times(),
         alloc,
+        framed: told.telling.is_some(),
     };
     let form = RowForm {
         telling: told.telling,
@@ -113,7 +121,7 @@ fn push_pairs(
     form: RowForm<'_, '_>,
 ) -> Result<(), AllocError>
     ensures tokens { OnOk result (writer.new.tokens
-        ≡ writer.old.tokens ++ tokens_of_member (pairs_member (option_map telling_value form.entry.telling) form.entry.clock.times.now (map explanation_value rows.now))) }
+        ≡ writer.old.tokens ++ tokens_of_member (pairs_member (option_map telling_value form.entry.telling) (clock_times form.entry.clock) (map explanation_value rows.now))) }
     ensures before { writer.new.before ≡ writer.old.before }
 {
     writer.key("pairs")?;
@@ -131,7 +139,7 @@ fn push_row(
     form: RowForm<'_, '_>,
 ) -> Result<(), AllocError>
     ensures tokens { OnOk result (writer.new.tokens
-        ≡ writer.old.tokens ++ json_tokens (row_json (option_map telling_value form.entry.telling) form.entry.clock.times.now (explanation_value row.now))) }
+        ≡ writer.old.tokens ++ json_tokens (row_json (option_map telling_value form.entry.telling) (clock_times form.entry.clock) (explanation_value row.now))) }
     ensures before { writer.new.before ≡ writer.old.before }
 {
     writer.begin_object()?;
@@ -151,7 +159,7 @@ fn push_further(
     form: RowForm<'_, '_>,
 ) -> Result<(), AllocError>
     ensures tokens { OnOk result (writer.new.tokens
-        ≡ writer.old.tokens ++ tokens_of (further_members (option_map telling_value form.entry.telling) form.entry.clock.times.now (explanation_value row.now))) }
+        ≡ writer.old.tokens ++ tokens_of (further_members (option_map telling_value form.entry.telling) (clock_times form.entry.clock) (explanation_value row.now))) }
     ensures before { writer.new.before ≡ writer.old.before }
 {
     match form.telling {
@@ -167,12 +175,13 @@ fn push_spanned(
     clock: Clock<'_>,
 ) -> Result<(), AllocError>
     ensures tokens { OnOk result (writer.new.tokens
-        ≡ writer.old.tokens ++ tokens_of (spanned_members (telling_value telling.entry) clock.entry.times.now (explanation_value row.now))) }
+        ≡ writer.old.tokens ++ tokens_of (spanned_members (telling_value telling.entry) (clock_times clock.entry) (explanation_value row.now))) }
     ensures before { writer.new.before ≡ writer.old.before }
 {
     push_span(writer, &row.evidence, telling, clock)?;
-    push_silence(writer, row, telling, clock)?;
-    push_advice(writer, row, telling, clock)
+    push_lost_of(writer, telling.lost, row.place, clock)?;
+    push_silence(writer, row, telling, clock.alloc)?;
+    push_advice(writer, row, telling, clock.alloc)
 }
 
 /// Appends the span of a row, what became of its numbers, whether it is clean, and its longest wait; nothing where it is in no span.
@@ -183,7 +192,7 @@ fn push_span(
     clock: Clock<'_>,
 ) -> Result<(), AllocError>
     ensures tokens { OnOk result (writer.new.tokens
-        ≡ writer.old.tokens ++ tokens_of (span_members (telling_value telling.entry) clock.entry.times.now (evidence_value evidence.now))) }
+        ≡ writer.old.tokens ++ tokens_of (span_members (telling_value telling.entry) (clock_times clock.entry) (evidence_value evidence.now))) }
     ensures before { writer.new.before ≡ writer.old.before }
 {
     let Some(in_span) = &evidence.in_span else {
@@ -203,11 +212,12 @@ fn push_span(
 }
 
 fn push_until(writer: &mut Writer, until: Option<u64>, clock: Clock<'_>) -> Result<(), AllocError>
-    ensures tokens { OnOk result (writer.new.tokens ≡ writer.old.tokens ++ tokens_of (until_members clock.entry.times.now until)) }
+    ensures tokens { OnOk result (writer.new.tokens ≡ writer.old.tokens ++ tokens_of (until_members (clock_times clock.entry) until)) }
     ensures before { writer.new.before ≡ writer.old.before }
 {
     push_optional(writer, "until", until)?;
-    push_timed(writer, "until_time", until, clock)
+    push_timed(writer, "until_time", until, clock)?;
+    push_framed(writer, "until_frame", until, clock)
 }
 
 fn push_outcomes(writer: &mut Writer, in_span: &InSpan, has_other: bool) -> Result<(), AllocError>
@@ -300,15 +310,14 @@ fn push_silence_lines(
     writer: &mut Writer,
     row: &Explanation<'_>,
     telling: Telling<'_, '_>,
-    clock: Clock<'_>,
+    alloc: Global,
 ) -> Result<(), AllocError>
     ensures tokens { OnOk result (writer.new.tokens
-        ≡ writer.old.tokens ++ tokens_of_member (silence_member (telling_value telling.entry).talk clock.entry.times.now (explanation_value row.now))) }
+        ≡ writer.old.tokens ++ tokens_of_member (silence_member (telling_value telling.entry) (explanation_value row.now))) }
     ensures before { writer.new.before ≡ writer.old.before }
 {
-    let Clock { times, alloc } = clock;
     let silences = telling.talk.silences(row.pair);
-    let lines = silence_lines(alloc, times, silences)?;
+    let lines = silence_lines(alloc, telling.times, silences)?;
     push_texts(writer, "silence", &lines)
 }
 
@@ -317,14 +326,14 @@ fn push_silence(
     writer: &mut Writer,
     row: &Explanation<'_>,
     telling: Telling<'_, '_>,
-    clock: Clock<'_>,
+    alloc: Global,
 ) -> Result<(), AllocError>
     ensures tokens { OnOk result (writer.new.tokens
-        ≡ writer.old.tokens ++ tokens_of (silence_members (telling_value telling.entry).talk clock.entry.times.now (explanation_value row.now))) }
+        ≡ writer.old.tokens ++ tokens_of (silence_members (telling_value telling.entry) (explanation_value row.now))) }
     ensures before { writer.new.before ≡ writer.old.before }
 {
-    if clock.times.are_there() {
-        push_silence_lines(writer, row, telling, clock)
+    if telling.times.are_there() {
+        push_silence_lines(writer, row, telling, alloc)
     } else {
         Ok(())
     }
@@ -335,15 +344,19 @@ fn push_sentence(
     writer: &mut Writer,
     row: &Explanation<'_>,
     telling: Telling<'_, '_>,
-    clock: Clock<'_>,
+    alloc: Global,
 ) -> Result<(), AllocError>
     ensures tokens { OnOk result (writer.new.tokens
-        ≡ writer.old.tokens ++ json_tokens (sentence_json (telling_value telling.entry) clock.entry.times.now (explanation_value row.now))) }
+        ≡ writer.old.tokens ++ json_tokens (sentence_json (telling_value telling.entry) (explanation_value row.now))) }
     ensures before { writer.new.before ≡ writer.old.before }
 {
-    let Clock { times, alloc } = clock;
-    let silences = telling.talk.silences(row.pair);
-    let advice = advice_of(telling.scope, &row.evidence, silences, times);
+    let Telling {
+        scope,
+        talk,
+        times,
+        ..
+    } = telling;
+    let advice = advice_of(scope, &row.evidence, talk.silences(row.pair), times);
     let mut sentence = String::new(alloc);
     write!(sentence, "{}", AdviceText(times, advice))?;
     writer.string(&sentence)
@@ -354,10 +367,10 @@ fn push_advice(
     writer: &mut Writer,
     row: &Explanation<'_>,
     telling: Telling<'_, '_>,
-    clock: Clock<'_>,
+    alloc: Global,
 ) -> Result<(), AllocError>
     ensures tokens { OnOk result (writer.new.tokens
-        ≡ writer.old.tokens ++ tokens_of_member (advice_member (telling_value telling.entry) clock.entry.times.now (explanation_value row.now))) }
+        ≡ writer.old.tokens ++ tokens_of_member (advice_member (telling_value telling.entry) (explanation_value row.now))) }
     ensures before { writer.new.before ≡ writer.old.before }
 {
     let evidence = &row.evidence;
@@ -365,7 +378,7 @@ fn push_advice(
     if is_clean(telling.scope.tail, evidence) {
         return writer.null();
     }
-    push_sentence(writer, row, telling, clock)
+    push_sentence(writer, row, telling, alloc)
 }
 
 fn push_pair(
@@ -412,7 +425,7 @@ fn push_shown(
     clock: Clock<'_>,
 ) -> Result<(), AllocError>
     ensures tokens { OnOk result (writer.new.tokens
-        ≡ writer.old.tokens ++ tokens_of (shown_members clock.entry.times.now (grounds_value grounds.now))) }
+        ≡ writer.old.tokens ++ tokens_of (shown_members (clock_times clock.entry) (grounds_value grounds.now))) }
     ensures before { writer.new.before ≡ writer.old.before }
 {
     match *grounds {

@@ -9,6 +9,8 @@ mod fields;
 mod json_members;
 mod json_object;
 mod notes;
+mod number_members;
+mod number_ranges;
 mod policy_values;
 mod side_notes;
 mod silent_participants;
@@ -32,6 +34,7 @@ pub use json_members::{
 };
 pub use json_object::{json_line, push_report};
 pub use notes::{NotedRows, names_of, notes_of, number_words, topic_name};
+pub use number_ranges::{LostRows, push_lost_lines, push_more};
 pub use policy_values::{Naming, PolicyValue, words_of_policy};
 pub use silent_participants::silence_lines;
 pub use tail_names::longest_tail;

@@ -8,12 +8,12 @@ ghost use Rattle.rtps_policies.specs.Unmatched.{unmatched_value};
 ghost use Rattle.rtps_report.specs.BestEfforts.{best_effort_value, held_value};
 ghost use Rattle.rtps_report.specs.FullReport.{report_value};
 ghost use Rattle.rtps_report.specs.Talk.{left_out_value, talk_value};
-ghost use Rattle.rtps_lines.specs.JsonText.{array_of, timed_members, tokens_of, tokens_of_member};
+ghost use Rattle.rtps_lines.specs.JsonText.{clock_times, array_of, timed_members, tokens_of, tokens_of_member};
 ghost use Rattle.rtps_lines.specs.TalkMembers.{address_json, best_effort_json, best_effort_member, held_json, held_member, held_members, one_way_json, one_way_member, participant_json, participants_member, reasons_json, silence_name as silence_name_lem, stay_members, stay_times, talk_members, talking_json, talking_member, unmatched_json, unmatched_member, unobserved_json, unobserved_member, values_json};
 
 use crate::json_members::{
-    Clock, push_count, push_flag, push_guid, push_name, push_numbers, push_optional, push_text,
-    push_timed, push_total,
+    Clock, push_count, push_flag, push_framed, push_guid, push_name, push_numbers, push_optional,
+    push_text, push_timed, push_total,
 };
 use crate::policy_values::{Naming, PolicyValue};
 use json::Writer;
@@ -367,12 +367,15 @@ fn push_stay_times(
     participant: &Participant,
     clock: Clock<'_>,
 ) -> Result<(), AllocError>
-    ensures tokens { OnOk result (writer.new.tokens ≡ writer.old.tokens ++ tokens_of (stay_times clock.entry.times.now participant.now)) }
+    ensures tokens { OnOk result (writer.new.tokens ≡ writer.old.tokens ++ tokens_of (stay_times (clock_times clock.entry) participant.now)) }
     ensures before { writer.new.before ≡ writer.old.before }
 {
     push_timed(writer, "first_time", first_of(participant.stay), clock)?;
     push_timed(writer, "last_time", last_of(participant.stay), clock)?;
     push_timed(writer, "left_time", participant.left, clock)?;
+    push_framed(writer, "first_frame", first_of(participant.stay), clock)?;
+    push_framed(writer, "last_frame", last_of(participant.stay), clock)?;
+    push_framed(writer, "left_frame", participant.left, clock)?;
     push_silent(writer, participant.silent, clock.times)
 }
 
@@ -382,7 +385,7 @@ fn push_stay(
     participant: &Participant,
     clock: Clock<'_>,
 ) -> Result<(), AllocError>
-    ensures tokens { OnOk result (writer.new.tokens ≡ writer.old.tokens ++ tokens_of (stay_members clock.entry.times.now participant.now)) }
+    ensures tokens { OnOk result (writer.new.tokens ≡ writer.old.tokens ++ tokens_of (stay_members (clock_times clock.entry) participant.now)) }
     ensures before { writer.new.before ≡ writer.old.before }
 {
     push_optional(writer, "first", first_of(participant.stay))?;
@@ -398,7 +401,7 @@ fn push_participant(
     clock: Clock<'_>,
 ) -> Result<(), AllocError>
     ensures tokens { OnOk result (writer.new.tokens
-        ≡ writer.old.tokens ++ json_tokens (participant_json clock.entry.times.now participant.now)) }
+        ≡ writer.old.tokens ++ json_tokens (participant_json (clock_times clock.entry) participant.now)) }
     ensures before { writer.new.before ≡ writer.old.before }
 {
     let domain = domain_number(participant.host.domain);
@@ -417,7 +420,7 @@ fn push_all_participants(
     clock: Clock<'_>,
 ) -> Result<(), AllocError>
     ensures tokens { OnOk result (writer.new.tokens
-        ≡ writer.old.tokens ++ tokens_of_member (participants_member clock.entry.times.now participants.now)) }
+        ≡ writer.old.tokens ++ tokens_of_member (participants_member (clock_times clock.entry) participants.now)) }
     ensures before { writer.new.before ≡ writer.old.before }
 {
     writer.key("participants")?;
@@ -449,6 +452,7 @@ pub(crate) fn push_talk_members(
     let clock = Clock {
         times: report.recording.times(),
         alloc,
+        framed: true,
     };
     push_all_unmatched(writer, &mut text, &talk.unmatched)?;
     push_all_talking(writer, &mut text, &talk.talking)?;

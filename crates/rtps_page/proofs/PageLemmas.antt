@@ -118,5 +118,5 @@ page_within asked recording report directory =
     let pairs = pairs_with_charts recording report in
     let own : members_depth (members_of (own_members asked recording directory pairs)) ≤ 5 =
     omega (arith, options_within asked, endpoints_within directory, chart_part recording.times (acts_judged recording) pairs) in
-    let all = joined 5 (check_members asked recording report) (own_members asked recording directory pairs) (omega (arith, check_depth asked recording report)) own in
+    let all = joined 7 (check_members asked recording report) (own_members asked recording directory pairs) (check_depth asked recording report) (omega (arith, own)) in
     omega (arith, all)

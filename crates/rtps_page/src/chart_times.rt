@@ -4,7 +4,7 @@ ghost use Rattle.json.specs.Tree.{json_tokens};
 ghost use Rattle.rtps_audit.specs.Index.{IsIndexBy};
 ghost use Rattle.rtps_audit.specs.Intake.{Intake};
 ghost use Rattle.rtps_audit.specs.Placed.{placed_in};
-ghost use Rattle.rtps_lines.specs.JsonText.{timed_members, tokens_of};
+ghost use Rattle.rtps_lines.specs.JsonText.{clock_times, timed_members, tokens_of};
 ghost use Rattle.rtps_lines.specs.Lines.{second_in};
 ghost use Rattle.rtps_page.specs.ChartTimes.{answered_in, datagrams_shown as datagrams_shown_lem, is_among, said_in, time_json};
 ghost use Rattle.rtps_page.specs.Page.{times_member};
@@ -92,7 +92,7 @@ fn datagrams_shown(alloc: Global, index: &Index<'_>, pairs: &[Pair]) -> Result<V
 /// Appends a datagram and its second, where it has a time.
 fn push_time(writer: &mut Writer, clock: Clock<'_>, datagram: u64) -> Result<(), AllocError>
     ensures tokens { OnOk result (writer.new.tokens
-        ≡ writer.old.tokens ++ flat_map json_tokens (time_json datagram (second_in clock.entry.times.now datagram))) }
+        ≡ writer.old.tokens ++ flat_map json_tokens (time_json datagram (second_in (clock_times clock.entry) datagram))) }
     ensures before { writer.new.before ≡ writer.old.before }
 {
     let Some(second) = clock.times.second(datagram) else {
@@ -110,7 +110,7 @@ fn push_each_time(
     datagrams: &[u64],
 ) -> Result<(), AllocError>
     ensures tokens { OnOk result (writer.new.tokens ≡ writer.old.tokens
-        ++ flat_map (λ datagram. flat_map json_tokens (time_json datagram (second_in clock.entry.times.now datagram))) datagrams.now) }
+        ++ flat_map (λ datagram. flat_map json_tokens (time_json datagram (second_in (clock_times clock.entry) datagram))) datagrams.now) }
     ensures before { writer.new.before ≡ writer.old.before }
 {
     for datagram in datagrams {
@@ -127,7 +127,7 @@ pub(crate) fn push_times(
     pairs: &[Pair],
 ) -> Result<(), AllocError>
     ensures tokens { (intake : Intake) → IsIndexBy intake index.now → OnOk result (writer.new.tokens ≡ writer.old.tokens
-        ++ tokens_of (timed_members clock.entry.times.now (times_member clock.entry.times.now (placed_in intake.acts) pairs.now ∷ []))) }
+        ++ tokens_of (timed_members (clock_times clock.entry) (times_member (clock_times clock.entry) (placed_in intake.acts) pairs.now ∷ []))) }
     ensures before { writer.new.before ≡ writer.old.before }
 {
     if !clock.times.are_there() {

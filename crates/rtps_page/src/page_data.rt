@@ -5,7 +5,7 @@ ghost use Rattle.rtps_audit.specs.Index.{IsIndexBy};
 ghost use Rattle.rtps_audit.specs.Intake.{Intake};
 ghost use Rattle.rtps_audit.specs.Placed.{placed_in};
 ghost use Rattle.rtps_report.specs.Asked.{asked_value};
-ghost use Rattle.rtps_lines.specs.JsonText.{tokens_of, tokens_of_member};
+ghost use Rattle.rtps_lines.specs.JsonText.{clock_times, tokens_of, tokens_of_member};
 ghost use Rattle.rtps_page.specs.Page.{IsPrinted, chart_members, expect_json, intake_in, json_in, members_in, option_members, options_member};
 
 use crate::chart_answers::push_all_answers;
@@ -75,7 +75,7 @@ fn push_charts(
     pairs: &[Pair],
 ) -> Result<(), AllocError>
     ensures tokens { (intake : Intake) → IsIndexBy intake index.now
-        → OnOk result (writer.new.tokens ≡ writer.old.tokens ++ tokens_of (chart_members clock.entry.times.now (placed_in intake.acts) pairs.now)) }
+        → OnOk result (writer.new.tokens ≡ writer.old.tokens ++ tokens_of (chart_members (clock_times clock.entry) (placed_in intake.acts) pairs.now)) }
     ensures before { writer.new.before ≡ writer.old.before }
 {
     push_writers(clock.alloc, writer, index, pairs)?;
@@ -98,6 +98,7 @@ fn push_members(
     let clock = Clock {
         times: report.recording.times(),
         alloc,
+        framed: true,
     };
     push_check_members(alloc, writer, report)?;
     push_options(writer, report.asked)?;

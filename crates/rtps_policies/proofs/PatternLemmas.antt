@@ -1,9 +1,9 @@
 -- Which names a pattern stands for, part by part.
-use Rattle.std.proofs.Common.{◌≡◌, ◌∙◌, ℕ, ◌≤◌, ◌&&◌, ◌||◌, Bool, true, false, List, [], ◌∷◌, ◌++◌, Option, Some, None, append_assoc, ap, arith, drop, if◌then◌else◌, inl, inr, length, refl, subst, suc, sym, zero}
+use Rattle.std.proofs.Common.{◌≡◌, ◌∙◌, ℕ, ◌≤◌, ◌<◌, ◌-◌, ◌&&◌, ◌||◌, Bool, true, false, List, [], ◌∷◌, ◌++◌, Option, Some, None, append_assoc, ap, arith, drop, if◌then◌else◌, inl, inr, length, refl, subst, suc, sym, take, zero}
 use Rattle.std.specs.Cmp.{both_ways}
 use Rattle.std.specs.List.{list_any}
-use Rattle.std.proofs.lemmas.Bool.{or_cases, or_left, or_right}
-use Rattle.std.proofs.lemmas.List.{length-append}
+use Rattle.std.proofs.lemmas.Bool.{and_parts, false_from_ne_true, or_cases, or_left, or_right}
+use Rattle.std.proofs.lemmas.List.{length-append, take-append-drop}
 use Rattle.rtps_policies.specs.NamePatterns.{PartValue, accepts, ends_of, fits_parts, is_many, part_at, parts_behind, parts_of, size_at}
 use Rattle.rtps_policies.specs.NamePatterns.PartValue.{Many}
 use Rattle.rtps_policies.specs.Segments.{AreFixed, left_behind}
@@ -167,3 +167,41 @@ star_failed parts unfit = ap (λ b. b || false) unfit
 
 pub star_found : (parts : List PartValue) (name : List ℕ) → fits_parts parts name ≡ true → fits_parts (Many ∷ parts) name ≡ true
 star_found = star_here
+
+-- ---- the last parts, behind a `*`
+
+-- a name that parts stand for, each for one octet, has as many octets
+fixed_length : (parts : List PartValue) (name : List ℕ) → AreFixed parts → fits_parts parts name ≡ true → length name ≡ length parts
+fixed_length [] [] fixed fit = refl
+fixed_length [] (x ∷ name) fixed fit = clash fit
+fixed_length (part ∷ parts) [] fixed fit =
+    clash (sym (ap (λ (b : Bool). if b then list_any (fits_parts parts) (ends_of []) else false) fixed.0) ∙ fit)
+fixed_length (part ∷ parts) (x ∷ name) fixed fit =
+    let here : (accepts part x && fits_parts parts name) ≡ true =
+    sym (ap (λ (b : Bool). if b then list_any (fits_parts parts) (ends_of (x ∷ name)) else (accepts part x && fits_parts parts name)) fixed.0) ∙ fit in
+    let both = and_parts (accepts part x) (fits_parts parts name) here in
+    ap suc (fixed_length parts name fixed.1 both.1)
+
+pub star_last_short : (parts : List PartValue) (name : List ℕ) → AreFixed parts → length name < length parts → fits_parts (Many ∷ parts) name ≡ false
+star_last_short parts name fixed less =
+    false_from_ne_true (fits_parts (Many ∷ parts) name) (λ fit.
+    let found = star_split parts name fit in
+    omega (arith, less, fixed_length parts found.1 fixed found.3, ap length found.2, length-append found.0 found.1))
+
+pub star_last : (parts : List PartValue) (name : List ℕ) → AreFixed parts → length parts ≤ length name
+    → fits_parts (Many ∷ parts) name ≡ fits_parts parts (drop (length name - length parts) name)
+star_last parts name fixed room = both_ways _ _ onward back
+  where
+    onward : fits_parts (Many ∷ parts) name ≡ true → fits_parts parts (drop (length name - length parts) name) ≡ true
+    onward fit =
+        let found = star_split parts name fit in
+        let size : length name - length parts ≡ length found.0 =
+        omega (arith, fixed_length parts found.1 fixed found.3, ap length found.2, length-append found.0 found.1) in
+        ap (λ n. fits_parts parts (drop n name)) size ∙ ap (λ l. fits_parts parts (drop (length found.0) l)) found.2
+        ∙ ap (fits_parts parts) (drop_whole found.0 found.1) ∙ found.3
+
+    back : fits_parts parts (drop (length name - length parts) name) ≡ true → fits_parts (Many ∷ parts) name ≡ true
+    back fit =
+        let n = length name - length parts in
+        sym (ap (fits_parts (Many ∷ parts)) (take-append-drop n name))
+        ∙ star_more parts (take n name) (drop n name) (star_here parts (drop n name) fit)

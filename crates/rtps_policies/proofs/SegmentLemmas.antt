@@ -1,13 +1,15 @@
 -- The parts of a pattern up to its first `*`, step by step.
-use Rattle.std.proofs.Common.{◌≡◌, ◌∙◌, ℕ, ◌≤◌, ◌<◌, ◌+◌, ◌-◌, ◌==◌, Bool, true, false, if◌then◌else◌, List, [], ◌∷◌, ◌++◌, Option, Some, None, append_assoc, ap, ap₂, arith, drop, length, refl, sym, take, length-drop}
+use Rattle.std.proofs.Common.{◌≡◌, ◌∙◌, ℕ, ◌≤◌, ◌<◌, ◌+◌, ◌-◌, ◌==◌, Bool, true, false, if◌then◌else◌, List, [], ◌∷◌, ◌++◌, Option, Some, None, append_assoc, append-nil, ap, ap₂, arith, drop, length, refl, subst, sym, take, length-drop}
 use Rattle.std.proofs.lemmas.Bool.Decides.{nat_tests}
-use Rattle.std.proofs.lemmas.List.{drop-drop}
+use Rattle.std.proofs.lemmas.Bool.{or_left, or_right}
+use Rattle.std.proofs.lemmas.List.{drop-drop, length-append}
+use Rattle.std.specs.List.{list_any}
 use Rattle.std.specs.Option.{option_map}
 use Rattle.rtps_policies.specs.NamePatterns.{PartValue, SetValue, accepts, closing_in, fits, fits_parts, is_empty, is_many, is_marked, part_of_set, parts_of, set_in, size_of_set, without_mark}
 use Rattle.rtps_policies.specs.NamePatterns.PartValue.{Octet, One, Many, Among}
-use Rattle.rtps_policies.specs.Segments.{BeginsWith, IsFront, left_behind}
+use Rattle.rtps_policies.specs.Segments.{AreFixed, BeginsWith, IsFront, left_behind}
 use Rattle.rtps_policies.specs.declared.layout.pattern.TheConstants.{OPENING}
-use Rattle.rtps_policies.proofs.PatternLemmas.{clash, first_part, fits_front, fits_left, fixed_more, left_length, left_more, left_refused, left_short, star_failed, star_found, star_passed, star_taken}
+use Rattle.rtps_policies.proofs.PatternLemmas.{clash, first_part, fits_front, fits_left, fixed_more, left_length, left_more, left_refused, left_short, star_failed, star_found, star_last, star_last_short, star_passed, star_taken}
 use Rattle.rtps_policies.proofs.Slices.{take_behind}
 
 -- the parts that were held against a name, and what is left of both
@@ -109,6 +111,60 @@ nothing_behind pattern name at unfit =
 
 pub found_behind : (pattern name : List ℕ) → fits pattern name ≡ true → fits_parts (Many ∷ parts_of pattern) name ≡ true
 found_behind pattern name fit = star_found (parts_of pattern) name fit
+
+-- ---- a last segment, behind a `*`
+
+-- no part so far is `*`, and there are so many of them
+pub record AreCounted (pattern rest : List ℕ) (count : ℕ) : Type 0 where
+  pub parts : List PartValue
+  pub begins : BeginsWith pattern parts (parts_of rest)
+  pub counted : count ≡ length parts
+  pub room : count + length rest ≤ length pattern
+
+pub none_counted : (pattern : List ℕ) → AreCounted pattern pattern 0
+none_counted pattern = record { parts = []; begins = record { whole = refl; fixed = tt }; counted = refl; room = omega arith }
+
+pub counted_more : (pattern rest behind : List ℕ) (part : PartValue) (count : ℕ) → AreCounted pattern rest count → IsFront rest part behind → is_many part ≡ false
+    → AreCounted pattern behind (count + 1)
+counted_more pattern rest behind part count are front one =
+    record {
+      parts = are.parts ++ part ∷ [];
+      begins = begins_more pattern rest behind are.parts part are.begins front.parts one;
+      counted = omega (arith, are.counted, length-append are.parts (part ∷ []));
+      room = omega (arith, are.room, front.shorter);
+    }
+
+-- the next part is `*`
+any_behind : (parts behind : List PartValue) (part : PartValue) → is_many part ≡ true → list_any is_many (parts ++ part ∷ behind) ≡ true
+any_behind [] behind part is = or_left (is_many part) (list_any is_many behind) is
+any_behind (first ∷ parts) behind part is = or_right (is_many first) (list_any is_many (parts ++ part ∷ behind)) (any_behind parts behind part is)
+
+pub counted_many : (pattern rest behind : List ℕ) (part : PartValue) (count : ℕ) → AreCounted pattern rest count → IsFront rest part behind → is_many part ≡ true
+    → list_any is_many (parts_of pattern) ≡ true
+counted_many pattern rest behind part count are front is =
+    ap (list_any is_many) (are.begins.whole ∙ ap (λ l. are.parts ++ l) front.parts) ∙ any_behind are.parts (parts_of behind) part is
+
+pub counted_all : (pattern rest : List ℕ) (count : ℕ) → AreCounted pattern rest count → rest ≡ [] → AreFixed (parts_of pattern) × (count ≡ length (parts_of pattern))
+counted_all pattern rest count are none =
+    let whole : parts_of pattern ≡ are.parts = are.begins.whole ∙ ap (λ l. are.parts ++ parts_of l) none ∙ append-nil are.parts in
+    (subst AreFixed (sym whole) are.begins.fixed, are.counted ∙ ap length (sym whole))
+
+-- a name of fewer octets than parts does not fit
+pub last_short : (pattern name : List ℕ) → AreFixed (parts_of pattern) → length name < length (parts_of pattern) → fits_parts (Many ∷ parts_of pattern) name ≡ false
+last_short pattern name fixed less = star_last_short (parts_of pattern) name fixed less
+
+-- no `*` is among the parts, so none is found
+pub last_not_many : (pattern behind : List ℕ) (parts : List PartValue) → AreFixed (parts_of pattern) → BeginsWith pattern parts (Many ∷ parts_of behind) → ⊥
+last_not_many pattern behind parts fixed begins = many_apart parts (parts_of behind) (subst AreFixed begins.whole fixed)
+  where
+    many_apart : (parts behind : List PartValue) → AreFixed (parts ++ Many ∷ behind) → ⊥
+    many_apart [] behind fixed = clash (sym fixed.0)
+    many_apart (part ∷ parts) behind fixed = many_apart parts behind fixed.1
+
+pub last_is : (pattern name : List ℕ) (count : ℕ) → AreFixed (parts_of pattern) → count ≡ length (parts_of pattern) → count ≤ length name
+    → fits_parts (Many ∷ parts_of pattern) name ≡ fits pattern (drop (length name - count) name)
+last_is pattern name count fixed counted room =
+    star_last (parts_of pattern) name fixed (omega (arith, counted, room)) ∙ ap (λ n. fits_parts (parts_of pattern) (drop (length name - n) name)) (sym counted)
 
 -- ---- sets and first parts, as they are read
 

@@ -1,7 +1,7 @@
 -- The parts of a pattern up to its first `*`, held against the beginning of a name. own: each of them stands for one octet, so
 -- one place of a name is tried at a time, and what was tried is not tried again.
 use Rattle.std.specs.Prelude.{ℕ, ◌≡◌, ◌≤◌, ◌<◌, true, false, if◌then◌else◌, List, [], ◌∷◌, ◌++◌, Option, Some, None, drop, length}
-use Rattle.rtps_policies.specs.NamePatterns.{PartValue, accepts, fits, is_many, part_of_set, parts_of, set_in, size_of_set}
+use Rattle.rtps_policies.specs.NamePatterns.{PartValue, accepts, fits, fits_parts, is_many, part_of_set, parts_of, set_in, size_of_set}
 use Rattle.rtps_policies.specs.declared.name_pattern.Part.{Part}
 use Rattle.rtps_policies.specs.declared.name_pattern.Part.TheVariants as part
 use Rattle.rtps_policies.specs.declared.name_pattern.Segment.{Segment}
@@ -45,4 +45,12 @@ IsSegment pattern name segment.Failed = fits pattern name ≡ false
 IsSegment pattern name segment.Whole = fits pattern name ≡ true
 IsSegment pattern name (segment.Many behind left) =
     (parts : List PartValue) × BeginsWith pattern parts (PartValue.Many ∷ parts_of behind.now) × (left_behind parts name ≡ Some left.now)
+    × (length behind.now < length pattern) × (length left.now ≤ length name)
+
+-- what came of the parts up to the first `*` behind another `*`: at the first place of the name where they stand
+abbrev pub IsLaterSegment : List ℕ → List ℕ → Segment → Type 0
+IsLaterSegment pattern name segment.Failed = fits_parts (PartValue.Many ∷ parts_of pattern) name ≡ false
+IsLaterSegment pattern name segment.Whole = fits_parts (PartValue.Many ∷ parts_of pattern) name ≡ true
+IsLaterSegment pattern name (segment.Many behind left) =
+    (fits_parts (PartValue.Many ∷ parts_of pattern) name ≡ fits_parts (PartValue.Many ∷ parts_of behind.now) left.now)
     × (length behind.now < length pattern) × (length left.now ≤ length name)

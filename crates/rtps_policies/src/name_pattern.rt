@@ -1,7 +1,8 @@
-ghost use Rattle.std.specs.Prelude.{◌≡◌, ◌<◌, ◌∷◌, ◌==◌, [], IfSome, MatchOption, length, position};
+ghost use Rattle.std.specs.Prelude.{◌≡◌, ◌<◌, ◌∷◌, ◌==◌, [], IfSome, MatchOption, length, position, true};
+ghost use Rattle.std.specs.List.{list_any};
 ghost use Rattle.rtps_policies.specs.NamePatterns.{accepts, closing_in as closing_in_lem, fits as fits_lem, fits_parts, is_many, is_marked, is_member, is_open, is_pattern as is_pattern_lem, names_fit as names_fit_lem, parts_of, without_mark};
 ghost use Rattle.rtps_policies.specs.NamePatterns.PartValue.{Many};
-ghost use Rattle.rtps_policies.specs.Segments.{IsFront, IsOpened, IsSegment, part_value};
+ghost use Rattle.rtps_policies.specs.Segments.{AreFixed, IsFront, IsLaterSegment, IsOpened, IsSegment, part_value};
 ghost use Rattle.rtps_policies.specs.Sets.{IsFrontRange, IsSetIn};
 
 use crate::layout::pattern::{CARET, CLOSING, HYPHEN, MARK, OPENING, QUESTION, STAR};
@@ -184,29 +185,87 @@ fn leading_segment<'s>(pattern: &'s [u8], name: &'s [u8]) -> Segment<'s>
     }
 }
 
+/// How many parts a pattern has, where none of them is `*`. Each of them stands for one octet.
+fn fixed_count(pattern: &[u8]) -> Option<usize>
+    ensures { MatchOption result (list_any is_many (parts_of pattern.now) ≡ true) (λ count. AreFixed (parts_of pattern.now) × (count ≡ length (parts_of pattern.now))) }
+{
+    let mut count = 0;
+    let mut rest = pattern;
+    while let Some((part, behind)) = front(rest) {
+        if part.is_many() {
+            return None;
+        }
+        count += 1;
+        rest = behind;
+    }
+    Some(count)
+}
+
+/// Whether a name is what a pattern behind a `*` stands for, which has so many parts and none of them is `*`: its last octets are what the
+/// parts stand for, and no other place of the name is tried.
+fn fits_last(pattern: &[u8], count: usize, name: &[u8]) -> bool
+    requires fixed { AreFixed (parts_of pattern.now) }
+    requires count { count ≡ length (parts_of pattern.now) }
+    ensures { result ≡ fits_parts (Many ∷ parts_of pattern.now) name.now }
+{
+    if name.len() < count {
+        return false;
+    }
+    let last = &name[name.len() - count..];
+    match leading_segment(pattern, last) {
+        Segment::Whole => true,
+        Segment::Failed => false,
+        Segment::Many { .. } => false,
+    }
+}
+
+/// The first place of a name, behind a `*`, where the parts of a pattern up to its next `*` stand.
+fn later_segment<'s>(pattern: &'s [u8], name: &'s [u8]) -> Segment<'s>
+    ensures { IsLaterSegment pattern.now name.now result }
+{
+    let mut left = name;
+    'places: loop {
+        match leading_segment(pattern, left) {
+            Segment::Whole => return Segment::Whole,
+            Segment::Many {
+                behind,
+                left: onward,
+            } => {
+                return Segment::Many {
+                    behind,
+                    left: onward,
+                };
+            }
+            Segment::Failed => {}
+        }
+        let Some((_, onward)) = left.split_first() else {
+            return Segment::Failed;
+        };
+        left = onward;
+    }
+}
+
 /// Whether a name is what a pattern behind a `*` stands for.
 fn fits_behind(pattern: &[u8], name: &[u8]) -> bool
     ensures { result ≡ fits_parts (Many ∷ parts_of pattern.now) name.now }
 {
     let mut rest = pattern;
     let mut left = name;
-    'places: loop {
-        match leading_segment(rest, left) {
+    'segments: loop {
+        if let Some(count) = fixed_count(rest) {
+            return fits_last(rest, count, left);
+        }
+        match later_segment(rest, left) {
             Segment::Whole => return true,
+            Segment::Failed => return false,
             Segment::Many {
                 behind,
                 left: onward,
             } => {
                 rest = behind;
                 left = onward;
-                continue;
             }
-            Segment::Failed => {}
         }
-        let Some((_, onward)) = left.split_first() else {
-            return false;
-        };
-        left = onward;
     }
 }
 

@@ -4,6 +4,7 @@ use Rattle.rtps_audit.specs.Report.{counts_of}
 use Rattle.rtps_discovery.specs.Directory.{DirectoryValue, unsettled_in}
 use Rattle.rtps_discovery.specs.Listings.{pair_cmp}
 use Rattle.rtps_evidence.specs.Explanation.{AreExplained, PairsHaveOneExplanation}
+use Rattle.rtps_evidence.specs.Kinds.{lost_value}
 use Rattle.rtps_evidence.specs.OtherSide.{Beside}
 use Rattle.rtps_evidence.proofs.Offered.{HasOneMap}
 use Rattle.rtps_policies.specs.Silence.{Traffic}
@@ -24,15 +25,15 @@ use Rattle.rtps_report.proofs.RowPairLemmas.{exact_two, pairs_total}
 use Rattle.rtps_report.proofs.SameLists.{same_members}
 
 one_list : PairsHaveOneExplanation → HasOneMap → (asked : AskedValue) (intake : Intake) (beside : Beside) (traffic : Traffic) (one other : Explained)
-    → AreRowsOf asked intake beside traffic one → AreRowsOf asked intake beside traffic other → (map explanation_value one.rows.items ≡ map explanation_value other.rows.items) × (one.counts ≡ other.counts)
+    → AreRowsOf asked intake beside traffic one → AreRowsOf asked intake beside traffic other → ((map explanation_value one.rows.items ≡ map explanation_value other.rows.items) × (map lost_value one.lost.items ≡ map lost_value other.lost.items)) × (one.counts ≡ other.counts)
 one_list law unique asked intake beside traffic one other is also =
     let same : is.directory ≡ also.directory = unique (acts_together intake.announcing) is.directory also.directory is.is_map also.is_map in
     let mine = subst (λ (of : DirectoryValue). AreRowPairs asked intake traffic of.endpoints is.pairs) same is.are_pairs in
     let pairs : is.pairs ≡ also.pairs =
     same_members pair_cmp pairs_total exact_two is.pairs also.pairs mine.in_order also.are_pairs.in_order
     (λ pair. (λ has. (also.are_pairs.each pair).1 ((mine.each pair).0 has), λ has. (mine.each pair).1 ((also.are_pairs.each pair).0 has))) in (
-      law true asked.from beside intake also.pairs one.rows.items other.rows.items
-          (subst (λ (those : List Pair). AreExplained true asked.from beside intake those one.rows.items) pairs is.rows) also.rows,
+      law true asked.from beside intake also.pairs one.rows.items other.rows.items (map lost_value one.lost.items) (map lost_value other.lost.items)
+          (subst (λ (those : List Pair). AreExplained true asked.from beside intake those one.rows.items (map lost_value one.lost.items)) pairs is.rows) also.rows,
       is.counts ∙ ap (λ (of : DirectoryValue). counts_of intake (length (unsettled_in of.endpoints))) same ∙ sym also.counts,
     )
 
@@ -43,12 +44,13 @@ one_full_report law unique asked theirs recording one other is also =
     let ends : ℕ → BestEffortNumbers → Order → List ExplanationValue → Counts → Ending = λ unmatched numbers order those counted. ending_as asked (facts_with unmatched numbers order asked those counted recording) in
     let unmatched = ap length talk.unmatched in
     let numbers = ap numbers_told talk.best_effort_total in
-    let order : one.order ≡ other.order = is.order ∙ ap₂ (order_by theirs recording) lists.0 talk.ways ∙ sym also.order in
+    let order : one.order ≡ other.order = is.order ∙ ap₂ (order_by theirs recording) lists.0.0 talk.ways ∙ sym also.order in
     record {
       arrived = is.beside ∙ sym also.beside;
-      rows = lists.0;
+      rows = lists.0.0;
+      lost = lists.0.1;
       counts = lists.1;
       order = order;
-      ending = is.ends ∙ (λ i. ends (unmatched i) (numbers i) (order i) (lists.0 i) (lists.1 i)) ∙ sym also.ends;
+      ending = is.ends ∙ (λ i. ends (unmatched i) (numbers i) (order i) (lists.0.0 i) (lists.1 i)) ∙ sym also.ends;
       talk = talk;
     }

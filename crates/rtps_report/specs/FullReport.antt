@@ -6,6 +6,7 @@ use Rattle.rtps_audit.specs.Index.{IsIndexBy}
 use Rattle.rtps_audit.specs.Report.{counts_of}
 use Rattle.rtps_discovery.specs.Directory.{unsettled_in}
 use Rattle.rtps_evidence.specs.Explanation.{AreExplained}
+use Rattle.rtps_evidence.specs.Kinds.{LostValue, lost_value}
 use Rattle.rtps_evidence.specs.OtherSide.{Beside}
 use Rattle.rtps_policies.specs.Silence.{Traffic}
 use Rattle.rtps_report.specs.Vocabulary.{Counts, DirectoryValue, Ending, EvidenceValue, Explained, ExplanationValue, Facts, Intake, IsMapOf, Pair, Read, acts_together, explanation_value, intake_as}
@@ -47,7 +48,7 @@ pub record AreRowsOf (asked : AskedValue) (intake : Intake) (beside : Beside) (t
   pub is_map : IsMapOf (acts_together intake.announcing) directory
   pub pairs : List Pair
   pub are_pairs : AreRowPairs asked intake traffic directory.endpoints pairs
-  pub rows : AreExplained true asked.from beside intake pairs explained.rows.items
+  pub rows : AreExplained true asked.from beside intake pairs explained.rows.items (map lost_value explained.lost.items)
   pub counts : explained.counts ≡ counts_of intake (length (unsettled_in directory.endpoints))
 
 -- what is told of a recording: the other one against which rows are held, the rows that are asked for, who does not talk, in which order
@@ -73,6 +74,10 @@ report_value report =
 -- the rows of a report that are asked for, as values
 abbrev pub rows_of : ReportValue → List ExplanationValue
 rows_of report = map explanation_value report.explained.rows.items
+
+-- the numbers of each that are lost, or look so
+abbrev pub lost_of : ReportValue → List LostValue
+lost_of report = map lost_value report.explained.lost.items
 
 -- what is known of this report
 abbrev pub facts_of : AskedValue → RecordingValue → ReportValue → Facts

@@ -18,7 +18,7 @@ use Rattle.rtps_fragments.specs.RecordedSamples.{IsWithoutFragments}
 use Rattle.rtps_fragments.specs.SampleActs.{fragment_speech_of}
 use Rattle.rtps_fragments.specs.FragmentWalk.{sending_of}
 use Rattle.rtps_fragments.specs.declared.fragments.Fragments.TheVariants as fragments
-use Rattle.rtps_report.specs.FullReport.{AreRowsOf, AskedValue, IsFullReport, RecordingValue, ReportValue, rows_of}
+use Rattle.rtps_report.specs.FullReport.{AreRowsOf, AskedValue, IsFullReport, RecordingValue, ReportValue, lost_of, rows_of}
 use Rattle.rtps_report.specs.Reported.{IsAuditExplained, IsReportAs}
 use Rattle.rtps_report.specs.declared.audited.AskedAudit.{AskedAudit}
 use Rattle.rtps_report.specs.Rows.{fits_one}
@@ -119,6 +119,7 @@ pub record TellSame (one other : TalkValue) : Type 0 where
 pub record AreSame (one other : ReportValue) : Type 0 where
   pub arrived : one.arrived ≡ other.arrived
   pub rows : rows_of one ≡ rows_of other
+  pub lost : lost_of one ≡ lost_of other
   pub counts : one.explained.counts ≡ other.explained.counts
   pub order : one.order ≡ other.order
   pub ending : one.ending ≡ other.ending

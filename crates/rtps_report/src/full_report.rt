@@ -127,8 +127,12 @@ fn explained_of<'a, P: Watch>(
         directory,
     };
     let pairs = row_pairs(alloc, &matched, wanted)?;
-    let rows = explain_pairs(alloc, sides, &pairs, &matched, asked.extent(), watch)?;
-    Ok(Explained { rows, counts })
+    let found = explain_pairs(alloc, sides, &pairs, &matched, asked.extent(), watch)?;
+    Ok(Explained {
+        rows: found.rows,
+        lost: found.lost,
+        counts,
+    })
 }
 
 /// The report on a recording, of what is asked. Its rows are held against the other recording, where there is one. `samples` is where

@@ -2,22 +2,26 @@
 -- own: it prints behind the line of a pair what its verdict rests on, place by place, so that it can be checked with `show`; each such line
 -- begins with two spaces, and fields have one space between them. What to do stands behind a pair that is not clean. The last line is that of
 -- `check`: it says whether the run ends clean, and why not.
-use Rattle.std.specs.Prelude.{ℕ, ℤ, ◌≡◌, ◌+◌, ◌++◌, if◌then◌else◌, List, [], ◌∷◌, ◌==◌, codes, length, Option, Some, None, decimal, flat_map}
+use Rattle.std.specs.Prelude.{ℕ, ℤ, ◌≡◌, ◌+◌, ◌++◌, if◌then◌else◌, List, [], ◌∷◌, ◌==◌, codes, length, Option, Some, None, decimal, flat_map, map}
 use Rattle.rtps_report.specs.Vocabulary.{CompleteGrounds, ConflictGrounds, EvidenceValue, ExplanationValue, FirstMissed, GroundsValue, InSpan, Location, NotReceived, OpenGrounds, Outcomes, Teller, UnfoundedGrounds}
 use Rattle.rtps_report.specs.declared.advice.Scope.{Scope}
 use Rattle.rtps_report.specs.declared.findings.Ending.{Ending}
+use Rattle.rtps_evidence.specs.Explanation.{lost_at}
+use Rattle.rtps_evidence.specs.Kinds.{LostValue, lost_value}
 use Rattle.rtps_evidence.specs.Times.{TimesValue}
 use Rattle.rtps_evidence.specs.declared.waits.Wait.{Wait}
 use Rattle.rtps_report.specs.Advice.{advice_of}
-use Rattle.rtps_report.specs.FullReport.{AskedValue, IsTold, RecordingValue, ReportValue, rows_of}
+use Rattle.rtps_report.specs.FullReport.{AskedValue, IsTold, RecordingValue, ReportValue, lost_of, rows_of}
 use Rattle.rtps_report.specs.NoteFacts.{scope_of}
 use Rattle.rtps_report.specs.Reported.{number_of}
 use Rattle.rtps_report.specs.RowFacts.{is_clean, outcomes_of}
 use Rattle.rtps_report.specs.Silences.{silences_of}
-use Rattle.rtps_report.specs.Talk.{TalkValue}
+use Rattle.rtps_report.specs.Talk.{TalkValue, talk_value}
 use Rattle.rtps_lines.specs.CheckMembers.{report_last}
 use Rattle.rtps_lines.specs.Lines.{line_of, verdict_text, acknowledged_line, advice_text, announced_line, asked_line, claimed_line, inner_line, kind_text, place_comma, place_text, questions_line, second_text, sent_line, silence_lines, told_line, wait_text}
+use Rattle.rtps_lines.specs.NumberRanges.{lost_lines}
 use Rattle.rtps_parts.specs.Names.{guid_text, name_text}
+use Rattle.rtps_text.specs.declared.text.why_text.RowTelling.{RowTelling}
 use Rattle.rtps_text.specs.ReportText.{pairs_line, report_counts_line}
 
 -- the line of a pair with its verdict
@@ -117,24 +121,45 @@ abbrev pub wait_line : TimesValue → Option InSpan → List ℕ
 wait_line times None = []
 wait_line times (Some in_span) = wait_by times in_span.wait
 
+-- by what rows are told beside themselves: what is asked, who does not talk, which numbers of each are lost, and when datagrams came
+pub record RowTold : Type 0 where
+  pub scope : Scope
+  pub talk : TalkValue
+  pub lost : List LostValue
+  pub times : TimesValue
+
+-- that of the code, as a value
+abbrev pub row_told : RowTelling → RowTold
+row_told told = record { scope = told.scope; talk = talk_value told.talk.now; lost = map lost_value told.lost.rows.now; times = told.lost.times.now }
+
+-- the lines of numbers of a pair that are lost, or look so; nothing for a clean one
+abbrev pub numbers_lines : RowTold → ExplanationValue → List ℕ
+numbers_lines told row = if is_clean told.scope.tail row.evidence then [] else lost_lines told.times (lost_at told.lost row.place)
+
 -- the line of what to do for a pair; nothing for a clean one
-abbrev pub advice_line : Scope → TalkValue → TimesValue → ExplanationValue → List ℕ
-advice_line scope talk times row =
-    if is_clean scope.tail row.evidence then []
-    else codes "  -> " ++ (advice_text times (advice_of times (silences_of talk row.pair) scope row.evidence) ++ codes "\n")
+abbrev pub advice_line : RowTold → ExplanationValue → List ℕ
+advice_line told row =
+    if is_clean told.scope.tail row.evidence then []
+    else codes "  -> " ++ (advice_text told.times (advice_of told.times (silences_of told.talk row.pair) told.scope row.evidence) ++ codes "\n")
 
 -- all lines of a pair
-abbrev pub row_text : Scope → TalkValue → TimesValue → ExplanationValue → List ℕ
-row_text scope talk times row =
-    explanation_text times row
-    ++ (wait_line times row.evidence.in_span
-    ++ (flat_map sentence_line (silence_lines times (silences_of talk row.pair)) ++ advice_line scope talk times row))
+abbrev pub row_text : RowTold → ExplanationValue → List ℕ
+row_text told row =
+    explanation_text told.times row
+    ++ (numbers_lines told row
+    ++ (wait_line told.times row.evidence.in_span
+    ++ (flat_map sentence_line (silence_lines told.times (silences_of told.talk row.pair)) ++ advice_line told row)))
+
+-- by what the rows of this report are told
+abbrev pub report_told : AskedValue → RecordingValue → ReportValue → RowTold
+report_told asked recording report =
+    record { scope = scope_of asked recording report; talk = report.talk; lost = lost_of report; times = recording.times }
 
 -- the lines of a report
 abbrev pub why_text : AskedValue → RecordingValue → ReportValue → List ℕ
 why_text asked recording report =
     pairs_line (length (rows_of report))
-    ++ (flat_map (row_text (scope_of asked recording report) report.talk recording.times) (rows_of report)
+    ++ (flat_map (row_text (report_told asked recording report)) (rows_of report)
     ++ (report_counts_line report.explained.counts recording.ignored ++ report_last asked recording report))
 
 -- they are the lines of this report

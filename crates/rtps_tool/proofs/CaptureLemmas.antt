@@ -49,7 +49,7 @@ capture_fault captures file is kind.Memory same = tt
 
 -- what is told, once it is known which captures are read, what the datagrams are, and when they came
 pub recording_told-is : (captures these : Captures) (file : List ℕ) (answer : Answer) (datagrams : List (List ℕ)) (times : TimesValue) → captures ≡ these
-    → datagrams ≡ octets_in (file ++ answer.behind) answer.datagrams → times ≡ record { start = answer.start; end = answer.end; of_datagrams = answer.times }
+    → datagrams ≡ octets_in (file ++ answer.behind) answer.datagrams → times ≡ record { start = answer.start; end = answer.end; of_datagrams = answer.times; frames = answer.frames }
     → recording_told captures file (Ok answer)
     ≡ Ok (record { datagrams = datagrams; times = times; ignored = Some (ignored_by (reasons_of answer)); reasons = reasons_told these answer })
 recording_told-is captures these file answer datagrams times is given came =

@@ -38,7 +38,7 @@ reasons_told Any answer = Some (reasons_of answer)
 abbrev pub recording_told : Captures → List ℕ → Result Answer CaptureFault → Result RecordingValue RecFault
 recording_told captures file (Ok answer) = Ok (record {
   datagrams = octets_in (file ++ answer.behind) answer.datagrams;
-  times = record { start = answer.start; end = answer.end; of_datagrams = answer.times };
+  times = record { start = answer.start; end = answer.end; of_datagrams = answer.times; frames = answer.frames };
   ignored = Some (ignored_by (reasons_of answer));
   reasons = reasons_told captures answer;
 })

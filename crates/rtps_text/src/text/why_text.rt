@@ -4,8 +4,7 @@ ghost use Rattle.rtps_evidence.specs.Grounds.{grounds_value};
 ghost use Rattle.rtps_report.specs.Asked.{asked_value};
 ghost use Rattle.rtps_report.specs.FullReport.{report_value};
 ghost use Rattle.rtps_report.specs.Reported.{number_of as number_of_lem};
-ghost use Rattle.rtps_report.specs.Talk.{talk_value};
-ghost use Rattle.rtps_text.specs.WhyText.{IsWhyText, advice_line, explanation_text, kept_text, missed_lines, not_received_line, rest_lines, row_text, shown_by, span_line, until_text};
+ghost use Rattle.rtps_text.specs.WhyText.{IsWhyText, advice_line, explanation_text, kept_text, missed_lines, not_received_line, numbers_lines, rest_lines, row_text, row_told, shown_by, span_line, until_text};
 
 use crate::text::audit_text::ReportCountsLine;
 use crate::text::outcome_lines::{push_outcomes, push_silences, push_wait};
@@ -13,9 +12,9 @@ use rtps_evidence::{
     Evidence, Explanation, FirstMissed, Grounds, Location, NotReceived, Teller, Times,
 };
 use rtps_lines::{
-    AcknowledgedLine, AdviceText, AnnouncedLine, AskedLine, ClaimedLine, PlaceComma, PlaceText,
-    QuestionsLine, SecondText, ToldLine, VerdictText, kind_name, push_field, push_report_last,
-    push_sent,
+    AcknowledgedLine, AdviceText, AnnouncedLine, AskedLine, ClaimedLine, LostRows, PlaceComma,
+    PlaceText, QuestionsLine, SecondText, ToldLine, VerdictText, kind_name, push_field,
+    push_lost_lines, push_report_last, push_sent,
 };
 use rtps_parts::NameText;
 use rtps_report::{FullReport, Scope, Talk, advice_of, is_clean, number_of, outcomes_of, scope_of};
@@ -27,7 +26,8 @@ use std::fmt;
 struct RowTelling<'r, 'a> {
     scope: Scope,
     talk: &'r Talk<'a>,
-    times: &'r Times,
+    /// Which numbers of each row are lost, and when datagrams came.
+    lost: LostRows<'r>,
 }
 
 /// What `why` prints of a report: each row, what its verdict rests on and what to do, and how the run ends.
@@ -38,7 +38,10 @@ pub fn why_text(alloc: Global, report: &FullReport<'_>) -> Result<String, AllocE
     let telling = RowTelling {
         scope: scope_of(report),
         talk: &report.talk,
-        times: report.recording.times(),
+        lost: LostRows {
+            rows: &explained.lost,
+            times: report.recording.times(),
+        },
     };
     let mut text = String::new(alloc);
     writeln!(text, "pairs {}", explained.rows.len())?;
@@ -56,7 +59,7 @@ fn push_rows(
     telling: RowTelling<'_, '_>,
 ) -> Result<(), AllocError>
     ensures { OnOk result (string_bytes text.new
-        ≡ string_bytes text.old ++ flat_map (λ row. row_text telling.entry.scope (talk_value telling.entry.talk.now) telling.entry.times.now (explanation_value row)) rows.now) }
+        ≡ string_bytes text.old ++ flat_map (λ row. row_text (row_told telling.entry) (explanation_value row)) rows.now) }
 {
     for row in rows {
         push_told_row(alloc, text, row, telling)?;
@@ -71,13 +74,30 @@ fn push_told_row(
     telling: RowTelling<'_, '_>,
 ) -> Result<(), AllocError>
     ensures { OnOk result (string_bytes text.new
-        ≡ string_bytes text.old ++ row_text telling.entry.scope (talk_value telling.entry.talk.now) telling.entry.times.now (explanation_value row.now)) }
+        ≡ string_bytes text.old ++ row_text (row_told telling.entry) (explanation_value row.now)) }
 {
-    let RowTelling { talk, times, .. } = telling;
+    let RowTelling { talk, lost, .. } = telling;
+    let times = lost.times;
     push_row(text, row, times)?;
+    push_numbers(text, row, telling)?;
     push_wait(text, row.evidence.in_span.as_ref(), times)?;
     push_silences(alloc, text, talk.silences(row.pair), times)?;
     push_advice(text, row, telling)
+}
+
+/// Appends which numbers of a row are lost, or look so; nothing for a clean one.
+fn push_numbers(
+    text: &mut String,
+    row: &Explanation<'_>,
+    telling: RowTelling<'_, '_>,
+) -> Result<(), AllocError>
+    ensures { OnOk result (string_bytes text.new
+        ≡ string_bytes text.old ++ numbers_lines (row_told telling.entry) (explanation_value row.now)) }
+{
+    if is_clean(telling.scope.tail, &row.evidence) {
+        return Ok(());
+    }
+    push_lost_lines(text, telling.lost, row.place)
 }
 
 /// Appends the line of what to do for a row; nothing for a clean one.
@@ -87,9 +107,10 @@ fn push_advice(
     telling: RowTelling<'_, '_>,
 ) -> Result<(), AllocError>
     ensures { OnOk result (string_bytes text.new
-        ≡ string_bytes text.old ++ advice_line telling.entry.scope (talk_value telling.entry.talk.now) telling.entry.times.now (explanation_value row.now)) }
+        ≡ string_bytes text.old ++ advice_line (row_told telling.entry) (explanation_value row.now)) }
 {
-    let RowTelling { scope, talk, times } = telling;
+    let RowTelling { scope, talk, lost } = telling;
+    let times = lost.times;
     if is_clean(scope.tail, &row.evidence) {
         return Ok(());
     }

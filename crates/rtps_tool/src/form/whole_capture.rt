@@ -23,7 +23,12 @@ pub(crate) fn read_capture(
 {
     let reading = rtps_capture::read_capture(alloc, captures, octets, most)?;
     let spans = spans_of(alloc, &reading.datagrams)?;
-    let times = Times::of(alloc, reading.start, reading.end, reading.times)?;
+    let times = Times::of(
+        alloc,
+        (reading.start, reading.end),
+        reading.times,
+        reading.frames,
+    )?;
     let ignored = reading.pieces + reading.cut + reading.other + reading.links;
     let reasons = Reasons {
         pieces: reading.pieces,

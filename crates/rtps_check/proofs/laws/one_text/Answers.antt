@@ -11,7 +11,7 @@ use Rattle.rtps_policies.specs.Unmatched.{UnmatchedValue}
 use Rattle.rtps_report.specs.Asked.{AskedValue}
 use Rattle.rtps_report.specs.BestEfforts.{HeldValue}
 use Rattle.rtps_report.specs.ByTopic.{AreByTopic}
-use Rattle.rtps_report.specs.FullReport.{ReportValue, rows_of}
+use Rattle.rtps_report.specs.FullReport.{ReportValue}
 use Rattle.rtps_report.specs.Laws.{AreSame}
 use Rattle.rtps_report.specs.NoteFacts.{facts_by, is_unread, note_facts, scope_of}
 use Rattle.rtps_report.specs.Recording.{RecordingValue}
@@ -89,7 +89,7 @@ text_once asked recording one other text last same is also =
     let side : side_facts one ≡ side_facts other = λ i. facts_if (same.rows i) (same.order i) (same.arrived i) in
     let talk = same_talk one.talk other.talk same.talk in
     let beside : beside_of asked recording one (talking_names is.talking) is.left_out ≡ beside_of asked recording other (talking_names also.talking) also.left_out =
-    λ i. record (beside_of asked recording one (talking_names is.talking) is.left_out) { facts = facts i; side = side i; talking = talking_names (talking i); left_out = left_out i; talk = talk i; ending = same.ending i } in
+    λ i. record (beside_of asked recording one (talking_names is.talking) is.left_out) { lost = same.lost i; facts = facts i; side = side i; talking = talking_names (talking i); left_out = left_out i; talk = talk i; ending = same.ending i } in
     let told : Told = (scope_of asked recording one, beside_of asked recording one (talking_names is.talking) is.left_out, map explanation_value is.rows) in
     let told' : Told = (scope_of asked recording other, beside_of asked recording other (talking_names also.talking) also.left_out, map explanation_value also.rows) in
     let path : told ≡ told' = λ i. (scope i, beside i, rows i) in

@@ -1,8 +1,8 @@
 -- A run ends clean exactly where it gives no reason.
-use Rattle.std.proofs.Common.{◌≡◌, ◌↔◌, ◌≤◌, ◌<◌, ◌-◌, ◌+◌, ◌==◌, ◌++◌, ◌&&◌, ◌||◌, ◌∷◌, [], ◌∙◌, ◌⊎◌, not, ℕ, Bool, true, false, cond, List, Option, None, Some, ap, ap₂, arith, inl, inr, is_none, is_some, length, nat_le, nat_lt, refl, sym, count_by, eq-eqb, eqb-true, true≢false}
+use Rattle.std.proofs.Common.{◌≡◌, ◌↔◌, ◌<◌, ◌+◌, ◌==◌, ◌++◌, ◌&&◌, ◌||◌, ◌∷◌, [], ◌∙◌, ◌⊎◌, not, ℕ, Bool, true, false, cond, List, Option, None, Some, ap, ap₂, arith, inl, inr, is_none, is_some, length, nat_le, nat_lt, refl, sym, count_by, eq-eqb, eqb-true, true≢false}
 use Rattle.std.proofs.lemmas.Bool.Decides.{nat_tests}
 use Rattle.std.proofs.lemmas.Bool.{and_cases, and_from, and_parts, false≢true, or_cases, or_parts}
-use Rattle.std.proofs.lemmas.List.Sums.{count_by-le-length, sum_by-cons}
+use Rattle.std.proofs.lemmas.List.Sums.{sum_by-cons}
 use Rattle.std.specs.List.{list_all}
 use Rattle.rtps_evidence.specs.Clean.{has_all, is_begun, is_clean as is_clean_in, is_complete as complete_in, is_open, is_tail as is_tail_in, is_whole, loses_none}
 use Rattle.rtps_report.specs.Findings.{are_none, findings_of}

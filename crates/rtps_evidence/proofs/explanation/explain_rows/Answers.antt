@@ -9,6 +9,8 @@ use Rattle.rtps_evidence.specs.Explanation.{IsNamed}
 use Rattle.rtps_evidence.specs.Spans.{IsExtent}
 use Rattle.rtps_evidence.specs.WriterSummary.{IsSummaryOf}
 use Rattle.rtps_evidence.specs.declared.explanation.Explanation.{Explanation}
+use Rattle.rtps_evidence.specs.Kinds.{IsLostIn, lost_value}
+use Rattle.rtps_evidence.proofs.LostLemmas.{losses_rows, places_more}
 use Rattle.rtps_evidence.proofs.RowLemmas.{judged_row, pairs_more, rows_more}
 use Rattle.rtps_evidence.proofs.explanation.explain_rows.Goals as goal
 
@@ -16,14 +18,14 @@ pub loop-row-preserved : goal.loop-row-preserved
 loop-row-preserved g c =
     let extent = c.args.extent in
     let judgement = c.in_ok-judgement.judgement in
-    let evidence = c.in_ok-evidence.evidence in
+    let evidence = c.in_ok-found.found.evidence in
     let known : (intake : Intake) → IsIndexBy intake c.args.sides.now.index.now → IsSummaryOf intake.acts c.in_ok-summary.summary =
     λ intake is. c.in_ok-summary.ensures.summary intake is (c.loop-row.invariant.known intake is) in
     record {
       pairs = pairs_more c.loop-row.explained.items _ _ c.args.rows.now c.loop-row.row-index _ c.loop-row-test.true c.in_ok-push.ensures.items refl c.loop-row.invariant.pairs;
       rows = λ intake is whole.
           rows_more c.loop-row.explained.items _ _ c.args.rows.now c.loop-row.row-index _ c.loop-row-test.true c.in_ok-push.ensures.items refl
-          (c.in_ok-evidence.ensures.judged ∙ c.in_ok-judgement.ensures.same intake is whole) (c.loop-row.invariant.rows intake is whole);
+          (c.in_ok-found.ensures.judged ∙ c.in_ok-judgement.ensures.same intake is whole) (c.loop-row.invariant.rows intake is whole);
       named = subst (All (IsNamed c.args.directory.now.endpoints)) (sym c.in_ok-push.ensures.items) (All-push (IsNamed c.args.directory.now.endpoints) c.loop-row.explained.items _ c.loop-row.invariant.named (record { topic = c.names_of.ensures.topic; type_name = c.names_of.ensures.type_name }));
       shown = λ intake beside are judged.
           let its_verdict = judged_row judgement _ intake.acts c.in_ok-judgement.ensures.pair (c.in_ok-judgement.ensures.judged intake are.index (judged c.loop-row.row-index _ c.loop-row-test.true)) in
@@ -32,8 +34,19 @@ loop-row-preserved g c =
           (subst (λ (p : Pair). IsEvidenceBy extent.in_spans extent.from beside p intake evidence) c.in_ok-judgement.ensures.pair (record {
             span = judgement.span;
             extent = subst (λ (p : Pair). IsExtent extent.in_spans extent.from p intake judgement.span) (sym c.in_ok-judgement.ensures.pair) (c.in_ok-judgement.ensures.extent intake are.index);
-            shown = c.in_ok-evidence.ensures.shown intake beside are (known intake are.index) its_verdict;
-            in_span = subst (λ b. IsBeside b beside judgement.span judgement.pair intake.acts (datagrams_until judgement.span.until intake.acts) evidence.in_span) c.in_ok-judgement.ensures.in_spans (c.in_ok-evidence.ensures.beside intake beside are (known intake are.index) its_verdict);
+            shown = c.in_ok-found.ensures.shown intake beside are (known intake are.index) its_verdict;
+            in_span = subst (λ b. IsBeside b beside judgement.span judgement.pair intake.acts (datagrams_until judgement.span.until intake.acts) evidence.in_span) c.in_ok-judgement.ensures.in_spans (c.in_ok-found.ensures.beside intake beside are (known intake are.index) its_verdict).0;
           })));
+      places = places_more c.loop-row.explained.items _ _ c.in_ok-push.ensures.items (c.len.ensures ∙ c.loop-row.explained.ok.0) c.loop-row.invariant.places;
+      lost = λ intake beside are judged.
+          let its_verdict = judged_row judgement _ intake.acts c.in_ok-judgement.ensures.pair (c.in_ok-judgement.ensures.judged intake are.index (judged c.loop-row.row-index _ c.loop-row-test.true)) in
+          losses_rows extent.in_spans extent.from beside intake c.args.rows.now c.loop-row.row-index _ c.loop-row.lost.items _ c.in_ok-found.found.lost c.loop-row-test.true c.in_ok-push-2.ensures.items (c.loop-row.invariant.lost intake beside are judged)
+          (record {
+            span = judgement.span;
+            extent = c.in_ok-judgement.ensures.extent intake are.index;
+            losses = subst (λ (p : Pair). IsLostIn extent.in_spans beside judgement.span p intake.acts (datagrams_until judgement.span.until intake.acts) (lost_value c.in_ok-found.found.lost)) c.in_ok-judgement.ensures.pair
+                (subst (λ b. IsLostIn b beside judgement.span judgement.pair intake.acts (datagrams_until judgement.span.until intake.acts) (lost_value c.in_ok-found.found.lost)) c.in_ok-judgement.ensures.in_spans
+                (c.in_ok-found.ensures.beside intake beside are (known intake are.index) its_verdict).1);
+          });
       known = known;
     }

@@ -8,7 +8,7 @@ use Rattle.rtps_lines.specs.CheckMembers.{check_telling, last_members, report_ca
 use Rattle.rtps_lines.specs.JsonText.{Member, TellingValue, rows_members, tokens_of}
 use Rattle.rtps_lines.specs.TalkMembers.{talk_members}
 use Rattle.rtps_lines.proofs.PartLemmas.{four_parts}
-use Rattle.rtps_lines.proofs.TalkLemmas.{tokens_of_four}
+use Rattle.rtps_lines.proofs.JsonLemmas.{tokens_of_four}
 use Rattle.rtps_lines.proofs.check_members.push_check_members.Goals as goal
 
 pub returns-clause-tokens : goal.returns-clause-tokens

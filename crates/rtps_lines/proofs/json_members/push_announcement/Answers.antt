@@ -5,7 +5,7 @@ use Rattle.json.specs.Json.{string as text}
 use Rattle.json.specs.Token.{Token, key, number, string}
 use Rattle.json.specs.Tree.{json_tokens}
 use Rattle.rtps_report.specs.Vocabulary.{Announcement}
-use Rattle.rtps_lines.specs.JsonText.{Member, announcement_json, number_json, place_members}
+use Rattle.rtps_lines.specs.JsonText.{clock_times, Member, announcement_json, number_json, place_members}
 use Rattle.rtps_lines.specs.Lines.{kind_text}
 use Rattle.rtps_lines.proofs.JsonLemmas.{object_written}
 use Rattle.rtps_lines.proofs.PartLemmas.{two_parts}
@@ -14,7 +14,7 @@ use Rattle.rtps_lines.proofs.json_members.push_announcement.Goals as goal
 pub returns-clause-tokens : goal.returns-clause-tokens
 returns-clause-tokens c =
     let start : List Token = c.args.writer.now.tokens in
-    let times = c.args.clock.times.now in
+    let times = (clock_times c.args.clock) in
     let announcement = c.in-Some.announcement in
     let told : List Member = (codes "number", number_json announcement.number) ∷ (codes "by", text (kind_text announcement.kind)) ∷ [] in
     let fits : SFits w64 announcement.number = search rules in

@@ -4,7 +4,7 @@ use Rattle.std.specs.Fmt.{signed_decimal}
 use Rattle.json.specs.Token.{Token, key, number}
 use Rattle.json.specs.Tree.{json_tokens}
 use Rattle.rtps_report.specs.Vocabulary.{Claim}
-use Rattle.rtps_lines.specs.JsonText.{claim_json, number_json, place_members}
+use Rattle.rtps_lines.specs.JsonText.{clock_times, claim_json, number_json, place_members}
 use Rattle.rtps_lines.proofs.JsonLemmas.{object_written}
 use Rattle.rtps_lines.proofs.PartLemmas.{two_parts}
 use Rattle.rtps_lines.proofs.json_members.push_claim.Goals as goal
@@ -13,7 +13,7 @@ pub returns-clause-tokens : goal.returns-clause-tokens
 returns-clause-tokens c =
     let start : List Token = c.args.writer.now.tokens in
     let name : Token = key c.args.name.now in
-    let times = c.args.clock.times.now in
+    let times = (clock_times c.args.clock) in
     let claim = c.in-Some.claim in
     let fits : SFits w64 claim.below = search rules in
     let below = c.in_ok-push_number.ensures.tokens

@@ -2,14 +2,14 @@ use Rattle.std.proofs.Common.{◌∷◌, [], List, ℕ, codes, decimal}
 use Rattle.std.proofs.lemmas.Result.{on_ok_weaker}
 use Rattle.json.specs.Token.{Token, key, number}
 use Rattle.json.specs.Tree.{json_tokens}
-use Rattle.rtps_lines.specs.JsonText.{first_missed_members, not_received_json, tokens_of}
+use Rattle.rtps_lines.specs.JsonText.{clock_times, first_missed_members, not_received_json, tokens_of}
 use Rattle.rtps_lines.proofs.PartLemmas.{four_parts}
 use Rattle.rtps_lines.proofs.json_members.push_delivery.Goals as goal
 
 pub returns-clause-tokens : goal.returns-clause-tokens
 returns-clause-tokens c =
     let evidence = c.args.evidence.now in
-    let times = c.args.clock.times.now in
+    let times = (clock_times c.args.clock) in
     let member : List ℕ → ℕ → List Token = λ name n. key name ∷ number (decimal n) ∷ [] in
     on_ok_weaker c.push_first_missed.result
     (four_parts c.args.writer.now.tokens (member (codes "received") evidence.received) (key (codes "not_received") ∷ json_tokens (not_received_json times evidence.not_received))

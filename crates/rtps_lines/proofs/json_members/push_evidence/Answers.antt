@@ -2,14 +2,14 @@ use Rattle.std.proofs.Common.{◌∷◌, [], List, ℕ, codes, decimal}
 use Rattle.std.proofs.lemmas.Result.{on_ok_weaker}
 use Rattle.json.specs.Token.{Token, key, number}
 use Rattle.json.specs.Tree.{json_tokens}
-use Rattle.rtps_lines.specs.JsonText.{announcement_json, claim_json}
+use Rattle.rtps_lines.specs.JsonText.{clock_times, announcement_json, claim_json}
 use Rattle.rtps_lines.proofs.PartLemmas.{six_parts}
 use Rattle.rtps_lines.proofs.json_members.push_evidence.Goals as goal
 
 pub returns-clause-tokens : goal.returns-clause-tokens
 returns-clause-tokens c =
     let evidence = c.args.evidence.now in
-    let times = c.args.clock.times.now in
+    let times = (clock_times c.args.clock) in
     let member : List ℕ → ℕ → List Token = λ name n. key name ∷ number (decimal n) ∷ [] in
     on_ok_weaker c.push_count-3.result
     (six_parts c.args.writer.now.tokens (key (codes "announced") ∷ []) (json_tokens (announcement_json times evidence.announcement))

@@ -4,7 +4,7 @@ use Rattle.json.specs.Token.{Token, begin_object, end_object, key, number}
 use Rattle.json.specs.Tree.{json_tokens}
 use Rattle.rtps_evidence.specs.Times.{TimesValue}
 use Rattle.rtps_report.specs.Vocabulary.{FirstMissed}
-use Rattle.rtps_lines.specs.JsonText.{first_missed_members, place_json, teller_json, tokens_of}
+use Rattle.rtps_lines.specs.JsonText.{clock_times, first_missed_members, place_json, teller_json, tokens_of}
 use Rattle.rtps_lines.proofs.PartLemmas.{seven_parts}
 use Rattle.rtps_lines.proofs.json_members.push_first_missed.Goals as goal
 
@@ -15,7 +15,7 @@ member_tokens times first = sym (append-nil _)
 pub returns-clause-tokens : goal.returns-clause-tokens
 returns-clause-tokens c =
     let start : List Token = c.args.writer.now.tokens in
-    let times = c.args.clock.times.now in
+    let times = (clock_times c.args.clock) in
     let first = c.in-Some.first in
     on_ok_weaker c.end_object.result
     (λ last.

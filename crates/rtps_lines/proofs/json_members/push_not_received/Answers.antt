@@ -2,7 +2,7 @@ use Rattle.std.proofs.Common.{◌++◌, ◌∷◌, [], ◌∙◌, List, ap, code
 use Rattle.std.proofs.lemmas.Result.{on_ok_weaker}
 use Rattle.json.specs.Token.{Token, begin_object, end_object, key, number}
 use Rattle.json.specs.Tree.{json_tokens}
-use Rattle.rtps_lines.specs.JsonText.{not_received_json, place_json, teller_json}
+use Rattle.rtps_lines.specs.JsonText.{clock_times, not_received_json, place_json, teller_json}
 use Rattle.rtps_lines.proofs.PartLemmas.{six_parts}
 use Rattle.rtps_lines.proofs.json_members.push_not_received.Goals as goal
 
@@ -10,7 +10,7 @@ pub returns-clause-tokens : goal.returns-clause-tokens
 returns-clause-tokens c =
     let start : List Token = c.args.writer.now.tokens in
     let name : Token = key c.args.name.now in
-    let times = c.args.clock.times.now in
+    let times = (clock_times c.args.clock) in
     let kept = c.in-Some.kept in
     on_ok_weaker c.end_object.result
     (λ last.

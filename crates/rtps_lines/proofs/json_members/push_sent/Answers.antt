@@ -6,14 +6,14 @@ use Rattle.json.specs.Tree.{json_tokens}
 use Rattle.rtps_evidence.specs.Locations.{sent_value}
 use Rattle.rtps_evidence.specs.declared.sent_payload.Sent.{Sent}
 use Rattle.rtps_wire.specs.Values.{payload_value}
-use Rattle.rtps_lines.specs.JsonText.{payload_members, place_members, sent_json}
+use Rattle.rtps_lines.specs.JsonText.{clock_times, payload_members, place_members, sent_json}
 use Rattle.rtps_lines.proofs.JsonLemmas.{object_written}
 use Rattle.rtps_lines.proofs.json_members.push_sent.Goals as goal
 
 pub returns-clause-tokens : goal.returns-clause-tokens
 returns-clause-tokens c =
     let start : List Token = c.args.writer.now.tokens in
-    let times = c.args.clock.times.now in
+    let times = (clock_times c.args.clock) in
     let sent = c.in-Some.sent in
     on_ok_weaker c.end_object.result
     (λ last.

@@ -3,7 +3,7 @@ use Rattle.std.proofs.lemmas.Result.{on_ok_weaker}
 use Rattle.json.specs.Token.{Token, begin_object, end_object, key}
 use Rattle.json.specs.Tree.{json_tokens}
 use Rattle.rtps_report.specs.Vocabulary.{Location}
-use Rattle.rtps_lines.specs.JsonText.{place_json, place_members, tokens_of}
+use Rattle.rtps_lines.specs.JsonText.{clock_times, place_json, place_members, tokens_of}
 use Rattle.rtps_lines.proofs.JsonLemmas.{object_tokens}
 use Rattle.rtps_lines.proofs.PartLemmas.{four_parts}
 use Rattle.rtps_lines.proofs.json_members.push_standing.Goals as goal
@@ -12,7 +12,7 @@ pub returns-clause-tokens : goal.returns-clause-tokens
 returns-clause-tokens c =
     let start : List Token = c.args.writer.now.tokens in
     let name : Token = key c.args.name.now in
-    let times = c.args.clock.times.now in
+    let times = (clock_times c.args.clock) in
     let members = place_members times c.in-Some.place in
     on_ok_weaker c.end_object.result
     (λ last.

@@ -4,7 +4,7 @@ use Rattle.json.specs.Json.{string as text}
 use Rattle.json.specs.Token.{Token, key, string}
 use Rattle.json.specs.Tree.{json_tokens}
 use Rattle.rtps_report.specs.Vocabulary.{Teller}
-use Rattle.rtps_lines.specs.JsonText.{place_members, teller_json}
+use Rattle.rtps_lines.specs.JsonText.{clock_times, place_members, teller_json}
 use Rattle.rtps_lines.specs.Lines.{kind_text}
 use Rattle.rtps_lines.proofs.JsonLemmas.{object_written}
 use Rattle.rtps_lines.proofs.PartLemmas.{two_parts}
@@ -14,7 +14,7 @@ pub returns-clause-tokens : goal.returns-clause-tokens
 returns-clause-tokens c =
     let start : List Token = c.args.writer.now.tokens in
     let name : Token = key c.args.name.now in
-    let times = c.args.clock.times.now in
+    let times = (clock_times c.args.clock) in
     let teller = c.in-Some.teller in
     let by = c.in_ok-push_text.ensures.tokens ∙ ap (λ kind. c.begin_object.new.self.tokens ++ key (codes "by") ∷ string kind ∷ []) c.kind_name.ensures in
     on_ok_weaker c.end_object.result

@@ -4,14 +4,14 @@ use Rattle.json.specs.Token.{Token, begin_object, end_object, key}
 use Rattle.json.specs.Tree.{json_tokens}
 use Rattle.rtps_evidence.specs.Times.{seconds_of}
 use Rattle.rtps_evidence.specs.declared.times.Seconds.{Seconds}
-use Rattle.rtps_lines.specs.JsonText.{place_json, second_json}
+use Rattle.rtps_lines.specs.JsonText.{clock_times, place_json, second_json}
 use Rattle.rtps_lines.proofs.PartLemmas.{six_parts}
 use Rattle.rtps_lines.proofs.json_members.push_waited.Goals as goal
 
 pub returns-clause-tokens : goal.returns-clause-tokens
 returns-clause-tokens c =
     let start : List Token = c.args.writer.now.tokens in
-    let times = c.args.clock.times.now in
+    let times = (clock_times c.args.clock) in
     let wait = c.args.wait in
     let second : Seconds → List Token = λ seconds. json_tokens (second_json (Some seconds)) in
     on_ok_weaker c.end_object.result

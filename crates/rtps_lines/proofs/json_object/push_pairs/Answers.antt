@@ -5,7 +5,7 @@ use Rattle.std.specs.List.{flat_map}
 use Rattle.json.specs.Token.{begin_array, end_array, key}
 use Rattle.json.specs.Tree.{json_tokens}
 use Rattle.rtps_evidence.specs.Explanation.{explanation_value}
-use Rattle.rtps_lines.specs.JsonText.{row_json, telling_value}
+use Rattle.rtps_lines.specs.JsonText.{clock_times, row_json, telling_value}
 use Rattle.rtps_lines.proofs.JsonLemmas.{rows_tokens}
 use Rattle.rtps_lines.proofs.PartLemmas.{four_parts}
 use Rattle.rtps_lines.proofs.json_object.push_pairs.Goals as goal
@@ -15,7 +15,7 @@ returns-clause-tokens c =
     let start = c.args.writer.now.tokens in
     let rows = c.args.rows.now in
     let telling = option_map telling_value c.args.form.telling in
-    let times = c.args.form.clock.times.now in
+    let times = (clock_times c.args.form.clock) in
     let written = c.loop-row.invariant.0
     ∙ ap (λ all. c.begin_array.new.self.tokens ++ flat_map (λ row. json_tokens (row_json telling times (explanation_value row))) all) (take_all c.loop-row.row-index rows c.loop-row-test.false) in
     let objects = flat_map (λ row. json_tokens (row_json telling times (explanation_value row))) rows in

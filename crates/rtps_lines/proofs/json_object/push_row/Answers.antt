@@ -2,7 +2,7 @@ use Rattle.std.proofs.Common.{◌++◌, ◌∷◌, [], ◌∙◌, ap, sym, optio
 use Rattle.std.proofs.lemmas.Result.{on_ok_weaker}
 use Rattle.json.specs.Token.{begin_object, end_object}
 use Rattle.rtps_evidence.specs.Explanation.{explanation_value}
-use Rattle.rtps_lines.specs.JsonText.{delivery_members, evidence_members, pair_members, further_members, shown_members, telling_value, tokens_of, verdict_members}
+use Rattle.rtps_lines.specs.JsonText.{clock_times, delivery_members, evidence_members, pair_members, further_members, shown_members, telling_value, tokens_of, verdict_members}
 use Rattle.rtps_lines.proofs.JsonLemmas.{row_tokens}
 use Rattle.rtps_lines.proofs.PartLemmas.{eight_parts}
 use Rattle.rtps_lines.proofs.json_object.push_row.Goals as goal
@@ -11,7 +11,7 @@ pub returns-clause-tokens : goal.returns-clause-tokens
 returns-clause-tokens c =
     let row = explanation_value c.args.row.now in
     let start = c.args.writer.now.tokens in
-    let times = c.args.form.clock.times.now in
+    let times = (clock_times c.args.form.clock) in
     let pair = pair_members row in
     let verdict = verdict_members row.evidence.verdict in
     let evidence = evidence_members times row.evidence in

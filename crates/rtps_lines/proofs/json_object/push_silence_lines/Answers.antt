@@ -11,7 +11,7 @@ use Rattle.rtps_lines.proofs.json_object.push_silence_lines.Goals as goal
 pub returns-clause-tokens : goal.returns-clause-tokens
 returns-clause-tokens c =
     let start : List Token = c.args.writer.now.tokens in
-    let times = c.args.clock.times.now in
+    let times = c.args.telling.times.now in
     on_ok_weaker c.push_texts.result
     (λ last. last ∙ ap (λ (all : List (List ℕ)). start ++ key (codes "silence") ∷ json_tokens (array_of (map string all)))
     (ap (map string_bytes) c.deref.ensures.value ∙ c.in_ok-lines.ensures ∙ ap (silence_lines times) c.silences-silences.ensures))

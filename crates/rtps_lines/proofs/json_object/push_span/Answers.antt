@@ -5,7 +5,7 @@ use Rattle.json.specs.Token.{Token}
 use Rattle.rtps_evidence.specs.Explanation.{evidence_value}
 use Rattle.rtps_report.specs.RowFacts.{is_clean, row_from}
 use Rattle.rtps_report.specs.Vocabulary.{InSpan}
-use Rattle.rtps_lines.specs.JsonText.{Member, count_json, lacking_members, outcomes_json, span_by, telling_value, tokens_of, tokens_of_member, until_members, wait_members}
+use Rattle.rtps_lines.specs.JsonText.{clock_times, Member, count_json, lacking_members, outcomes_json, span_by, telling_value, tokens_of, tokens_of_member, until_members, wait_members}
 use Rattle.rtps_lines.proofs.JsonLemmas.{span_tokens}
 use Rattle.rtps_lines.proofs.PartLemmas.{six_parts}
 use Rattle.rtps_lines.proofs.json_object.push_span.Goals as goal
@@ -14,7 +14,7 @@ pub returns-clause-tokens : goal.returns-clause-tokens
 returns-clause-tokens c =
     let start : List Token = c.args.writer.now.tokens in
     let telling = telling_value c.args.telling in
-    let times = c.args.clock.times.now in
+    let times = (clock_times c.args.clock) in
     let evidence = evidence_value c.args.evidence.now in
     let in_span = c.in-Some.in_span in
     let first : ℕ → Member = λ n. (codes "from", count_json n) in

@@ -2,6 +2,7 @@ use Rattle.std.proofs.Common.{codes}
 use Rattle.std.proofs.lemmas.List.{take_all}
 use Rattle.std.proofs.lemmas.Result.{on_ok_weaker}
 use Rattle.json.specs.Token.{key}
+use Rattle.rtps_lines.specs.JsonText.{clock_times}
 use Rattle.rtps_lines.specs.TalkMembers.{participant_json}
 use Rattle.rtps_lines.proofs.TalkLemmas.{array_written}
 use Rattle.rtps_lines.proofs.talk_members.push_all_participants.Goals as goal
@@ -10,5 +11,5 @@ pub returns-clause-tokens : goal.returns-clause-tokens
 returns-clause-tokens c =
     let all = take_all c.loop-participant.participant-index c.args.participants.now c.loop-participant-test.false in
     on_ok_weaker c.end_array.result
-    (array_written (participant_json c.args.clock.times.now) c.args.participants.now _ c.args.writer.now.tokens (key (codes "participants")) all c.in_ok-key.ensures.ok c.in_ok-begin_array.ensures.ok c.loop-participant.invariant.0)
+    (array_written (participant_json (clock_times c.args.clock)) c.args.participants.now _ c.args.writer.now.tokens (key (codes "participants")) all c.in_ok-key.ensures.ok c.in_ok-begin_array.ensures.ok c.loop-participant.invariant.0)
     c.end_array.ensures.ok

@@ -4,7 +4,7 @@ use Rattle.json.specs.Json.{string as text}
 use Rattle.json.specs.Token.{Token, key, string}
 use Rattle.json.specs.Tree.{json_tokens}
 use Rattle.rtps_parts.specs.Names.{guid_text}
-use Rattle.rtps_lines.specs.JsonText.{Member, until_json}
+use Rattle.rtps_lines.specs.JsonText.{clock_times, Member, until_json}
 use Rattle.rtps_lines.specs.TalkMembers.{address_json, stay_members}
 use Rattle.rtps_lines.proofs.JsonLemmas.{object_written}
 use Rattle.rtps_lines.proofs.PartLemmas.{three_parts}
@@ -21,7 +21,7 @@ returns-clause-tokens c =
     let told = c.in_ok-push_optional.ensures.tokens
     ∙ ap (λ n. c.push_address.new.writer.tokens ++ key (codes "domain") ∷ json_tokens (until_json n)) c.domain_number-domain.ensures in
     on_ok_weaker c.end_object.result
-    (object_written c.args.writer.now.tokens (guid ∷ address ∷ domain ∷ []) (stay_members c.args.clock.times.now participant) c.in_ok-begin_object.ensures.ok
+    (object_written c.args.writer.now.tokens (guid ∷ address ∷ domain ∷ []) (stay_members (clock_times c.args.clock) participant) c.in_ok-begin_object.ensures.ok
     (three_parts begun (key (codes "guid") ∷ string (guid_text participant.guid) ∷ []) (key (codes "address") ∷ json_tokens (address_json participant.host.address))
     (key (codes "domain") ∷ json_tokens (until_json participant.host.domain)) c.in_ok-push_guid.ensures.tokens c.in_ok-push_address.ensures.tokens told
     ∙ ap (λ tokens. begun ++ tokens) (three_tokens guid address domain))

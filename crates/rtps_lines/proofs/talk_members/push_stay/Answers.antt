@@ -2,7 +2,7 @@ use Rattle.std.proofs.Common.{◌++◌, ◌∷◌, ◌∙◌, List, ℕ, Option,
 use Rattle.std.proofs.lemmas.Result.{on_ok_weaker}
 use Rattle.json.specs.Token.{Token, key}
 use Rattle.json.specs.Tree.{json_tokens}
-use Rattle.rtps_lines.specs.JsonText.{tokens_of, until_json}
+use Rattle.rtps_lines.specs.JsonText.{clock_times, tokens_of, until_json}
 use Rattle.rtps_lines.specs.TalkMembers.{first_of, last_of, stay_times}
 use Rattle.rtps_lines.proofs.PartLemmas.{four_parts}
 use Rattle.rtps_lines.proofs.talk_members.push_stay.Goals as goal
@@ -14,7 +14,7 @@ returns-clause-tokens c =
     let member : List ℕ → Option ℕ → List Token = λ name n. key name ∷ json_tokens (until_json n) in
     on_ok_weaker c.push_stay_times.result
     (four_parts start (member (codes "first") (first_of participant)) (member (codes "last") (last_of participant)) (member (codes "left") participant.left)
-    (tokens_of (stay_times c.args.clock.times.now participant))
+    (tokens_of (stay_times (clock_times c.args.clock) participant))
     (c.in_ok-push_optional.ensures.tokens ∙ ap (λ n. start ++ member (codes "first") n) c.first_of.ensures)
     (c.in_ok-push_optional-2.ensures.tokens ∙ ap (λ n. c.push_optional.new.writer.tokens ++ member (codes "last") n) c.last_of.ensures)
     c.in_ok-push_optional-3.ensures.tokens)

@@ -1,5 +1,6 @@
 use Rattle.std.proofs.Common.{◌≡◌, ◌++◌, ◌∷◌, [], ◌∙◌, ℕ, List, true, ap, append-nil, codes, cond, flat_map, sym}
 use Rattle.rtps_evidence.specs.Times.{are_there}
+use Rattle.rtps_lines.specs.JsonText.{clock_times}
 use Rattle.rtps_lines.specs.Lines.{second_in}
 use Rattle.rtps_page.specs.ChartTimes.{datagrams_shown, time_json, times_json}
 use Rattle.rtps_page.proofs.EntryLemmas.{array_tokens}
@@ -11,7 +12,7 @@ pub returns-clause-tokens : goal.returns-clause-tokens
 returns-clause-tokens c = λ intake is.
     let start : List Token = c.args.writer.now.tokens in
     let begun : List Token = c.begin_array.new.self.tokens in
-    let times = c.args.clock.times.now in
+    let times = clock_times c.args.clock in
     let acts = placed_in intake.acts in
     let shown = datagrams_shown acts c.args.pairs.now in
     let values = times_json times shown in

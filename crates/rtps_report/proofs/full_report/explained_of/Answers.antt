@@ -6,6 +6,7 @@ use Rattle.rtps_discovery.specs.Directory.{DirectoryValue, settled_in, unsettled
 use Rattle.rtps_discovery.specs.Matching.{matches_among, reliable_pairs}
 use Rattle.rtps_discovery.specs.declared.matching.Pair.{Pair}
 use Rattle.rtps_evidence.specs.Explanation.{AreExplained}
+use Rattle.rtps_evidence.specs.Kinds.{lost_value}
 use Rattle.rtps_evidence.specs.declared.exchange.Extent.{Extent}
 use Rattle.rtps_report.specs.Asked.{asked_value}
 use Rattle.rtps_report.specs.Talk.{IsKeptOf}
@@ -28,8 +29,8 @@ returns g c = λ intake beside traffic are kept.
       is_map = is_map;
       pairs = c.in_ok-pairs.pairs.items;
       are_pairs = c.in_ok-pairs.ensures intake traffic pairs (subst (λ (of : DirectoryValue). IsKeptOf (asked_value c.args.asked.now) intake traffic of.endpoints c.args.talk.now) here kept);
-      rows = subst (λ (those : List Pair). AreExplained true c.args.asked.now.from beside intake those c.in_ok-rows.rows.items) c.deref-2.ensures.value
-          (subst (λ (extent : Extent). AreExplained extent.in_spans extent.from beside intake c.deref-2.result.now c.in_ok-rows.rows.items) c.extent.ensures
-          (c.in_ok-rows.ensures intake beside are judged));
+      rows = subst (λ (those : List Pair). AreExplained true c.args.asked.now.from beside intake those c.in_ok-found.found.rows.items (map lost_value c.in_ok-found.found.lost.items)) c.deref-2.ensures.value
+          (subst (λ (extent : Extent). AreExplained extent.in_spans extent.from beside intake c.deref-2.result.now c.in_ok-found.found.rows.items (map lost_value c.in_ok-found.found.lost.items)) c.extent.ensures
+          (c.in_ok-found.ensures intake beside are judged));
       counts = report.counts ∙ ap (λ (of : DirectoryValue). counts_of intake (length (unsettled_in of.endpoints))) same;
     }

@@ -1,11 +1,12 @@
 use Rattle.std.proofs.Common.{◌≡◌, ◌++◌, ◌∙◌, ◌∷◌, [], ℕ, List, ap, ap₂, false, flat_map, length, map, refl, sym}
+use Rattle.rtps_evidence.specs.Kinds.{LostValue}
 use Rattle.rtps_evidence.specs.OtherSide.{alone}
 use Rattle.rtps_report.specs.Vocabulary.{Counts, DirectoryValue, Explanation, ExplanationValue, Row, explanation_value, intake_as, row_of}
 use Rattle.rtps_report.specs.declared.advice.Scope.{Scope}
 use Rattle.rtps_report.specs.declared.findings.Ending.{Ending}
 use Rattle.rtps_discovery.specs.Notice.{faults_in}
 use Rattle.rtps_report.specs.BestEfforts.{numbers_told}
-use Rattle.rtps_report.specs.FullReport.{AskedValue, RecordingValue, ReportValue, rows_of}
+use Rattle.rtps_report.specs.FullReport.{AskedValue, RecordingValue, ReportValue, lost_of, rows_of}
 use Rattle.rtps_report.specs.Laws.{AreSame}
 use Rattle.rtps_report.specs.NoteFacts.{is_unread}
 use Rattle.rtps_report.specs.Talk.{TalkValue}
@@ -53,20 +54,21 @@ returns-clause-json c = λ asked recording one other ending last is also.
     )
 
 -- the lines of a report by its parts
-abbrev lines_with : AskedValue → RecordingValue → Ending → Counts → List ExplanationValue → TalkValue → List ℕ
-lines_with asked recording ending counts rows talk =
+abbrev lines_with : AskedValue → RecordingValue → Ending → Counts → List ExplanationValue → List LostValue → TalkValue → List ℕ
+lines_with asked recording ending counts rows lost talk =
     let scope : Scope = record { from = asked.from; tail = asked.tail; unread = is_unread counts recording.reasons } in
     pairs_line (length rows)
-    ++ (flat_map (row_text scope talk recording.times) rows
+    ++ (flat_map (row_text (record { scope = scope; talk = talk; lost = lost; times = recording.times })) rows
     ++ (report_counts_line counts recording.ignored ++ last_line (totals_of scope rows) (numbers_told talk.best_effort_total) ending (causes_of asked.certain (totals_of scope rows) (findings_in ending))))
 
 same_lines : (asked : AskedValue) (recording : RecordingValue) (one other : ReportValue) → AreSame one other → why_text asked recording one ≡ why_text asked recording other
 same_lines asked recording one other same =
     let with = lines_with asked recording in
-    ap (λ (rows : List ExplanationValue). with one.ending one.explained.counts rows one.talk) same.rows
-    ∙ ap (λ (counts : Counts). with one.ending counts (rows_of other) one.talk) same.counts
-    ∙ ap (λ (talk : TalkValue). with one.ending other.explained.counts (rows_of other) talk) (same_talk one.talk other.talk same.talk)
-    ∙ ap (λ (ending : Ending). with ending other.explained.counts (rows_of other) other.talk) same.ending
+    ap (λ (rows : List ExplanationValue). with one.ending one.explained.counts rows (lost_of one) one.talk) same.rows
+    ∙ ap (λ (lost : List LostValue). with one.ending one.explained.counts (rows_of other) lost one.talk) same.lost
+    ∙ ap (λ (counts : Counts). with one.ending counts (rows_of other) (lost_of other) one.talk) same.counts
+    ∙ ap (λ (talk : TalkValue). with one.ending other.explained.counts (rows_of other) (lost_of other) talk) (same_talk one.talk other.talk same.talk)
+    ∙ ap (λ (ending : Ending). with ending other.explained.counts (rows_of other) (lost_of other) other.talk) same.ending
 
 pub returns-clause-why : goal.returns-clause-why
 returns-clause-why c = λ asked theirs recording one other ending last is also.

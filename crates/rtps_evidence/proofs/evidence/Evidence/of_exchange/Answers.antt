@@ -10,6 +10,7 @@ use Rattle.rtps_coverage.specs.Stretches.{stretches_have}
 use Rattle.rtps_evidence.specs.Amount.{AreAmounts}
 use Rattle.rtps_evidence.specs.Claimed.{AreLacking}
 use Rattle.rtps_evidence.specs.Evidence.{IsShown}
+use Rattle.rtps_evidence.specs.Ledger.{Stands}
 use Rattle.rtps_evidence.specs.Locations.{announcement_of}
 use Rattle.rtps_evidence.specs.Missed.{AreMissed, is_missed}
 use Rattle.rtps_evidence.specs.Received.{AreReceived}
@@ -42,7 +43,7 @@ returns c =
     (subst (λ m. IsVerdictFrom m (speech_by writer reader recording) c.args.verdict) (sym c.requires.from) judged) n low high in
     let missed : (recording : List (List ActValue)) → IsSaid pair recording exchange.said → IsSummary recording c.args.summary.now → IsVerdictFrom exchange.span.from (speech_by writer reader recording) c.args.verdict
     → (n : ℕ) → asked.from ≤ n → n ≤ asked.last → stretches_have c.in_ok-missed.missed.items n ≡ is_missed since writer reader (placed_in recording) n =
-    λ recording is summary judged n low high. c.in_ok-missed.ensures recording is n (let range = asked.in_range.2 in omega (arith, range, high)) (ap (λ l. stretches_have l n) c.deref.ensures.value ∙ lacking recording is summary judged n low high) in
+    λ recording is summary judged n low high. c.in_ok-missed.ensures exchange (stretches_have c.deref.result.now) recording is c.in_ok-ledger.ensures n (let range = asked.in_range.2 in omega (arith, range, high)) (ap (λ l. stretches_have l n) c.deref.ensures.value ∙ lacking recording is summary judged n low high) in
     let last : (recording : List (List ActValue)) → IsSummary recording c.args.summary.now → asked.last ≡ last_announced_from asked.from (speech_by writer reader recording) =
     λ recording summary. summary.last reader ∙ ap (λ (w : Guid). last_announced_from asked.from (speech_by w reader recording)) c.requires.writer in
     let evidence : Evidence = record {
@@ -57,7 +58,7 @@ returns c =
       missed = c.in_ok-missed-2.missed.count;
       first_missed = c.in_ok-missed-2.missed.first;
       grounds = c.grounds_of.result;
-      in_span = c.in_ok-in_span.in_span;
+      in_span = c.in_ok-spanned.spanned.in_span;
     } in
     record {
       judged = refl;
@@ -75,7 +76,8 @@ returns c =
             grounds = c.grounds_of.ensures recording is;
           });
       beside = λ whole recording beside is summary judged there times.
-          c.in_ok-in_span.ensures whole recording beside is there times (last recording summary)
+          c.in_ok-spanned.ensures whole recording beside is there times (last recording summary)
           (λ n low high. ap (λ l. stretches_have l n) c.deref-2.ensures.value ∙ lacking recording is summary judged n low high)
-          (λ n low high. ap (λ l. stretches_have l n) c.deref-3.ensures.value ∙ missed recording is summary judged n low high);
+          (λ n low high. ap (λ l. stretches_have l n) c.deref-3.ensures.value ∙ missed recording is summary judged n low high)
+          (subst (λ l. Stands exchange (stretches_have l) acts c.in_ok-ledger.ledger) (c.deref.ensures.value ∙ sym c.deref-2.ensures.value) c.in_ok-ledger.ensures);
     }

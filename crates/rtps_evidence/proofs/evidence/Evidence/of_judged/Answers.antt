@@ -10,5 +10,5 @@ returns-clause-shown c = λ intake beside are summed verdict.
     let judgement = c.args.judgement.now in
     let recording = datagrams_until judgement.span.until intake.acts in
     let there = c.in_ok-arrivals.ensures intake beside are in
-    c.in_ok-evidence.ensures.shown recording (is_there intake.acts beside.other judgement.pair) (c.until.ensures intake are.index) (subst (λ u. IsSummary (datagrams_until u intake.acts) c.args.summary.now) c.requires.until summed) verdict
+    c.in_ok-found.ensures.shown recording (is_there intake.acts beside.other judgement.pair) (c.until.ensures intake are.index) (subst (λ u. IsSummary (datagrams_until u intake.acts) c.args.summary.now) c.requires.until summed) verdict
     (λ n. ap (λ l. stretches_have l n) c.deref.ensures.value ∙ there.numbers n)

@@ -1,22 +1,19 @@
 use Rattle.std.proofs.Common.{◌≡◌, ◌∙◌, ◌+◌, ◌-◌, ◌<◌, ◌≤◌, ◌&&◌, ◌||◌, ℕ, Bool, List, [], ◌∷◌, ap, arith, false, map, nat_le, nat_lt, not, refl, true}
-use Rattle.std.specs.List.{list_any}
 use Rattle.std.specs.Prelude.{is_some}
 use Rattle.std.proofs.lemmas.Bool.Decides.{nat_tests}
 use Rattle.rtps_audit.specs.Delivery.{greatest}
-use Rattle.rtps_audit.specs.Placed.{placed_in, placed_value}
+use Rattle.rtps_audit.specs.Placed.{placed_in}
 use Rattle.rtps_receiver.specs.Said.{natural}
 use Rattle.rtps_audit.specs.declared.answer.Answer.{Answer}
-use Rattle.rtps_discovery.specs.declared.matching.Pair.{Pair}
 use Rattle.rtps_coverage.specs.Counts.{count_in}
 use Rattle.rtps_coverage.specs.Stretches.{stretches_have}
 use Rattle.rtps_evidence.specs.Locations.{greatest_base}
-use Rattle.rtps_evidence.specs.Missed.{brings_behind, is_wanting}
+use Rattle.rtps_evidence.specs.Missed.{is_wanting}
 use Rattle.rtps_evidence.specs.Outcomes.{is_brought, is_unanswered}
 use Rattle.rtps_evidence.specs.Received.{first_claiming, is_received}
 use Rattle.rtps_evidence.specs.Spans.{since_of}
 use Rattle.rtps_coverage.specs.declared.stretch.Stretch.{Stretch}
 use Rattle.rtps_evidence.proofs.AnswerLemmas.{bases_same}
-use Rattle.rtps_evidence.proofs.MissedLemmas.{brought_same}
 use Rattle.rtps_evidence.proofs.OutcomeCounts.{claimed_below, missed_put, outcomes_counted, unanswered_put, unsent_put, with_arrived, with_likely, with_missed, with_unanswered, with_unsent}
 use Rattle.rtps_evidence.proofs.outcome.Outcomes.of.Goals as goal
 
@@ -27,7 +24,7 @@ not_not : (b : Bool) → not (not b) ≡ b
 not_not b = grind (arith, nat_tests)
 
 pub returns : goal.returns
-returns c = λ recording there is at_host are missed.
+returns c = λ recording there is at_host sets.
     let exchange = c.args.exchange.now in
     let pair = exchange.pair in
     let since = since_of exchange.span in
@@ -35,7 +32,6 @@ returns c = λ recording there is at_host are missed.
     let all = placed_in recording in
     let from = c.args.asked.now.from in
     let last = c.args.asked.now.last in
-    let lacks : ℕ → Bool = stretches_have c.args.unreceived.now.numbers.now in
     let r : ℕ → Bool = is_received pair.writer pair.reader all in
     let w : ℕ → Bool = is_wanting since pair.writer pair.reader all in
     let b : ℕ → Bool = is_brought since pair all in
@@ -47,29 +43,22 @@ returns c = λ recording there is at_host are missed.
     let claimed : List Stretch = record { lo = 0; hi = c.greatest_base.result } ∷ [] in
     let one : ℕ → Bool = λ n. stretches_have c.in_ok-numbers.numbers.items n || false in
     let two : ℕ → Bool = λ n. stretches_have c.count_with.new.numbers.items n || stretches_have exchange.there.now n in
-    let three : ℕ → Bool = λ n. stretches_have c.count_with-2.new.numbers.items n || stretches_have c.args.unreceived.now.missed.now n in
-    let four : ℕ → Bool = λ n. stretches_have c.count_with-3.new.numbers.items n || stretches_have c.deref-2.result.now n in
-    let five : ℕ → Bool = λ n. stretches_have c.count_with-4.new.numbers.items n || stretches_have c.deref-3.result.now n in
+    let three : ℕ → Bool = λ n. stretches_have c.count_with-2.new.numbers.items n || stretches_have c.args.sets.now.unreceived.missed.now n in
+    let four : ℕ → Bool = λ n. stretches_have c.count_with-3.new.numbers.items n || stretches_have c.deref.result.now n in
+    let five : ℕ → Bool = λ n. stretches_have c.count_with-4.new.numbers.items n || stretches_have c.args.sets.now.silent.now n in
     let six : ℕ → Bool = λ n. stretches_have c.count_with-5.new.numbers.items n || stretches_have claimed n in
-    let lacking_too : (n : ℕ) → from ≤ n → n < last + 1 → r n ≡ false → lacks n ≡ true = λ n low high out. are n low (omega arith) ∙ ap not out in
     let first : (n : ℕ) → from ≤ n → n < last + 1 → one n ≡ r n =
-    λ n low high. or_no (stretches_have c.in_ok-numbers.numbers.items n) ∙ c.in_ok-numbers.ensures n (omega (arith, begins, low)) high ∙ ap not (are n low (omega arith)) ∙ not_not (r n) in
+    λ n low high. or_no (stretches_have c.in_ok-numbers.numbers.items n) ∙ c.in_ok-numbers.ensures n (omega (arith, begins, low)) high ∙ ap not (sets.lacking n low (omega arith)) ∙ not_not (r n) in
     let second : (n : ℕ) → from ≤ n → n < last + 1 → two n ≡ with_arrived (r n) (there n) =
     λ n low high. ap (λ x. x || stretches_have exchange.there.now n) (c.in_ok-received.ensures.numbers n ∙ first n low high) ∙ ap (λ x. r n || x) (at_host n) in
     let third : (n : ℕ) → from ≤ n → n < last + 1 → three n ≡ with_missed (r n) (there n) (w n) =
-    λ n low high. missed_put (stretches_have c.count_with-2.new.numbers.items n) (r n) (there n) (w n) (stretches_have c.args.unreceived.now.missed.now n) (three n) (c.in_ok-arrived.ensures.numbers n ∙ second n low high) (missed n low (omega arith)) refl in
-    let brought : (n : ℕ) → lacks n ≡ true → stretches_have c.in_ok-brought.brought.items n ≡ b n =
-    λ n lacking.
-    c.in_ok-brought.ensures n lacking
-    ∙ ap (λ s. list_any (brings_behind s c.listener.result.pair.writer c.listener.result.pair.reader n) (map placed_value exchange.said.acts.now)) c.listener.ensures.since
-    ∙ ap (λ (p : Pair). list_any (brings_behind since p.writer p.reader n) (map placed_value exchange.said.acts.now)) c.listener.ensures.pair
-    ∙ ap (list_any (brings_behind since pair.writer pair.reader n)) is.acts ∙ brought_same since pair.writer pair.reader n all in
+    λ n low high. missed_put (stretches_have c.count_with-2.new.numbers.items n) (r n) (there n) (w n) (stretches_have c.args.sets.now.unreceived.missed.now n) (three n) (c.in_ok-arrived.ensures.numbers n ∙ second n low high) (sets.missed n low (omega arith)) refl in
     let fourth : (n : ℕ) → from ≤ n → n < last + 1 → four n ≡ with_unsent (r n) (there n) (w n) (b n) =
-    λ n low high. unsent_put (stretches_have c.count_with-3.new.numbers.items n) (r n) (there n) (w n) (b n) (stretches_have c.deref-2.result.now n) (four n) (c.in_ok-missed.ensures.numbers n ∙ third n low high)
-    (λ out. ap (λ l. stretches_have l n) c.deref-2.ensures.value ∙ c.in_ok-unsent.ensures n low (omega arith) ∙ ap not (brought n (lacking_too n low high out))) refl in
+    λ n low high. unsent_put (stretches_have c.count_with-3.new.numbers.items n) (r n) (there n) (w n) (b n) (stretches_have c.deref.result.now n) (four n) (c.in_ok-missed.ensures.numbers n ∙ third n low high)
+    (λ out. ap (λ l. stretches_have l n) c.deref.ensures.value ∙ sets.unsent n low (omega arith) out) refl in
     let fifth : (n : ℕ) → from ≤ n → n < last + 1 → five n ≡ with_unanswered (r n) (there n) (w n) (b n) (u n) =
-    λ n low high. unanswered_put (stretches_have c.count_with-4.new.numbers.items n) (r n) (there n) (w n) (b n) (stretches_have c.deref-3.result.now n) (u n) (five n) (c.in_ok-unsent-2.ensures.numbers n ∙ fourth n low high)
-    (λ out is_brought. ap (λ l. stretches_have l n) c.deref-3.ensures.value ∙ c.in_ok-silent.ensures recording is n (ap (λ l. stretches_have l n) c.deref.ensures.value ∙ brought n (lacking_too n low high out) ∙ is_brought)) refl in
+    λ n low high. unanswered_put (stretches_have c.count_with-4.new.numbers.items n) (r n) (there n) (w n) (b n) (stretches_have c.args.sets.now.silent.now n) (u n) (five n) (c.in_ok-unsent.ensures.numbers n ∙ fourth n low high)
+    (λ out is_brought. sets.silent n low (omega arith) out is_brought) refl in
     let below : (n : ℕ) → stretches_have claimed n ≡ k n =
     λ n.
     let zero : nat_le 0 n ≡ true = grind (arith, nat_tests) in
@@ -81,16 +70,16 @@ returns c = λ recording there is at_host are missed.
     (record { of_received = first; of_arrived = second; of_missed = third; of_unsent = fourth; of_unanswered = fifth; of_likely = sixth }) in
     let arrived_more : c.saturating_sub.result ≡ c.in_ok-arrived.arrived - c.in_ok-received.received = (let is = c.saturating_sub.ensures in omega (arith, is)) in
     let missed_more : c.saturating_sub-2.result ≡ c.in_ok-missed.missed - c.in_ok-arrived.arrived = (let is = c.saturating_sub-2.ensures in omega (arith, is)) in
-    let unsent_more : c.saturating_sub-3.result ≡ c.in_ok-unsent-2.unsent - c.in_ok-missed.missed = (let is = c.saturating_sub-3.ensures in omega (arith, is)) in
-    let unanswered_more : c.saturating_sub-4.result ≡ c.in_ok-unanswered.unanswered - c.in_ok-unsent-2.unsent = (let is = c.saturating_sub-4.ensures in omega (arith, is)) in
+    let unsent_more : c.saturating_sub-3.result ≡ c.in_ok-unsent.unsent - c.in_ok-missed.missed = (let is = c.saturating_sub-3.ensures in omega (arith, is)) in
+    let unanswered_more : c.saturating_sub-4.result ≡ c.in_ok-unanswered.unanswered - c.in_ok-unsent.unsent = (let is = c.saturating_sub-4.ensures in omega (arith, is)) in
     let likely_more : c.saturating_sub-5.result ≡ c.in_ok-likely.likely - c.in_ok-unanswered.unanswered = (let is = c.saturating_sub-5.ensures in omega (arith, is)) in
     let others : c.saturating_sub-6.result ≡ last + 1 - from - c.in_ok-likely.likely = (let is = c.saturating_sub-6.ensures in omega (arith, is, begins)) in
     record {
       received = c.in_ok-received.ensures.count ∙ counted.received;
       arrived = arrived_more ∙ ap (λ m. m - c.in_ok-received.received) c.in_ok-arrived.ensures.count ∙ ap (λ m. count_in two from (last + 1) - m) c.in_ok-received.ensures.count ∙ counted.arrived;
       missed = missed_more ∙ ap (λ m. m - c.in_ok-arrived.arrived) c.in_ok-missed.ensures.count ∙ ap (λ m. count_in three from (last + 1) - m) c.in_ok-arrived.ensures.count ∙ counted.missed;
-      unsent = unsent_more ∙ ap (λ m. m - c.in_ok-missed.missed) c.in_ok-unsent-2.ensures.count ∙ ap (λ m. count_in four from (last + 1) - m) c.in_ok-missed.ensures.count ∙ counted.unsent;
-      unanswered = unanswered_more ∙ ap (λ m. m - c.in_ok-unsent-2.unsent) c.in_ok-unanswered.ensures.count ∙ ap (λ m. count_in five from (last + 1) - m) c.in_ok-unsent-2.ensures.count ∙ counted.unanswered;
+      unsent = unsent_more ∙ ap (λ m. m - c.in_ok-missed.missed) c.in_ok-unsent.ensures.count ∙ ap (λ m. count_in four from (last + 1) - m) c.in_ok-missed.ensures.count ∙ counted.unsent;
+      unanswered = unanswered_more ∙ ap (λ m. m - c.in_ok-unsent.unsent) c.in_ok-unanswered.ensures.count ∙ ap (λ m. count_in five from (last + 1) - m) c.in_ok-unsent.ensures.count ∙ counted.unanswered;
       likely = likely_more ∙ ap (λ m. m - c.in_ok-unanswered.unanswered) c.in_ok-likely.ensures.count ∙ ap (λ m. count_in six from (last + 1) - m) c.in_ok-unanswered.ensures.count ∙ counted.likely;
       unconfirmed = others ∙ ap (λ m. last + 1 - from - m) c.in_ok-likely.ensures.count ∙ counted.unconfirmed;
     }

@@ -1,0 +1,38 @@
+-- What is kept of what a pair said, at the start and with one act more.
+use Rattle.std.proofs.Common.{◌≡◌, ◌∙◌, ℕ, Bool, true, false, ◌||◌, cond, filter, List, [], ◌∷◌, ◌++◌, Option, Some, None, refl, ap, arith}
+use Rattle.std.specs.List.{list_any}
+use Rattle.std.specs.Option.{option_map}
+use Rattle.std.proofs.lemmas.Bool.Decides.{nat_tests}
+use Rattle.std.proofs.lemmas.List.Folds.{list_any-append}
+use Rattle.rtps_audit.specs.Placed.{PlacedValue}
+use Rattle.rtps_discovery.specs.declared.matching.Pair.{Pair}
+use Rattle.rtps_evidence.specs.Requests.{met_among, new_request, requested}
+use Rattle.rtps_evidence.specs.Locations.{find_last, location_of}
+use Rattle.rtps_evidence.specs.Missed.{asks_for}
+use Rattle.rtps_evidence.specs.declared.location.Location.{Location}
+use Rattle.rtps_evidence.specs.declared.missed_numbers.Request.{Request}
+
+or_no : (b : Bool) → (b || false) ≡ b
+or_no b = grind (arith, nat_tests)
+
+-- before all acts nothing became of a request
+pub met_none : (since : Option Location) (pair : Pair) (n : ℕ) (request : Option Request) → option_map (met_among since pair n []) request ≡ request
+met_none since pair n None = refl
+met_none since pair n (Some request) =
+    ap (λ m. Some (record { place = request.place; is_met = m; is_again = request.is_again || false })) (or_no request.is_met) ∙ ap (λ a. Some (record { place = request.place; is_met = request.is_met; is_again = a })) (or_no request.is_again)
+
+-- a number that does not lack has no request
+pub unasked : (since : Option Location) (pair : Pair) (n : ℕ) (acts asks : List PlacedValue) (lacks : ℕ → Bool) → lacks n ≡ false → option_map (met_among since pair n acts) (requested pair asks lacks n) ≡ None
+unasked since pair n acts asks lacks out = ap (λ b. option_map (met_among since pair n acts) (cond b (option_map (λ asking. new_request (location_of asking)) (find_last (asks_for pair.writer pair.reader n) asks)) None)) out
+
+-- one act more
+pub any_more : (test : PlacedValue → Bool) (acts : List PlacedValue) (x : PlacedValue) → list_any test (acts ++ x ∷ []) ≡ (list_any test acts || test x)
+any_more test acts x = list_any-append test acts (x ∷ []) ∙ ap (λ b. list_any test acts || b) (or_no (test x))
+
+pub filter_more : (test : PlacedValue → Bool) (acts : List PlacedValue) (x : PlacedValue) (b : Bool) → test x ≡ b → filter test (acts ++ x ∷ []) ≡ filter test acts ++ cond b (x ∷ []) []
+filter_more test [] x b is = ap (λ c. cond c (x ∷ []) []) is
+filter_more test (y ∷ ys) x b is = by (test y) (filter_more test ys x b is)
+  where
+    by : (c : Bool) → filter test (ys ++ x ∷ []) ≡ filter test ys ++ cond b (x ∷ []) [] → cond c (y ∷ filter test (ys ++ x ∷ [])) (filter test (ys ++ x ∷ [])) ≡ cond c (y ∷ filter test ys) (filter test ys) ++ cond b (x ∷ []) []
+    by true more = ap (λ l. y ∷ l) more
+    by false more = more

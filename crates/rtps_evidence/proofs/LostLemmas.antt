@@ -1,0 +1,180 @@
+-- Numbers that are lost, kind by kind; and they are told in one way.
+use Rattle.std.proofs.lemmas.Bool.Decides.{nat_tests}
+use Rattle.std.proofs.Common.{◌≡◌, ◌∙◌, ℕ, ◌+◌, ◌<◌, ◌≤◌, ◌&&◌, Bool, true, false, nat_le, nat_lt, not, List, [], ◌∷◌, ◌++◌, Option, refl, sym, ap, arith, subst, zero, suc, get_or, length, map, take}
+use Rattle.std.specs.Prelude.{is_some}
+use Rattle.std.specs.List.{range_with_len}
+use Rattle.std.proofs.lemmas.List.{length-append, map-append, take_more}
+use Rattle.std.proofs.lemmas.Bool.{and_parts, leb-true, ltb-true}
+use Rattle.rtps_discovery.specs.declared.matching.Pair.{Pair}
+use Rattle.rtps_audit.specs.Intake.{Intake}
+use Rattle.rtps_audit.specs.Placed.{PlacedValue}
+use Rattle.rtps_audit.specs.Said.{datagrams_until}
+use Rattle.rtps_audit.specs.declared.report.Row.{Row}
+use Rattle.rtps_receiver.specs.Values.{ActValue}
+use Rattle.rtps_coverage.specs.Counts.{count_in}
+use Rattle.rtps_coverage.specs.declared.stretch.Stretch.{Stretch}
+use Rattle.rtps_evidence.specs.Clean.{has_all}
+use Rattle.rtps_evidence.specs.Explanation.{AreLostOf, IsLostBy}
+use Rattle.rtps_evidence.specs.Kinds.{AreLost, AreRangesOf, AreRunsOf, IsLostIn, KindValue, LostValue, has_outcome, is_lacking, kept_ranges, lost_value, no_ranges, none_lost}
+use Rattle.rtps_evidence.specs.Missed.{is_wanting}
+use Rattle.rtps_evidence.specs.OtherSide.{Beside}
+use Rattle.rtps_evidence.specs.Outcomes.{AreOutcomes, is_brought, is_outcome, is_unanswered, outcome_of}
+use Rattle.rtps_evidence.specs.Received.{first_claiming, is_received}
+use Rattle.rtps_evidence.specs.declared.explanation.Explanation.{Explanation}
+use Rattle.rtps_evidence.specs.declared.kinds.LostNumbers.{LostNumbers}
+use Rattle.rtps_evidence.specs.declared.location.Location.{Location}
+use Rattle.rtps_evidence.specs.declared.outcome.Outcome.{Outcome}
+use Rattle.rtps_evidence.specs.declared.outcome.Outcome.TheVariants.{Missed, Unsent, Unanswered}
+use Rattle.rtps_evidence.specs.declared.outcome.Outcomes.{Outcomes}
+use Rattle.rtps_evidence.specs.declared.span.Span.{Span}
+use Rattle.rtps_evidence.proofs.CleanLemmas.{first_of, none_has}
+use Rattle.rtps_evidence.proofs.KindLemmas.{runs_are_one}
+use Rattle.rtps_evidence.proofs.OneSpan.{HasOneMap, one_extent}
+
+-- ---- runs of numbers that have two things alike
+
+within : (a b c : Bool) → (a ≡ true → b ≡ c) → (a && b) ≡ (a && c)
+within true b c same = same refl
+within false b c same = refl
+
+pub runs_same : (has other : ℕ → Bool) (lo hi : ℕ) (runs : List Stretch) → ((n : ℕ) → lo ≤ n → n < hi → has n ≡ other n) → AreRunsOf has lo hi runs → AreRunsOf other lo hi runs
+runs_same has other lo hi runs same are = record {
+  apart = are.apart;
+  exact = λ n. are.exact n ∙ within (nat_le lo n && nat_lt n hi) (has n) (other n)
+      (λ is. same n (leb-true lo n (and_parts (nat_le lo n) (nat_lt n hi) is).0) (ltb-true n hi (and_parts (nat_le lo n) (nat_lt n hi) is).1));
+}
+
+-- ---- what the sets have of a number
+
+pub missed_kind : (r t w b u k l m : Bool) → l ≡ not r → m ≡ (not r && w) → ((l && not t) && m) ≡ is_outcome Missed (first_of r t w b u k)
+missed_kind true t w b u k l m h h2 = grind (arith, nat_tests)
+missed_kind false true w b u k l m h h2 = grind (arith, nat_tests)
+missed_kind false false true b u k l m h h2 = grind (arith, nat_tests)
+missed_kind false false false true true k l m h h2 = grind (arith, nat_tests)
+missed_kind false false false true false true l m h h2 = grind (arith, nat_tests)
+missed_kind false false false true false false l m h h2 = grind (arith, nat_tests)
+missed_kind false false false false u k l m h h2 = grind (arith, nat_tests)
+
+pub unsent_kind : (r t w b u k l m n : Bool) → l ≡ not r → m ≡ (not r && w) → (r ≡ false → n ≡ not b) → (((l && not t) && not m) && n) ≡ is_outcome Unsent (first_of r t w b u k)
+unsent_kind true t w b u k l m n h h2 h3 = grind (arith, nat_tests)
+unsent_kind false true w b u k l m n h h2 h3 = grind (arith, nat_tests)
+unsent_kind false false true b u k l m n h h2 h3 = grind (arith, nat_tests)
+unsent_kind false false false true true k l m n h h2 h3 = let no = h3 refl in grind (arith, nat_tests)
+unsent_kind false false false true false true l m n h h2 h3 = let no = h3 refl in grind (arith, nat_tests)
+unsent_kind false false false true false false l m n h h2 h3 = let no = h3 refl in grind (arith, nat_tests)
+unsent_kind false false false false u k l m n h h2 h3 = let no = h3 refl in grind (arith, nat_tests)
+
+pub unanswered_kind : (r t w b u k l m n s : Bool) → l ≡ not r → m ≡ (not r && w) → (r ≡ false → n ≡ not b) → (r ≡ false → b ≡ true → s ≡ u)
+    → ((((l && not t) && not m) && not n) && s) ≡ is_outcome Unanswered (first_of r t w b u k)
+unanswered_kind true t w b u k l m n s h h2 h3 h4 = grind (arith, nat_tests)
+unanswered_kind false true w b u k l m n s h h2 h3 h4 = grind (arith, nat_tests)
+unanswered_kind false false true b u k l m n s h h2 h3 h4 = grind (arith, nat_tests)
+unanswered_kind false false false true true k l m n s h h2 h3 h4 = let no = h3 refl in let yes = h4 refl refl in grind (arith, nat_tests)
+unanswered_kind false false false true false true l m n s h h2 h3 h4 = let no = h3 refl in let yes = h4 refl refl in grind (arith, nat_tests)
+unanswered_kind false false false true false false l m n s h h2 h3 h4 = let no = h3 refl in let yes = h4 refl refl in grind (arith, nat_tests)
+unanswered_kind false false false false u k l m n s h h2 h3 h4 = let no = h3 refl in grind (arith, nat_tests)
+
+-- an outcome is the first that fits
+pub outcome_first : (outcome : Outcome) (there : ℕ → Bool) (times : List (Option ℕ)) (since : Option Location) (pair : Pair) (acts : List PlacedValue) (n : ℕ)
+    → is_outcome outcome (first_of (is_received pair.writer pair.reader acts n) (there n) (is_wanting since pair.writer pair.reader acts n) (is_brought since pair acts n) (is_unanswered times since pair acts n) (is_some (first_claiming pair.writer pair.reader n acts)))
+    ≡ has_outcome outcome there times since pair acts n
+unfolding outcome_of
+outcome_first outcome there times since pair acts n = refl
+
+-- ---- where none is counted, none is lost
+
+and_no : (b : Bool) → (b && false) ≡ false
+and_no b = grind (arith, nat_tests)
+
+none_exact : (has : ℕ → Bool) (lo hi n : ℕ) → count_in has lo hi ≡ 0 → false ≡ ((nat_le lo n && nat_lt n hi) && has n)
+none_exact has lo hi n none =
+    sym (and_no (nat_le lo n && nat_lt n hi))
+    ∙ within (nat_le lo n && nat_lt n hi) false (has n) (λ is. sym (none_has has lo hi n none (leb-true lo n (and_parts (nat_le lo n) (nat_lt n hi) is).0) (ltb-true n hi (and_parts (nat_le lo n) (nat_lt n hi) is).1)))
+
+none_ranges : (has : ℕ → Bool) (from last : ℕ) (pair : Pair) (acts : List PlacedValue) (found : KindValue) → ((n : ℕ) → false ≡ ((nat_le from n && nat_lt n (last + 1)) && has n)) → found ≡ no_ranges → AreRangesOf has from last pair acts found
+none_ranges has from last pair acts found none is = record { runs = []; are_runs = record { apart = tt; exact = none }; is_value = is }
+
+-- where no number is lost by the counts, no kind has a number
+pub kept_all : (outcomes : Outcomes) → has_all outcomes ≡ true → (outcomes.missed ≡ 0) × (outcomes.unsent ≡ 0) × (outcomes.unanswered ≡ 0)
+kept_all outcomes all = (grind (arith, nat_tests), grind (arith, nat_tests), grind (arith, nat_tests))
+
+pub none_are_lost : (there : ℕ → Bool) (from last : ℕ) (times : List (Option ℕ)) (since : Option Location) (pair : Pair) (acts : List PlacedValue) (outcomes : Outcomes) (lost : LostValue)
+    → AreOutcomes there from last times since pair acts outcomes → outcomes.missed ≡ 0 → outcomes.unsent ≡ 0 → outcomes.unanswered ≡ 0 → lost ≡ none_lost → AreLost false there from last times since pair acts lost
+none_are_lost there from last times since pair acts outcomes lost are missed unsent unanswered is = record {
+  missed = none_ranges (has_outcome Missed there times since pair acts) from last pair acts lost.missed (λ n. none_exact (has_outcome Missed there times since pair acts) from (last + 1) n (sym are.missed ∙ missed)) (ap (λ (l : LostValue). l.missed) is);
+  unsent = none_ranges (has_outcome Unsent there times since pair acts) from last pair acts lost.unsent (λ n. none_exact (has_outcome Unsent there times since pair acts) from (last + 1) n (sym are.unsent ∙ unsent)) (ap (λ (l : LostValue). l.unsent) is);
+  unanswered = none_ranges (has_outcome Unanswered there times since pair acts) from last pair acts lost.unanswered (λ n. none_exact (has_outcome Unanswered there times since pair acts) from (last + 1) n (sym are.unanswered ∙ unanswered)) (ap (λ (l : LostValue). l.unanswered) is);
+  not_arrived = none_ranges (is_lacking false there pair acts) from last pair acts lost.not_arrived (λ n. sym (and_no (nat_le from n && nat_lt n (last + 1)))) (ap (λ (l : LostValue). l.not_arrived) is);
+}
+
+-- ---- they are told in one way
+
+one_ranges : (has : ℕ → Bool) (from last : ℕ) (pair : Pair) (acts : List PlacedValue) (one other : KindValue) → AreRangesOf has from last pair acts one → AreRangesOf has from last pair acts other → one ≡ other
+one_ranges has from last pair acts one other is also = is.is_value ∙ ap (kept_ranges pair acts) (runs_are_one has from (last + 1) is.runs also.runs is.are_runs also.are_runs) ∙ sym also.is_value
+
+lost_is : (one other : LostValue) → one.missed ≡ other.missed → one.unsent ≡ other.unsent → one.unanswered ≡ other.unanswered → one.not_arrived ≡ other.not_arrived → one ≡ other
+lost_is one other missed unsent unanswered not_arrived = grind (arith, nat_tests)
+
+one_are_lost : (held : Bool) (there : ℕ → Bool) (from last : ℕ) (times : List (Option ℕ)) (since : Option Location) (pair : Pair) (acts : List PlacedValue) (one other : LostValue) → AreLost held there from last times since pair acts one → AreLost held there from last times since pair acts other → one ≡ other
+one_are_lost held there from last times since pair acts one other is also =
+    lost_is one other
+    (one_ranges (has_outcome Missed there times since pair acts) from last pair acts one.missed other.missed is.missed also.missed)
+    (one_ranges (has_outcome Unsent there times since pair acts) from last pair acts one.unsent other.unsent is.unsent also.unsent)
+    (one_ranges (has_outcome Unanswered there times since pair acts) from last pair acts one.unanswered other.unanswered is.unanswered also.unanswered)
+    (one_ranges (is_lacking held there pair acts) from last pair acts one.not_arrived other.not_arrived is.not_arrived also.not_arrived)
+
+one_lost_in : (spans : Bool) (beside : Beside) (own : Span) (pair : Pair) (all recording : List (List ActValue)) (one other : LostValue) → IsLostIn spans beside own pair all recording one → IsLostIn spans beside own pair all recording other → one ≡ other
+one_lost_in true beside own pair all recording one other is also = one_are_lost _ _ _ _ _ _ _ _ one other is also
+one_lost_in false beside own pair all recording one other is also = is ∙ sym also
+
+one_lost_by : HasOneMap → (spans : Bool) (from : ℕ) (beside : Beside) (intake : Intake) (pair : Pair) (one other : LostValue) → IsLostBy spans from beside intake pair one → IsLostBy spans from beside intake pair other → one ≡ other
+one_lost_by unique spans from beside intake pair one other is also =
+    let same : is.span ≡ also.span = one_extent unique spans from pair intake is.span also.span is.extent also.extent in
+    one_lost_in spans beside also.span pair intake.acts _ one other (subst (λ (own : Span). IsLostIn spans beside own pair intake.acts (datagrams_until own.until intake.acts) one) same is.losses) also.losses
+
+pub one_losses : HasOneMap → (spans : Bool) (from : ℕ) (beside : Beside) (intake : Intake) (pairs : List Pair) (one other : List LostValue) → AreLostOf spans from beside intake pairs one → AreLostOf spans from beside intake pairs other → one ≡ other
+one_losses unique spans from beside intake [] [] [] is also = refl
+one_losses unique spans from beside intake [] [] (y ∷ ys) is also = absurd also
+one_losses unique spans from beside intake [] (x ∷ xs) other is also = absurd is
+one_losses unique spans from beside intake (pair ∷ pairs) [] other is also = absurd is
+one_losses unique spans from beside intake (pair ∷ pairs) (x ∷ xs) [] is also = absurd also
+one_losses unique spans from beside intake (pair ∷ pairs) (x ∷ xs) (y ∷ ys) is also =
+    let head : x ≡ y = one_lost_by unique spans from beside intake pair x y is.0 also.0 in
+    let tail : xs ≡ ys = one_losses unique spans from beside intake pairs xs ys is.1 also.1 in
+    cc
+
+-- ---- one row more
+
+pub losses_more : (spans : Bool) (from : ℕ) (beside : Beside) (intake : Intake) (pairs : List Pair) (lost : List LostValue) (pair : Pair) (one : LostValue) → AreLostOf spans from beside intake pairs lost → IsLostBy spans from beside intake pair one
+    → AreLostOf spans from beside intake (pairs ++ pair ∷ []) (lost ++ one ∷ [])
+losses_more spans from beside intake [] [] pair one are is = (is, tt)
+losses_more spans from beside intake [] (x ∷ xs) pair one are is = absurd are
+losses_more spans from beside intake (p ∷ pairs) [] pair one are is = absurd are
+losses_more spans from beside intake (p ∷ pairs) (x ∷ xs) pair one are is = (are.0, losses_more spans from beside intake pairs xs pair one are.1 is)
+
+pub losses_rows : (spans : Bool) (from : ℕ) (beside : Beside) (intake : Intake) (rows : List Row) (i : ℕ) (d : Row) (old new : List LostNumbers) (x : LostNumbers) → i < length rows → new ≡ old ++ x ∷ []
+    → AreLostOf spans from beside intake (map (λ (row : Row). row.pair) (take i rows)) (map lost_value old) → IsLostBy spans from beside intake (get_or rows i d).pair (lost_value x)
+    → AreLostOf spans from beside intake (map (λ (row : Row). row.pair) (take (i + 1) rows)) (map lost_value new)
+losses_rows spans from beside intake rows i d old new x lt is are one =
+    let pairs = ap (map (λ (row : Row). row.pair)) (take_more rows i d lt) ∙ map-append (λ (row : Row). row.pair) (take i rows) (get_or rows i d ∷ []) in
+    let losses = ap (map lost_value) is ∙ map-append lost_value old (x ∷ []) in
+    subst (λ l. AreLostOf spans from beside intake l (map lost_value new)) (sym pairs)
+    (subst (λ l. AreLostOf spans from beside intake (map (λ (row : Row). row.pair) (take i rows) ++ (get_or rows i d).pair ∷ []) l) (sym losses)
+    (losses_more spans from beside intake (map (λ (row : Row). row.pair) (take i rows)) (map lost_value old) (get_or rows i d).pair (lost_value x) are one))
+
+-- places of rows, one more
+range_more : (a n : ℕ) → range_with_len a (n + 1) ≡ range_with_len a n ++ (a + n) ∷ []
+range_more a zero = (let e : a ≡ a + 0 = omega arith in ap (λ m. m ∷ []) e)
+range_more a (suc n) =
+    let to : suc n + 1 ≡ suc (n + 1) = omega arith in
+    let at : a + 1 + n ≡ a + suc n = omega arith in
+    ap (range_with_len a) to ∙ ap (λ l. a ∷ l) (range_more (a + 1) n ∙ ap (λ m. range_with_len (a + 1) n ++ m ∷ []) at)
+
+pub places_more : (old new : List Explanation) (x : Explanation) → new ≡ old ++ x ∷ [] → x.place ≡ length old → map (λ (row : Explanation). row.place) old ≡ range_with_len 0 (length old)
+    → map (λ (row : Explanation). row.place) new ≡ range_with_len 0 (length new)
+places_more old new x is place so_far =
+    let many : length new ≡ length old + 1 = ap length is ∙ length-append old (x ∷ []) in
+    let none : length old ≡ 0 + length old = omega arith in
+    ap (map (λ (row : Explanation). row.place)) is ∙ map-append (λ (row : Explanation). row.place) old (x ∷ [])
+    ∙ ap (λ l. l ++ x.place ∷ []) so_far ∙ ap (λ m. range_with_len 0 (length old) ++ m ∷ []) (place ∙ none)
+    ∙ sym (range_more 0 (length old)) ∙ ap (range_with_len 0) (sym many)

@@ -1,0 +1,122 @@
+-- Which numbers of a row are lost, or look so, as ranges. own: a count says how bad it is, and not what happened; a range with the place of
+-- its first number leads to the moment. Acts are those of the datagrams that a row is by; `since` is the place behind which the reader is
+-- there; `there` says which numbers the other recording has a payload of that the reader hears.
+use Rattle.std.specs.Prelude.{ℕ, Bool, true, false, ⊤, ◌≡◌, ◌+◌, ◌-◌, ◌≤◌, ◌<◌, ◌&&◌, nat_le, nat_lt, not, length, map, take, List, [], ◌∷◌, Option}
+use Rattle.std.specs.List.{find}
+use Rattle.std.specs.Option.{option_map}
+use Rattle.rtps_discovery.specs.declared.matching.Pair.{Pair}
+use Rattle.rtps_audit.specs.Delivery.{last_announced_from}
+use Rattle.rtps_audit.specs.Placed.{PlacedValue, placed_in}
+use Rattle.rtps_audit.specs.Speech.{speech_by}
+use Rattle.rtps_receiver.specs.Values.{ActValue}
+use Rattle.rtps_coverage.specs.Stretches.{stretches_have}
+use Rattle.rtps_coverage.specs.declared.stretch.Stretch.{Stretch}
+use Rattle.rtps_evidence.specs.Locations.{location_of}
+use Rattle.rtps_evidence.specs.Missed.{brings}
+use Rattle.rtps_evidence.specs.OtherSide.{Beside, is_held, is_there}
+use Rattle.rtps_evidence.specs.Outcomes.{is_outcome, outcome_of}
+use Rattle.rtps_evidence.specs.Received.{is_received}
+use Rattle.rtps_evidence.specs.Spans.{since_of}
+use Rattle.rtps_evidence.specs.declared.kinds.KindNumbers.{KindNumbers}
+use Rattle.rtps_evidence.specs.declared.kinds.LostNumbers.{LostNumbers}
+use Rattle.rtps_evidence.specs.declared.kinds.NumberRange.{NumberRange}
+use Rattle.rtps_evidence.specs.declared.location.Location.{Location}
+use Rattle.rtps_evidence.specs.declared.outcome.Outcome.{Outcome}
+use Rattle.rtps_evidence.specs.declared.outcome.Outcome.TheVariants.{Missed, Unsent, Unanswered}
+use Rattle.rtps_evidence.specs.declared.span.Span.{Span}
+
+-- ---- numbers as runs
+
+-- each run from a number on has some number, and between two of them stands one that is in neither
+abbrev pub AreApart : ℕ → List Stretch → Type 0
+AreApart lo [] = ⊤
+AreApart lo (run ∷ runs) = (lo ≤ run.lo) × (run.lo < run.hi) × AreApart (run.hi + 1) runs
+
+-- the runs are exactly the numbers from lo on and below hi that have it
+pub record AreRunsOf (has : ℕ → Bool) (lo hi : ℕ) (runs : List Stretch) : Type 0 where
+  pub apart : AreApart lo runs
+  pub exact : (n : ℕ) → stretches_have runs n ≡ ((nat_le lo n && nat_lt n hi) && has n)
+
+-- ---- ranges
+
+-- where the first act stands that brings the reader n, if one does
+abbrev pub first_brought : Pair → List PlacedValue → ℕ → Option Location
+first_brought pair acts n = option_map location_of (find (brings pair.writer pair.reader n) acts)
+
+-- a run as a range, with the place of the first act that brings its first number
+abbrev pub range_of : Pair → List PlacedValue → Stretch → NumberRange
+range_of pair acts run = record { first = run.lo; last = run.hi - 1; sent = first_brought pair acts run.lo }
+
+-- ranges, and how many more there are
+pub record KindValue : Type 0 where
+  pub ranges : List NumberRange
+  pub more : ℕ
+
+-- the first thousand of these runs, and how many more there are
+abbrev pub kept_ranges : Pair → List PlacedValue → List Stretch → KindValue
+kept_ranges pair acts runs = record { ranges = map (range_of pair acts) (take 1000 runs); more = length runs - 1000 }
+
+-- the numbers from `from` on, up to the last one, that have it, as ranges
+pub record AreRangesOf (has : ℕ → Bool) (from last : ℕ) (pair : Pair) (acts : List PlacedValue) (found : KindValue) : Type 0 where
+  pub runs : List Stretch
+  pub are_runs : AreRunsOf has from (last + 1) runs
+  pub is_value : found ≡ kept_ranges pair acts runs
+
+-- no ranges
+abbrev pub no_ranges : KindValue
+no_ranges = record { ranges = []; more = 0 }
+
+-- ---- kinds
+
+-- those of each kind
+pub record LostValue : Type 0 where
+  pub missed : KindValue
+  pub unsent : KindValue
+  pub unanswered : KindValue
+  pub not_arrived : KindValue
+
+-- those of the code, as values
+abbrev pub kind_value : KindNumbers → KindValue
+kind_value kind = record { ranges = kind.ranges.items; more = kind.more }
+
+-- the same of all kinds
+abbrev pub lost_value : LostNumbers → LostValue
+lost_value lost =
+    record {
+      missed = kind_value lost.missed;
+      unsent = kind_value lost.unsent;
+      unanswered = kind_value lost.unanswered;
+      not_arrived = kind_value lost.not_arrived;
+    }
+
+-- no numbers
+abbrev pub none_lost : LostValue
+none_lost = record { missed = no_ranges; unsent = no_ranges; unanswered = no_ranges; not_arrived = no_ranges }
+
+-- of a pair that is held against another recording, n is neither received nor there
+abbrev pub is_lacking : Bool → (ℕ → Bool) → Pair → List PlacedValue → ℕ → Bool
+is_lacking held there pair acts n = held && (not (is_received pair.writer pair.reader acts n) && not (there n))
+
+-- n has this outcome
+abbrev pub has_outcome : Outcome → (ℕ → Bool) → List (Option ℕ) → Option Location → Pair → List PlacedValue → ℕ → Bool
+has_outcome outcome there times since pair acts n = is_outcome outcome (outcome_of there times since pair acts n)
+
+-- of the numbers from `from` on, up to the last one: those that are lost, or look so, by their outcomes, and those that did not arrive
+pub record AreLost (held : Bool) (there : ℕ → Bool) (from last : ℕ) (times : List (Option ℕ)) (since : Option Location) (pair : Pair) (acts : List PlacedValue) (lost : LostValue) : Type 0 where
+  pub missed : AreRangesOf (has_outcome Missed there times since pair acts) from last pair acts lost.missed
+  pub unsent : AreRangesOf (has_outcome Unsent there times since pair acts) from last pair acts lost.unsent
+  pub unanswered : AreRangesOf (has_outcome Unanswered there times since pair acts) from last pair acts lost.unanswered
+  pub not_arrived : AreRangesOf (is_lacking held there pair acts) from last pair acts lost.not_arrived
+
+-- those of a row, where rows are in spans; none, where they are not. The row is by acts of all that the recording has
+abbrev pub IsLostIn : Bool → Beside → Span → Pair → List (List ActValue) → List (List ActValue) → LostValue → Type 0
+IsLostIn true beside own pair all recording lost =
+    AreLost (is_held all beside.other pair) (is_there all beside.other pair) own.from (last_announced_from own.from (speech_by pair.writer pair.reader recording))
+    beside.times (since_of own) pair (placed_in recording) lost
+IsLostIn false beside own pair all recording lost = lost ≡ none_lost
+
+-- ---- laws
+
+-- some numbers are told by ranges in one way
+abbrev pub RunsAreOne : Type 0
+RunsAreOne = (has : ℕ → Bool) (lo hi : ℕ) (one other : List Stretch) → AreRunsOf has lo hi one → AreRunsOf has lo hi other → one ≡ other

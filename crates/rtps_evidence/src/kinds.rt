@@ -1,0 +1,231 @@
+ghost use Rattle.std.specs.Prelude.{ℕ, Bool, ◌≡◌, ◌≤◌, ◌+◌, ◌&&◌, not, take, IfOk, List};
+ghost use Rattle.rtps_receiver.specs.Values.{ActValue};
+ghost use Rattle.rtps_audit.specs.Placed.{PlacedValue, placed_in};
+ghost use Rattle.rtps_audit.specs.Said.{IsSaid};
+ghost use Rattle.rtps_discovery.specs.declared.matching.Pair.{Pair as PairOf};
+ghost use Rattle.rtps_coverage.specs.Stretches.{stretches_have};
+ghost use Rattle.rtps_evidence.specs.Kinds.{AreLost, AreRunsOf, kept_ranges, kind_value, lost_value, no_ranges, none_lost};
+ghost use Rattle.rtps_evidence.specs.KindRuns.{AreKindRuns, AreSendings, AreSent, AreSets};
+ghost use Rattle.rtps_evidence.specs.Spans.{since_of};
+
+use crate::amount::AskedNumbers;
+use crate::exchange::Exchange;
+use crate::lacking::others_of;
+use crate::location::Location;
+use crate::missed::not_there;
+use crate::outcome_sets::OutcomeSets;
+use crate::runs::runs_of;
+use crate::sendings::{Sendings, look_for, note_sendings, sending_of};
+use rtps_coverage::Stretch;
+use rtps_ids::Memory;
+use std::alloc::Global;
+use std::collections::BTreeMap;
+
+/// So many ranges of a kind are kept.
+const KEPT: usize = 1000;
+
+/// Numbers one after another, of one kind.
+#[derive(Clone, Copy)]
+pub struct NumberRange {
+    pub first: u64,
+    pub last: u64,
+    /// The first act by which the reader hears a payload of the first one, or a fragment of it; None where there is none.
+    pub sent: Option<Location>,
+}
+
+/// The numbers of a kind, as ranges in their order: the first thousand.
+#[derive(Drop)]
+pub struct KindNumbers {
+    pub ranges: Vec<NumberRange>,
+    /// How many more ranges there are.
+    pub more: usize,
+}
+
+/// The numbers of a row that are lost, or look so.
+#[derive(Drop)]
+pub struct LostNumbers {
+    pub missed: KindNumbers,
+    pub unsent: KindNumbers,
+    pub unanswered: KindNumbers,
+    /// Of a pair that is held against another recording: the numbers that are neither received for certain nor there.
+    pub not_arrived: KindNumbers,
+}
+
+/// The same as runs.
+#[derive(Drop)]
+struct KindRuns {
+    missed: Vec<Stretch>,
+    unsent: Vec<Stretch>,
+    unanswered: Vec<Stretch>,
+    not_arrived: Vec<Stretch>,
+}
+
+/// Of the numbers that are asked for: those of these that the others do not have. Other numbers may be among them.
+fn without(
+    alloc: Global,
+    numbers: &[Stretch],
+    others: &[Stretch],
+    asked: &AskedNumbers,
+) -> Result<Vec<Stretch>, Memory>
+    ensures { IfOk result (λ left. (n : ℕ) → asked.now.from ≤ n → n ≤ asked.now.last → stretches_have left.items n
+        ≡ (stretches_have numbers.now n && not (stretches_have others.now n))) }
+{
+    let mut copy = Vec::from_slice(alloc, numbers)?;
+    let left = not_there(alloc, &mut copy, others, asked)?;
+    Ok(left)
+}
+
+/// Of the numbers that are asked for: those that both have, as runs.
+fn common_runs(
+    alloc: Global,
+    numbers: &[Stretch],
+    others: &[Stretch],
+    asked: &AskedNumbers,
+) -> Result<Vec<Stretch>, Memory>
+    ensures { IfOk result (λ runs. AreRunsOf (λ n. stretches_have numbers.now n && stretches_have others.now n) asked.now.from (asked.now.last + 1) runs.items) }
+{
+    let mut copy = Vec::from_slice(alloc, others)?;
+    let outside = others_of(alloc, &mut copy, asked)?;
+    let mut both = without(alloc, numbers, &outside, asked)?;
+    let runs = runs_of(alloc, &mut both, asked)?;
+    Ok(runs)
+}
+
+/// Of a pair that is held: those of the numbers that are asked for, as runs; none of another pair.
+fn held_runs(
+    alloc: Global,
+    numbers: &[Stretch],
+    is_held: bool,
+    asked: &AskedNumbers,
+) -> Result<Vec<Stretch>, Memory>
+    ensures { IfOk result (λ runs. AreRunsOf (λ n. is_held && stretches_have numbers.now n) asked.now.from (asked.now.last + 1) runs.items) }
+{
+    if !is_held {
+        return Ok(Vec::new(alloc));
+    }
+    let mut copy = Vec::from_slice(alloc, numbers)?;
+    let runs = runs_of(alloc, &mut copy, asked)?;
+    Ok(runs)
+}
+
+impl KindRuns {
+    /// Those of a pair, by the sets of its numbers.
+    fn of(
+        alloc: Global,
+        exchange: &Exchange<'_, '_>,
+        sets: &OutcomeSets<'_, '_>,
+        asked: &AskedNumbers,
+    ) -> Result<KindRuns, Memory>
+        ensures { (recording : List (List ActValue)) (there : ℕ → Bool) → ((n : ℕ) → stretches_have exchange.now.there.now n ≡ there n)
+            → AreSets asked.now.from asked.now.last exchange.now.times.now.of_datagrams (since_of exchange.now.span) exchange.now.pair (placed_in recording) sets.now
+            → IfOk result (AreKindRuns exchange.now.is_held there asked.now.from asked.now.last exchange.now.times.now.of_datagrams (since_of exchange.now.span) exchange.now.pair (placed_in recording)) }
+    {
+        let missed = sets.unreceived.missed;
+        let lacking = without(alloc, sets.unreceived.numbers, exchange.there, asked)?;
+        let unmissed = without(alloc, &lacking, missed, asked)?;
+        let sent = without(alloc, &unmissed, &sets.unsent, asked)?;
+        let missed = common_runs(alloc, &lacking, missed, asked)?;
+        let unsent = common_runs(alloc, &unmissed, &sets.unsent, asked)?;
+        let unanswered = common_runs(alloc, &sent, sets.silent, asked)?;
+        let not_arrived = held_runs(alloc, &lacking, exchange.is_held, asked)?;
+        Ok(KindRuns {
+            missed,
+            unsent,
+            unanswered,
+            not_arrived,
+        })
+    }
+
+    /// Where the first numbers of the runs that are kept are sent first.
+    fn sendings(&self, alloc: Global, exchange: &Exchange<'_, '_>) -> Result<Sendings, Memory>
+        ensures { (recording : List (List ActValue)) → IsSaid exchange.now.pair recording exchange.now.said → IfOk result (AreSendings exchange.now.pair (placed_in recording) self.now) }
+    {
+        let mut sendings = BTreeMap::new(alloc);
+        look_for(&mut sendings, first_of(&self.missed))?;
+        look_for(&mut sendings, first_of(&self.unsent))?;
+        look_for(&mut sendings, first_of(&self.unanswered))?;
+        look_for(&mut sendings, first_of(&self.not_arrived))?;
+        note_sendings(&mut sendings, exchange.said.acts, exchange.pair)?;
+        Ok(sendings)
+    }
+}
+
+/// The first of these runs, which are kept.
+fn first_of(runs: &[Stretch]) -> &[Stretch]
+    ensures { result.now ≡ take 1000 runs.now }
+{
+    let count = KEPT.min(runs.len());
+    &runs[..count]
+}
+
+impl KindNumbers {
+    /// No numbers.
+    fn none(alloc: Global) -> KindNumbers
+        ensures { kind_value result ≡ no_ranges }
+    {
+        KindNumbers {
+            ranges: Vec::new(alloc),
+            more: 0,
+        }
+    }
+
+    /// These runs as ranges, where it is known where the first numbers of those that are kept are sent.
+    fn of(alloc: Global, runs: &[Stretch], sendings: &Sendings) -> Result<KindNumbers, Memory>
+        ensures { (pair : PairOf) (acts : List PlacedValue) → AreSent pair acts sendings.now runs.now
+            → IfOk result (λ kind. kind_value kind ≡ kept_ranges pair acts runs.now) }
+    {
+        let kept = first_of(runs);
+        let mut ranges = Vec::with_capacity(alloc, kept.len())?;
+        for run in kept {
+            ranges.push(NumberRange {
+                first: run.lo,
+                last: run.hi.saturating_sub(1),
+                sent: sending_of(sendings, run.lo),
+            })?;
+        }
+        Ok(KindNumbers {
+            ranges,
+            more: runs.len().saturating_sub(KEPT),
+        })
+    }
+}
+
+impl LostNumbers {
+    /// No numbers.
+    pub(crate) fn none(alloc: Global) -> LostNumbers
+        ensures { lost_value result ≡ none_lost }
+    {
+        LostNumbers {
+            missed: KindNumbers::none(alloc),
+            unsent: KindNumbers::none(alloc),
+            unanswered: KindNumbers::none(alloc),
+            not_arrived: KindNumbers::none(alloc),
+        }
+    }
+
+    /// Those of a pair, by the sets of its numbers. It takes one walk over the acts of the pair's writer.
+    pub(crate) fn of(
+        alloc: Global,
+        exchange: &Exchange<'_, '_>,
+        sets: &OutcomeSets<'_, '_>,
+        asked: &AskedNumbers,
+    ) -> Result<LostNumbers, Memory>
+        ensures { (recording : List (List ActValue)) (there : ℕ → Bool) → IsSaid exchange.now.pair recording exchange.now.said
+            → ((n : ℕ) → stretches_have exchange.now.there.now n ≡ there n)
+            → AreSets asked.now.from asked.now.last exchange.now.times.now.of_datagrams (since_of exchange.now.span) exchange.now.pair (placed_in recording) sets.now
+            → IfOk result (λ lost. AreLost exchange.now.is_held there asked.now.from asked.now.last exchange.now.times.now.of_datagrams (since_of exchange.now.span) exchange.now.pair (placed_in recording) (lost_value lost)) }
+    {
+        let runs = KindRuns::of(alloc, exchange, sets, asked)?;
+        let sendings = runs.sendings(alloc, exchange)?;
+        let missed = KindNumbers::of(alloc, &runs.missed, &sendings)?;
+        let unsent = KindNumbers::of(alloc, &runs.unsent, &sendings)?;
+        let unanswered = KindNumbers::of(alloc, &runs.unanswered, &sendings)?;
+        let not_arrived = KindNumbers::of(alloc, &runs.not_arrived, &sendings)?;
+        Ok(LostNumbers {
+            missed,
+            unsent,
+            unanswered,
+            not_arrived,
+        })
+    }
+}
