@@ -1,0 +1,10 @@
+mod DigitLemmas
+mod FieldsFound
+mod IdLemmas
+mod ItemLemmas
+mod NameLemmas
+mod SampleLemmas
+mod Slices
+mod TableLemmas
+mod TextLemmas
+mod ToldLemmas

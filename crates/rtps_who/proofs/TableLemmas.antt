@@ -1,0 +1,196 @@
+-- One act more: what is told of a GUID first stays, writers and names are added, and the nodes that are told last count.
+use Rattle.std.proofs.Common.{◌≡◌, ◌∙◌, Bool, true, false, ◌||◌, cond, List, [], ◌∷◌, ◌++◌, Option, Some, None, OnOk, Result, Ok, Err, ap, append-nil, fold, refl, sym}
+use Rattle.std.specs.BTreeMap.{is_at}
+use Rattle.std.specs.BTreeSet.{contains}
+use Rattle.std.specs.Cmp.{eq_by_cmp_equiv}
+use Rattle.std.specs.List.{cons_option, filter_map, flat_map, list_any}
+use Rattle.std.specs.Map.{lookup}
+use Rattle.std.specs.Option.{is_some, option_map, option_or}
+use Rattle.std.proofs.lemmas.Bool.{false≢true}
+use Rattle.std.proofs.Math.Bool.{or-false}
+use Rattle.std.proofs.lemmas.Grind.{flat_map-append}
+use Rattle.std.proofs.lemmas.List.Elements.{filter_map-append}
+use Rattle.std.proofs.lemmas.List.Folds.{list_any-append}
+use Rattle.std.proofs.lemmas.List.Sums.{fold-append}
+use Rattle.std.proofs.lemmas.Map.Views.{tells_apart}
+use Rattle.rtps_ids.specs.declared.identity.Guid.{Guid}
+use Rattle.rtps_ids.specs.declared.identity.GuidPrefix.{GuidPrefix}
+use Rattle.rtps_receiver.specs.Values.{ActValue}
+use Rattle.rtps_discovery.specs.Endpoint.{EndpointValue}
+use Rattle.rtps_discovery.specs.GuidOrder.{guid_cmp}
+use Rattle.rtps_discovery.specs.Notice.{Announced, announcement_of, endpoint_in, participant_in}
+use Rattle.rtps_discovery.specs.Notice.Announced.{Participant, Endpoint}
+use Rattle.rtps_discovery.specs.declared.fault.NoticeFault.{NoticeFault}
+use Rattle.rtps_discovery.proofs.Offered.{guids_total}
+use Rattle.rtps_who.specs.Introducing.{IsIntroducedBy, KeepsEndpoint, endpoint_told, first_of, is_teller, is_teller_among, names_by, prefix_cmp, process_told, service_names}
+use Rattle.rtps_who.specs.Processes.{process_value}
+use Rattle.rtps_who.specs.Services.{names_of, service_value, with_name}
+use Rattle.rtps_who.specs.Told.{KeepsFirst}
+use Rattle.rtps_who.specs.declared.introductions.Introductions.{Introductions}
+use Rattle.rtps_who.specs.declared.process.Process.{Process}
+use Rattle.rtps_who.proofs.IdLemmas.{exact_guids}
+
+-- what follows from success follows from what success says
+pub on_ok : {X E : Type 0} (P Q : Type 0) (r : Result X E) → (P → Q) → OnOk r P → OnOk r Q
+on_ok P Q (Ok x) follows holds = follows holds
+on_ok P Q (Err e) follows holds = holds
+
+-- ---- the first value of a GUID
+
+lookup_append : {X : Type 0} (test : Guid → Bool) (xs ys : List (Guid × X)) → lookup test (xs ++ ys) ≡ option_or (lookup test xs) (lookup test ys)
+lookup_append test [] ys = refl
+lookup_append test (x ∷ xs) ys = by (test x.0) (lookup_append test xs ys)
+  where
+    by : (b : Bool) → lookup test (xs ++ ys) ≡ option_or (lookup test xs) (lookup test ys)
+        → cond b (Some x.1) (lookup test (xs ++ ys)) ≡ option_or (cond b (Some x.1) (lookup test xs)) (lookup test ys)
+    by true onward = refl
+    by false onward = onward
+
+map_or : {V X : Type 0} (view : V → X) (one other : Option V) → option_map view (option_or one other) ≡ option_or (option_map view one) (option_map view other)
+map_or view None other = refl
+map_or view (Some x) other = refl
+
+nothing_more : {X : Type 0} (one : Option X) → option_or one None ≡ one
+nothing_more None = refl
+nothing_more (Some x) = refl
+
+-- what is kept after one value more, if there is one
+abbrev pub KeepsTold : {V : Type 0} → List (Guid × V) → List (Guid × V) → Option (Guid × V) → Type 0
+KeepsTold old new None = new ≡ old
+KeepsTold old new (Some told) = KeepsFirst old new told.0 told.1
+
+-- the values of a table are those that acts tell first, and stay so with one act more
+pub told_more : {V X : Type 0} (view : V → X) (tells : ActValue → Option (Guid × X)) (acts : List ActValue) (act : ActValue) (old new : List (Guid × V)) (told : Option (Guid × V))
+    → option_map (λ (t : Guid × V). (t.0, view t.1)) told ≡ tells act → KeepsTold old new told
+    → ((guid : Guid) → option_map view (first_of guid old) ≡ first_of guid (filter_map tells acts))
+    → (guid : Guid) → option_map view (first_of guid new) ≡ first_of guid (filter_map tells (acts ++ act ∷ []))
+told_more {V} {X} view tells acts act old new told is kept were guid =
+    by told is kept ∙ sym (ap (first_of guid) (filter_map-append tells acts (act ∷ [])) ∙ lookup_append (is_at (guid_cmp guid)) (filter_map tells acts) (cons_option (tells act) []))
+  where
+    one : (b : Bool) (value : V) → option_map view (cond b (Some value) None) ≡ cond b (Some (view value)) None
+    one true value = refl
+    one false value = refl
+
+    by : (told : Option (Guid × V)) → option_map (λ (t : Guid × V). (t.0, view t.1)) told ≡ tells act → KeepsTold old new told
+        → option_map view (first_of guid new) ≡ option_or (first_of guid (filter_map tells acts)) (first_of guid (cons_option (tells act) []))
+    by None is kept =
+        ap (λ l. option_map view (first_of guid l)) kept ∙ were guid ∙ sym (nothing_more (first_of guid (filter_map tells acts)))
+        ∙ ap (λ t. option_or (first_of guid (filter_map tells acts)) (first_of guid (cons_option t []))) is
+    by (Some told) is kept =
+        ap (option_map view) (kept guid) ∙ map_or view (first_of guid old) (first_of guid (told ∷ []))
+        ∙ ap (λ x. option_or x (option_map view (first_of guid (told ∷ [])))) (were guid)
+        ∙ ap (option_or (first_of guid (filter_map tells acts))) (one (is_at (guid_cmp guid) told.0) told.1)
+        ∙ ap (λ t. option_or (first_of guid (filter_map tells acts)) (first_of guid (cons_option t []))) is
+
+-- ---- what an act announces
+
+-- what is announced is no endpoint and a participant at once
+apart : {Y : Type 0} (of_participant : Guid → Y) (said : Option (Result Announced NoticeFault)) (x : EndpointValue)
+    → endpoint_in said ≡ Some x → option_map of_participant (participant_in said) ≡ None
+apart of_participant None x some = refl
+apart of_participant (Some (Err fault)) x some = refl
+apart of_participant (Some (Ok (Participant guid))) x some = absurd (let bad = some in cc)
+apart of_participant (Some (Ok (Endpoint endpoint))) x some = refl
+
+-- an act that announces an endpoint announces no participant
+no_process_told : (act : ActValue) (endpoint : EndpointValue) → endpoint_told act ≡ Some endpoint → process_told act ≡ None
+no_process_told act endpoint some = apart _ (announcement_of act) endpoint some
+
+-- ---- one endpoint more
+
+endpoints_more : (acts : List ActValue) (act : ActValue) → filter_map endpoint_told (acts ++ act ∷ []) ≡ filter_map endpoint_told acts ++ cons_option (endpoint_told act) []
+endpoints_more acts act = filter_map-append endpoint_told acts (act ∷ [])
+
+tellers_more : (acts : List ActValue) (act : ActValue) (guid : Guid) → is_teller_among (acts ++ act ∷ []) guid ≡ (is_teller_among acts guid || list_any (is_teller guid) (cons_option (endpoint_told act) []))
+tellers_more acts act guid = ap (list_any (is_teller guid)) (endpoints_more acts act) ∙ list_any-append (is_teller guid) (filter_map endpoint_told acts) (cons_option (endpoint_told act) [])
+
+names_more : (acts : List ActValue) (act : ActValue) (prefix : GuidPrefix)
+    → names_of (service_names (acts ++ act ∷ []) prefix) ≡ fold with_name (names_of (service_names acts prefix)) (flat_map (names_by prefix) (cons_option (endpoint_told act) []))
+names_more acts act prefix =
+    ap (λ l. names_of (flat_map (names_by prefix) l)) (endpoints_more acts act)
+    ∙ ap names_of (flat_map-append (names_by prefix) (filter_map endpoint_told acts) (cons_option (endpoint_told act) []))
+    ∙ fold-append with_name None (service_names acts prefix) (flat_map (names_by prefix) (cons_option (endpoint_told act) []))
+
+-- the processes after an act that announces none
+processes_same : (acts : List ActValue) (act : ActValue) (old new : Introductions) → process_told act ≡ None → new.processes.entries ≡ old.processes.entries → IsIntroducedBy acts old
+    → (guid : Guid) → option_map process_value (first_of guid new.processes.entries) ≡ first_of guid (filter_map process_told (acts ++ act ∷ []))
+processes_same acts act old new none same were = told_more process_value process_told acts act old.processes.entries new.processes.entries None (sym none) same were.processes
+
+pub endpoint_noted : (acts : List ActValue) (act : ActValue) (old new : Introductions) (endpoint : EndpointValue) → Some endpoint ≡ endpoint_told act → KeepsEndpoint old new endpoint
+    → IsIntroducedBy acts old → IsIntroducedBy (acts ++ act ∷ []) new
+endpoint_noted acts act old new endpoint is kept were =
+    record {
+      processes = processes_same acts act old new (no_process_told act endpoint (sym is)) kept.processes were;
+      tellers = λ guid. kept.tellers guid ∙ ap (λ b. b || is_teller guid endpoint) (were.tellers guid)
+          ∙ ap (λ b. is_teller_among acts guid || b) (sym (or-false (is_teller guid endpoint)))
+          ∙ ap (λ e. is_teller_among acts guid || list_any (is_teller guid) (cons_option e [])) is ∙ sym (tellers_more acts act guid);
+      services = λ prefix. kept.services prefix ∙ ap (λ n. fold with_name n (names_by prefix endpoint)) (were.services prefix)
+          ∙ ap (fold with_name (names_of (service_names acts prefix))) (sym (append-nil (names_by prefix endpoint)))
+          ∙ ap (λ e. fold with_name (names_of (service_names acts prefix)) (flat_map (names_by prefix) (cons_option e []))) is ∙ sym (names_more acts act prefix);
+    }
+
+-- the writers and names after an act that announces no endpoint
+tellers_same : (acts : List ActValue) (act : ActValue) (guid : Guid) → None ≡ endpoint_told act → is_teller_among acts guid ≡ is_teller_among (acts ++ act ∷ []) guid
+tellers_same acts act guid none =
+    sym (or-false (is_teller_among acts guid)) ∙ ap (λ e. is_teller_among acts guid || list_any (is_teller guid) (cons_option e [])) none ∙ sym (tellers_more acts act guid)
+
+names_same : (acts : List ActValue) (act : ActValue) (prefix : GuidPrefix) → None ≡ endpoint_told act → names_of (service_names acts prefix) ≡ names_of (service_names (acts ++ act ∷ []) prefix)
+names_same acts act prefix none =
+    ap (λ e. fold with_name (names_of (service_names acts prefix)) (flat_map (names_by prefix) (cons_option e []))) none ∙ sym (names_more acts act prefix)
+
+pub participant_noted : (acts : List ActValue) (act : ActValue) (old new : Introductions) (guid : Guid) (process : Process) → None ≡ endpoint_told act
+    → Some (guid, process_value process) ≡ process_told act → KeepsFirst old.processes.entries new.processes.entries guid process → new.tellers ≡ old.tellers
+    → new.services ≡ old.services → IsIntroducedBy acts old → IsIntroducedBy (acts ++ act ∷ []) new
+participant_noted acts act old new guid process none is kept tellers services were =
+    record {
+      processes = told_more process_value process_told acts act old.processes.entries new.processes.entries (Some (guid, process)) is kept were.processes;
+      tellers = λ other. ap (λ t. contains guid_cmp t other) tellers ∙ were.tellers other ∙ tellers_same acts act other none;
+      services = λ prefix. ap (λ s. option_map service_value (lookup (is_at (prefix_cmp prefix)) s.entries)) services ∙ were.services prefix ∙ names_same acts act prefix none;
+    }
+
+pub nothing_noted : (acts : List ActValue) (act : ActValue) (old : Introductions) → None ≡ endpoint_told act → None ≡ process_told act → IsIntroducedBy acts old
+    → IsIntroducedBy (acts ++ act ∷ []) old
+nothing_noted acts act old none no_process were =
+    record {
+      processes = processes_same acts act old old (sym no_process) refl were;
+      tellers = λ other. were.tellers other ∙ tellers_same acts act other none;
+      services = λ prefix. were.services prefix ∙ names_same acts act prefix none;
+    }
+
+-- ---- a value that is kept once
+
+-- a GUID that has a value keeps it
+pub kept_there : {V : Type 0} (old : List (Guid × V)) (guid : Guid) (value : V) → is_some (lookup (is_at (guid_cmp guid)) old) ≡ true → (other : Guid)
+    → lookup (is_at (guid_cmp other)) old ≡ option_or (lookup (is_at (guid_cmp other)) old) (cond (is_at (guid_cmp other) guid) (Some value) None)
+kept_there {V} old guid value there other = by (lookup (is_at (guid_cmp other)) old) (is_at (guid_cmp other) guid) refl refl
+  where
+    by : (found : Option V) (same : Bool) → lookup (is_at (guid_cmp other)) old ≡ found → is_at (guid_cmp other) guid ≡ same
+        → found ≡ option_or found (cond same (Some value) None)
+    by (Some x) same e f = refl
+    by None false e f = refl
+    by None true e f =
+        let one : other ≡ guid = tells_apart exact_guids other guid f in
+        absurd (false≢true (sym (ap is_some (sym (ap (λ g. lookup (is_at (guid_cmp g)) old) one) ∙ e)) ∙ there))
+
+-- a GUID that has none takes it
+pub kept_new : {V : Type 0} (old new : List (Guid × V)) (guid : Guid) (value : V) → is_some (lookup (is_at (guid_cmp guid)) old) ≡ false
+    → ((other : Guid) → lookup (is_at (guid_cmp other)) new ≡ cond (is_at (guid_cmp guid) other) (Some value) (lookup (is_at (guid_cmp other)) old))
+    → (other : Guid) → lookup (is_at (guid_cmp other)) new ≡ option_or (lookup (is_at (guid_cmp other)) old) (cond (is_at (guid_cmp other) guid) (Some value) None)
+kept_new {V} old new guid value absent updates other = updates other ∙ by (is_at (guid_cmp guid) other) (is_at (guid_cmp other) guid) refl refl
+  where
+    at_none : (found : Option V) → is_some found ≡ false → Some value ≡ option_or found (Some value)
+    at_none None none = refl
+    at_none (Some x) none = absurd (false≢true (sym none))
+
+    by : (there back : Bool) → is_at (guid_cmp guid) other ≡ there → is_at (guid_cmp other) guid ≡ back
+        → cond there (Some value) (lookup (is_at (guid_cmp other)) old) ≡ option_or (lookup (is_at (guid_cmp other)) old) (cond back (Some value) None)
+    by false false e f = sym (nothing_more (lookup (is_at (guid_cmp other)) old))
+    by true true e f =
+        let one : guid ≡ other = tells_apart exact_guids guid other e in
+        at_none (lookup (is_at (guid_cmp other)) old) (sym (ap (λ g. is_some (lookup (is_at (guid_cmp g)) old)) one) ∙ absent)
+    by true false e f =
+        let one : guid ≡ other = tells_apart exact_guids guid other e in
+        absurd (false≢true (sym f ∙ ap (λ g. is_at (guid_cmp other) g) one ∙ (eq_by_cmp_equiv guids_total).refl other))
+    by false true e f =
+        let one : other ≡ guid = tells_apart exact_guids other guid f in
+        absurd (false≢true (sym e ∙ ap (λ g. is_at (guid_cmp guid) g) one ∙ (eq_by_cmp_equiv guids_total).refl guid))

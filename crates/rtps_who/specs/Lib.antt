@@ -1,0 +1,15 @@
+pub mod Steps
+pub mod Items
+pub mod Texts
+pub mod Views
+pub mod Layout
+pub mod Fields
+pub mod Digits
+pub mod Processes
+pub mod Samples
+pub mod Services
+pub mod Told
+pub mod Introducing
+pub mod Telling
+pub mod Naming
+pub mod Recorded

@@ -1,0 +1,52 @@
+-- What the samples of participants tell of their nodes. DDSI-RTPS 2.5, 8.3.8.2 "Data" and 8.3.8.3 "DataFrag". own: the last sample of a recording
+-- that can be read counts, of a writer that tells of nodes and has the prefix of the participant. A sample in fragments stands where it is told
+-- whole.
+use Rattle.std.specs.Prelude.{ℕ, ◌≡◌, if◌then◌else◌, List, Option, None, option_and_then, reverse}
+use Rattle.std.specs.BTreeMap.{is_at}
+use Rattle.std.specs.List.{filter_map}
+use Rattle.std.specs.Map.{lookup}
+use Rattle.std.specs.Option.{option_map}
+use Rattle.rtps_ids.specs.declared.identity.EntityId.{EntityId}
+use Rattle.rtps_ids.specs.declared.identity.Guid.{Guid}
+use Rattle.rtps_ids.specs.declared.identity.GuidPrefix.{GuidPrefix}
+use Rattle.rtps_receiver.specs.Values.{ActBodyValue, ActValue}
+use Rattle.rtps_receiver.specs.Values.ActBodyValue.{Data, DataFrag}
+use Rattle.rtps_discovery.specs.Notice.{whole_payload}
+use Rattle.rtps_who.specs.Introducing.{is_teller_among, prefix_cmp}
+use Rattle.rtps_who.specs.Samples.{SampleValue, sample_of, sample_value}
+use Rattle.rtps_who.specs.declared.told_nodes.ToldNodes.{ToldNodes}
+
+-- a sample, with the entity of its writer
+abbrev pub sent_by : EntityId → Option (List ℕ) → Option (EntityId × List ℕ)
+sent_by writer sample = option_map (λ octets. (writer, octets)) sample
+
+-- the sample that an act has
+abbrev pub sent_in : ActBodyValue → Option (EntityId × List ℕ)
+sent_in (Data value) = sent_by value.writer (whole_payload value.payload)
+sent_in (DataFrag value) = sent_by value.writer (option_and_then whole_payload value.told)
+sent_in _ = None
+
+-- the writer of an act
+abbrev pub writer_of : GuidPrefix → EntityId → Guid
+writer_of source entity = record { prefix = source; entity = entity }
+
+-- the nodes that a sample of this participant tells, if its writer is one that tells of nodes
+abbrev pub nodes_sent : List ActValue → GuidPrefix → EntityId × List ℕ → Option (GuidPrefix × SampleValue)
+nodes_sent announcing source sent =
+    if is_teller_among announcing (writer_of source sent.0) then option_map (λ sample. (source, sample)) (sample_of sent.1) else None
+
+-- the participant whose nodes an act tells, and those nodes
+abbrev pub nodes_told : List ActValue → ActValue → Option (GuidPrefix × SampleValue)
+nodes_told announcing act = option_and_then (nodes_sent announcing act.source) (sent_in act.body)
+
+-- what is told last of a prefix
+abbrev pub last_of : {X : Type 0} → GuidPrefix → List (GuidPrefix × X) → Option X
+last_of prefix told = lookup (is_at (prefix_cmp prefix)) (reverse told)
+
+-- the nodes that acts tell last of a participant
+abbrev pub nodes_by : List ActValue → List ActValue → GuidPrefix → Option SampleValue
+nodes_by announcing acts prefix = last_of prefix (filter_map (nodes_told announcing) acts)
+
+-- what is kept is what these acts tell last, where those announce
+abbrev pub IsToldBy : List ActValue → List ActValue → ToldNodes → Type 0
+IsToldBy announcing acts told = (prefix : GuidPrefix) → option_map sample_value (lookup (is_at (prefix_cmp prefix)) told.samples.entries) ≡ nodes_by announcing acts prefix

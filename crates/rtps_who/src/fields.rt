@@ -1,0 +1,56 @@
+ghost use Rattle.std.specs.Prelude.{◌≡◌, ◌≤◌, length};
+ghost use Rattle.std.specs.Option.{option_map};
+ghost use Rattle.std.specs.Result.{result_ok};
+ghost use Rattle.rtps_receiver.specs.Values.{spoken_value};
+ghost use Rattle.rtps_discovery.specs.Announcement.{fields_of, order_of};
+ghost use Rattle.rtps_discovery.specs.Fields.{fields_value};
+ghost use Rattle.rtps_who.specs.Fields.{payload_of as payload_of_lem};
+
+use crate::layout::header;
+use rtps_ids::Order;
+use rtps_params::ParamList;
+use rtps_receiver::{ActBody, Spoken, SpokenBody};
+use rtps_wire::Payload;
+
+/// The payload of an act that has a whole one; no octets of any other.
+pub(crate) fn payload_of<'a>(act: &Spoken<'a>) -> &'a [u8]
+    ensures { result.now ≡ payload_of_lem (spoken_value act.now).body }
+{
+    match &act.body {
+        SpokenBody::Act(ActBody::Data(data)) => match &data.payload {
+            Payload::Whole(payload) => payload,
+            _ => &[],
+        },
+        _ => &[],
+    }
+}
+
+/// The parameter list of a payload, or None if it has none (DDSI-RTPS 2.5, 10 "Serialized Payload Representation").
+#[tactic(auto, unfolding(rtps_discovery::specs::Announcement::fields_of))]
+pub(crate) fn list_in(payload: &[u8]) -> Option<ParamList<'_>>
+    ensures { option_map fields_value result ≡ result_ok (fields_of payload.now) }
+{
+    if payload.len() < header::SIZE {
+        return None;
+    }
+    let order = payload_order(payload)?;
+    match ParamList::read(&payload[header::SIZE..], order) {
+        Ok((list, _)) => Some(list),
+        Err(_) => None,
+    }
+}
+
+/// The order that the representation of a payload gives, if it is that of parameter lists.
+fn payload_order(payload: &[u8]) -> Option<Order>
+    requires { 4 ≤ length payload.now }
+    ensures { result ≡ order_of payload.now }
+{
+    let id = &payload[..header::ID_SIZE];
+    if id == header::PL_CDR_BE.as_slice() {
+        Some(Order::Big)
+    } else if id == header::PL_CDR_LE.as_slice() {
+        Some(Order::Little)
+    } else {
+        None
+    }
+}

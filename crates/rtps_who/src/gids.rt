@@ -1,0 +1,116 @@
+ghost use Rattle.std.specs.Prelude.{◌≡◌, ◌≤◌, length, option_copied};
+ghost use Rattle.std.specs.List.{list_any};
+ghost use Rattle.std.specs.Option.{option_map};
+ghost use Rattle.rtps_who.specs.Items.{rest_behind};
+ghost use Rattle.rtps_who.specs.Samples.{front_gid as front_gid_lem, front_gids as front_gids_lem, gids_value, is_filled as is_filled_lem, is_guid, size_of, width_of as width_of_lem};
+
+use crate::layout::gid::{GUID_SIZE, WIDE_ROOM, WIDE_SIZE, ZEROS};
+use crate::layout::sequence::COUNT_SIZE;
+use rtps_ids::{Guid, Order};
+use rtps_params::{read_guid, read_u32};
+
+/// The form of gids. Up to ROS 2 Humble they have 24 octets, from Iron on 16.
+#[derive(Clone, Copy)]
+pub(crate) enum Width {
+    Narrow,
+    Wide,
+}
+
+impl Width {
+    /// The size of a gid.
+    pub(crate) fn size(self) -> usize
+        ensures { result ≡ size_of self }
+    {
+        match self {
+            Width::Narrow => GUID_SIZE,
+            Width::Wide => WIDE_SIZE,
+        }
+    }
+
+    /// The form of the gids of a sample, by what is behind its representation.
+    pub(crate) fn of(body: &[u8]) -> Width
+        ensures { result ≡ width_of_lem body.now }
+    {
+        if body.len() >= WIDE_ROOM && is_filled(body, Width::Wide) {
+            Width::Wide
+        } else {
+            Width::Narrow
+        }
+    }
+}
+
+/// Whether what is behind the GUID of a gid is as it has to be.
+fn is_filled(octets: &[u8], width: Width) -> bool
+    requires { size_of width ≤ length octets.now }
+    ensures { result ≡ is_filled_lem width octets.now }
+{
+    match width {
+        Width::Narrow => true,
+        Width::Wide => &octets[GUID_SIZE..WIDE_SIZE] == ZEROS.as_slice(),
+    }
+}
+
+/// The gid at the beginning of octets, and what is behind it. None if it cannot be read.
+fn front_gid(octets: &[u8], width: Width) -> Option<(Guid, &[u8])>
+    ensures { option_map (λ found. (found.0, found.1.now)) result ≡ front_gid_lem width octets.now }
+{
+    if octets.len() < width.size() || !is_filled(octets, width) {
+        return None;
+    }
+    let guid = read_guid(octets)?;
+    Some((guid, &octets[width.size()..]))
+}
+
+/// What is behind so many gids, if all of them can be read.
+fn behind_gids(octets: &[u8], width: Width, count: u32) -> Option<&[u8]>
+    ensures { option_copied result ≡ rest_behind (front_gid_lem width) count octets.now }
+{
+    let mut rest = octets;
+    for _ in 0..count {
+        let (_, behind) = front_gid(rest, width)?;
+        rest = behind;
+    }
+    Some(rest)
+}
+
+/// The gids of the readers or of the writers of a node. They are parts of the sample.
+#[derive(Clone, Copy)]
+pub(crate) struct Gids<'a> {
+    pub(crate) count: u32,
+    pub(crate) width: Width,
+    pub(crate) octets: &'a [u8],
+}
+
+impl Gids<'_> {
+    /// Whether an endpoint is among them.
+    pub(crate) fn has(&self, guid: Guid) -> bool
+        ensures { result ≡ list_any (is_guid guid) (gids_value self.now) }
+    {
+        let mut rest = self.octets;
+        for _ in 0..self.count {
+            let Some((found, behind)) = front_gid(rest, self.width) else {
+                return false;
+            };
+            if found == guid {
+                return true;
+            }
+            rest = behind;
+        }
+        false
+    }
+}
+
+/// The list of gids at the beginning of octets, and what is behind it. None if it cannot be read.
+pub(crate) fn front_gids(octets: &[u8], order: Order, width: Width) -> Option<(Gids<'_>, &[u8])>
+    ensures { option_map (λ found. (gids_value found.0, found.1.now)) result ≡ front_gids_lem order width octets.now }
+{
+    let count = read_u32(octets, order)?;
+    let octets = &octets[COUNT_SIZE..];
+    let behind = behind_gids(octets, width, count)?;
+    let gids = Gids {
+        count,
+        width,
+        octets,
+    };
+    Some((gids, behind))
+}

@@ -1,0 +1,172 @@
+ghost use Rattle.std.specs.Prelude.{◌≡◌, ◌++◌, ◌∷◌, [], List, OnErr, OnOk, unwrap_or};
+ghost use Rattle.std.specs.Option.{option_map};
+ghost use Rattle.rtps_receiver.specs.Values.{ActValue, spoken_value};
+ghost use Rattle.rtps_discovery.specs.Endpoint.{endpoint_value};
+ghost use Rattle.rtps_discovery.specs.Notice.{announcement_of, participant_in};
+ghost use Rattle.rtps_who.specs.Introducing.{IsIntroducedBy, KeepsEndpoint, KeepsService, KeepsTeller, is_teller_among, process_among, process_told as process_told_lem, service_names, tells_nodes as tells_nodes_lem};
+ghost use Rattle.rtps_who.specs.Processes.{process_value, unknown_process};
+ghost use Rattle.rtps_who.specs.Samples.{node_value};
+ghost use Rattle.rtps_who.specs.Services.{names_of, node_by};
+ghost use Rattle.rtps_who.specs.Told.{KeepsFirst};
+
+use crate::fields::{list_in, payload_of};
+use crate::layout::entity;
+use crate::node::Node;
+use crate::process::Process;
+use crate::service::{Service, node_by_service, service_of, with_name_more};
+use rtps_discovery::{Endpoint, Side, announced_endpoint, read_participant};
+use rtps_ids::{Guid, GuidPrefix, Memory};
+use rtps_receiver::{ActBody, Spoken, SpokenBody};
+use rtps_wire::Payload;
+use std::alloc::Global;
+use std::collections::{BTreeMap, BTreeSet};
+
+/// What a recording announces of processes, of the writers that tell of nodes, and of parameter services. Texts are parts of the
+/// caller's datagrams (DDSI-RTPS 2.5, 8.5 "Discovery Module").
+#[derive(Drop)]
+pub struct Introductions<'a> {
+    pub(crate) processes: BTreeMap<Guid, Process<'a>>,
+    pub(crate) tellers: BTreeSet<Guid>,
+    pub(crate) services: BTreeMap<GuidPrefix, Service<'a>>,
+}
+
+impl<'a> Introductions<'a> {
+    /// That of no acts. It takes no memory.
+    pub fn new(alloc: Global) -> Introductions<'a>
+        ensures { IsIntroducedBy [] result }
+    {
+        Introductions {
+            processes: BTreeMap::new(alloc),
+            tellers: BTreeSet::new(alloc),
+            services: BTreeMap::new(alloc),
+        }
+    }
+
+    /// Keeps what an act announces. An act that announces nothing, or has a fault, changes nothing. After `Memory` what is kept is of no
+    /// use.
+    pub fn note(&mut self, act: &Spoken<'a>) -> Result<(), Memory>
+        ensures { OnOk result ((acts : List ActValue) → IsIntroducedBy acts self.old → IsIntroducedBy (acts ++ spoken_value act.now ∷ []) self.new) }
+    {
+        if let Some(endpoint) = announced_endpoint(act) {
+            return self.note_endpoint(&endpoint);
+        }
+        match process_told(act) {
+            Some((guid, process)) => keep_first(&mut self.processes, guid, process),
+            None => Ok(()),
+        }
+    }
+
+    /// Keeps what an endpoint says. After `Memory` what is kept is of no use.
+    fn note_endpoint(&mut self, endpoint: &Endpoint<'a>) -> Result<(), Memory>
+        ensures { OnOk result (KeepsEndpoint self.old self.new (endpoint_value endpoint.now)) }
+    {
+        note_teller(&mut self.tellers, endpoint)?;
+        note_service(&mut self.services, endpoint)
+    }
+
+    /// The process of a participant. Unknown where it is not announced.
+    pub(crate) fn process(&self, participant: Guid) -> Process<'a>
+        ensures { (acts : List ActValue) → IsIntroducedBy acts self.now → process_value result ≡ unwrap_or (process_among acts participant) unknown_process }
+    {
+        match self.processes.get(&participant) {
+            Some(process) => *process,
+            None => Process::unknown(),
+        }
+    }
+
+    /// Whether a writer is one that tells of nodes.
+    pub(crate) fn tells_nodes(&self, writer: Guid) -> bool
+        ensures { (acts : List ActValue) → IsIntroducedBy acts self.now → result ≡ is_teller_among acts writer }
+    {
+        self.tellers.contains(&writer)
+    }
+
+    /// The node that the parameter services of a participant name, if they name one.
+    pub(crate) fn node_by_services(&self, prefix: GuidPrefix) -> Option<Node<'a>>
+        ensures { (acts : List ActValue) → IsIntroducedBy acts self.now → option_map node_value result ≡ node_by (names_of (service_names acts prefix)) }
+    {
+        node_by_service(self.services.get(&prefix).copied())
+    }
+}
+
+/// Whether an endpoint is a writer that tells of nodes.
+fn tells_nodes(endpoint: &Endpoint<'_>) -> bool
+    ensures { result ≡ tells_nodes_lem (endpoint_value endpoint.now) }
+{
+    endpoint.side == Side::Writer
+        && endpoint.topic == b"ros_discovery_info".as_slice()
+        && endpoint.type_name == b"rmw_dds_common::msg::dds_::ParticipantEntitiesInfo_".as_slice()
+}
+
+/// Keeps an endpoint that tells of nodes. After `Memory` what is kept is of no use.
+fn note_teller(tellers: &mut BTreeSet<Guid>, endpoint: &Endpoint<'_>) -> Result<(), Memory>
+    ensures { OnOk result (KeepsTeller tellers.old tellers.new (endpoint_value endpoint.now)) }
+{
+    if !tells_nodes(endpoint) {
+        return Ok(());
+    }
+    tellers.insert(endpoint.guid)?;
+    Ok(())
+}
+
+/// Keeps the name that an endpoint of a parameter service gives its participant. After `Memory` what is kept is of no use.
+fn note_service<'a>(
+    services: &mut BTreeMap<GuidPrefix, Service<'a>>,
+    endpoint: &Endpoint<'a>,
+) -> Result<(), Memory>
+    ensures { OnOk result (KeepsService services.old.entries services.new.entries (endpoint_value endpoint.now)) }
+{
+    let Some(name) = service_of(endpoint) else {
+        return Ok(());
+    };
+    let prefix = endpoint.guid.prefix;
+    let kept = services.get(&prefix).copied();
+    services.insert(prefix, with_name_more(kept, name))?;
+    Ok(())
+}
+
+/// The participant that an act announces, from any source and to any destination. None where it announces none, or has a fault.
+fn announced_participant(act: &Spoken<'_>) -> Option<Guid>
+    ensures { result ≡ participant_in (announcement_of (spoken_value act.now)) }
+{
+    let SpokenBody::Act(ActBody::Data(data)) = &act.body else {
+        return None;
+    };
+    if data.writer != entity::PARTICIPANTS {
+        return None;
+    }
+    let Payload::Whole(payload) = &data.payload else {
+        return None;
+    };
+    match read_participant(payload) {
+        Ok(guid) => Some(guid),
+        Err(_) => None,
+    }
+}
+
+/// The participant that an act announces, and its process.
+fn process_told<'a>(act: &Spoken<'a>) -> Option<(Guid, Process<'a>)>
+    ensures { option_map (λ told. (told.0, process_value told.1)) result ≡ process_told_lem (spoken_value act.now) }
+{
+    let guid = announced_participant(act)?;
+    let process = match list_in(payload_of(act)) {
+        Some(list) => Process::of(&list),
+        None => Process::unknown(),
+    };
+    Some((guid, process))
+}
+
+/// Keeps a value of a GUID, unless there is one.
+fn keep_first<V: Copy + Drop>(
+    kept: &mut BTreeMap<Guid, V>,
+    guid: Guid,
+    value: V,
+) -> Result<(), Memory>
+    ensures ok { OnOk result (KeepsFirst kept.old.entries kept.new.entries guid value) }
+    ensures err { OnErr result (kept.new.entries ≡ kept.old.entries) }
+{
+    if !kept.contains_key(&guid) {
+        kept.insert(guid, value)?;
+    }
+    Ok(())
+}

@@ -1,0 +1,127 @@
+ghost use Rattle.std.specs.Prelude.{◌≡◌, ◌≤◌, IfOk, length, map, option_copied};
+ghost use Rattle.std.specs.Option.{option_map};
+ghost use Rattle.rtps_who.specs.Items.{rest_behind};
+ghost use Rattle.rtps_who.specs.Samples.{front_entry as front_entry_lem, node_having as node_having_lem, node_value, nodes_among, nodes_in as nodes_in_lem, only_in, order_in as order_in_lem, sample_of, sample_value};
+
+use crate::entry::front_entry;
+use crate::gids::Width;
+use crate::layout::gid::PADDING;
+use crate::layout::header;
+use crate::layout::sequence::COUNT_SIZE;
+use crate::node::Node;
+use rtps_ids::{Guid, Memory, Order};
+use rtps_params::read_u32;
+use std::alloc::Global;
+
+/// A sample of `ros_discovery_info`: the nodes of a participant, and the endpoints of each. Its nodes are parts of the payload.
+#[derive(Clone, Copy)]
+pub(crate) struct Sample<'a> {
+    pub(crate) count: u32,
+    pub(crate) order: Order,
+    pub(crate) width: Width,
+    pub(crate) octets: &'a [u8],
+}
+
+/// What is behind so many nodes, if all of them can be read.
+fn behind_entries(octets: &[u8], order: Order, width: Width, count: u32) -> Option<&[u8]>
+    ensures { option_copied result ≡ rest_behind (front_entry_lem order width) count octets.now }
+{
+    let mut rest = octets;
+    for _ in 0..count {
+        let (_, behind) = front_entry(rest, order, width)?;
+        rest = behind;
+    }
+    Some(rest)
+}
+
+/// The order that the representation of a payload gives, if it is a plain one.
+fn order_in(payload: &[u8]) -> Option<Order>
+    ensures { result ≡ order_in_lem payload.now }
+{
+    if payload.len() < header::SIZE {
+        return None;
+    }
+    let id = &payload[..header::ID_SIZE];
+    if id == header::CDR_BE.as_slice() {
+        Some(Order::Big)
+    } else if id == header::CDR_LE.as_slice() {
+        Some(Order::Little)
+    } else {
+        None
+    }
+}
+
+/// The nodes in what is behind a participant's gid, or None if they cannot be read.
+fn nodes_in(octets: &[u8], order: Order, width: Width) -> Option<Sample<'_>>
+    ensures { option_map sample_value result ≡ nodes_in_lem order width octets.now }
+{
+    let count = read_u32(octets, order)?;
+    let octets = &octets[COUNT_SIZE..];
+    let behind = behind_entries(octets, order, width, count)?;
+    if behind.len() > PADDING {
+        return None;
+    }
+    Some(Sample {
+        count,
+        order,
+        width,
+        octets,
+    })
+}
+
+impl<'a> Sample<'a> {
+    /// The sample in a payload, or None if it is of another form. It takes no memory.
+    pub(crate) fn read(payload: &'a [u8]) -> Option<Sample<'a>>
+        ensures { option_map sample_value result ≡ sample_of payload.now }
+    {
+        let order = order_in(payload)?;
+        let body = &payload[header::SIZE..];
+        let width = Width::of(body);
+        if body.len() < width.size() {
+            return None;
+        }
+        nodes_in(&body[width.size()..], order, width)
+    }
+
+    /// The node, where there is one alone.
+    pub(crate) fn only(&self) -> Option<Node<'a>>
+        ensures { option_map node_value result ≡ only_in (sample_value self.now) }
+    {
+        if self.count != 1 {
+            return None;
+        }
+        let (entry, _) = front_entry(self.octets, self.order, self.width)?;
+        Some(entry.node)
+    }
+
+    /// The first node that has an endpoint.
+    pub(crate) fn node_having(&self, guid: Guid) -> Option<Node<'a>>
+        ensures { option_map node_value result ≡ node_having_lem guid (sample_value self.now) }
+    {
+        let mut rest = self.octets;
+        for _ in 0..self.count {
+            let (entry, behind) = front_entry(rest, self.order, self.width)?;
+            if entry.has(guid) {
+                return Some(entry.node);
+            }
+            rest = behind;
+        }
+        None
+    }
+
+    /// All its nodes.
+    pub(crate) fn nodes(&self, alloc: Global) -> Result<Vec<Node<'a>>, Memory>
+        ensures { IfOk result (λ nodes. map node_value nodes.items ≡ nodes_among (sample_value self.now)) }
+    {
+        let mut nodes = Vec::new(alloc);
+        let mut rest = self.octets;
+        for _ in 0..self.count {
+            let Some((entry, behind)) = front_entry(rest, self.order, self.width) else {
+                return Ok(nodes);
+            };
+            nodes.push(entry.node)?;
+            rest = behind;
+        }
+        Ok(nodes)
+    }
+}

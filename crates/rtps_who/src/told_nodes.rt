@@ -1,0 +1,103 @@
+ghost use Rattle.std.specs.Prelude.{◌≡◌, ◌++◌, ◌∷◌, [], List, OnOk, option_and_then};
+ghost use Rattle.std.specs.Option.{option_map};
+ghost use Rattle.rtps_receiver.specs.Values.{ActValue, fragment_value, spoken_body_value, spoken_value};
+ghost use Rattle.rtps_wire.specs.Values.{payload_value};
+ghost use Rattle.rtps_discovery.specs.Notice.{whole_payload};
+ghost use Rattle.rtps_who.specs.Introducing.{IsIntroducedBy};
+ghost use Rattle.rtps_who.specs.Samples.{sample_value};
+ghost use Rattle.rtps_who.specs.Telling.{IsToldBy, nodes_by, nodes_told as nodes_told_lem, sent_by, sent_in as sent_in_lem};
+
+use crate::introductions::Introductions;
+use crate::sample::Sample;
+use rtps_ids::{EntityId, Guid, GuidPrefix, Memory};
+use rtps_receiver::{ActBody, FragmentBody, Spoken, SpokenBody};
+use rtps_wire::Payload;
+use std::alloc::Global;
+use std::collections::BTreeMap;
+
+/// What the samples of `ros_discovery_info` tell of the nodes of participants: of each the last one that can be read. They are parts of
+/// the caller's datagrams.
+#[derive(Drop)]
+pub struct ToldNodes<'a> {
+    pub(crate) samples: BTreeMap<GuidPrefix, Sample<'a>>,
+}
+
+/// The octets of a whole payload, with the entity of its writer.
+fn whole<'a>(writer: EntityId, payload: &Payload<'a>) -> Option<(EntityId, &'a [u8])>
+    ensures { option_map (λ sent. (sent.0, sent.1.now)) result ≡ sent_by writer (whole_payload (payload_value payload.now)) }
+{
+    match payload {
+        Payload::Whole(octets) => Some((writer, octets)),
+        _ => None,
+    }
+}
+
+/// The sample that fragments were put together to, with the entity of its writer.
+fn told_whole<'a>(fragment: &FragmentBody<'a>) -> Option<(EntityId, &'a [u8])>
+    ensures { option_map (λ sent. (sent.0, sent.1.now)) result
+        ≡ sent_by fragment.now.writer (option_and_then whole_payload (fragment_value fragment.now).told) }
+{
+    match &fragment.told {
+        Some(payload) => whole(fragment.writer, payload),
+        None => None,
+    }
+}
+
+/// The sample that an act has, with the entity of its writer.
+fn sent_in<'a>(body: &SpokenBody<'a>) -> Option<(EntityId, &'a [u8])>
+    ensures { option_map (λ sent. (sent.0, sent.1.now)) result ≡ sent_in_lem (spoken_body_value body.now) }
+{
+    match body {
+        SpokenBody::Act(ActBody::Data(data)) => whole(data.writer, &data.payload),
+        SpokenBody::DataFrag(fragment) => told_whole(fragment),
+        _ => None,
+    }
+}
+
+/// The nodes that an act tells of the participant that sends it.
+fn nodes_told<'a>(introductions: &Introductions<'_>, act: &Spoken<'a>) -> Option<Sample<'a>>
+    ensures { (announcing : List ActValue) → IsIntroducedBy announcing introductions.now
+        → option_map (λ sample. (act.now.source, sample_value sample)) result ≡ nodes_told_lem announcing (spoken_value act.now) }
+{
+    let (entity, octets) = sent_in(&act.body)?;
+    let prefix = act.source;
+    if !introductions.tells_nodes(Guid { prefix, entity }) {
+        return None;
+    }
+    Sample::read(octets)
+}
+
+impl<'a> ToldNodes<'a> {
+    /// Those of no acts. It takes no memory.
+    pub fn new(alloc: Global) -> ToldNodes<'a>
+        ensures { (announcing : List ActValue) → IsToldBy announcing [] result }
+    {
+        ToldNodes {
+            samples: BTreeMap::new(alloc),
+        }
+    }
+
+    /// Keeps the nodes that an act tells in the place of those that were told of its participant before. By the introductions it is known
+    /// which writers tell of nodes. After `Memory` what is kept is of no use.
+    pub fn note(
+        &mut self,
+        introductions: &Introductions<'_>,
+        act: &Spoken<'a>,
+    ) -> Result<(), Memory>
+        ensures { OnOk result ((announcing acts : List ActValue) → IsIntroducedBy announcing introductions.now → IsToldBy announcing acts self.old
+            → IsToldBy announcing (acts ++ spoken_value act.now ∷ []) self.new) }
+    {
+        let Some(sample) = nodes_told(introductions, act) else {
+            return Ok(());
+        };
+        self.samples.insert(act.source, sample)?;
+        Ok(())
+    }
+
+    /// The sample of a participant.
+    pub(crate) fn sample(&self, prefix: GuidPrefix) -> Option<Sample<'a>>
+        ensures { (announcing acts : List ActValue) → IsToldBy announcing acts self.now → option_map sample_value result ≡ nodes_by announcing acts prefix }
+    {
+        self.samples.get(&prefix).copied()
+    }
+}

@@ -1,0 +1,104 @@
+ghost use Rattle.std.specs.Prelude.{◌≡◌, IfOk, map};
+ghost use Rattle.std.specs.Option.{option_map};
+ghost use Rattle.rtps_who.specs.Naming.{Recorded, listing_node as listing_node_lem, node_of as node_of_lem, nodes_of_participant, only_node as only_node_lem, participant_title as participant_title_lem, process_of as process_of_lem, title_by as title_by_lem, title_of as title_of_lem, title_value};
+ghost use Rattle.rtps_who.specs.Processes.{process_value};
+ghost use Rattle.rtps_who.specs.Recorded.{IsWhoIn};
+ghost use Rattle.rtps_who.specs.Samples.{node_value};
+
+use crate::introductions::Introductions;
+use crate::layout::entity;
+use crate::node::Node;
+use crate::process::Process;
+use crate::title::Title;
+use crate::told_nodes::ToldNodes;
+use rtps_ids::{Guid, GuidPrefix, Memory};
+use std::alloc::Global;
+
+/// By which names people know the endpoints and the participants of a recording.
+#[derive(Drop)]
+pub struct Who<'a> {
+    pub introductions: Introductions<'a>,
+    pub told: ToldNodes<'a>,
+}
+
+/// The title by a node, or else by a process.
+fn title_by<'a>(node: Option<Node<'a>>, process: &Process<'a>) -> Title<'a>
+    ensures { title_value result ≡ title_by_lem (option_map node_value node.entry) (process_value process.now) }
+{
+    if let Some(node) = node {
+        return Title::Node(node);
+    }
+    if let Some(program) = process.program {
+        return Title::Program(program);
+    }
+    match process.name {
+        Some(name) => Title::Name(name),
+        None => Title::Nothing,
+    }
+}
+
+impl<'a> Who<'a> {
+    /// The process of a participant. Unknown where it is not announced.
+    pub fn process(&self, prefix: GuidPrefix) -> Process<'a>
+        ensures { (recorded : Recorded) → IsWhoIn recorded self.now → process_value result ≡ process_of_lem recorded prefix }
+    {
+        let entity = entity::PARTICIPANT;
+        self.introductions.process(Guid { prefix, entity })
+    }
+
+    /// The node of a participant that has one alone.
+    pub fn only_node(&self, prefix: GuidPrefix) -> Option<Node<'a>>
+        ensures { (recorded : Recorded) → IsWhoIn recorded self.now → option_map node_value result ≡ only_node_lem recorded prefix }
+    {
+        match self.told.sample(prefix) {
+            Some(sample) => sample.only(),
+            None => self.introductions.node_by_services(prefix),
+        }
+    }
+
+    /// The nodes of a participant.
+    pub fn nodes(&self, alloc: Global, prefix: GuidPrefix) -> Result<Vec<Node<'a>>, Memory>
+        ensures { IfOk result (λ nodes. (recorded : Recorded) → IsWhoIn recorded self.now → map node_value nodes.items ≡ nodes_of_participant recorded prefix) }
+    {
+        if let Some(sample) = self.told.sample(prefix) {
+            return sample.nodes(alloc);
+        }
+        let mut nodes = Vec::new(alloc);
+        let Some(node) = self.introductions.node_by_services(prefix) else {
+            return Ok(nodes);
+        };
+        nodes.push(node)?;
+        Ok(nodes)
+    }
+
+    /// The node that has an endpoint in its lists.
+    fn listing_node(&self, endpoint: Guid) -> Option<Node<'a>>
+        ensures { (recorded : Recorded) → IsWhoIn recorded self.now → option_map node_value result ≡ listing_node_lem recorded endpoint }
+    {
+        self.told.sample(endpoint.prefix)?.node_having(endpoint)
+    }
+
+    /// The node of an endpoint: the one that has it in its lists, or else the one that its participant has alone.
+    pub fn node(&self, endpoint: Guid) -> Option<Node<'a>>
+        ensures { (recorded : Recorded) → IsWhoIn recorded self.now → option_map node_value result ≡ node_of_lem recorded endpoint }
+    {
+        match self.listing_node(endpoint) {
+            Some(node) => Some(node),
+            None => self.only_node(endpoint.prefix),
+        }
+    }
+
+    /// The title of an endpoint: its node, else the program of its process, else the name of its participant.
+    pub fn title(&self, endpoint: Guid) -> Title<'a>
+        ensures { (recorded : Recorded) → IsWhoIn recorded self.now → title_value result ≡ title_of_lem recorded endpoint }
+    {
+        title_by(self.node(endpoint), &self.process(endpoint.prefix))
+    }
+
+    /// The title of a participant: its node where it has one alone, else as that of an endpoint.
+    pub fn participant_title(&self, prefix: GuidPrefix) -> Title<'a>
+        ensures { (recorded : Recorded) → IsWhoIn recorded self.now → title_value result ≡ participant_title_lem recorded prefix }
+    {
+        title_by(self.only_node(prefix), &self.process(prefix))
+    }
+}
