@@ -158,14 +158,21 @@ class Told:
         self.rng, self.first, self.last, self.held, self.most = rng, 1, 0, set(), most
         self.writer, self.reader = writer, reader
         self.in_fragments, self.sent, self.asked = in_fragments, {}, 0
+        self.answers, self.skips, self.fragments = rng.choice([0, 0, 0, -3]), rng.choice([0, 0.1, 0.4]), rng.choice([0, 0, 0.1, 0.4])
 
     def counted(self):
-        """the next count of a HEARTBEAT or an ACKNACK"""
+        """the next count of a HEARTBEAT"""
         self.asked += 1
         return u('be', 4, self.asked)
 
+    def counted_answer(self):
+        """the next count of an ACKNACK; now and then some are left out, as if the answers that have them were lost, or it goes back"""
+        left_out = self.rng.choice([1] * 6 + [2, 2, 3, 2 ** 31 - 1, 2 ** 31, -1, -2]) if self.rng.random() < self.skips else 0
+        self.answers += 1 + left_out
+        return u('be', 4, self.answers)
+
     def submessage(self, sid, flags, *parts):
-        reader = self.rng.choice([bytes(4), bytes(4), self.reader] if sid != 0x06 else [self.reader])
+        reader = self.rng.choice([bytes(4), bytes(4), self.reader] if sid not in (0x06, 0x12) else [self.reader])
         before = {0x15: b'\0\0\0\x10', 0x16: b'\0\0\0\x1c'}.get(sid, b'')
         body = before + reader + self.writer + b''.join(parts)
         return bytes([sid, flags]) + u('be', 2, len(body)) + body
@@ -225,7 +232,20 @@ class Told:
         lacked = {n for n in range(base, max(self.last + 1, base)) if n not in self.held and self.rng.random() < 0.8}
         if self.rng.random() < 0.05:
             lacked = {n for n in range(base, base + 3) if self.rng.random() < 0.5}
-        return self.submessage(0x06, self.rng.choice([0, 2]), self.set_of(base, lacked), self.counted())
+        return self.submessage(0x06, self.rng.choice([0, 2]), self.set_of(base, lacked), self.counted_answer())
+
+    def nack_frag(self):
+        number = self.rng.randrange(1, self.last + 2)
+        return self.submessage(0x12, 0, sn('be', number), u('be', 4, 1), u('be', 4, 0), self.counted())
+
+    def said_by_reader(self):
+        """an answer, sometimes with a request for fragments beside it, or that alone, by which some readers count an answer, too"""
+        if self.rng.random() >= self.fragments:
+            return self.answer()
+        if self.rng.random() < 0.4:
+            return self.rng.choice([self.answer() + self.nack_frag(), self.nack_frag() + self.answer()])
+        self.answers += self.rng.choice([0, 1, 1])
+        return b''.join(self.nack_frag() for _ in range(self.rng.choice([1, 1, 2])))
 
     def next(self):
         """the next submessage, and whether the writer says it"""
@@ -241,7 +261,13 @@ class Told:
             if self.rng.random() < 0.5 and self.first <= self.last:
                 self.first += 1
             return self.heartbeat(), True
-        return (self.gap(), True) if kind < 0.67 else (self.answer(), False)
+        return (self.gap(), True) if kind < 0.67 else (self.said_by_reader(), False)
+
+
+def to_another_writer(rng):
+    """an ACKNACK of the reader to a writer of another participant or of another name, or to everyone, or of another reader"""
+    told, dest = Told(rng, *rng.choice([(b'\0\0\1\2',), (b'\0\0\1\2',), (), (b'\0\0\1\3', b'\0\0\1\5')])), rng.choice([A, A, C, b''])
+    return b'RTPS\2\5\0\0' + B + (b'\x0e\0\0\x0c' + dest if dest else b'') + told.answer()
 
 
 def some_delivery(rng, in_fragments=False, most=18):
@@ -255,6 +281,8 @@ def some_delivery(rng, in_fragments=False, most=18):
             datagrams[-1] += dest + octets
         else:
             datagrams.append(b'RTPS\2\5\0\0' + prefix + dest + octets)
+    if rng.random() < 0.1:
+        datagrams.insert(rng.randrange(len(datagrams) + 1), to_another_writer(rng))
     for d in START if rng.random() < 0.5 else START[:1]:
         datagrams.insert(0 if rng.random() < 0.7 else rng.randrange(len(datagrams) + 1), d)
     if START[1] not in datagrams:
@@ -543,7 +571,8 @@ def tail(rng):
 
 def some_life(rng, most=18):
     """a delivery to a reader that joins late, mostly, and leaves, mostly, and that asks for fragments"""
-    datagrams = [d for d in some_delivery(rng, rng.random() < 0.5, most) if d != START[1]]
+    delivery = some_resends(rng) if rng.random() < 0.25 else some_delivery(rng, rng.random() < 0.5, most)
+    datagrams = [d for d in delivery if d[32:36] != b'\0\0\4\xc2']
     guid, more = B + b'\0\0\1\4', RELIABLE + rng.choice([b'', b'', DURABLE])
     writer = announced(b'\0\0\3\xc2', A, b'\0\0\1\3', DURABLE)
     datagrams = [writer if d == START[0] else d for d in datagrams]
@@ -606,12 +635,41 @@ def some_ranges(rng):
     told.last = last
     datagrams += [by_writer(told.heartbeat()) for _ in range(rng.randrange(3))]
     base = rng.randrange(1, 4)
-    datagrams.append(answered(told.submessage(0x06, 0, set_of_any(base, [n for n in lacked if n >= base]), told.counted())))
+    datagrams.append(answered(told.submessage(0x06, 0, set_of_any(base, [n for n in lacked if n >= base]), told.counted_answer())))
     datagrams += [by_writer(told.data(n)) for n in lacked if rng.random() < 0.5]
     told.first = rng.randrange(1, last + 2)
     datagrams.append(by_writer(told.heartbeat()))
     base = rng.choice([told.first, last + 1])
-    return datagrams + ([answered(told.submessage(0x06, 0, set_of_any(base, []), told.counted()))] if rng.random() < 0.7 else [])
+    return datagrams + ([answered(told.submessage(0x06, 0, set_of_any(base, []), told.counted_answer()))] if rng.random() < 0.7 else [])
+
+
+def some_resends(rng):
+    """rounds in which a reader asks for numbers and these are sent again, until it claims all; some of its answers are left out, it asks for
+    fragments too, and sometimes it answers another writer"""
+    told, last, base = Told(rng, in_fragments=rng.random() < 0.2), rng.randrange(2, 7), 1
+    told.skips = rng.choice([0.2, 0.5, 0.8])
+    datagrams = [by_writer(told.data(n)) for n in range(1, last + 1)]
+    told.last = last
+    datagrams += [by_writer(told.heartbeat()) for _ in range(rng.choice([1, 1, 1, 2, 3]))]
+    if rng.random() < 0.3:
+        told.first = rng.randrange(2, last + 2)
+        datagrams.append(by_writer(told.heartbeat()))
+    for _ in range(rng.randrange(1, 4)):
+        lacked = {n for n in range(base, last + 1) if rng.random() < 0.5}
+        datagrams.append(answered(told.submessage(0x06, 0, set_of_any(base, lacked), told.counted_answer())))
+        told.first = rng.choice([told.first, rng.randrange(told.first, last + 2), last + 1])
+        said = [by_writer(told.data(n)) for n in sorted(lacked) if rng.random() < 0.8] + [by_writer(told.heartbeat())]
+        for one in [answered(told.nack_frag()) for _ in range(rng.choice([0, 0, 0, 1, 2]))]:
+            said.insert(rng.randrange(len(said) + 1), one)
+        datagrams += said
+        base = rng.choice([base, base, base, *range(base, last + 2)])
+    datagrams += [answered(told.submessage(0x06, 0, set_of_any(n, set()), told.counted_answer())) for n in [last + 1] * rng.choice([0, 1, 1, 1, 1, 2])]
+    if rng.random() < 0.15:
+        datagrams.insert(rng.randrange(len(datagrams) + 1), to_another_writer(rng))
+    for at in range(len(datagrams) - 1, 0, -1):
+        if rng.random() < 0.15 and datagrams[at][8:20] == datagrams[at - 1][8:20]:
+            datagrams[at - 1] += datagrams.pop(at)[20:]
+    return [START[0], announced(b'\0\0\4\xc2', B, b'\0\0\1\4', RELIABLE + rng.choice([b'', DURABLE]))] + datagrams
 
 
 def some_two_ways(rng):

@@ -2,7 +2,7 @@
 their endpoints, whom they name, and what they say of few numbers, reliably and by best effort.
 """
 from random_recordings import (A, B, C, TOPICS, Told, leaving, parameter, put, sn, some_announced, some_input, some_life, some_outage,
-                               some_ranges, some_two_ways, text_of_datagrams, u)
+                               some_ranges, some_resends, some_two_ways, text_of_datagrams, u)
 
 PREFIXES = A, B, C, b'\xdd' * 12
 KINDS = b'Pose', b'Pose', b'Pose', b'nav_msgs::msg::dds_::Odometry_', b'a::dds_::b', b'\xff::dds_::_'
@@ -171,7 +171,7 @@ def some_recorded(rng):
     """a recording text of one of several kinds"""
     kind = rng.random()
     if kind < 0.8:
-        kinds = (0.35, some_system), (0.45, some_outage), (0.55, some_ranges), (0.8, some_life)
+        kinds = (0.32, some_system), (0.4, some_outage), (0.48, some_ranges), (0.6, some_resends), (0.8, some_life)
         return text_of_datagrams(next(some for most, some in kinds if kind < most)(rng))
     return some_input(rng)
 
@@ -182,7 +182,8 @@ def some_recorded(rng):
 def some_both(rng):
     """what two participants say for a while"""
     kind = rng.random()
-    kinds = (0.4, lambda: some_life(rng, 60)), (0.5, lambda: some_ranges(rng)), (0.7, lambda: some_two_ways(rng)), (0.9, lambda: some_system(rng)), (1, lambda: some_life(rng))
+    kinds = [(0.3, lambda: some_life(rng, 60)), (0.4, lambda: some_ranges(rng)), (0.5, lambda: some_resends(rng)), (0.7, lambda: some_two_ways(rng)),
+             (0.9, lambda: some_system(rng)), (1, lambda: some_life(rng))]
     return next(some for most, some in kinds if kind < most)()
 
 

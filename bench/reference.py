@@ -33,6 +33,7 @@ from importlib import import_module
 import capture_reader
 from asked import GREATEST, PLAIN, Asked, asked_by
 from fragments import by_writer, payloads_told, placed_samples, without_sample
+from lost_answers import LostAnswers
 from random_captures import some_capture
 from random_recordings import A, B, START, some_delivery, some_input, text_of_datagrams
 from times import NO_TIMES, Times, json_text, timed_values
@@ -768,12 +769,15 @@ class Delivery:
         self.last = max([first - 1] + [last_number(act) for _, act in self.said])
         self.received = {n for n in self.sent() if self.is_received(n)}
         self.since = self.joined(recording) if since is None else since
-        self.asked, self.brought = {}, {}
+        self.asked, self.asked_by_answers, self.brought = {}, {}, {}
         for place, act in self.placed:
             for n in asks(act, w, r):
                 self.asked.setdefault(n, []).append(place)
+                if act['kind'] == 'acknack':
+                    self.asked_by_answers.setdefault(n, []).append(place)
             if brings(act, w, r):
                 self.brought.setdefault(act['number'], []).append(place)
+        self.lost_answers = LostAnswers(self.placed, w, r)
         self.missed = sorted(n for n in self.asked if first <= n <= self.last and self.is_missed(n))
 
     def joined(self, recording):
@@ -785,6 +789,14 @@ class Delivery:
         return [place for place in self.brought.get(n, []) if place > self.since]
 
     def is_missed(self, n):
+        """it was asked for in vain, and that is no matter of a lost answer"""
+        return self.is_wanting(n) and not self.is_excused(n)
+
+    def is_excused(self, n):
+        """that a number is asked for is a matter of a lost answer, where it is in vain"""
+        return self.lost_answers.excuses(n, self.asked_by_answers.get(n, []), self.brought.get(n, []))
+
+    def is_wanting(self, n):
         """it was asked for, and of the last place where it is nothing of it came behind, or something of it did before"""
         if n in self.received or n not in self.asked:
             return False

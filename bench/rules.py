@@ -7,6 +7,7 @@
 """
 import random
 import sys
+from copy import copy
 
 import arrived
 import check
@@ -37,6 +38,15 @@ def without_times(row):
     return unanswered > [delivery.kind(n) for n in delivery.bounds() if n <= row.last].count('unanswered')
 
 
+def excused(row, answers_others=None, fragments_alone=None):
+    """the numbers of a row that are no loss by a lost answer, or would be where these were as said"""
+    delivery = row.delivery
+    lost, wanting = copy(delivery.lost_answers), [n for n in delivery.asked if row.first <= n <= row.last and delivery.is_wanting(n)]
+    lost.answers_others = lost.answers_others if answers_others is None else answers_others
+    lost.fragments_alone = lost.fragments_alone if fragments_alone is None else fragments_alone
+    return {n for n in wanting if lost.excuses(n, delivery.asked_by_answers.get(n, []), delivery.brought.get(n, []))}
+
+
 def rules_of(found):
     """the rules that a report meets"""
     rows, talk, last = found.rows, found.talk, check.ending(found)
@@ -48,6 +58,9 @@ def rules_of(found):
         'wrote nothing since it joined': any(row.wrote_before_alone() for row in rows),
         'unanswered': any(row.counts['unanswered'] for row in rows),
         'no outage by the 100 ms': any(map(without_times, rows)),
+        'no loss by a lost answer': any(map(excused, rows)),
+        'a loss, since another writer is answered': any(excused(row, answers_others=False) - excused(row) for row in rows),
+        'a loss by NACK_FRAGs alone': any(excused(row, fragments_alone=()) - excused(row) for row in rows),
         'a tail': any(row.is_tail() and row.tail() for row in rows),
         'a tail from its first number': any(row.is_tail() and row.delivery.base() == row.first for row in rows),
         'clean with a tail': any(row.is_clean_with_a_tail() for row in rows),

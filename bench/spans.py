@@ -43,8 +43,8 @@ class Outcome(Delivery):
             return 'received'
         if n in self.arrived:
             return 'arrived'
-        if self.is_missed(n):
-            return 'missed'
+        if self.is_wanting(n):
+            return 'likely' if self.is_excused(n) else 'missed'
         if not self.brought_since(n):
             return 'unsent'
         if self.is_unanswered(n):

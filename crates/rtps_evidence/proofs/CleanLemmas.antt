@@ -11,13 +11,14 @@ use Rattle.rtps_audit.specs.Placed.{PlacedValue}
 use Rattle.rtps_coverage.specs.Counts.{count_in}
 use Rattle.rtps_evidence.specs.Clean.{CountsSayTail, IsBelowBase, IsPastBase, IsTail, has_all, is_begun, is_open, loses_none}
 use Rattle.rtps_evidence.specs.Locations.{base_said, greatest_base}
-use Rattle.rtps_evidence.specs.Missed.{is_wanting}
+use Rattle.rtps_evidence.specs.Missed.{is_excused, is_wanting}
 use Rattle.rtps_evidence.specs.Outcomes.{AreOutcomes, count_of, is_brought, is_outcome, is_unanswered, outcome_of}
 use Rattle.rtps_evidence.specs.Received.{first_claiming, is_certain_by, is_received}
 use Rattle.rtps_evidence.specs.declared.location.Location.{Location}
 use Rattle.rtps_evidence.specs.declared.outcome.Outcome.{Outcome}
 use Rattle.rtps_evidence.specs.declared.outcome.Outcome.TheVariants.{Received, Arrived, Missed, Unsent, Unanswered, Likely, Unconfirmed}
 use Rattle.rtps_evidence.specs.declared.outcome.Outcomes.{Outcomes}
+use Rattle.rtps_evidence.proofs.ClaimedThen.{excused_is_claimed}
 use Rattle.rtps_coverage.proofs.Offered.{count_all, count_none, count_same, count_split}
 
 -- where no number has it, each has not
@@ -51,8 +52,8 @@ none_where said n (x ∷ xs) le =
     ap (λ b. cond b (Some x) (find (λ (at : PlacedValue). nat_lt n (said at)) xs)) no ∙ none_where said n xs (omega arith)
 
 -- the first that fits
-abbrev pub first_of : Bool → Bool → Bool → Bool → Bool → Bool → Outcome
-first_of r t w b u c = if r then Received else if t then Arrived else if w then Missed else if not b then Unsent else if u then Unanswered else if c then Likely else Unconfirmed
+abbrev pub first_of : Bool → Bool → Bool → Bool → Bool → Bool → Bool → Outcome
+first_of r t w e b u c = if r then Received else if t then Arrived else if w then (if e then Likely else Missed) else if not b then Unsent else if u then Unanswered else if c then Likely else Unconfirmed
 
 -- a number is none of what is lost; of a pair that is held, it is not likely, and of another one it is not there
 record IsKept (held t : Bool) (outcome : Outcome) : Type 0 where
@@ -62,15 +63,16 @@ record IsKept (held t : Bool) (outcome : Outcome) : Type 0 where
   pub likely : held ≡ true → is_outcome Likely outcome ≡ false
   pub nowhere : held ≡ false → t ≡ false
 
-below_base : (held r t w b u c : Bool) → IsKept held t (first_of r t w b u c) → c ≡ true → IsBelowBase held (first_of r t w b u c)
-below_base held r t w b u c h h2 = grind (arith, nat_tests)
+below_base : (held r t w e b u c : Bool) → IsKept held t (first_of r t w e b u c) → c ≡ true → IsBelowBase held (first_of r t w e b u c)
+below_base held r t w e b u c h h2 = grind (arith, nat_tests)
 
-past_base : (held r t w b u c : Bool) → IsKept held t (first_of r t w b u c) → r ≡ false → c ≡ false → IsPastBase held (first_of r t w b u c)
-past_base held r t w b u c h h2 h3 = grind (arith, nat_tests)
+past_base : (held r t w e b u c : Bool) → (e ≡ true → c ≡ true) → IsKept held t (first_of r t w e b u c) → r ≡ false → c ≡ false → IsPastBase held (first_of r t w e b u c)
+past_base held r t w false b u c h h2 h3 h4 = grind (arith, nat_tests)
+past_base held r t w true b u c h h2 h3 h4 = absurd (let yes = h refl in let clash : true ≡ false = sym yes ∙ h4 in cc)
 
 -- what is not lost, not likely and not unconfirmed came
-came : (r t w b u c : Bool) → IsKept true t (first_of r t w b u c) → is_outcome Unconfirmed (first_of r t w b u c) ≡ false → IsBelowBase true (first_of r t w b u c)
-came r t w b u c h h2 = grind (arith, nat_tests)
+came : (r t w e b u c : Bool) → IsKept true t (first_of r t w e b u c) → is_outcome Unconfirmed (first_of r t w e b u c) ≡ false → IsBelowBase true (first_of r t w e b u c)
+came r t w e b u c h h2 = grind (arith, nat_tests)
 
 zero_of : (n : ℕ) → (n == 0) ≡ true → n ≡ 0
 zero_of n is = grind (arith, nat_tests, is)
@@ -111,18 +113,18 @@ module _ (held : Bool) (there : ℕ → Bool) (from last : ℕ) (times : List (O
       record {
         acknowledged = above;
         onward = onward;
-        below = λ n a b lt. below_base held (is_received pair.writer pair.reader acts n) (there n) (is_wanting since pair.writer pair.reader acts n) (is_brought since pair acts n) (is_unanswered times since pair acts n)
+        below = λ n a b lt. below_base held (is_received pair.writer pair.reader acts n) (there n) (is_wanting since pair.writer pair.reader acts n) (is_excused pair.writer pair.reader acts n) (is_brought since pair acts n) (is_unanswered times since pair acts n)
             (is_some (first_claiming pair.writer pair.reader n acts)) (is_kept none n a b) (found_where said n acts lt);
         others = λ n a b le.
             let unclaimed = none_where said n acts le in
-            past_base held (is_received pair.writer pair.reader acts n) (there n) (is_wanting since pair.writer pair.reader acts n) (is_brought since pair acts n) (is_unanswered times since pair acts n)
-            (is_some (first_claiming pair.writer pair.reader n acts)) (is_kept none n a b) (ap (is_certain_by pair.writer pair.reader n acts) unclaimed) (ap is_some unclaimed);
+            past_base held (is_received pair.writer pair.reader acts n) (there n) (is_wanting since pair.writer pair.reader acts n) (is_excused pair.writer pair.reader acts n) (is_brought since pair acts n) (is_unanswered times since pair acts n)
+            (is_some (first_claiming pair.writer pair.reader n acts)) (excused_is_claimed pair acts n) (is_kept none n a b) (ap (is_certain_by pair.writer pair.reader n acts) unclaimed) (ap is_some unclaimed);
       }
 
   whole_said : held ≡ true → loses_none held outcomes ≡ true → outcomes.unconfirmed ≡ 0 → (n : ℕ) → from ≤ n → n ≤ last → IsBelowBase true (outcome n)
   unfolding outcome_of
   whole_said held_is none all n low high =
-      came (is_received pair.writer pair.reader acts n) (there n) (is_wanting since pair.writer pair.reader acts n) (is_brought since pair acts n) (is_unanswered times since pair acts n)
+      came (is_received pair.writer pair.reader acts n) (there n) (is_wanting since pair.writer pair.reader acts n) (is_excused pair.writer pair.reader acts n) (is_brought since pair acts n) (is_unanswered times since pair acts n)
       (is_some (first_claiming pair.writer pair.reader n acts)) (subst (λ h. IsKept h (there n) (outcome n)) held_is (is_kept none n low high)) (none_counted Unconfirmed outcomes.unconfirmed n are.unconfirmed all low high)
 
 -- ---- the other way round
@@ -201,8 +203,8 @@ tail_counted there from last times since pair acts outcomes are tail =
     never outcome (inr is) = ap (is_outcome Unconfirmed) is
 
 -- of a pair that is held, a number of a tail from the greatest base on is unconfirmed where it is not there
-not_there : (r t w b u c : Bool) → IsPastBase true (first_of r t w b u c) → is_outcome Unconfirmed (first_of r t w b u c) ≡ not t
-not_there r t w b u c h = grind (arith, nat_tests)
+not_there : (r t w e b u c : Bool) → IsPastBase true (first_of r t w e b u c) → is_outcome Unconfirmed (first_of r t w e b u c) ≡ not t
+not_there r t w e b u c h = grind (arith, nat_tests)
 
 held_tail_counted : (there : ℕ → Bool) (from last : ℕ) (times : List (Option ℕ)) (since : Option Location) (pair : Pair) (acts : List PlacedValue) (outcomes : Outcomes) → AreOutcomes there from last times since pair acts outcomes → IsTail true there from last times since pair acts
     → outcomes.unconfirmed ≡ count_in (λ n. not (there n)) (greatest_base pair.writer pair.reader acts) (last + 1)
@@ -210,7 +212,7 @@ unfolding outcome_of
 held_tail_counted there from last times since pair acts outcomes are tail =
     are.unconfirmed
     ∙ unconfirmed_past from last (greatest_base pair.writer pair.reader acts) (outcome_of there times since pair acts) (λ n. not (there n)) (λ n low high lt. never (outcome_of there times since pair acts n) (tail.below n low high lt))
-    (λ n low high ge. not_there (is_received pair.writer pair.reader acts n) (there n) (is_wanting since pair.writer pair.reader acts n) (is_brought since pair acts n) (is_unanswered times since pair acts n)
+    (λ n low high ge. not_there (is_received pair.writer pair.reader acts n) (there n) (is_wanting since pair.writer pair.reader acts n) (is_excused pair.writer pair.reader acts n) (is_brought since pair acts n) (is_unanswered times since pair acts n)
     (is_some (first_claiming pair.writer pair.reader n acts)) (tail.others n low high ge))
     ∙ ap (λ m. count_in (λ n. not (there n)) m (last + 1)) (max_onward from (greatest_base pair.writer pair.reader acts) tail.onward)
   where

@@ -23,6 +23,11 @@ pub mod QuestionedLemmas
 pub mod SilenceLemmas
 pub mod SpanLemmas
 pub mod OutcomeLemmas
+pub mod ClaimedThen
+pub mod CountedLemmas
+pub mod LackLemmas
+pub mod LastAskLemmas
+pub mod ResendLemmas
 pub mod CleanLemmas
 pub mod OutcomeCounts
 pub mod AloneLemmas

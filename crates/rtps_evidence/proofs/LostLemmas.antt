@@ -16,7 +16,7 @@ use Rattle.rtps_coverage.specs.declared.stretch.Stretch.{Stretch}
 use Rattle.rtps_evidence.specs.Clean.{has_all}
 use Rattle.rtps_evidence.specs.Explanation.{AreLostOf, IsLostBy}
 use Rattle.rtps_evidence.specs.Kinds.{AreLost, AreRangesOf, AreRunsOf, IsLostIn, KindValue, LostValue, has_outcome, is_lacking, kept_ranges, lost_value, no_ranges, none_lost}
-use Rattle.rtps_evidence.specs.Missed.{is_wanting}
+use Rattle.rtps_evidence.specs.Missed.{is_excused, is_wanting}
 use Rattle.rtps_evidence.specs.OtherSide.{Beside}
 use Rattle.rtps_evidence.specs.Outcomes.{AreOutcomes, is_brought, is_outcome, is_unanswered, outcome_of}
 use Rattle.rtps_evidence.specs.Received.{first_claiming, is_received}
@@ -46,37 +46,40 @@ runs_same has other lo hi runs same are = record {
 
 -- ---- what the sets have of a number
 
-pub missed_kind : (r t w b u k l m : Bool) → l ≡ not r → m ≡ (not r && w) → ((l && not t) && m) ≡ is_outcome Missed (first_of r t w b u k)
-missed_kind true t w b u k l m h h2 = grind (arith, nat_tests)
-missed_kind false true w b u k l m h h2 = grind (arith, nat_tests)
-missed_kind false false true b u k l m h h2 = grind (arith, nat_tests)
-missed_kind false false false true true k l m h h2 = grind (arith, nat_tests)
-missed_kind false false false true false true l m h h2 = grind (arith, nat_tests)
-missed_kind false false false true false false l m h h2 = grind (arith, nat_tests)
-missed_kind false false false false u k l m h h2 = grind (arith, nat_tests)
+pub missed_kind : (r t w e b u k l m : Bool) → l ≡ not r → m ≡ ((not r && w) && not e) → ((l && not t) && m) ≡ is_outcome Missed (first_of r t w e b u k)
+missed_kind true t w e b u k l m h h2 = grind (arith, nat_tests)
+missed_kind false true w e b u k l m h h2 = grind (arith, nat_tests)
+missed_kind false false true true b u k l m h h2 = grind (arith, nat_tests)
+missed_kind false false true false b u k l m h h2 = grind (arith, nat_tests)
+missed_kind false false false e true true k l m h h2 = grind (arith, nat_tests)
+missed_kind false false false e true false true l m h h2 = grind (arith, nat_tests)
+missed_kind false false false e true false false l m h h2 = grind (arith, nat_tests)
+missed_kind false false false e false u k l m h h2 = grind (arith, nat_tests)
 
-pub unsent_kind : (r t w b u k l m n : Bool) → l ≡ not r → m ≡ (not r && w) → (r ≡ false → n ≡ not b) → (((l && not t) && not m) && n) ≡ is_outcome Unsent (first_of r t w b u k)
-unsent_kind true t w b u k l m n h h2 h3 = grind (arith, nat_tests)
-unsent_kind false true w b u k l m n h h2 h3 = grind (arith, nat_tests)
-unsent_kind false false true b u k l m n h h2 h3 = grind (arith, nat_tests)
-unsent_kind false false false true true k l m n h h2 h3 = let no = h3 refl in grind (arith, nat_tests)
-unsent_kind false false false true false true l m n h h2 h3 = let no = h3 refl in grind (arith, nat_tests)
-unsent_kind false false false true false false l m n h h2 h3 = let no = h3 refl in grind (arith, nat_tests)
-unsent_kind false false false false u k l m n h h2 h3 = let no = h3 refl in grind (arith, nat_tests)
+pub unsent_kind : (r t w e b u k l v n : Bool) → l ≡ not r → v ≡ (not r && w) → (r ≡ false → n ≡ not b) → (((l && not t) && not v) && n) ≡ is_outcome Unsent (first_of r t w e b u k)
+unsent_kind true t w e b u k l v n h h2 h3 = grind (arith, nat_tests)
+unsent_kind false true w e b u k l v n h h2 h3 = grind (arith, nat_tests)
+unsent_kind false false true true b u k l v n h h2 h3 = grind (arith, nat_tests)
+unsent_kind false false true false b u k l v n h h2 h3 = grind (arith, nat_tests)
+unsent_kind false false false e true true k l v n h h2 h3 = let no = h3 refl in grind (arith, nat_tests)
+unsent_kind false false false e true false true l v n h h2 h3 = let no = h3 refl in grind (arith, nat_tests)
+unsent_kind false false false e true false false l v n h h2 h3 = let no = h3 refl in grind (arith, nat_tests)
+unsent_kind false false false e false u k l v n h h2 h3 = let no = h3 refl in grind (arith, nat_tests)
 
-pub unanswered_kind : (r t w b u k l m n s : Bool) → l ≡ not r → m ≡ (not r && w) → (r ≡ false → n ≡ not b) → (r ≡ false → b ≡ true → s ≡ u)
-    → ((((l && not t) && not m) && not n) && s) ≡ is_outcome Unanswered (first_of r t w b u k)
-unanswered_kind true t w b u k l m n s h h2 h3 h4 = grind (arith, nat_tests)
-unanswered_kind false true w b u k l m n s h h2 h3 h4 = grind (arith, nat_tests)
-unanswered_kind false false true b u k l m n s h h2 h3 h4 = grind (arith, nat_tests)
-unanswered_kind false false false true true k l m n s h h2 h3 h4 = let no = h3 refl in let yes = h4 refl refl in grind (arith, nat_tests)
-unanswered_kind false false false true false true l m n s h h2 h3 h4 = let no = h3 refl in let yes = h4 refl refl in grind (arith, nat_tests)
-unanswered_kind false false false true false false l m n s h h2 h3 h4 = let no = h3 refl in let yes = h4 refl refl in grind (arith, nat_tests)
-unanswered_kind false false false false u k l m n s h h2 h3 h4 = let no = h3 refl in grind (arith, nat_tests)
+pub unanswered_kind : (r t w e b u k l v n s : Bool) → l ≡ not r → v ≡ (not r && w) → (r ≡ false → n ≡ not b) → (r ≡ false → b ≡ true → s ≡ u)
+    → ((((l && not t) && not v) && not n) && s) ≡ is_outcome Unanswered (first_of r t w e b u k)
+unanswered_kind true t w e b u k l v n s h h2 h3 h4 = grind (arith, nat_tests)
+unanswered_kind false true w e b u k l v n s h h2 h3 h4 = grind (arith, nat_tests)
+unanswered_kind false false true true b u k l v n s h h2 h3 h4 = grind (arith, nat_tests)
+unanswered_kind false false true false b u k l v n s h h2 h3 h4 = grind (arith, nat_tests)
+unanswered_kind false false false e true true k l v n s h h2 h3 h4 = let no = h3 refl in let yes = h4 refl refl in grind (arith, nat_tests)
+unanswered_kind false false false e true false true l v n s h h2 h3 h4 = let no = h3 refl in let yes = h4 refl refl in grind (arith, nat_tests)
+unanswered_kind false false false e true false false l v n s h h2 h3 h4 = let no = h3 refl in let yes = h4 refl refl in grind (arith, nat_tests)
+unanswered_kind false false false e false u k l v n s h h2 h3 h4 = let no = h3 refl in grind (arith, nat_tests)
 
 -- an outcome is the first that fits
 pub outcome_first : (outcome : Outcome) (there : ℕ → Bool) (times : List (Option ℕ)) (since : Option Location) (pair : Pair) (acts : List PlacedValue) (n : ℕ)
-    → is_outcome outcome (first_of (is_received pair.writer pair.reader acts n) (there n) (is_wanting since pair.writer pair.reader acts n) (is_brought since pair acts n) (is_unanswered times since pair acts n) (is_some (first_claiming pair.writer pair.reader n acts)))
+    → is_outcome outcome (first_of (is_received pair.writer pair.reader acts n) (there n) (is_wanting since pair.writer pair.reader acts n) (is_excused pair.writer pair.reader acts n) (is_brought since pair acts n) (is_unanswered times since pair acts n) (is_some (first_claiming pair.writer pair.reader n acts)))
     ≡ has_outcome outcome there times since pair acts n
 unfolding outcome_of
 outcome_first outcome there times since pair acts n = refl

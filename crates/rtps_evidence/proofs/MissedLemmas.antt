@@ -15,7 +15,7 @@ use Rattle.rtps_evidence.proofs.AskingLemmas.{requester_is_origin}
 use Rattle.rtps_coverage.specs.Counts.{count_in}
 use Rattle.rtps_coverage.specs.Stretches.{stretches_have}
 use Rattle.rtps_evidence.specs.Locations.{find_last, is_behind, location_of}
-use Rattle.rtps_evidence.specs.Missed.{AreMissed, again_behind, announces, asks_for, brings, brings_before, brings_behind, first_place, gone_behind, has_guid, is_asked_in_vain, is_missed, is_missed_for_good, is_wanting, missed_at, missed_by, place_announced}
+use Rattle.rtps_evidence.specs.Missed.{AreMissed, again_behind, announces, asks_for, brings, brings_before, brings_behind, first_place, gone_behind, has_guid, is_asked_in_vain, is_missed, is_missed_for_good, is_unmet, is_wanting, missed_at, missed_by, place_announced}
 use Rattle.rtps_evidence.specs.Received.{is_received, least_in}
 use Rattle.rtps_evidence.specs.Requests.{is_in_vain, met_among, new_request, requested}
 use Rattle.rtps_evidence.specs.WriterSummary.{option_any}
@@ -52,10 +52,10 @@ again_same place writer reader n placed = grind (arith, nat_tests, common_steps,
 pub last_asking_same : (writer reader : Guid) (n : ℕ) (placed : List PlacedValue) → find_last (asks_for writer reader n) (filter (is_from reader) placed) ≡ find_last (asks_for writer reader n) placed
 last_asking_same writer reader n placed = grind (arith, nat_tests, common_steps, filter_filter, requester_is_origin, and_parts)
 
--- the last request for a number that is lacking, behind what the writer's acts bring, tells whether it is missed
-pub missed_by_request : (since : Option Location) (pair : Pair) (placed : List PlacedValue) (n : ℕ) (lacking : ℕ → Bool) → lacking n ≡ not (is_received pair.writer pair.reader placed n)
-    → option_any is_in_vain (option_map (met_among since pair n (filter (is_from pair.writer) placed)) (requested pair (filter (is_from pair.reader) placed) lacking n)) ≡ is_missed since pair.writer pair.reader placed n
-missed_by_request since pair placed n lacking known =
+-- the last request for a number that is lacking, behind what the writer's acts bring, tells whether it is asked for in vain
+pub unmet_by_request : (since : Option Location) (pair : Pair) (placed : List PlacedValue) (n : ℕ) (lacking : ℕ → Bool) → lacking n ≡ not (is_received pair.writer pair.reader placed n)
+    → option_any is_in_vain (option_map (met_among since pair n (filter (is_from pair.writer) placed)) (requested pair (filter (is_from pair.reader) placed) lacking n)) ≡ is_unmet since pair.writer pair.reader placed n
+unmet_by_request since pair placed n lacking known =
     ap (λ o. option_any is_in_vain (option_map (met_among since pair n (filter (is_from pair.writer) placed)) (if lacking n then option_map (λ (asking : PlacedValue). new_request (location_of asking)) o else None))) (last_asking_same pair.writer pair.reader n placed)
     ∙ by (lacking n) (find_last (asks_for pair.writer pair.reader n) placed)
     ∙ ap (λ b. b && is_wanting since pair.writer pair.reader placed n) known

@@ -7,7 +7,7 @@ use Rattle.rtps_discovery.specs.declared.matching.Pair.{Pair}
 use Rattle.rtps_audit.specs.Placed.{PlacedValue}
 use Rattle.rtps_coverage.specs.Counts.{count_in}
 use Rattle.rtps_evidence.specs.Locations.{base_said, greatest_base}
-use Rattle.rtps_evidence.specs.Missed.{is_wanting}
+use Rattle.rtps_evidence.specs.Missed.{is_excused, is_wanting}
 use Rattle.rtps_evidence.specs.Outcomes.{AreOutcomes, ArrivedIsAllThatChanges, IsChangedAlone, is_brought, is_outcome, is_unanswered, outcome_of}
 use Rattle.rtps_evidence.specs.Received.{first_claiming, is_received}
 use Rattle.rtps_evidence.specs.declared.location.Location.{Location}
@@ -44,11 +44,14 @@ count_one_more before behind kind lo hi is apart =
 abbrev pub with_arrived : Bool → Bool → Bool
 with_arrived r t = r || t
 
-abbrev pub with_missed : Bool → Bool → Bool → Bool
-with_missed r t w = with_arrived r t || w
+abbrev pub with_missed : Bool → Bool → Bool → Bool → Bool
+with_missed r t w e = with_arrived r t || (w && not e)
+
+abbrev pub with_unmet : Bool → Bool → Bool → Bool
+with_unmet r t w = with_arrived r t || w
 
 abbrev pub with_unsent : Bool → Bool → Bool → Bool → Bool
-with_unsent r t w b = with_missed r t w || not b
+with_unsent r t w b = with_unmet r t w || not b
 
 abbrev pub with_unanswered : Bool → Bool → Bool → Bool → Bool → Bool
 with_unanswered r t w b u = with_unsent r t w b || u
@@ -56,80 +59,100 @@ with_unanswered r t w b u = with_unsent r t w b || u
 abbrev pub with_likely : Bool → Bool → Bool → Bool → Bool → Bool → Bool
 with_likely r t w b u c = with_unanswered r t w b u || c
 
-is_first : (r t w b u c : Bool) → is_outcome Received (first_of r t w b u c) ≡ r
-is_first r t w b u c = grind (arith, nat_tests)
+is_first : (r t w e b u c : Bool) → is_outcome Received (first_of r t w e b u c) ≡ r
+is_first r t w e b u c = grind (arith, nat_tests)
 
 record Adds (before behind kind : Bool) : Type 0 where
   pub more : behind ≡ (before || kind)
   pub apart : (before && kind) ≡ false
 
-adds_arrived : (r t w b u c : Bool) → Adds r (with_arrived r t) (is_outcome Arrived (first_of r t w b u c))
-adds_arrived r t w b u c = grind (arith, nat_tests)
+adds_arrived : (r t w e b u c : Bool) → Adds r (with_arrived r t) (is_outcome Arrived (first_of r t w e b u c))
+adds_arrived r t w e b u c = grind (arith, nat_tests)
 
-adds_missed : (r t w b u c : Bool) → Adds (with_arrived r t) (with_missed r t w) (is_outcome Missed (first_of r t w b u c))
-adds_missed r t w b u c = grind (arith, nat_tests)
+adds_missed : (r t w e b u c : Bool) → Adds (with_arrived r t) (with_missed r t w e) (is_outcome Missed (first_of r t w e b u c))
+adds_missed r t w e b u c = grind (arith, nat_tests)
 
-adds_unsent : (r t w b u c : Bool) → Adds (with_missed r t w) (with_unsent r t w b) (is_outcome Unsent (first_of r t w b u c))
-adds_unsent r t w b u c = grind (arith, nat_tests)
+adds_unsent : (r t w e b u c : Bool) → Adds (with_unmet r t w) (with_unsent r t w b) (is_outcome Unsent (first_of r t w e b u c))
+adds_unsent r t w e b u c = grind (arith, nat_tests)
 
-adds_unanswered : (r t w b u c : Bool) → Adds (with_unsent r t w b) (with_unanswered r t w b u) (is_outcome Unanswered (first_of r t w b u c))
-adds_unanswered r t w b u c = grind (arith, nat_tests)
+adds_unanswered : (r t w e b u c : Bool) → Adds (with_unsent r t w b) (with_unanswered r t w b u) (is_outcome Unanswered (first_of r t w e b u c))
+adds_unanswered r t w e b u c = grind (arith, nat_tests)
 
-adds_likely : (r t w b u c : Bool) → Adds (with_unanswered r t w b u) (with_likely r t w b u c) (is_outcome Likely (first_of r t w b u c))
-adds_likely r t w b u c = grind (arith, nat_tests)
+-- a number that is likely is so for an answer that lacks, or for a claim
+abbrev excused : Bool → Bool → Bool → Bool → Bool
+excused r t w e = not (with_arrived r t) && (w && e)
 
-is_last : (r t w b u c : Bool) → is_outcome Unconfirmed (first_of r t w b u c) ≡ not (with_likely r t w b u c)
-is_last r t w b u c = grind (arith, nat_tests)
+abbrev claimed : Bool → Bool → Bool → Bool → Bool → Bool → Bool
+claimed r t w b u c = not (with_unanswered r t w b u) && c
+
+adds_excused : (r t w e : Bool) → Adds (with_missed r t w e) (with_unmet r t w) (excused r t w e)
+adds_excused r t w e = grind (arith, nat_tests)
+
+adds_claimed : (r t w b u c : Bool) → Adds (with_unanswered r t w b u) (with_likely r t w b u c) (claimed r t w b u c)
+adds_claimed r t w b u c = grind (arith, nat_tests)
+
+adds_likely : (r t w e b u c : Bool) → Adds (excused r t w e) (is_outcome Likely (first_of r t w e b u c)) (claimed r t w b u c)
+adds_likely r t w e b u c = grind (arith, nat_tests)
+
+is_last : (r t w e b u c : Bool) → is_outcome Unconfirmed (first_of r t w e b u c) ≡ not (with_likely r t w b u c)
+is_last r t w e b u c = grind (arith, nat_tests)
 
 -- ---- all together
 
 -- these sets of numbers are those of each outcome and the ones before it, from lo on and below hi
-pub record AreCumulated (there : ℕ → Bool) (lo hi : ℕ) (times : List (Option ℕ)) (since : Option Location) (pair : Pair) (acts : List PlacedValue) (received arrived missed unsent unanswered likely : ℕ → Bool) : Type 0 where
+pub record AreCumulated (there : ℕ → Bool) (lo hi : ℕ) (times : List (Option ℕ)) (since : Option Location) (pair : Pair) (acts : List PlacedValue) (received arrived missed unmet unsent unanswered likely : ℕ → Bool) : Type 0 where
   pub of_received : (n : ℕ) → lo ≤ n → n < hi → received n ≡ is_received pair.writer pair.reader acts n
   pub of_arrived : (n : ℕ) → lo ≤ n → n < hi → arrived n ≡ with_arrived (is_received pair.writer pair.reader acts n) (there n)
-  pub of_missed : (n : ℕ) → lo ≤ n → n < hi → missed n ≡ with_missed (is_received pair.writer pair.reader acts n) (there n) (is_wanting since pair.writer pair.reader acts n)
+  pub of_missed : (n : ℕ) → lo ≤ n → n < hi → missed n ≡ with_missed (is_received pair.writer pair.reader acts n) (there n) (is_wanting since pair.writer pair.reader acts n) (is_excused pair.writer pair.reader acts n)
+  pub of_unmet : (n : ℕ) → lo ≤ n → n < hi → unmet n ≡ with_unmet (is_received pair.writer pair.reader acts n) (there n) (is_wanting since pair.writer pair.reader acts n)
   pub of_unsent : (n : ℕ) → lo ≤ n → n < hi → unsent n ≡ with_unsent (is_received pair.writer pair.reader acts n) (there n) (is_wanting since pair.writer pair.reader acts n) (is_brought since pair acts n)
   pub of_unanswered : (n : ℕ) → lo ≤ n → n < hi → unanswered n
       ≡ with_unanswered (is_received pair.writer pair.reader acts n) (there n) (is_wanting since pair.writer pair.reader acts n) (is_brought since pair acts n) (is_unanswered times since pair acts n)
   pub of_likely : (n : ℕ) → lo ≤ n → n < hi → likely n
       ≡ with_likely (is_received pair.writer pair.reader acts n) (there n) (is_wanting since pair.writer pair.reader acts n) (is_brought since pair acts n) (is_unanswered times since pair acts n) (is_some (first_claiming pair.writer pair.reader n acts))
 
-pub outcomes_counted : (there : ℕ → Bool) (from last : ℕ) (times : List (Option ℕ)) (since : Option Location) (pair : Pair) (acts : List PlacedValue) (received arrived missed unsent unanswered likely : ℕ → Bool)
-    → AreCumulated there from (last + 1) times since pair acts received arrived missed unsent unanswered likely
+pub outcomes_counted : (there : ℕ → Bool) (from last : ℕ) (times : List (Option ℕ)) (since : Option Location) (pair : Pair) (acts : List PlacedValue) (received arrived missed unmet unsent unanswered likely : ℕ → Bool)
+    → AreCumulated there from (last + 1) times since pair acts received arrived missed unmet unsent unanswered likely
     → AreOutcomes there from last times since pair acts (record {
       received = count_in received from (last + 1);
       arrived = count_in arrived from (last + 1) - count_in received from (last + 1);
       missed = count_in missed from (last + 1) - count_in arrived from (last + 1);
-      unsent = count_in unsent from (last + 1) - count_in missed from (last + 1);
+      unsent = count_in unsent from (last + 1) - count_in unmet from (last + 1);
       unanswered = count_in unanswered from (last + 1) - count_in unsent from (last + 1);
-      likely = count_in likely from (last + 1) - count_in unanswered from (last + 1);
+      likely = count_in likely from (last + 1) - count_in missed from (last + 1) - (count_in unanswered from (last + 1) - count_in unmet from (last + 1));
       unconfirmed = last + 1 - from - count_in likely from (last + 1);
     })
 unfolding outcome_of
-outcomes_counted there from last times since pair acts received arrived missed unsent unanswered likely are =
+outcomes_counted there from last times since pair acts received arrived missed unmet unsent unanswered likely are =
     let r = is_received pair.writer pair.reader acts in
     let w = is_wanting since pair.writer pair.reader acts in
+    let e = is_excused pair.writer pair.reader acts in
     let b = is_brought since pair acts in
     let u = is_unanswered times since pair acts in
     let c : ℕ → Bool = λ n. is_some (first_claiming pair.writer pair.reader n acts) in
-    let outcome : ℕ → Outcome = λ n. first_of (r n) (there n) (w n) (b n) (u n) (c n) in
-    let one = count_same received (λ n. is_outcome Received (outcome n)) from (last + 1) (λ n low high. are.of_received n low high ∙ sym (is_first (r n) (there n) (w n) (b n) (u n) (c n))) in
+    let outcome : ℕ → Outcome = λ n. first_of (r n) (there n) (w n) (e n) (b n) (u n) (c n) in
+    let one = count_same received (λ n. is_outcome Received (outcome n)) from (last + 1) (λ n low high. are.of_received n low high ∙ sym (is_first (r n) (there n) (w n) (e n) (b n) (u n) (c n))) in
     let two = count_one_more received arrived (λ n. is_outcome Arrived (outcome n)) from (last + 1)
-    (λ n low high. are.of_arrived n low high ∙ (adds_arrived (r n) (there n) (w n) (b n) (u n) (c n)).more ∙ ap (λ x. x || is_outcome Arrived (outcome n)) (sym (are.of_received n low high)))
-    (λ n low high. ap (λ x. x && is_outcome Arrived (outcome n)) (are.of_received n low high) ∙ (adds_arrived (r n) (there n) (w n) (b n) (u n) (c n)).apart) in
+    (λ n low high. are.of_arrived n low high ∙ (adds_arrived (r n) (there n) (w n) (e n) (b n) (u n) (c n)).more ∙ ap (λ x. x || is_outcome Arrived (outcome n)) (sym (are.of_received n low high)))
+    (λ n low high. ap (λ x. x && is_outcome Arrived (outcome n)) (are.of_received n low high) ∙ (adds_arrived (r n) (there n) (w n) (e n) (b n) (u n) (c n)).apart) in
     let three = count_one_more arrived missed (λ n. is_outcome Missed (outcome n)) from (last + 1)
-    (λ n low high. are.of_missed n low high ∙ (adds_missed (r n) (there n) (w n) (b n) (u n) (c n)).more ∙ ap (λ x. x || is_outcome Missed (outcome n)) (sym (are.of_arrived n low high)))
-    (λ n low high. ap (λ x. x && is_outcome Missed (outcome n)) (are.of_arrived n low high) ∙ (adds_missed (r n) (there n) (w n) (b n) (u n) (c n)).apart) in
-    let four = count_one_more missed unsent (λ n. is_outcome Unsent (outcome n)) from (last + 1)
-    (λ n low high. are.of_unsent n low high ∙ (adds_unsent (r n) (there n) (w n) (b n) (u n) (c n)).more ∙ ap (λ x. x || is_outcome Unsent (outcome n)) (sym (are.of_missed n low high)))
-    (λ n low high. ap (λ x. x && is_outcome Unsent (outcome n)) (are.of_missed n low high) ∙ (adds_unsent (r n) (there n) (w n) (b n) (u n) (c n)).apart) in
+    (λ n low high. are.of_missed n low high ∙ (adds_missed (r n) (there n) (w n) (e n) (b n) (u n) (c n)).more ∙ ap (λ x. x || is_outcome Missed (outcome n)) (sym (are.of_arrived n low high)))
+    (λ n low high. ap (λ x. x && is_outcome Missed (outcome n)) (are.of_arrived n low high) ∙ (adds_missed (r n) (there n) (w n) (e n) (b n) (u n) (c n)).apart) in
+    let kept = count_one_more missed unmet (λ n. excused (r n) (there n) (w n) (e n)) from (last + 1)
+    (λ n low high. are.of_unmet n low high ∙ (adds_excused (r n) (there n) (w n) (e n)).more ∙ ap (λ x. x || excused (r n) (there n) (w n) (e n)) (sym (are.of_missed n low high)))
+    (λ n low high. ap (λ x. x && excused (r n) (there n) (w n) (e n)) (are.of_missed n low high) ∙ (adds_excused (r n) (there n) (w n) (e n)).apart) in
+    let four = count_one_more unmet unsent (λ n. is_outcome Unsent (outcome n)) from (last + 1)
+    (λ n low high. are.of_unsent n low high ∙ (adds_unsent (r n) (there n) (w n) (e n) (b n) (u n) (c n)).more ∙ ap (λ x. x || is_outcome Unsent (outcome n)) (sym (are.of_unmet n low high)))
+    (λ n low high. ap (λ x. x && is_outcome Unsent (outcome n)) (are.of_unmet n low high) ∙ (adds_unsent (r n) (there n) (w n) (e n) (b n) (u n) (c n)).apart) in
     let five = count_one_more unsent unanswered (λ n. is_outcome Unanswered (outcome n)) from (last + 1)
-    (λ n low high. are.of_unanswered n low high ∙ (adds_unanswered (r n) (there n) (w n) (b n) (u n) (c n)).more ∙ ap (λ x. x || is_outcome Unanswered (outcome n)) (sym (are.of_unsent n low high)))
-    (λ n low high. ap (λ x. x && is_outcome Unanswered (outcome n)) (are.of_unsent n low high) ∙ (adds_unanswered (r n) (there n) (w n) (b n) (u n) (c n)).apart) in
-    let six = count_one_more unanswered likely (λ n. is_outcome Likely (outcome n)) from (last + 1)
-    (λ n low high. are.of_likely n low high ∙ (adds_likely (r n) (there n) (w n) (b n) (u n) (c n)).more ∙ ap (λ x. x || is_outcome Likely (outcome n)) (sym (are.of_unanswered n low high)))
-    (λ n low high. ap (λ x. x && is_outcome Likely (outcome n)) (are.of_unanswered n low high) ∙ (adds_likely (r n) (there n) (w n) (b n) (u n) (c n)).apart) in
-    let seven = count_same (λ n. not (likely n)) (λ n. is_outcome Unconfirmed (outcome n)) from (last + 1) (λ n low high. ap not (are.of_likely n low high) ∙ sym (is_last (r n) (there n) (w n) (b n) (u n) (c n))) in
+    (λ n low high. are.of_unanswered n low high ∙ (adds_unanswered (r n) (there n) (w n) (e n) (b n) (u n) (c n)).more ∙ ap (λ x. x || is_outcome Unanswered (outcome n)) (sym (are.of_unsent n low high)))
+    (λ n low high. ap (λ x. x && is_outcome Unanswered (outcome n)) (are.of_unsent n low high) ∙ (adds_unanswered (r n) (there n) (w n) (e n) (b n) (u n) (c n)).apart) in
+    let six = count_one_more unanswered likely (λ n. claimed (r n) (there n) (w n) (b n) (u n) (c n)) from (last + 1)
+    (λ n low high. are.of_likely n low high ∙ (adds_claimed (r n) (there n) (w n) (b n) (u n) (c n)).more ∙ ap (λ x. x || claimed (r n) (there n) (w n) (b n) (u n) (c n)) (sym (are.of_unanswered n low high)))
+    (λ n low high. ap (λ x. x && claimed (r n) (there n) (w n) (b n) (u n) (c n)) (are.of_unanswered n low high) ∙ (adds_claimed (r n) (there n) (w n) (b n) (u n) (c n)).apart) in
+    let both = count_one_more (λ n. excused (r n) (there n) (w n) (e n)) (λ n. is_outcome Likely (outcome n)) (λ n. claimed (r n) (there n) (w n) (b n) (u n) (c n)) from (last + 1)
+    (λ n low high. (adds_likely (r n) (there n) (w n) (e n) (b n) (u n) (c n)).more) (λ n low high. (adds_likely (r n) (there n) (w n) (e n) (b n) (u n) (c n)).apart) in
+    let seven = count_same (λ n. not (likely n)) (λ n. is_outcome Unconfirmed (outcome n)) from (last + 1) (λ n low high. ap not (are.of_likely n low high) ∙ sym (is_last (r n) (there n) (w n) (e n) (b n) (u n) (c n))) in
     let all = count_others likely from (last + 1) in
     record {
       received = one;
@@ -137,16 +160,19 @@ outcomes_counted there from last times since pair acts received arrived missed u
       missed = omega (arith, three);
       unsent = omega (arith, four);
       unanswered = omega (arith, five);
-      likely = omega (arith, six);
+      likely = omega (arith, kept, four, five, six, both);
       unconfirmed = omega (arith, all, seven);
     }
 
 -- ---- each set with the numbers that are put to it
 
-pub missed_put : (before r t w m x : Bool) → before ≡ with_arrived r t → m ≡ (not r && w) → x ≡ (before || m) → x ≡ with_missed r t w
-missed_put before r t w m x h h2 h3 = grind (arith, nat_tests)
+pub missed_put : (before r t w e m x : Bool) → before ≡ with_arrived r t → m ≡ ((not r && w) && not e) → x ≡ (before || m) → x ≡ with_missed r t w e
+missed_put before r t w e m x h h2 h3 = grind (arith, nat_tests)
 
-pub unsent_put : (before r t w b u x : Bool) → before ≡ with_missed r t w → (r ≡ false → u ≡ not b) → x ≡ (before || u) → x ≡ with_unsent r t w b
+pub unmet_put : (before r t w e v x : Bool) → before ≡ with_missed r t w e → v ≡ (not r && w) → x ≡ (before || v) → x ≡ with_unmet r t w
+unmet_put before r t w e v x h h2 h3 = grind (arith, nat_tests)
+
+pub unsent_put : (before r t w b u x : Bool) → before ≡ with_unmet r t w → (r ≡ false → u ≡ not b) → x ≡ (before || u) → x ≡ with_unsent r t w b
 unsent_put before r t w b u x h h2 h3 = grind (arith, nat_tests)
 
 pub unanswered_put : (before r t w b s u x : Bool) → before ≡ with_unsent r t w b → (r ≡ false → b ≡ true → s ≡ u) → x ≡ (before || s) → x ≡ with_unanswered r t w b u
@@ -158,7 +184,7 @@ changed : (there : ℕ → Bool) (times : List (Option ℕ)) (since : Option Loc
 unfolding outcome_of
 changed there times since pair acts n =
     let r = is_received pair.writer pair.reader acts n in
-    let first : Bool → Bool → Outcome = λ one t. first_of one t (is_wanting since pair.writer pair.reader acts n) (is_brought since pair acts n) (is_unanswered times since pair acts n) (is_some (first_claiming pair.writer pair.reader n acts)) in
+    let first : Bool → Bool → Outcome = λ one t. first_of one t (is_wanting since pair.writer pair.reader acts n) (is_excused pair.writer pair.reader acts n) (is_brought since pair acts n) (is_unanswered times since pair acts n) (is_some (first_claiming pair.writer pair.reader n acts)) in
     record {
       elsewhere = λ no. ap (first r) no;
       received = λ yes. ap (λ one. first one (there n)) yes ∙ sym (ap (λ one. first one false) yes);
@@ -166,15 +192,15 @@ changed there times since pair acts n =
     }
 
 -- a number that is not there did not arrive
-not_arrived : (r t w b u c : Bool) → t ≡ false → is_outcome Arrived (first_of r t w b u c) ≡ false
-not_arrived r t w b u c h = grind (arith, nat_tests)
+not_arrived : (r t w e b u c : Bool) → t ≡ false → is_outcome Arrived (first_of r t w e b u c) ≡ false
+not_arrived r t w e b u c h = grind (arith, nat_tests)
 
 none_arrived : (there : ℕ → Bool) (from last : ℕ) (times : List (Option ℕ)) (since : Option Location) (pair : Pair) (acts : List PlacedValue) (outcomes : Outcomes) → ((n : ℕ) → there n ≡ false) → AreOutcomes there from last times since pair acts outcomes → outcomes.arrived ≡ 0
 unfolding outcome_of
 none_arrived there from last times since pair acts outcomes none are =
     are.arrived
     ∙ count_none (λ n. is_outcome Arrived (outcome_of there times since pair acts n)) from (last + 1) (λ n low high.
-    not_arrived (is_received pair.writer pair.reader acts n) (there n) (is_wanting since pair.writer pair.reader acts n) (is_brought since pair acts n) (is_unanswered times since pair acts n) (is_some (first_claiming pair.writer pair.reader n acts)) (none n))
+    not_arrived (is_received pair.writer pair.reader acts n) (there n) (is_wanting since pair.writer pair.reader acts n) (is_excused pair.writer pair.reader acts n) (is_brought since pair acts n) (is_unanswered times since pair acts n) (is_some (first_claiming pair.writer pair.reader n acts)) (none n))
 
 pub arrived_is_all_that_changes : ArrivedIsAllThatChanges
 arrived_is_all_that_changes = (changed, none_arrived)
@@ -187,13 +213,14 @@ unfolding outcome_of
 absent_counted there has from last times since pair acts outcomes count are same counted =
     let r = is_received pair.writer pair.reader acts in
     let w = is_wanting since pair.writer pair.reader acts in
+    let e = is_excused pair.writer pair.reader acts in
     let b = is_brought since pair acts in
     let u = is_unanswered times since pair acts in
     let c : ℕ → Bool = λ n. is_some (first_claiming pair.writer pair.reader n acts) in
     let both : ℕ → Bool = λ n. r n && there n in
     let here = count_same has there from (last + 1) (λ n low high. same n) in
-    let received = count_same (λ n. is_outcome Received (outcome_of there times since pair acts n)) r from (last + 1) (λ n low high. is_first (r n) (there n) (w n) (b n) (u n) (c n)) in
-    let arrived = count_same (λ n. is_outcome Arrived (outcome_of there times since pair acts n)) (λ n. there n && not (both n)) from (last + 1) (λ n low high. is_arrived (r n) (there n) (w n) (b n) (u n) (c n)) in
+    let received = count_same (λ n. is_outcome Received (outcome_of there times since pair acts n)) r from (last + 1) (λ n low high. is_first (r n) (there n) (w n) (e n) (b n) (u n) (c n)) in
+    let arrived = count_same (λ n. is_outcome Arrived (outcome_of there times since pair acts n)) (λ n. there n && not (both n)) from (last + 1) (λ n low high. is_arrived (r n) (there n) (w n) (e n) (b n) (u n) (c n)) in
     let of_there = count_rest both there from (last + 1) (λ n is. (and_parts (r n) (there n) is).1) in
     let of_received = count_rest both r from (last + 1) (λ n is. (and_parts (r n) (there n) is).0) in
     let absent = count_same (λ n. r n && not (both n)) (λ n. r n && not (there n)) from (last + 1) (λ n low high. is_absent (r n) (there n)) in
@@ -205,12 +232,13 @@ absent_counted there has from last times since pair acts outcomes count are same
     is_absent true t = refl
     is_absent false t = refl
 
-    is_arrived : (r t w b u c : Bool) → is_outcome Arrived (first_of r t w b u c) ≡ (t && not (r && t))
-    is_arrived true true w b u c = refl
-    is_arrived true false w b u c = refl
-    is_arrived false true w b u c = refl
-    is_arrived false false true b u c = refl
-    is_arrived false false false false u c = refl
-    is_arrived false false false true true c = refl
-    is_arrived false false false true false true = refl
-    is_arrived false false false true false false = refl
+    is_arrived : (r t w e b u c : Bool) → is_outcome Arrived (first_of r t w e b u c) ≡ (t && not (r && t))
+    is_arrived true true w e b u c = refl
+    is_arrived true false w e b u c = refl
+    is_arrived false true w e b u c = refl
+    is_arrived false false true true b u c = refl
+    is_arrived false false true false b u c = refl
+    is_arrived false false false e false u c = refl
+    is_arrived false false false e true true c = refl
+    is_arrived false false false e true false true = refl
+    is_arrived false false false e true false false = refl

@@ -146,10 +146,10 @@ one_end has one other is also = elim (cases_lt one other) [
 one_more : (m : ℕ) → 1 + m ≡ suc m
 one_more m = omega arith
 
-first_past : (test : PlacedValue → Bool) (x : PlacedValue) (xs : List PlacedValue) → test x ≡ false → before_first test (x ∷ xs) ≡ x ∷ before_first test xs
+pub first_past : {X : Type 0} (test : X → Bool) (x : X) (xs : List X) → test x ≡ false → before_first test (x ∷ xs) ≡ x ∷ before_first test xs
 first_past test x xs out = ap (λ b. take (cond (not b) (1 + prefix_len (λ y. not (test y)) xs) 0) (x ∷ xs)) out ∙ ap (λ m. take m (x ∷ xs)) (one_more (prefix_len (λ y. not (test y)) xs))
 
-first_stops : (test : PlacedValue → Bool) (x : PlacedValue) (xs : List PlacedValue) → test x ≡ true → before_first test (x ∷ xs) ≡ []
+pub first_stops : {X : Type 0} (test : X → Bool) (x : X) (xs : List X) → test x ≡ true → before_first test (x ∷ xs) ≡ []
 first_stops test x xs is = ap (λ b. take (cond (not b) (1 + prefix_len (λ y. not (test y)) xs) 0) (x ∷ xs)) is
 
 -- what stands before the first that passes, behind some that do not

@@ -30,7 +30,7 @@ none_then {X} test x rest none = by (test x) refl none
     by true is none = absurd (let no : Some x ≡ None = none in cc)
     by false is none = (is, none)
 
-none_first : {X : Type 0} (test : X → Bool) (xs : List X) → find test (take zero xs) ≡ None
+pub none_first : {X : Type 0} (test : X → Bool) (xs : List X) → find test (take zero xs) ≡ None
 none_first test xs = grind (arith, nat_tests)
 
 pub none_past : {X : Type 0} (test : X → Bool) (xs : List X) (k : ℕ) (d : X) → k < length xs → find test (take k xs) ≡ None → test (get_or xs k d) ≡ false → find test (take (k + 1) xs) ≡ None
@@ -59,7 +59,7 @@ none_left test (x ∷ xs) (suc k) le none =
 
 -- ---- answers behind a place
 
-none_weaker : {X : Type 0} (one other : X → Bool) → ((x : X) → one x ≡ false → other x ≡ false) → (xs : List X) → find one xs ≡ None → find other xs ≡ None
+pub none_weaker : {X : Type 0} (one other : X → Bool) → ((x : X) → one x ≡ false → other x ≡ false) → (xs : List X) → find one xs ≡ None → find other xs ≡ None
 none_weaker one other h [] none = refl
 none_weaker one other h (x ∷ xs) none =
     let parts = none_then one x (find one xs) none in
@@ -69,7 +69,7 @@ pub passed_none : (answers : List Answer) (place : Location) → HasPassed answe
 passed_none answers place = record { within = omega arith; none = none_first (answers_behind place) answers }
 
 -- what stands behind no place does not stand behind a later one
-not_behind : (one other place : Location) → precedes other one ≡ false → precedes one place ≡ false → precedes other place ≡ false
+pub not_behind : (one other place : Location) → precedes other one ≡ false → precedes one place ≡ false → precedes other place ≡ false
 not_behind one other place late early = grind (arith, nat_tests)
 
 pub passed_on : (answers : List Answer) (passed : ℕ) (one other : Location) → precedes other one ≡ false → HasPassed answers passed one → HasPassed answers passed other

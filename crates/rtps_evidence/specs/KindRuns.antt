@@ -9,7 +9,7 @@ use Rattle.rtps_coverage.specs.Stretches.{stretches_have}
 use Rattle.rtps_coverage.specs.declared.stretch.Stretch.{Stretch}
 use Rattle.rtps_evidence.specs.Claimed.{AreLacking}
 use Rattle.rtps_evidence.specs.Kinds.{AreRunsOf, first_brought, has_outcome, is_lacking}
-use Rattle.rtps_evidence.specs.Missed.{is_missed}
+use Rattle.rtps_evidence.specs.Missed.{is_missed, is_unmet}
 use Rattle.rtps_evidence.specs.Outcomes.{is_brought, is_unanswered}
 use Rattle.rtps_evidence.specs.Received.{is_received}
 use Rattle.rtps_evidence.specs.declared.kinds.KindRuns.{KindRuns}
@@ -17,10 +17,11 @@ use Rattle.rtps_evidence.specs.declared.location.Location.{Location}
 use Rattle.rtps_evidence.specs.declared.outcome.Outcome.TheVariants.{Missed, Unsent, Unanswered}
 use Rattle.rtps_evidence.specs.declared.outcome_sets.OutcomeSets.{OutcomeSets}
 
--- of the numbers from `from` on, up to the last one: which are not received, which are missed, which of the former nothing brings, and which
+-- of the numbers from `from` on, up to the last one: which are not received, which are asked for in vain, which are missed, which of the former nothing brings, and which
 -- of those that something brings are unanswered
 pub record AreSets (from last : ℕ) (times : List (Option ℕ)) (since : Option Location) (pair : Pair) (acts : List PlacedValue) (sets : OutcomeSets) : Type 0 where
   pub lacking : AreLacking from last pair acts sets.unreceived.numbers.now
+  pub unmet : (n : ℕ) → from ≤ n → n ≤ last → stretches_have sets.unreceived.unmet.now n ≡ is_unmet since pair.writer pair.reader acts n
   pub missed : (n : ℕ) → from ≤ n → n ≤ last → stretches_have sets.unreceived.missed.now n ≡ is_missed since pair.writer pair.reader acts n
   pub unsent : (n : ℕ) → from ≤ n → n ≤ last → is_received pair.writer pair.reader acts n ≡ false → stretches_have sets.unsent.items n ≡ not (is_brought since pair acts n)
   pub silent : (n : ℕ) → from ≤ n → n ≤ last → is_received pair.writer pair.reader acts n ≡ false → is_brought since pair acts n ≡ true

@@ -5,7 +5,10 @@ pub mod Received
 pub mod OtherSide
 pub mod Recorded
 pub mod Claimed
+pub mod LostAnswers
 pub mod Missed
+pub mod CountedAnswers
+pub mod LastAsks
 pub mod Requests
 pub mod Spans
 pub mod Outcomes

@@ -1,6 +1,7 @@
 -- Which numbers a reader missed. DDSI-RTPS 2.5, 8.3.8.1 "AckNack": the set of an ACKNACK names the numbers that the reader lacks.
 -- own: a number that is not received mostly came all the same; one that was asked for and not sent, or sent and asked for again, is the
--- alarm. Acts are those of the datagrams that a row is by; `since` is the place behind which the reader is there (None: everywhere);
+-- alarm. It is none where the number is sent again, an answer lacks around that, and the reader claims the number then: what lacks may have said
+-- that the reader has it. Acts are those of the datagrams that a row is by; `since` is the place behind which the reader is there (None: everywhere);
 -- `there` says which numbers another recording has a payload of, which was made at the reader's host (none, where there is none).
 use Rattle.std.specs.Prelude.{ℕ, Bool, false, ◌+◌, ◌≡◌, ◌&&◌, ◌||◌, not, is_some, List, [], ◌∷◌, Option, Some, None}
 use Rattle.std.specs.List.{find, list_any}
@@ -14,6 +15,7 @@ use Rattle.rtps_audit.specs.Placed.{PlacedValue, is_guid}
 use Rattle.rtps_audit.specs.declared.announced_places.AnnouncedPlace.{AnnouncedPlace}
 use Rattle.rtps_coverage.specs.Counts.{count_in}
 use Rattle.rtps_evidence.specs.Locations.{find_last, is_before, is_behind, location_of, teller_at}
+use Rattle.rtps_evidence.specs.LostAnswers.{answers_another, is_claimed_then, lacks_around, lacks_by_answer}
 use Rattle.rtps_evidence.specs.Received.{is_received, least_in, withdraws}
 use Rattle.rtps_evidence.specs.declared.location.Location.{Location}
 use Rattle.rtps_evidence.specs.declared.first_missed.FirstMissed.{FirstMissed}
@@ -69,10 +71,6 @@ is_asked_in_vain since writer reader acts n (Some asking) =
 abbrev pub is_wanting : Option Location → Guid → Guid → List PlacedValue → ℕ → Bool
 is_wanting since writer reader acts n = is_asked_in_vain since writer reader acts n (find_last (asks_for writer reader n) acts)
 
--- n is missed: it is not received, and asked for in vain
-abbrev pub is_missed : Option Location → Guid → Guid → List PlacedValue → ℕ → Bool
-is_missed since writer reader acts n = not (is_received writer reader acts n) && is_wanting since writer reader acts n
-
 -- the reader hears, behind a place, that n will not come
 abbrev pub withdraws_behind : Location → Guid → Guid → ℕ → PlacedValue → Bool
 withdraws_behind place writer reader n placed = is_behind (Some place) placed && withdraws writer reader n placed
@@ -84,6 +82,31 @@ gone_behind place writer reader n acts = option_map teller_at (find (withdraws_b
 -- where the first act behind a place stands that brings n
 abbrev pub again_behind : Location → Guid → Guid → ℕ → List PlacedValue → Option Location
 again_behind place writer reader n acts = option_map location_of (find (brings_behind (Some place) writer reader n) acts)
+
+-- an answer lacks around a place, if there is one
+abbrev pub lacks_there : Guid → Guid → List PlacedValue → Option Location → Bool
+lacks_there writer reader acts None = false
+lacks_there writer reader acts (Some place) = lacks_around writer reader acts place
+
+-- of the last answer that lacks n: an answer claims n behind it, and an answer lacks around the first act behind it that brings n
+abbrev pub is_excused_by : Guid → Guid → List PlacedValue → ℕ → Option PlacedValue → Bool
+is_excused_by writer reader acts n None = false
+is_excused_by writer reader acts n (Some asking) =
+    is_claimed_then writer reader acts n && lacks_there writer reader acts (again_behind (location_of asking) writer reader n acts)
+
+-- That n is asked for in vain is no matter, for an answer that lacks. It is told only of a reader that answers no other writer: some readers
+-- count their answers to all writers together
+abbrev pub is_excused : Guid → Guid → List PlacedValue → ℕ → Bool
+is_excused writer reader acts n =
+    not (list_any (answers_another writer reader) acts) && is_excused_by writer reader acts n (find_last (lacks_by_answer writer reader n) acts)
+
+-- n is not received, and asked for in vain
+abbrev pub is_unmet : Option Location → Guid → Guid → List PlacedValue → ℕ → Bool
+is_unmet since writer reader acts n = not (is_received writer reader acts n) && is_wanting since writer reader acts n
+
+-- n is missed: it is so, and no answer that lacks excuses it
+abbrev pub is_missed : Option Location → Guid → Guid → List PlacedValue → ℕ → Bool
+is_missed since writer reader acts n = is_unmet since writer reader acts n && not (is_excused writer reader acts n)
 
 -- n as a number that is missed, by the last act that asks for it: where it is sent again behind that, the first act behind that which tells
 -- it gone, and whether any act brings it

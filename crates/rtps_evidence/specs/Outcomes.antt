@@ -18,7 +18,7 @@ use Rattle.rtps_coverage.specs.Counts.{count_in}
 use Rattle.rtps_evidence.specs.Amount.{is_sent}
 use Rattle.rtps_evidence.specs.FirstNumbers.{first_ten}
 use Rattle.rtps_evidence.specs.Locations.{location_of}
-use Rattle.rtps_evidence.specs.Missed.{brings_behind, is_wanting}
+use Rattle.rtps_evidence.specs.Missed.{brings_behind, is_excused, is_wanting}
 use Rattle.rtps_evidence.specs.Questions.{questions_behind}
 use Rattle.rtps_evidence.specs.Received.{HoldsPayload, first_claiming, is_received, withdraws}
 use Rattle.rtps_evidence.specs.Times.{is_long_between}
@@ -147,7 +147,7 @@ unfoldable pub outcome_of : (ℕ → Bool) → List (Option ℕ) → Option Loca
 outcome_of there times since pair acts n =
     if is_received pair.writer pair.reader acts n then Received
     else if there n then Arrived
-    else if is_wanting since pair.writer pair.reader acts n then Missed
+    else if is_wanting since pair.writer pair.reader acts n then (if is_excused pair.writer pair.reader acts n then Likely else Missed)
     else if not (is_brought since pair acts n) then Unsent
     else if is_unanswered times since pair acts n then Unanswered
     else if is_some (first_claiming pair.writer pair.reader n acts) then Likely

@@ -9,6 +9,7 @@ ghost use Rattle.rtps_coverage.specs.Stretches.{stretches_have};
 
 use crate::acknowledgement::{Claim, find_acknowledgement};
 use crate::exchange::Exchange;
+use crate::excused::missed_of;
 use crate::first_missed::FirstMissed;
 use crate::grounds::{Grounds, grounds_of};
 use crate::in_span::InSpan;
@@ -159,9 +160,12 @@ impl<'a> Evidence<'a> {
         let mut lacking = heard.lacking(alloc, exchange, &verdict, asked)?;
         let mut lacking = rising(alloc, &mut lacking)?;
         let ledger = Ledger::of(alloc, exchange, &lacking)?;
-        let mut missed = ledger.missed(alloc)?;
+        let mut unmet = ledger.unmet(alloc)?;
+        let unmet = rising(alloc, &mut unmet)?;
+        let mut missed = missed_of(alloc, exchange, &unmet, asked)?;
         let unreceived = Unreceived {
             numbers: &lacking,
+            unmet: &unmet,
             missed: &missed,
             ledger: &ledger,
         };

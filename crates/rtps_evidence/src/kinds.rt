@@ -61,7 +61,7 @@ struct KindRuns {
 }
 
 /// Of the numbers that are asked for: those of these that the others do not have. Other numbers may be among them.
-fn without(
+pub(crate) fn without(
     alloc: Global,
     numbers: &[Stretch],
     others: &[Stretch],
@@ -122,10 +122,10 @@ impl KindRuns {
     {
         let missed = sets.unreceived.missed;
         let lacking = without(alloc, sets.unreceived.numbers, exchange.there, asked)?;
-        let unmissed = without(alloc, &lacking, missed, asked)?;
-        let sent = without(alloc, &unmissed, &sets.unsent, asked)?;
+        let others = without(alloc, &lacking, sets.unreceived.unmet, asked)?;
+        let sent = without(alloc, &others, &sets.unsent, asked)?;
         let missed = common_runs(alloc, &lacking, missed, asked)?;
-        let unsent = common_runs(alloc, &unmissed, &sets.unsent, asked)?;
+        let unsent = common_runs(alloc, &others, &sets.unsent, asked)?;
         let unanswered = common_runs(alloc, &sent, sets.silent, asked)?;
         let not_arrived = held_runs(alloc, &lacking, exchange.is_held, asked)?;
         Ok(KindRuns {

@@ -5,7 +5,7 @@ ghost use Rattle.rtps_audit.specs.Said.{IsSaid};
 ghost use Rattle.rtps_coverage.specs.Rising.{AreRising};
 ghost use Rattle.rtps_coverage.specs.Stretches.{stretches_have};
 ghost use Rattle.rtps_evidence.specs.Ledger.{Stands};
-ghost use Rattle.rtps_evidence.specs.Missed.{is_missed};
+ghost use Rattle.rtps_evidence.specs.Missed.{is_unmet};
 ghost use Rattle.rtps_evidence.specs.Received.{is_received};
 ghost use Rattle.rtps_evidence.specs.Spans.{since_of};
 ghost use Rattle.rtps_evidence.specs.Times.{are_there};
@@ -103,13 +103,13 @@ impl<'s> Ledger<'s> {
         Ok(ledger)
     }
 
-    /// The numbers that the reader missed, of those that it lacks.
-    pub(crate) fn missed(&self, alloc: Global) -> Result<Vec<Stretch>, Memory>
+    /// The numbers that the reader asks for in vain, of those that it lacks.
+    pub(crate) fn unmet(&self, alloc: Global) -> Result<Vec<Stretch>, Memory>
         ensures { (exchange : ExchangeValue) (lacks : ℕ → Bool) (recording : List (List ActValue)) → IsSaid exchange.pair recording exchange.said
             → Stands exchange lacks (map placed_value exchange.said.acts.now) self.now → (n : ℕ) → n < 2 ^ 63
             → lacks n ≡ not (is_received exchange.pair.writer exchange.pair.reader (placed_in recording) n)
-            → IfOk result (λ missed. stretches_have missed.items n
-            ≡ is_missed (since_of exchange.span) exchange.pair.writer exchange.pair.reader (placed_in recording) n) }
+            → IfOk result (λ unmet. stretches_have unmet.items n
+            ≡ is_unmet (since_of exchange.span) exchange.pair.writer exchange.pair.reader (placed_in recording) n) }
     {
         in_vain(alloc, &self.requests)
     }

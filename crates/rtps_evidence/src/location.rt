@@ -2,6 +2,7 @@ ghost use Rattle.std.specs.Prelude.{◌≡◌};
 ghost use Rattle.rtps_receiver.specs.Values.{spoken_body_value};
 ghost use Rattle.rtps_audit.specs.Placed.{placed_value};
 ghost use Rattle.rtps_evidence.specs.Locations.{is_before as is_before_lem, is_behind as is_behind_lem, is_gap as is_gap_lem, kind_of as kind_of_lem, location_of as location_of_lem};
+ghost use Rattle.rtps_evidence.specs.Waits.{precedes as precedes_lem};
 
 use rtps_audit::Placed;
 use rtps_receiver::{ActBody, SpokenBody};
@@ -54,6 +55,13 @@ pub(crate) fn is_before(place: Location, placed: &Placed<'_>) -> bool
 {
     let datagram = placed.datagram as u64;
     datagram < place.datagram || (datagram == place.datagram && placed.act.at < place.at)
+}
+
+/// Whether a place stands before another: in an earlier datagram, or further to the front of the same one.
+pub(crate) fn precedes(one: Location, other: Location) -> bool
+    ensures { result ≡ precedes_lem one other }
+{
+    one.datagram < other.datagram || (one.datagram == other.datagram && one.at < other.at)
 }
 
 /// Whether an act is a GAP.

@@ -27,13 +27,15 @@ pub enum Outcome {
     Received,
     /// A payload of it reached the reader's host: another recording, made there, has one.
     Arrived,
-    /// The reader asked for it, and of its last request nothing came behind it, or the number was sent before it.
+    /// The reader asked for it, and of its last request nothing came behind it, or the number was sent before it; and no lost answer
+    /// excuses that.
     Missed,
     /// Nothing of it was sent to the reader since it joined.
     Unsent,
     /// The reader was asked about it again and again, and gave no answer until it was told gone.
     Unanswered,
-    /// It was sent, and the reader acknowledges it without having asked for it again.
+    /// It was sent, and the reader acknowledges it without having asked for it again; or it asked, and an answer lacks that may have said
+    /// that it has the number.
     Likely,
     /// It was sent, nothing acknowledges it, and the reader does not ask for it.
     Unconfirmed,
@@ -51,10 +53,12 @@ pub struct Outcomes {
     pub unconfirmed: u64,
 }
 
-/// The numbers that a reader may not have received, and those of them that it missed. Other numbers may be among them.
+/// The numbers that a reader may not have received, those of them that it asks for in vain, and those of these that it missed. Other
+/// numbers may be among them.
 #[derive(Clone, Copy)]
 pub(crate) struct Unreceived<'n, 's> {
     pub(crate) numbers: &'n [Stretch],
+    pub(crate) unmet: &'n [Stretch],
     pub(crate) missed: &'n [Stretch],
     /// What became of them.
     pub(crate) ledger: &'n Ledger<'s>,
@@ -130,6 +134,7 @@ impl Outcomes {
         let received = count_with(&mut numbers, &[], asked)?;
         let arrived = count_with(&mut numbers, exchange.there, asked)?;
         let missed = count_with(&mut numbers, sets.unreceived.missed, asked)?;
+        let unmet = count_with(&mut numbers, sets.unreceived.unmet, asked)?;
         let unsent = count_with(&mut numbers, &sets.unsent, asked)?;
         let unanswered = count_with(&mut numbers, sets.silent, asked)?;
         let likely = count_with(&mut numbers, &claimed, asked)?;
@@ -137,9 +142,12 @@ impl Outcomes {
             received,
             arrived: arrived.saturating_sub(received),
             missed: missed.saturating_sub(arrived),
-            unsent: unsent.saturating_sub(missed),
+            unsent: unsent.saturating_sub(unmet),
             unanswered: unanswered.saturating_sub(unsent),
-            likely: likely.saturating_sub(unanswered),
+            // Between missed and unmet stand those that a lost answer excuses.
+            likely: likely
+                .saturating_sub(missed)
+                .saturating_sub(unanswered.saturating_sub(unmet)),
             unconfirmed: (end - from).saturating_sub(likely),
         })
     }

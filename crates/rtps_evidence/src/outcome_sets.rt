@@ -6,7 +6,7 @@ ghost use Rattle.rtps_coverage.specs.Stretches.{stretches_have};
 ghost use Rattle.rtps_evidence.specs.Claimed.{AreLacking};
 ghost use Rattle.rtps_evidence.specs.KindRuns.{AreSets};
 ghost use Rattle.rtps_evidence.specs.Ledger.{Stands};
-ghost use Rattle.rtps_evidence.specs.Missed.{is_missed};
+ghost use Rattle.rtps_evidence.specs.Missed.{is_missed, is_unmet};
 ghost use Rattle.rtps_evidence.specs.Spans.{since_of};
 ghost use Rattle.rtps_evidence.specs.declared.exchange.Exchange.{Exchange as ExchangeValue};
 
@@ -37,6 +37,8 @@ impl<'n, 's> OutcomeSets<'n, 's> {
         ensures same { IfOk result (λ sets. sets.unreceived ≡ unreceived.entry) }
         ensures sets { (exchange : ExchangeValue) (recording : List (List ActValue)) → IsSaid exchange.pair recording exchange.said
             → AreLacking asked.now.from asked.now.last exchange.pair (placed_in recording) unreceived.entry.numbers.now
+            → ((n : ℕ) → asked.now.from ≤ n → n ≤ asked.now.last → stretches_have unreceived.entry.unmet.now n
+            ≡ is_unmet (since_of exchange.span) exchange.pair.writer exchange.pair.reader (placed_in recording) n)
             → ((n : ℕ) → asked.now.from ≤ n → n ≤ asked.now.last → stretches_have unreceived.entry.missed.now n
             ≡ is_missed (since_of exchange.span) exchange.pair.writer exchange.pair.reader (placed_in recording) n)
             → Stands exchange (stretches_have unreceived.entry.numbers.now) (map placed_value exchange.said.acts.now) unreceived.entry.ledger.now

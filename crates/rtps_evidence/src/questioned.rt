@@ -55,7 +55,11 @@ fn note_asked(
 }
 
 /// Appends a stretch, where there is reason to. After `Memory` the stretches are of no use.
-fn push_if(stretches: &mut Vec<Stretch>, reason: bool, stretch: Stretch) -> Result<(), Memory>
+pub(crate) fn push_if(
+    stretches: &mut Vec<Stretch>,
+    reason: bool,
+    stretch: Stretch,
+) -> Result<(), Memory>
     ensures { OnOk result ((n : ℕ) → stretches_have stretches.new.items n ≡ (stretches_have stretches.old.items n || (reason && stretch_has n stretch))) }
 {
     if reason {

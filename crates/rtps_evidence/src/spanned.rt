@@ -10,7 +10,7 @@ ghost use Rattle.rtps_evidence.specs.Claimed.{AreLacking};
 ghost use Rattle.rtps_evidence.specs.Evidence.{IsBeside};
 ghost use Rattle.rtps_evidence.specs.Kinds.{IsLostIn, lost_value};
 ghost use Rattle.rtps_evidence.specs.Ledger.{Stands};
-ghost use Rattle.rtps_evidence.specs.Missed.{is_missed};
+ghost use Rattle.rtps_evidence.specs.Missed.{is_missed, is_unmet};
 ghost use Rattle.rtps_evidence.specs.OtherSide.{AreThere, Beside};
 ghost use Rattle.rtps_evidence.specs.Spans.{since_of};
 
@@ -44,6 +44,8 @@ impl Spanned {
             → AreThere all beside.other exchange.now.pair exchange.now.way exchange.now.is_held exchange.now.there.now → exchange.now.times.now.of_datagrams ≡ beside.times
             → asked.now.last ≡ last_announced_from asked.now.from (speech_by exchange.now.pair.writer exchange.now.pair.reader recording)
             → AreLacking asked.now.from asked.now.last exchange.now.pair (placed_in recording) unreceived.entry.numbers.now
+            → ((n : ℕ) → asked.now.from ≤ n → n ≤ asked.now.last → stretches_have unreceived.entry.unmet.now n
+            ≡ is_unmet (since_of exchange.now.span) exchange.now.pair.writer exchange.now.pair.reader (placed_in recording) n)
             → ((n : ℕ) → asked.now.from ≤ n → n ≤ asked.now.last → stretches_have unreceived.entry.missed.now n
             ≡ is_missed (since_of exchange.now.span) exchange.now.pair.writer exchange.now.pair.reader (placed_in recording) n)
             → Stands exchange.now (stretches_have unreceived.entry.numbers.now) (map placed_value exchange.now.said.acts.now) unreceived.entry.ledger.now

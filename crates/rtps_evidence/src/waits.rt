@@ -1,10 +1,10 @@
 ghost use Rattle.std.specs.Prelude.{◌≡◌, find, slice_get, List, None};
 ghost use Rattle.rtps_audit.specs.Placed.{placed_value};
 ghost use Rattle.rtps_evidence.specs.Questions.{place_of as place_of_lem};
-ghost use Rattle.rtps_evidence.specs.Waits.{HasPassed, answered_at, answers_behind, is_told as is_told_lem, longer_of, precedes as precedes_lem, told_of, wait_between as wait_between_lem};
+ghost use Rattle.rtps_evidence.specs.Waits.{HasPassed, answered_at, answers_behind, is_told as is_told_lem, longer_of, told_of, wait_between as wait_between_lem};
 
 use crate::exchange::Exchange;
-use crate::location::{Location, location_of};
+use crate::location::{Location, location_of, precedes};
 use crate::questions::asks_behind;
 use crate::times::Times;
 use rtps_audit::{Answer, Placed};
@@ -57,13 +57,6 @@ fn longer(one: Option<Wait>, other: Option<Wait>) -> Option<Wait>
         (Some(one), None) => Some(one),
         (None, other) => other,
     }
-}
-
-/// Whether a place stands before another: in an earlier datagram, or further to the front of the same one.
-fn precedes(one: Location, other: Location) -> bool
-    ensures { result ≡ precedes_lem one other }
-{
-    one.datagram < other.datagram || (one.datagram == other.datagram && one.at < other.at)
 }
 
 /// Where an answer stands.

@@ -1,4 +1,4 @@
-use Rattle.std.proofs.Common.{◌≡◌, ◌∙◌, ◌≤◌, ℕ, List, map, filter, ap, arith, refl, subst, sym}
+use Rattle.std.proofs.Common.{◌≡◌, ◌∙◌, ◌≤◌, ◌&&◌, ℕ, List, map, filter, not, ap, arith, refl, subst, sym}
 use Rattle.rtps_ids.specs.declared.identity.Guid.{Guid}
 use Rattle.rtps_receiver.specs.Values.{ActValue}
 use Rattle.rtps_audit.specs.Delivery.{last_announced_from}
@@ -12,7 +12,7 @@ use Rattle.rtps_evidence.specs.Claimed.{AreLacking}
 use Rattle.rtps_evidence.specs.Evidence.{IsShown}
 use Rattle.rtps_evidence.specs.Ledger.{Stands}
 use Rattle.rtps_evidence.specs.Locations.{announcement_of}
-use Rattle.rtps_evidence.specs.Missed.{AreMissed, is_missed}
+use Rattle.rtps_evidence.specs.Missed.{AreMissed, is_excused, is_missed, is_unmet}
 use Rattle.rtps_evidence.specs.Received.{AreReceived}
 use Rattle.rtps_evidence.specs.Spans.{since_of}
 use Rattle.rtps_evidence.specs.WriterSummary.{IsHeardBy, IsSplit, IsSummary}
@@ -41,9 +41,16 @@ returns c =
     c.in_ok-lacking-2.ensures.same n n
     ∙ c.in_ok-lacking.ensures recording is (withdrawals_same writer reader (placed_in recording) acts c.in_ok-heard.heard is.acts (heard_by recording is summary))
     (subst (λ m. IsVerdictFrom m (speech_by writer reader recording) c.args.verdict) (sym c.requires.from) judged) n low high in
+    let unmet : (recording : List (List ActValue)) → IsSaid pair recording exchange.said → IsSummary recording c.args.summary.now → IsVerdictFrom exchange.span.from (speech_by writer reader recording) c.args.verdict
+    → (n : ℕ) → asked.from ≤ n → n ≤ asked.last → stretches_have c.in_ok-unmet-2.unmet.items n ≡ is_unmet since writer reader (placed_in recording) n =
+    λ recording is summary judged n low high.
+    c.in_ok-unmet-2.ensures.same n n
+    ∙ c.in_ok-unmet.ensures exchange (stretches_have c.deref.result.now) recording is c.in_ok-ledger.ensures n (let range = asked.in_range.2 in omega (arith, range, high)) (ap (λ l. stretches_have l n) c.deref.ensures.value ∙ lacking recording is summary judged n low high) in
     let missed : (recording : List (List ActValue)) → IsSaid pair recording exchange.said → IsSummary recording c.args.summary.now → IsVerdictFrom exchange.span.from (speech_by writer reader recording) c.args.verdict
     → (n : ℕ) → asked.from ≤ n → n ≤ asked.last → stretches_have c.in_ok-missed.missed.items n ≡ is_missed since writer reader (placed_in recording) n =
-    λ recording is summary judged n low high. c.in_ok-missed.ensures exchange (stretches_have c.deref.result.now) recording is c.in_ok-ledger.ensures n (let range = asked.in_range.2 in omega (arith, range, high)) (ap (λ l. stretches_have l n) c.deref.ensures.value ∙ lacking recording is summary judged n low high) in
+    λ recording is summary judged n low high.
+    c.in_ok-missed.ensures recording is n low high
+    ∙ ap (λ b. b && not (is_excused writer reader (placed_in recording) n)) (ap (λ l. stretches_have l n) c.deref-2.ensures.value ∙ unmet recording is summary judged n low high) in
     let last : (recording : List (List ActValue)) → IsSummary recording c.args.summary.now → asked.last ≡ last_announced_from asked.from (speech_by writer reader recording) =
     λ recording summary. summary.last reader ∙ ap (λ (w : Guid). last_announced_from asked.from (speech_by w reader recording)) c.requires.writer in
     let evidence : Evidence = record {
@@ -77,7 +84,8 @@ returns c =
           });
       beside = λ whole recording beside is summary judged there times.
           c.in_ok-spanned.ensures whole recording beside is there times (last recording summary)
-          (λ n low high. ap (λ l. stretches_have l n) c.deref-2.ensures.value ∙ lacking recording is summary judged n low high)
-          (λ n low high. ap (λ l. stretches_have l n) c.deref-3.ensures.value ∙ missed recording is summary judged n low high)
-          (subst (λ l. Stands exchange (stretches_have l) acts c.in_ok-ledger.ledger) (c.deref.ensures.value ∙ sym c.deref-2.ensures.value) c.in_ok-ledger.ensures);
+          (λ n low high. ap (λ l. stretches_have l n) c.deref-3.ensures.value ∙ lacking recording is summary judged n low high)
+          (λ n low high. ap (λ l. stretches_have l n) c.deref-4.ensures.value ∙ unmet recording is summary judged n low high)
+          (λ n low high. ap (λ l. stretches_have l n) c.deref-5.ensures.value ∙ missed recording is summary judged n low high)
+          (subst (λ l. Stands exchange (stretches_have l) acts c.in_ok-ledger.ledger) (c.deref.ensures.value ∙ sym c.deref-3.ensures.value) c.in_ok-ledger.ensures);
     }

@@ -12,7 +12,7 @@ use Rattle.rtps_evidence.proofs.QuestionedLemmas.{silent_kept}
 use Rattle.rtps_evidence.proofs.outcome_sets.OutcomeSets.of.Goals as goal
 
 pub returns-clause-sets : goal.returns-clause-sets
-returns-clause-sets c = λ exchange recording is are missed stands.
+returns-clause-sets c = λ exchange recording is are unmet missed stands.
     let pair = exchange.pair in
     let since = since_of exchange.span in
     let times = exchange.times.now.of_datagrams in
@@ -34,6 +34,7 @@ returns-clause-sets c = λ exchange recording is are missed stands.
     ∙ ap (λ l. is_silent (walked_all times since pair n (record { answers = answers_among pair all; silence = Unasked }) l).silence) is.acts in
     record {
       lacking = are;
+      unmet = unmet;
       missed = missed;
       unsent = λ n low high out.
           c.in_ok-unsent.ensures n low high

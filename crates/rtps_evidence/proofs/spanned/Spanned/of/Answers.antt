@@ -12,7 +12,7 @@ use Rattle.rtps_evidence.specs.Spans.{since_of}
 use Rattle.rtps_evidence.proofs.spanned.Spanned.of.Goals as goal
 
 pub returns : goal.returns
-returns c = λ whole recording beside is there times last are missed stands.
+returns c = λ whole recording beside is there times last are unmet missed stands.
     let exchange = c.args.exchange.now in
     let pair = exchange.pair in
     let since = since_of exchange.span in
@@ -20,7 +20,7 @@ returns c = λ whole recording beside is there times last are missed stands.
     let asked = c.args.asked.now in
     let has = is_there whole beside.other pair in
     let speech = speech_by pair.writer pair.reader recording in
-    let sets = c.in_ok-sets.ensures.sets exchange recording is are missed stands in
+    let sets = c.in_ok-sets.ensures.sets exchange recording is are unmet missed stands in
     let wait = subst (λ (u : Unreceived). IsLongest exchange (map placed_value exchange.said.acts.now) u.ledger.now.wait) (sym c.in_ok-sets.ensures.same) stands.wait in
     let in_span = c.in_ok-in_span.in_span in
     let lost = lost_value c.in_ok-lost.lost in
