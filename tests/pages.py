@@ -117,7 +117,7 @@ def grouped(rows):
 
 
 def places_of(value):
-    """each place in a row, as the page writes it; those of ranges of lost numbers aside, which it does not draw yet"""
+    """each place in a row, as the page writes it; those of lost numbers are told by lost_of"""
     if isinstance(value, list):
         return {place for one in value for place in places_of(one)}
     if not isinstance(value, dict):
@@ -127,11 +127,30 @@ def places_of(value):
 
 
 def place_of(place):
-    return f"datagram {place['datagram']}, octet {place['at']}{second_of(place.get('time'))}"
+    return f"datagram {place['datagram']}, octet {place['at']}{frame_of(place.get('frame'))}{second_of(place.get('time'))}"
+
+
+def frame_of(frame):
+    return '' if frame is None else f', frame {frame}'
 
 
 def second_of(time):
     return '' if time is None else f', {time:.3f} s'
+
+
+LOST = {'missed': 'Missed', 'unsent': 'Unsent', 'unanswered': 'Unanswered', 'not_arrived': 'Not arrived'}
+
+
+def range_of(one):
+    """a range of lost numbers, as the page writes it"""
+    moment = '' if one['sent'] is None else (second_of(one['sent'].get('time')) + frame_of(one['sent'].get('frame')))[2:]
+    return f"{one['first']}" + (f"-{one['last']}" if one['last'] > one['first'] else '') + (f' ({moment})' if moment else '')
+
+
+def lost_of(row):
+    """which numbers of a row are lost, as the page writes it"""
+    return [f"{word} {listed([range_of(one) for one in row['numbers'][kind]['ranges'][:10]], len(row['numbers'][kind]['ranges']) + row['numbers'][kind]['more'])}."
+            for kind, word in LOST.items() if kind in row['numbers']]
 
 
 def waits_of(row):
@@ -144,11 +163,16 @@ def waits_of(row):
 
 
 def sentence_of(line):
-    """a line of `check` as a sentence of the page, where it has one; the page has no frames yet"""
+    """a line of `check` as a sentence of the page, where it has one"""
     line = re.sub(r'in datagram (\d+) at (\d+)', r'in datagram \1, octet \2', line.strip())
     if line.startswith('let the writer wait'):
         return f'The reader {line}.'
-    return f'{line[0].upper()}{line[1:]}.' if 'is silent since' in line else None
+    return f'{line[0].upper()}{line[1:]}.' if is_of_lost(line) or 'is silent since' in line else None
+
+
+def is_of_lost(line):
+    """it is a line of `check` that names lost numbers"""
+    return re.match(rf" *({'|'.join(LOST.values())}) \d".lower(), line) is not None
 
 
 # ---- captures with times: the name of each, and its octets
@@ -177,15 +201,15 @@ def half_timed():
 # What the pair of the second one rests on.
 WAITING = [
     'The row is about the numbers from 1 on: 1 missed, 1 unconfirmed.',
-    'The writer announced number 2, first by a DATA in datagram 8, octet 20, 15.000 s.',
+    'The writer announced number 2, first by a DATA in datagram 8, octet 20, frame 8, 15.000 s.',
     'The reader acknowledged nothing.',
     'Of 2 numbers, 2 were sent to this reader, 0 only said to be gone, and 0 neither.',
     'The recording proves 0 of 2 numbers received.',
-    'The reader missed 1 number: it asked for 1 in datagram 7, octet 36, 3.000 s, and 1 was not told gone since.',
+    'The reader missed 1 number: it asked for 1 in datagram 7, octet 36, frame 7, 3.000 s, and 1 was not told gone since.',
     'Number 1 may not be received: it is not acknowledged.',
-    'Number 1 was first told by a DATA in datagram 5, octet 20, 0.000 s.',
+    'Number 1 was first told by a DATA in datagram 5, octet 20, frame 5, 0.000 s.',
     'The writer did not ask for an answer since the reader’s last one.',
-    'The reader let the writer wait 3.000 s: asked in datagram 6, octet 20, 0.000 s, answered in datagram 7, octet 36, 3.000 s.',
+    'The reader let the writer wait 3.000 s: asked in datagram 6, octet 20, frame 6, 0.000 s, answered in datagram 7, octet 36, frame 7, 3.000 s.',
     "The reader's participant is silent since datagram 7, frame 7, 3.000 s, and did not leave: it was killed, or cut off.",
 ]
 IN_TIME = {'missed_in_time': missed_in_time, 'waiting': waiting, 'half_timed': half_timed}
@@ -460,6 +484,7 @@ class PageTests(Counts):
                 self.choose(tab, at)
                 text = self.text(tab, 'tr.detail .detail-words')
                 self.holds(f'{name}: pair {at + 1} tells each place', [], sorted(place for place in places_of(row) if place not in text))
+                self.lost_numbers(f'{name}: pair {at + 1}', tab, row)
                 self.waits_and_silence(name, tab, row)
                 if 'times' not in self.values(name):
                     self.holds(f'{name}: pair {at + 1} has no second', None, SECOND.search(text))
@@ -467,6 +492,12 @@ class PageTests(Counts):
                 self.holds(f'{name}: pair {at + 1} has its advice', advice, tab.evaluate("textsOf(document, 'tr.detail .advice')"))
                 self.holds(f'{name}: one pair is chosen', 1, self.found(tab, 'tr.detail'))
             self.leave(name, tab)
+
+    def lost_numbers(self, name, tab, row):
+        """those of the pair that is chosen stand behind the sentence of its verdict, each kind once"""
+        lead, said = self.text(tab, 'tr.detail .lead'), lost_of(row)
+        self.holds(f'{name}: which numbers are lost', ' '.join(said), lead[len(lead) - len(' '.join(said)):])
+        self.holds(f'{name}: of which kinds', [LOST[kind] for kind in LOST if kind in row['numbers']], [word for word in LOST.values() for _ in re.findall(rf'{word} \d', lead)])
 
     def waits_and_silence(self, name, tab, row):
         """those of the pair that is chosen, each once"""
@@ -549,30 +580,27 @@ class PageTests(Counts):
             self.leave(name, tab)
 
     def lacking_sentences(self, name, tab, values, lines):
-        """each pair says which numbers did not arrive, once"""
+        """each pair says which numbers are lost, and which did not arrive, as check does"""
+        said = []
         for at, row in enumerate(values['pairs'][:MOST_CHOSEN]):
             self.choose(tab, at)
-            count = sum(row['outcomes'][kind] for kind in OUTCOMES if kind not in ('received', 'arrived'))
-            wanted = [f"Not arrived {listed(row['not_arrived'], count)}."] if row['not_arrived'] else []
-            shown = re.findall(r'Not arrived.*?\.', self.text(tab, 'tr.detail .detail-words'))
-            self.holds(f'{name}: which numbers of pair {at + 1} did not arrive', wanted, shown)
-        firsts = {row['not_arrived'][0] for row in values['pairs'] if row['not_arrived']}
-        lacking = [int(re.match(r' +not arrived (\d+)', line)[1]) for line in lines if re.match(r' +not arrived ', line)]
-        self.holds(f'{name}: the first is that of check', [], [number for number in lacking if number not in firsts])
+            said += lost_of(row)
+            self.lost_numbers(f'{name}: pair {at + 1}', tab, row)
+        self.holds(f'{name}: as check says it', [], [line for line in lines if is_of_lost(line) and sentence_of(line) not in said])
 
     def all_arrived(self):
         """in words that are written out here"""
         wanted = {
             'a_reader_that_acknowledged_nothing_and_all_arrived': 'The reader never acknowledged sample 1, but all numbers are received or arrived.',
             'lost_on_the_way': 'The reader may lack samples 3 to 1500: they are announced, and the reader never acknowledged them. '
-                               'Not arrived 3, 4, 5, 6, 8, 9, 10, 11, 12, 13 and 1,486 more.',
+                               'Not arrived 3-6, 8-1499.',
         }
         for name, sentence in wanted.items():
             tab = self.open(name, '#pair-1')
             self.holds(f'{name}: the sentence of the verdict', sentence, self.text(tab, 'tr.detail .lead'))
             self.leave(name, tab)
         tab = self.open('lost_on_the_way')
-        self.holds('both sides: it stands among what to look at', True, 'Not arrived 3, 4, 5' in self.text(tab, 'table.topics td'))
+        self.holds('both sides: it stands among what to look at', True, 'Not arrived 3-6, 8-1499.' in self.text(tab, 'table.topics td'))
         self.holds('both sides: by topic, with large numbers', ['arrived 0 of 1, not 1', 'arrived 1 of 3, not 9007199254740993, 9007199254740995'],
                    tab.evaluate("talkShown('not-arrived')"))
         tab.close()

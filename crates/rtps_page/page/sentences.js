@@ -6,8 +6,11 @@ const KIND_OF_ACT = { data: 'a DATA', heartbeat: 'a HEARTBEAT', gap: 'a GAP', da
 // The second of a datagram, behind it; nothing where it has none.
 const secondText = (time) => (typeof time === 'number' ? `, ${time.toFixed(3)} s` : '');
 
-// A place: the datagram, the octet of it at which the submessage begins, and its second.
-const placeText = ({ datagram, at, time }) => `datagram ${datagram}, octet ${at}${secondText(time)}`;
+// The frame of a datagram, behind it; nothing where it has none.
+const frameText = (frame) => (typeof frame === 'number' ? `, frame ${frame}` : '');
+
+// A place: the datagram, the octet of it at which the submessage begins, its frame and its second.
+const placeText = ({ datagram, at, frame, time }) => `datagram ${datagram}, octet ${at}${frameText(frame)}${secondText(time)}`;
 const actText = (act) => `${KIND_OF_ACT[act.by] || act.by} in ${placeText(act)}`;
 
 // The verdict of a row in a sentence.
@@ -19,7 +22,8 @@ const VERDICTS = {
   complete: completeSentence,
 };
 
-const verdictSentence = (row) => [VERDICTS[row.verdict](row), ...lackingSentences(row)].join(' ');
+// The same, and which numbers are lost, or look so.
+const verdictSentence = (row) => [VERDICTS[row.verdict](row), ...lostSentences(row)].join(' ');
 
 // All numbers from that of the verdict on are not acknowledged.
 function openSentence({ number, announced, not_arrived: lacking }) {
@@ -37,10 +41,22 @@ function completeSentence({ number, announced, from }) {
 // Some numbers, and how many more there are of so many.
 const listed = (numbers, count) => `${numbers.join(', ')}${isAbove(count, numbers.length) ? ` and ${counted(count - BigInt(numbers.length))} more` : ''}`;
 
-// The first numbers of a row that did not arrive, where it is held against another recording.
-function lackingSentences(row) {
-  if (!row.not_arrived || row.not_arrived.length === 0) return [];
-  return [`Not arrived ${listed(row.not_arrived, askedAbout(row) - BigInt(row.outcomes.received) - BigInt(row.outcomes.arrived))}.`];
+// The numbers of a row that are lost, or look so, by their kinds. So many ranges of a kind are told.
+const LOST_WORDS = { missed: 'Missed', unsent: 'Unsent', unanswered: 'Unanswered', not_arrived: 'Not arrived' };
+const LOST_TOLD = 10;
+
+const lostSentences = ({ numbers }) => Object.keys(LOST_WORDS).filter((kind) => numbers[kind]).map((kind) => `${LOST_WORDS[kind]} ${rangesText(numbers[kind])}.`);
+
+// The first ranges of a kind, and how many more there are.
+function rangesText({ ranges, more }) {
+  const told = ranges.slice(0, LOST_TOLD);
+  return listed(told.map(rangeText), BigInt(ranges.length) + BigInt(more));
+}
+
+// A range, with the second and the frame in which its first number was sent first.
+function rangeText({ first, last, sent }) {
+  const moment = `${secondText(sent?.time)}${frameText(sent?.frame)}`.slice(2);
+  return `${first}${isAbove(last, first) ? `-${last}` : ''}${moment && ` (${moment})`}`;
 }
 
 // What a verdict rests on, a sentence for each line of `why`.
@@ -48,9 +64,9 @@ const evidenceSentences = (row) => [
   ...spanSentences(row), ...commonSentences(row), ...receivedSentences(row), ...OWN_SENTENCES[row.verdict](row), ...waitSentences(row), ...silenceSentences(row),
 ];
 
-function spanSentences({ from, until, until_time: time, outcomes }) {
+function spanSentences({ from, until, until_time: time, until_frame: frame, outcomes }) {
   const kinds = OUTCOMES.filter((name) => outcomes[name] > 0).map((name) => `${counted(outcomes[name])} ${name}`);
-  const left = until === null ? '' : `, until datagram ${until}${secondText(time)}, in which the reader left`;
+  const left = until === null ? '' : `, until datagram ${until}${frameText(frame)}${secondText(time)}, in which the reader left`;
   return [`The row is about the numbers from ${from} on${left}: ${kinds.join(', ') || 'none is announced'}.`];
 }
 

@@ -6,7 +6,7 @@ pub(crate) const HEAD: &str = "\
 <html lang=\"en\">\n\
 <head>\n\
 <meta charset=\"utf-8\">\n\
-<meta http-equiv=\"Content-Security-Policy\" content=\"default-src 'none'; style-src 'sha256-Abe3C/WIz3ss57X61ogih5ojFMyspfGHl4Ypeg/rUdA='; script-src 'sha256-hpmW3mDyoQhB9f0WRZW6RarG+nvTxqFH2yl+nJ5/Zek=' 'sha256-DKRaOc6boPeID2Q1eigw1AR+4ov/GucHsnZYowMUgh0=' 'sha256-gK9uXRMqayxEKG6mFjKwZcia0MvlKZKvzSq2+HcE4mY=' 'sha256-9ljfUGhkwBGoy5M6b504OCV+yYlV3X6fME8nsw/ZnRk=' 'sha256-JPTwWB7I1w9tp3wwiQ14dc5dSDaOeIVez/qpxdlW2Ow=' 'sha256-9qXE01LSu2pyhSK/gx7hU21EubElYvQnl3lcwip1TZk=' 'sha256-qYVlcvDsrJla7cbqzS5xi5/MVZWOWKHBgZKG7flkdto=' 'sha256-bVfDlhd3UBLgvAho3xioCAA/Cq2WySbTS1H1TgIHA1o=' 'sha256-psDdiwMCniFLJoIYOjP3OeSKWuH/t8VTyIN0miyPSjg=' 'sha256-ncKhZ8LJHPHpxsbShdWaihXHet0HRxgWttYRDNL5HT4=' 'sha256-L5++YkTFEJl3kdO/H0jWJMkHnWI15lupByHpRLDl5VA='; base-uri 'none'; form-action 'none'\">\n\
+<meta http-equiv=\"Content-Security-Policy\" content=\"default-src 'none'; style-src 'sha256-Abe3C/WIz3ss57X61ogih5ojFMyspfGHl4Ypeg/rUdA='; script-src 'sha256-hpmW3mDyoQhB9f0WRZW6RarG+nvTxqFH2yl+nJ5/Zek=' 'sha256-DKRaOc6boPeID2Q1eigw1AR+4ov/GucHsnZYowMUgh0=' 'sha256-gK9uXRMqayxEKG6mFjKwZcia0MvlKZKvzSq2+HcE4mY=' 'sha256-ZqZ9gTJKunDDzP570w15rKAm0wAfAWUIpGKPZXF65ws=' 'sha256-JPTwWB7I1w9tp3wwiQ14dc5dSDaOeIVez/qpxdlW2Ow=' 'sha256-9qXE01LSu2pyhSK/gx7hU21EubElYvQnl3lcwip1TZk=' 'sha256-qYVlcvDsrJla7cbqzS5xi5/MVZWOWKHBgZKG7flkdto=' 'sha256-bVfDlhd3UBLgvAho3xioCAA/Cq2WySbTS1H1TgIHA1o=' 'sha256-psDdiwMCniFLJoIYOjP3OeSKWuH/t8VTyIN0miyPSjg=' 'sha256-ncKhZ8LJHPHpxsbShdWaihXHet0HRxgWttYRDNL5HT4=' 'sha256-L5++YkTFEJl3kdO/H0jWJMkHnWI15lupByHpRLDl5VA='; base-uri 'none'; form-action 'none'\">\n\
 <meta name=\"viewport\" content=\"width=device-width, initial-scale=1\">\n\
 <meta name=\"color-scheme\" content=\"light dark\">\n\
 <meta name=\"referrer\" content=\"no-referrer\">\n\
@@ -487,7 +487,8 @@ more(first);\n\
 <script>'use strict';\n\
 const KIND_OF_ACT = { data: 'a DATA', heartbeat: 'a HEARTBEAT', gap: 'a GAP', data_frag: 'a DATA_FRAG' };\n\
 const secondText = (time) => (typeof time === 'number' ? `, ${time.toFixed(3)} s` : '');\n\
-const placeText = ({ datagram, at, time }) => `datagram ${datagram}, octet ${at}${secondText(time)}`;\n\
+const frameText = (frame) => (typeof frame === 'number' ? `, frame ${frame}` : '');\n\
+const placeText = ({ datagram, at, frame, time }) => `datagram ${datagram}, octet ${at}${frameText(frame)}${secondText(time)}`;\n\
 const actText = (act) => `${KIND_OF_ACT[act.by] || act.by} in ${placeText(act)}`;\n\
 const VERDICTS = {\n\
 unfounded: ({ number, datagram }) => `In datagram ${datagram} the reader acknowledged sample ${number}, but nothing before that sent it `\n\
@@ -496,7 +497,7 @@ conflict: ({ number }) => `The writer sent two different payloads for sample ${n
 open: openSentence,\n\
 complete: completeSentence,\n\
 };\n\
-const verdictSentence = (row) => [VERDICTS[row.verdict](row), ...lackingSentences(row)].join(' ');\n\
+const verdictSentence = (row) => [VERDICTS[row.verdict](row), ...lostSentences(row)].join(' ');\n\
 function openSentence({ number, announced, not_arrived: lacking }) {\n\
 const [samples, are, them] = number === announced.number\n\
 ? [`sample ${number}`, 'it is', 'it'] : [`samples ${number} to ${announced.number}`, 'they are', 'them'];\n\
@@ -508,16 +509,23 @@ if (announced === null) return from === 1 ? 'The writer announced no number.' : 
 return `The reader acknowledged each sample from ${from} to ${number}.`;\n\
 }\n\
 const listed = (numbers, count) => `${numbers.join(', ')}${isAbove(count, numbers.length) ? ` and ${counted(count - BigInt(numbers.length))} more` : ''}`;\n\
-function lackingSentences(row) {\n\
-if (!row.not_arrived || row.not_arrived.length === 0) return [];\n\
-return [`Not arrived ${listed(row.not_arrived, askedAbout(row) - BigInt(row.outcomes.received) - BigInt(row.outcomes.arrived))}.`];\n\
+const LOST_WORDS = { missed: 'Missed', unsent: 'Unsent', unanswered: 'Unanswered', not_arrived: 'Not arrived' };\n\
+const LOST_TOLD = 10;\n\
+const lostSentences = ({ numbers }) => Object.keys(LOST_WORDS).filter((kind) => numbers[kind]).map((kind) => `${LOST_WORDS[kind]} ${rangesText(numbers[kind])}.`);\n\
+function rangesText({ ranges, more }) {\n\
+const told = ranges.slice(0, LOST_TOLD);\n\
+return listed(told.map(rangeText), BigInt(ranges.length) + BigInt(more));\n\
+}\n\
+function rangeText({ first, last, sent }) {\n\
+const moment = `${secondText(sent?.time)}${frameText(sent?.frame)}`.slice(2);\n\
+return `${first}${isAbove(last, first) ? `-${last}` : ''}${moment && ` (${moment})`}`;\n\
 }\n\
 const evidenceSentences = (row) => [\n\
 ...spanSentences(row), ...commonSentences(row), ...receivedSentences(row), ...OWN_SENTENCES[row.verdict](row), ...waitSentences(row), ...silenceSentences(row),\n\
 ];\n\
-function spanSentences({ from, until, until_time: time, outcomes }) {\n\
+function spanSentences({ from, until, until_time: time, until_frame: frame, outcomes }) {\n\
 const kinds = OUTCOMES.filter((name) => outcomes[name] > 0).map((name) => `${counted(outcomes[name])} ${name}`);\n\
-const left = until === null ? '' : `, until datagram ${until}${secondText(time)}, in which the reader left`;\n\
+const left = until === null ? '' : `, until datagram ${until}${frameText(frame)}${secondText(time)}, in which the reader left`;\n\
 return [`The row is about the numbers from ${from} on${left}: ${kinds.join(', ') || 'none is announced'}.`];\n\
 }\n\
 function commonSentences(row) {\n\
