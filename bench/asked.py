@@ -1,4 +1,4 @@
-"""What is asked of a recording: from which number on, and of a report which topics, how many rows, how long a tail may be, whether each
+"""What is asked of a recording: from which number on, and of a report which topics and nodes, how many rows, how long a tail may be, whether each
 number has to be received for certain, and which other recording says what arrived. `audit` is asked whether samples in DATA_FRAG count; a
 report reads them always."""
 import re
@@ -16,8 +16,8 @@ def fits(pattern, topic):
 
 
 class Asked:
-    def __init__(self, first=1, topics=(), expect=None, fragments=False, tail=0, certain=False, arrived=None):
-        self.first, self.topics, self.expect, self.fragments = first, list(topics), expect, fragments
+    def __init__(self, first=1, topics=(), expect=None, fragments=False, tail=0, certain=False, arrived=None, nodes=()):
+        self.first, self.topics, self.nodes, self.expect, self.fragments = first, list(topics), list(nodes), expect, fragments
         self.tail, self.certain, self.arrived = tail, certain, arrived
 
     def words(self):
@@ -25,6 +25,8 @@ class Asked:
         words = ['--from', str(self.first)] if self.first != 1 else []
         for topic in self.topics:
             words += ['--topic', topic]
+        for node in self.nodes:
+            words += ['--node', node]
         words += ['--expect', str(self.expect)] if self.expect is not None else []
         words += ['--fragments'] if self.fragments else []
         words += ['--tail', str(self.tail)] if self.tail else []
@@ -35,6 +37,11 @@ class Asked:
         """whether a topic is asked for, by its name of DDS or of ROS 2"""
         return not self.topics or any(fits(pattern.encode(), name) for pattern in self.topics for name in (topic, ros_topic(topic)))
 
+    def chooses_nodes(self, writer, reader):
+        """whether one of the nodes of a pair is asked for; an end that has none is none that is asked for"""
+        there = [node for node in (writer, reader) if node is not None]
+        return not self.nodes or any(fits(pattern.encode(), node) for pattern in self.nodes for node in there)
+
 
 PLAIN = Asked()
 
@@ -44,6 +51,6 @@ def asked_by(words):
     def values(name):
         return [words[i + 1] for i in range(len(words) - 1) if words[i] == name]
 
-    return Asked(first=int((values('--from') + ['1'])[0]), topics=values('--topic'),
+    return Asked(first=int((values('--from') + ['1'])[0]), topics=values('--topic'), nodes=values('--node'),
                  expect=int(values('--expect')[0]) if '--expect' in words else None, fragments='--fragments' in words,
                  tail=int((values('--tail') + ['0'])[0]), certain='--certain' in words, arrived=(values('--arrived') + [None])[0])

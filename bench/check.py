@@ -7,7 +7,7 @@ who talks (`talk.Talk`), counts, what another recording shows (`arrived.BothSide
 import arrived
 import kinds
 from times import behind, order_notes, timed_line, wait_line
-from told import (best_effort_shares, best_effort_totals, hosted, one_way_lines, talk_notes, topic_text, type_text, unmatched_amount,
+from told import (best_effort_shares, best_effort_totals, one_way_lines, talk_notes, topic_text, type_text, unmatched_amount,
                   unmatched_lines)
 from wording import amount, grouped, in_pairs, of
 
@@ -232,8 +232,9 @@ def said_lines(row):
 def row_lines(row, report):
     left = f', left in datagram {row.until[0]}{behind(row.times, row.until[0])}' if row.until else ''
     kinds = [f'{kind} {row.counts[kind]}' for kind in COLUMNS if kind == 'received' or row.counts[kind]]
-    announced, explained = report.talk.announced, [*(timed_line(row.times, line) for line in shown(row)), *said_lines(row)]
-    return [f'  writer {hosted(announced, row.w)}', f'  reader {hosted(announced, row.r)}, from {row.first}{left}',
+    writer, reader = (report.talk.end(guid).text() for guid in (row.w, row.r))
+    explained = [*(timed_line(row.times, line) for line in shown(row)), *said_lines(row)]
+    return [f'  writer {writer}', f'  reader {reader}, from {row.first}{left}',
             f"  {', '.join([row.verdict, *kinds])}", *('    ' + line for line in explained), '    -> ' + row.advice(report.counts)]
 
 
@@ -242,10 +243,19 @@ def is_told_by_its_tail(row, report):
     return row.advice(report.counts) == SENTENCES['tail']
 
 
+def is_told(row, report):
+    """it has lines of its own"""
+    return not row.is_clean() and not is_told_by_its_tail(row, report)
+
+
 def section(rows, report):
-    told = [row for row in rows if not row.is_clean() and not is_told_by_its_tail(row, report)]
-    head = ['', ' '.join((topic_text(rows[0].key[0]), type_text(rows[0].key[1])))] if told else []
-    return head + [line for row in told for line in row_lines(row, report)]
+    """the lines of rows of one topic and type"""
+    return ['', ' '.join((topic_text(rows[0].key[0]), type_text(rows[0].key[1])))] + [line for row in rows for line in row_lines(row, report)]
+
+
+def event_lines(event, report):
+    """those of what happened: its head, and its rows by topic"""
+    return ['', event.text()] + [line for some in by_topic([row for _, row in event.rows]) for line in section(some, report)]
 
 
 def tail_lines(report):
@@ -411,8 +421,8 @@ def block(lines):
 
 def check_lines(report):
     talk, sides = report.talk, report.sides
-    lost_here = sides.lines(lambda guid: hosted(talk.announced, guid), topic_text) if sides else []
+    lost_here = sides.lines(lambda guid: talk.end(guid).text(), topic_text) if sides else []
     return [*first_lines(report), *block(table(report.rows) if report.rows else []),
-            *(line for some in by_topic(report.rows) for line in section(some, report)), *tail_lines(report),
+            *(line for event in report.events for line in event_lines(event, report)), *tail_lines(report),
             *block(unmatched_lines(talk)), *block(one_way_lines(talk)), *block(lost_here), *block(note_lines(report)),
             *block([ending(report)])]

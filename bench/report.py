@@ -22,6 +22,7 @@ import check
 import kinds
 import reference
 from asked import PLAIN, asked_by
+from happened import events_of
 from random_recordings import some_asked, some_life, text_of_datagrams
 from random_systems import some_recorded
 from spans import rows_of
@@ -41,6 +42,7 @@ class Report:
         self.counted = counted | (ignored or {})
         # A datagram of one octet is refused, and is no reason to look at it.
         self.counts = self.counted | {'link': link, 'refused': counted['refused'] - sum(len(d) < 2 for d in datagrams)}
+        self.events = events_of(self.talk, self.rows, lambda row: check.is_told(row, self))
         self.because = check.because(self)
         self.status = int(bool(self.because))
 
@@ -52,7 +54,8 @@ class Report:
         head = {'status': 'unclean' if self.because else 'clean', 'because': self.because}
         pairs = [row.values(self.counts) for row in self.rows]
         wrong_way = {'wrong_way': self.sides.wrong} if self.sides else {}
-        return head | {'pairs': pairs} | self.counted | talk_members(self.talk, self.sides) | wrong_way | {'notes': check.note_sentences(self)}
+        return head | {'pairs': pairs} | self.counted | talk_members(self.talk, self.sides) | wrong_way | {
+            'events': [event.values() for event in self.events], 'notes': check.note_sentences(self)}
 
     def json(self):
         return json_text(self.members()) + '\n'
@@ -60,7 +63,7 @@ class Report:
     def why(self):
         """every row with all its evidence"""
         counts = {name: count for name, count in self.counted.items() if self.ignored is None or name not in self.ignored or name == 'ignored'}
-        return lines_text([f'pairs {len(self.rows)}', *(line for row in self.rows for line in why_lines(row, self.counts)),
+        return lines_text([f'pairs {len(self.rows)}', *(line for row in self.rows for line in why_lines(row, self)),
                            ' '.join(f'{name} {count}' for name, count in counts.items()), check.ending(self)])
 
 
@@ -68,13 +71,13 @@ def lines_text(lines):
     return ''.join(line + '\n' for line in lines)
 
 
-def why_lines(row, counts):
-    names = row.names()
+def why_lines(row, report):
+    names, ends = row.names(), ' '.join(report.talk.end(guid).text_in_a_pair() for guid in (row.w, row.r))
     until = f' until datagram {row.until[0]}{behind(row.times, row.until[0])}' if row.until else ''
-    lines = [f"pair {names['writer']} {names['reader']} {row.verdict}", f"  topic \"{names['topic']}\" type \"{names['type']}\"",
+    lines = [f"pair {ends} {row.verdict}", f"  topic \"{names['topic']}\" type \"{names['type']}\"",
              f'  from {row.first}{until}', *('  ' + timed_line(row.times, line) for line in with_outcomes(row))]
     lost = [] if row.is_clean() else ['    ' + line for line in kinds.lines(row)]
-    return lines + lost + ['  ' + line for line in check.said_lines(row)] + ([] if row.is_clean() else ['  -> ' + row.advice(counts)])
+    return lines + lost + ['  ' + line for line in check.said_lines(row)] + ([] if row.is_clean() else ['  -> ' + row.advice(report.counts)])
 
 
 def with_outcomes(row):

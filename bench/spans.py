@@ -8,6 +8,7 @@ import arrived
 import kinds
 import reference
 from check import KINDS, advice_of
+from ends import node_members
 from life import Life, Span
 from reference import Delivery, acts_of, guid_text, last_number, name_text
 from talk import Talk
@@ -87,7 +88,7 @@ class Row:
         self.way = other.way(recording, self.w, self.r) if other else None
         self.beside, self.held = other is not None, self.way not in (None, 'wrong')
         told_there = other.told(self.w, self.r) if self.held else None
-        self.times = talk.times
+        self.times, self.who = talk.times, talk.who
         self.delivery = Outcome(self.datagrams, self.w, self.r, self.first, span.since, told_there, self.times)
         # how many numbers are received for certain though the other recording has none of them
         self.absent = len(self.delivery.received - told_there) if self.held else 0
@@ -165,7 +166,7 @@ class Row:
         not_arrived = {'not_arrived': self.first_lacking() if self.held else None} if self.beside else {}
         wait, said = ({'wait': wait_values(self.times, self.wait)}, {'silence': self.silence_lines()}) if self.times.are_there() else ({}, {})
         return self.names() | self.evidence() | {'from': self.first, 'until': until} | alone(self.times, until=until) | {
-            'outcomes': self.outcomes(), **not_arrived, 'clean': self.is_clean(), **wait, 'numbers': kinds.values(self), **said, 'advice': self.advice(counts)}
+            'outcomes': self.outcomes(), **not_arrived, 'clean': self.is_clean(), **wait, 'numbers': kinds.values(self), **said, 'advice': self.advice(counts), **node_members(self.who, self.w, self.r)}
 
     def first_lacking(self):
         return arrived.first_named(self.lacking())

@@ -6,10 +6,12 @@ whatever their policies say, but not of two domains. The order of all lists is t
 """
 from functools import cached_property
 
+from ends import End
 from life import Span
 from policies import address_in, domain_in, lease_in, policies_in, reasons, values_of
 from reference import told_to
 from times import LEASE, NO_TIMES, is_silent
+from who import Who
 
 # The entity id of a participant.
 PARTICIPANT = b'\x00\x00\x01\xc1'
@@ -102,17 +104,18 @@ def datagrams_by(prefixes):
 
 
 class Talk:
-    """what a recording says of who talks, of the topics that are asked for. `prefixes` has the one in the header of each datagram, or None"""
+    """what a recording says of who talks, of the topics and nodes that are asked for. `prefixes` has the one in the header of each datagram, or
+    None"""
 
     def __init__(self, recording, prefixes, settled, matched, life, asked, times=NO_TIMES):
         self.recording, self.life, self.asked, self.times = recording, life, asked, times
         self.announced, self.namings, self.answers = Announced(life.announced), named_by(recording), answering(recording)
-        self.datagrams_by = datagrams_by(prefixes)
+        self.datagrams_by, self.who = datagrams_by(prefixes), Who(recording)
         unfit = list(self.find_unfit(settled))
         self.talking = [one for one in unfit if self.talks(one.w, one.r)]
         self.unmatched = [one for one in unfit if not self.talks(one.w, one.r)]
         apart = {(one.w, one.r) for one in unfit}
-        fitting = [pair for pair in matched if asked.chooses(pair[0][2]) and pair not in apart]
+        fitting = [pair for pair in matched if self.chooses(*pair) and pair not in apart]
         self.judged = sorted([pair for pair in fitting if is_reliable(*pair) and self.is_observed(*pair)] + [(one.w, one.r) for one in self.talking])
         self.unobserved = [pair for pair in fitting if not self.is_observed(*pair)]
         self.best_effort = [pair for pair in fitting if not is_reliable(*pair) and self.is_observed(*pair)]
@@ -124,12 +127,19 @@ class Talk:
         readers = [end for end in settled if end[1] == 'reader' and self.asked.chooses(end[2])]
         for w in settled:
             for r in readers:
-                if w[1] != 'writer' or w[2] != r[2] or self.announced.two_domains(w[0], r[0]):
+                if w[1] != 'writer' or w[2] != r[2] or self.announced.two_domains(w[0], r[0]) or not self.chooses(w, r):
                     continue
                 offered, requested = self.announced.values(w), self.announced.values(r)
                 because = reasons(offered, requested)
                 if because:
                     yield Unfit(w, r, because, offered, requested)
+
+    def end(self, guid):
+        return End(self.announced, self.who, guid)
+
+    def chooses(self, w, r):
+        """whether a writer and a reader are asked for, by their topic and by their nodes"""
+        return self.asked.chooses(w[2]) and self.asked.chooses_nodes(self.who.node(w[0]), self.who.node(r[0]))
 
     def talks(self, w, r):
         """the reader acknowledges something to the writer"""

@@ -1,4 +1,5 @@
 """What `check` says of who does not talk: lines, notes, and members of its object. Facts are those of `talk.Talk`."""
+from ends import process_members
 from policies import address_text, value_text
 from reference import guid_text, name_text
 from ros import ros_topic, ros_type
@@ -36,12 +37,6 @@ def topics_text(pairs):
     return ', '.join(map(topic_text, sorted({w[2] for w, _ in pairs})))
 
 
-def hosted(announced, guid):
-    """a GUID, and behind it the address of its participant"""
-    address = announced.address(guid)
-    return guid_text(guid) + (f' at {address_text(address)}' if address else '')
-
-
 # ---- endpoints that do not match
 
 
@@ -58,9 +53,9 @@ def values_text(one):
     return [(name, value_text(name, one.offered[name]), value_text(name, one.requested[name])) for name in one.because]
 
 
-def unmatched_block(announced, one):
+def unmatched_block(talk, one):
     """the lines of a writer and a reader that do not match; types by their names of ROS 2"""
-    lines = [f'  writer {hosted(announced, one.w[0])}', f'  reader {hosted(announced, one.r[0])}']
+    lines = [f'  writer {talk.end(one.w[0]).text()}', f'  reader {talk.end(one.r[0]).text()}']
     for name, offered, requested in values_text(one):
         if name == 'type':
             offered, requested = type_text(one.w[3]), type_text(one.r[3])
@@ -74,7 +69,7 @@ def unmatched_lines(talk):
         return []
     lines, last = [unmatched_amount(talk)], None
     for one in sorted(talk.unmatched, key=lambda one: one.w[2]):
-        lines += ([] if one.w[2] == last else [topic_text(one.w[2])]) + unmatched_block(talk.announced, one)
+        lines += ([] if one.w[2] == last else [topic_text(one.w[2])]) + unmatched_block(talk, one)
         last = one.w[2]
     return lines + ['  -> ' + UNMATCHED]
 
@@ -87,7 +82,7 @@ def one_way_lines(talk):
         return []
     lines = [amount(len(talk.one_way), 'pair of participants talks one way', 'pairs of participants talk one way')]
     for one, other, count in talk.one_way:
-        silent, talking = (hosted(talk.announced, prefix + PARTICIPANT) for prefix in (other, one))
+        silent, talking = (talk.end(prefix + PARTICIPANT).text() for prefix in (other, one))
         lines += [f'  participant {silent} never answers', f"  participant {talking}, which names it in {amount(count, 'datagram', 'datagrams')}"]
     return lines + ['  -> ' + ONE_WAY]
 
@@ -158,7 +153,7 @@ def participant_members(talk):
         _, domain, address, _ = talk.announced.participants[guid]
         members = {'guid': guid_text(guid), 'address': address and address_text(address), 'domain': domain, 'first': first, 'last': last, 'left': left}
         silent = {'silent': guid in talk.silent} if talk.times.are_there() else {}
-        yield members | alone(talk.times, first=first, last=last, left=left) | silent
+        yield members | alone(talk.times, first=first, last=last, left=left) | silent | process_members(talk.who, guid)
 
 
 def talk_members(talk, sides=None):

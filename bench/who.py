@@ -176,10 +176,10 @@ def samples_in(recording):
 
 
 class Who:
-    """what a recording tells of the names of participants and endpoints"""
+    """what a recording tells of the names of participants and endpoints. A recording is a list of datagrams, each a list of acts"""
 
-    def __init__(self, datagrams, fragments=False):
-        samples = [*samples_in([acts_of(d, fragments) for d in datagrams])]
+    def __init__(self, recording):
+        samples = [*samples_in(recording)]
         self.processes, self.endpoints, self.nodes = {}, [], {}
         services, tellers = {}, set()
         for _, writer, octets in samples:
@@ -240,7 +240,7 @@ def hex_or(text):
 
 
 def told_of(datagrams):
-    return ''.join(f'{line}\n' for line in Who(datagrams).lines()) + '\n'
+    return ''.join(f'{line}\n' for line in Who([acts_of(d) for d in datagrams]).lines()) + '\n'
 
 
 # ---- random ones
