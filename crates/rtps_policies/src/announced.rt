@@ -128,7 +128,7 @@ pub fn participant_of(prefix: GuidPrefix) -> Guid
 }
 
 /// The payload of an act that has a whole one; no octets of any other.
-fn payload_of<'a>(act: &Spoken<'a>) -> &'a [u8]
+pub fn payload_of<'a>(act: &Spoken<'a>) -> &'a [u8]
     ensures { result.now ≡ payload_of_lem (spoken_value act.now).body }
 {
     match &act.body {
@@ -183,8 +183,8 @@ fn participant_told(act: &Spoken<'_>) -> Option<(Guid, Host)>
     Some((guid, host))
 }
 
-/// Keeps a value of a GUID, unless there is one.
-fn keep_first<V: Copy + Drop>(
+/// Keeps a value of a GUID, unless there is one. After `Memory` nothing has changed.
+pub fn keep_first<V: Copy + Drop>(
     kept: &mut BTreeMap<Guid, V>,
     guid: Guid,
     value: V,

@@ -11,7 +11,7 @@ use rtps_params::ParamList;
 /// The parameter list of a payload, or None if it has none (DDSI-RTPS 2.5, 10 "Serialized Payload Representation"). An endpoint that
 /// was read of the same payload does not keep its list, so this reads it again.
 #[tactic(auto, unfolding(rtps_discovery::specs::Announcement::fields_of))]
-pub(crate) fn list_in(payload: &[u8]) -> Option<ParamList<'_>>
+pub fn list_in(payload: &[u8]) -> Option<ParamList<'_>>
     ensures { option_map fields_value result ≡ result_ok (fields_of payload.now) }
 {
     if payload.len() < header::SIZE {

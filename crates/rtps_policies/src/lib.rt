@@ -22,8 +22,9 @@ mod silence;
 mod topic_readers;
 mod unmatched;
 
-pub use announced::{Announced, announced_participant, participant_of};
+pub use announced::{Announced, announced_participant, keep_first, participant_of, payload_of};
 pub use duration::Duration;
+pub use fields::list_in;
 pub use fitting::{Policy, Profile, reasons};
 pub use host::{Address, Host};
 pub use kinds::{DestinationOrder, Ownership};

@@ -1,5 +1,4 @@
 mod DigitLemmas
-mod FieldsFound
 mod IdLemmas
 mod ItemLemmas
 mod NameLemmas

@@ -2,17 +2,14 @@
 use Rattle.std.proofs.Common.{◌≡◌, ◌∙◌, Bool, true, false, ◌||◌, cond, List, [], ◌∷◌, ◌++◌, Option, Some, None, OnOk, Result, Ok, Err, ap, append-nil, fold, refl, sym}
 use Rattle.std.specs.BTreeMap.{is_at}
 use Rattle.std.specs.BTreeSet.{contains}
-use Rattle.std.specs.Cmp.{eq_by_cmp_equiv}
 use Rattle.std.specs.List.{cons_option, filter_map, flat_map, list_any}
 use Rattle.std.specs.Map.{lookup}
-use Rattle.std.specs.Option.{is_some, option_map, option_or}
-use Rattle.std.proofs.lemmas.Bool.{false≢true}
+use Rattle.std.specs.Option.{option_map, option_or}
 use Rattle.std.proofs.Math.Bool.{or-false}
 use Rattle.std.proofs.lemmas.Grind.{flat_map-append}
 use Rattle.std.proofs.lemmas.List.Elements.{filter_map-append}
 use Rattle.std.proofs.lemmas.List.Folds.{list_any-append}
 use Rattle.std.proofs.lemmas.List.Sums.{fold-append}
-use Rattle.std.proofs.lemmas.Map.Views.{tells_apart}
 use Rattle.rtps_ids.specs.declared.identity.Guid.{Guid}
 use Rattle.rtps_ids.specs.declared.identity.GuidPrefix.{GuidPrefix}
 use Rattle.rtps_receiver.specs.Values.{ActValue}
@@ -21,14 +18,13 @@ use Rattle.rtps_discovery.specs.GuidOrder.{guid_cmp}
 use Rattle.rtps_discovery.specs.Notice.{Announced, announcement_of, endpoint_in, participant_in}
 use Rattle.rtps_discovery.specs.Notice.Announced.{Participant, Endpoint}
 use Rattle.rtps_discovery.specs.declared.fault.NoticeFault.{NoticeFault}
-use Rattle.rtps_discovery.proofs.Offered.{guids_total}
-use Rattle.rtps_who.specs.Introducing.{IsIntroducedBy, KeepsEndpoint, endpoint_told, first_of, is_teller, is_teller_among, names_by, prefix_cmp, process_told, service_names}
+use Rattle.rtps_policies.specs.Announcing.{first_of}
+use Rattle.rtps_policies.specs.Told.{KeepsFirst}
+use Rattle.rtps_who.specs.Introducing.{IsIntroducedBy, KeepsEndpoint, endpoint_told, is_teller, is_teller_among, names_by, prefix_cmp, process_told, service_names}
 use Rattle.rtps_who.specs.Processes.{process_value}
 use Rattle.rtps_who.specs.Services.{names_of, service_value, with_name}
-use Rattle.rtps_who.specs.Told.{KeepsFirst}
 use Rattle.rtps_who.specs.declared.introductions.Introductions.{Introductions}
 use Rattle.rtps_who.specs.declared.process.Process.{Process}
-use Rattle.rtps_who.proofs.IdLemmas.{exact_guids}
 
 -- what follows from success follows from what success says
 pub on_ok : {X E : Type 0} (P Q : Type 0) (r : Result X E) → (P → Q) → OnOk r P → OnOk r Q
@@ -156,41 +152,3 @@ nothing_noted acts act old none no_process were =
       tellers = λ other. were.tellers other ∙ tellers_same acts act other none;
       services = λ prefix. were.services prefix ∙ names_same acts act prefix none;
     }
-
--- ---- a value that is kept once
-
--- a GUID that has a value keeps it
-pub kept_there : {V : Type 0} (old : List (Guid × V)) (guid : Guid) (value : V) → is_some (lookup (is_at (guid_cmp guid)) old) ≡ true → (other : Guid)
-    → lookup (is_at (guid_cmp other)) old ≡ option_or (lookup (is_at (guid_cmp other)) old) (cond (is_at (guid_cmp other) guid) (Some value) None)
-kept_there {V} old guid value there other = by (lookup (is_at (guid_cmp other)) old) (is_at (guid_cmp other) guid) refl refl
-  where
-    by : (found : Option V) (same : Bool) → lookup (is_at (guid_cmp other)) old ≡ found → is_at (guid_cmp other) guid ≡ same
-        → found ≡ option_or found (cond same (Some value) None)
-    by (Some x) same e f = refl
-    by None false e f = refl
-    by None true e f =
-        let one : other ≡ guid = tells_apart exact_guids other guid f in
-        absurd (false≢true (sym (ap is_some (sym (ap (λ g. lookup (is_at (guid_cmp g)) old) one) ∙ e)) ∙ there))
-
--- a GUID that has none takes it
-pub kept_new : {V : Type 0} (old new : List (Guid × V)) (guid : Guid) (value : V) → is_some (lookup (is_at (guid_cmp guid)) old) ≡ false
-    → ((other : Guid) → lookup (is_at (guid_cmp other)) new ≡ cond (is_at (guid_cmp guid) other) (Some value) (lookup (is_at (guid_cmp other)) old))
-    → (other : Guid) → lookup (is_at (guid_cmp other)) new ≡ option_or (lookup (is_at (guid_cmp other)) old) (cond (is_at (guid_cmp other) guid) (Some value) None)
-kept_new {V} old new guid value absent updates other = updates other ∙ by (is_at (guid_cmp guid) other) (is_at (guid_cmp other) guid) refl refl
-  where
-    at_none : (found : Option V) → is_some found ≡ false → Some value ≡ option_or found (Some value)
-    at_none None none = refl
-    at_none (Some x) none = absurd (false≢true (sym none))
-
-    by : (there back : Bool) → is_at (guid_cmp guid) other ≡ there → is_at (guid_cmp other) guid ≡ back
-        → cond there (Some value) (lookup (is_at (guid_cmp other)) old) ≡ option_or (lookup (is_at (guid_cmp other)) old) (cond back (Some value) None)
-    by false false e f = sym (nothing_more (lookup (is_at (guid_cmp other)) old))
-    by true true e f =
-        let one : guid ≡ other = tells_apart exact_guids guid other e in
-        at_none (lookup (is_at (guid_cmp other)) old) (sym (ap (λ g. is_some (lookup (is_at (guid_cmp g)) old)) one) ∙ absent)
-    by true false e f =
-        let one : guid ≡ other = tells_apart exact_guids guid other e in
-        absurd (false≢true (sym f ∙ ap (λ g. is_at (guid_cmp other) g) one ∙ (eq_by_cmp_equiv guids_total).refl other))
-    by false true e f =
-        let one : other ≡ guid = tells_apart exact_guids other guid f in
-        absurd (false≢true (sym e ∙ ap (λ g. is_at (guid_cmp guid) g) one ∙ (eq_by_cmp_equiv guids_total).refl guid))

@@ -18,6 +18,7 @@ use Rattle.rtps_discovery.specs.Endpoint.{EndpointValue}
 use Rattle.rtps_discovery.specs.GuidOrder.{guid_cmp}
 use Rattle.rtps_discovery.specs.Matching.{is_writer}
 use Rattle.rtps_discovery.specs.Notice.{announcement_of, endpoint_in, participant_in}
+use Rattle.rtps_policies.specs.Announcing.{first_of}
 use Rattle.rtps_who.specs.Fields.{fields_in}
 use Rattle.rtps_who.specs.Processes.{ProcessValue, process_in, process_value, unknown_process}
 use Rattle.rtps_who.specs.Services.{names_of, service_of, service_value, with_name}
@@ -38,10 +39,6 @@ process_by (Some fields) = process_in fields
 -- the participant that an act announces, and its process
 abbrev pub process_told : ActValue → Option (Guid × ProcessValue)
 process_told act = option_map (λ guid. (guid, process_by (fields_in act.body))) (participant_in (announcement_of act))
-
--- what is told of a GUID first
-abbrev pub first_of : {X : Type 0} → Guid → List (Guid × X) → Option X
-first_of guid told = lookup (is_at (guid_cmp guid)) told
 
 -- the process that acts announce first of a participant
 abbrev pub process_among : List ActValue → Guid → Option ProcessValue

@@ -1,7 +1,6 @@
 -- The ids, sizes and octets of what is read of processes and of nodes, as the standards and ROS 2 have them. Each value is written only here and
--- in `layout`. DDSI-RTPS 2.5, 9.3.1.3, 9.6.3 and 10.
+-- in `layout`. DDSI-RTPS 2.5, 9.6.3 and 10.
 use Rattle.std.specs.Prelude.{◌≡◌, [], ◌∷◌, replicate}
-use Rattle.rtps_who.specs.declared.layout.entity.TheConstants as entity
 use Rattle.rtps_who.specs.declared.layout.gid.TheConstants as gid
 use Rattle.rtps_who.specs.declared.layout.header.TheConstants as header
 use Rattle.rtps_who.specs.declared.layout.mark.TheConstants as mark
@@ -12,15 +11,10 @@ use Rattle.rtps_who.specs.declared.layout.sequence.TheConstants as sequence
 abbrev pub pid_is : Type 0
 pid_is = (pid.USER_DATA ≡ 0x002c) × (pid.PROPERTY_LIST ≡ 0x0059) × (pid.ENTITY_NAME ≡ 0x0062)
 
--- entity ids (DDSI-RTPS 2.5, 9.3.1.3)
-abbrev pub entity_is : Type 0
-entity_is = (entity.PARTICIPANT.0 ≡ 0x00 ∷ 0x00 ∷ 0x01 ∷ 0xc1 ∷ []) × (entity.PARTICIPANTS.0 ≡ 0x00 ∷ 0x01 ∷ 0x00 ∷ 0xc2 ∷ [])
-
 -- the beginning of a payload (DDSI-RTPS 2.5, 10)
 abbrev pub header_is : Type 0
 header_is =
     (header.SIZE ≡ 4) × (header.ID_SIZE ≡ 2) × (header.CDR_BE ≡ 0x00 ∷ 0x00 ∷ []) × (header.CDR_LE ≡ 0x00 ∷ 0x01 ∷ [])
-    × (header.PL_CDR_BE ≡ 0x00 ∷ 0x02 ∷ []) × (header.PL_CDR_LE ≡ 0x00 ∷ 0x03 ∷ [])
 
 -- lists of texts and of gids (DDSI-RTPS 2.5, 10.2)
 abbrev pub sequence_is : Type 0

@@ -8,7 +8,6 @@ pub mod Digits
 pub mod Processes
 pub mod Samples
 pub mod Services
-pub mod Told
 pub mod Introducing
 pub mod Telling
 pub mod Naming

@@ -4,12 +4,12 @@ use Rattle.std.specs.Option.{option_or, option_to_list}
 use Rattle.rtps_ids.specs.declared.identity.Guid.{Guid}
 use Rattle.rtps_ids.specs.declared.identity.GuidPrefix.{GuidPrefix}
 use Rattle.rtps_receiver.specs.Values.{ActValue}
+use Rattle.rtps_policies.specs.Announcing.{participant_of}
 use Rattle.rtps_who.specs.Introducing.{process_among, service_names}
 use Rattle.rtps_who.specs.Processes.{ProcessValue, unknown_process}
 use Rattle.rtps_who.specs.Samples.{NodeValue, SampleValue, node_having, node_value, nodes_among, only_in}
 use Rattle.rtps_who.specs.Services.{names_of, node_by}
 use Rattle.rtps_who.specs.Telling.{nodes_by}
-use Rattle.rtps_who.specs.declared.layout.entity.TheConstants.{PARTICIPANT}
 use Rattle.rtps_who.specs.declared.title.Title.{Title}
 use Rattle.rtps_who.specs.declared.title.Title.TheVariants as title
 
@@ -17,10 +17,6 @@ use Rattle.rtps_who.specs.declared.title.Title.TheVariants as title
 pub record Recorded : Type 0 where
   pub announcing : List ActValue
   pub acts : List ActValue
-
--- the participant of a prefix (DDSI-RTPS 2.5, 9.3.1.3)
-abbrev pub participant_of : GuidPrefix → Guid
-participant_of prefix = record { prefix = prefix; entity = PARTICIPANT }
 
 -- the process of a participant; unknown where it is not announced
 abbrev pub process_of : Recorded → GuidPrefix → ProcessValue

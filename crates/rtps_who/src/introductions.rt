@@ -1,23 +1,19 @@
-ghost use Rattle.std.specs.Prelude.{◌≡◌, ◌++◌, ◌∷◌, [], List, OnErr, OnOk, unwrap_or};
+ghost use Rattle.std.specs.Prelude.{◌≡◌, ◌++◌, ◌∷◌, [], List, OnOk, unwrap_or};
 ghost use Rattle.std.specs.Option.{option_map};
 ghost use Rattle.rtps_receiver.specs.Values.{ActValue, spoken_value};
 ghost use Rattle.rtps_discovery.specs.Endpoint.{endpoint_value};
-ghost use Rattle.rtps_discovery.specs.Notice.{announcement_of, participant_in};
 ghost use Rattle.rtps_who.specs.Introducing.{IsIntroducedBy, KeepsEndpoint, KeepsService, KeepsTeller, is_teller_among, process_among, process_told as process_told_lem, service_names, tells_nodes as tells_nodes_lem};
 ghost use Rattle.rtps_who.specs.Processes.{process_value, unknown_process};
 ghost use Rattle.rtps_who.specs.Samples.{node_value};
 ghost use Rattle.rtps_who.specs.Services.{names_of, node_by};
-ghost use Rattle.rtps_who.specs.Told.{KeepsFirst};
 
-use crate::fields::{list_in, payload_of};
-use crate::layout::entity;
 use crate::node::Node;
 use crate::process::Process;
 use crate::service::{Service, node_by_service, service_of, with_name_more};
-use rtps_discovery::{Endpoint, Side, announced_endpoint, read_participant};
+use rtps_discovery::{Endpoint, Side, announced_endpoint};
 use rtps_ids::{Guid, GuidPrefix, Memory};
-use rtps_receiver::{ActBody, Spoken, SpokenBody};
-use rtps_wire::Payload;
+use rtps_policies::{announced_participant, keep_first, list_in, payload_of};
+use rtps_receiver::Spoken;
 use std::alloc::Global;
 use std::collections::{BTreeMap, BTreeSet};
 
@@ -125,25 +121,6 @@ fn note_service<'a>(
     Ok(())
 }
 
-/// The participant that an act announces, from any source and to any destination. None where it announces none, or has a fault.
-fn announced_participant(act: &Spoken<'_>) -> Option<Guid>
-    ensures { result ≡ participant_in (announcement_of (spoken_value act.now)) }
-{
-    let SpokenBody::Act(ActBody::Data(data)) = &act.body else {
-        return None;
-    };
-    if data.writer != entity::PARTICIPANTS {
-        return None;
-    }
-    let Payload::Whole(payload) = &data.payload else {
-        return None;
-    };
-    match read_participant(payload) {
-        Ok(guid) => Some(guid),
-        Err(_) => None,
-    }
-}
-
 /// The participant that an act announces, and its process.
 fn process_told<'a>(act: &Spoken<'a>) -> Option<(Guid, Process<'a>)>
     ensures { option_map (λ told. (told.0, process_value told.1)) result ≡ process_told_lem (spoken_value act.now) }
@@ -154,19 +131,4 @@ fn process_told<'a>(act: &Spoken<'a>) -> Option<(Guid, Process<'a>)>
         None => Process::unknown(),
     };
     Some((guid, process))
-}
-
-/// Keeps a value of a GUID, unless there is one.
-fn keep_first<V: Copy + Drop>(
-    kept: &mut BTreeMap<Guid, V>,
-    guid: Guid,
-    value: V,
-) -> Result<(), Memory>
-    ensures ok { OnOk result (KeepsFirst kept.old.entries kept.new.entries guid value) }
-    ensures err { OnErr result (kept.new.entries ≡ kept.old.entries) }
-{
-    if !kept.contains_key(&guid) {
-        kept.insert(guid, value)?;
-    }
-    Ok(())
 }

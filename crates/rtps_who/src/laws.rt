@@ -1,13 +1,12 @@
 //! Laws of the definitions. Each is the contract of a function that does nothing.
 
-ghost use Rattle.rtps_who.specs.Layout.{entity_is, gid_is, header_is, mark_is, pid_is, sequence_is};
+ghost use Rattle.rtps_who.specs.Layout.{gid_is, header_is, mark_is, pid_is, sequence_is};
 ghost use Rattle.rtps_who.specs.Samples.{SamplesHaveTheirNodes};
 ghost use Rattle.rtps_who.specs.Services.{NamesComeToOne};
 
 /// The parameters, sizes and octets that are read are those of the standards and of ROS 2.
 pub fn layout_is_that_of_the_standard()
     ensures pid { pid_is }
-    ensures entity { entity_is }
     ensures header { header_is }
     ensures sequence { sequence_is }
     ensures gid { gid_is }

@@ -9,17 +9,6 @@ pub(crate) mod pid {
     pub(crate) const ENTITY_NAME: u16 = 0x0062;
 }
 
-/// Entity ids (DDSI-RTPS 2.5, 9.3.1.3 "Predefined EntityIds").
-pub(crate) mod entity {
-    use rtps_ids::EntityId;
-
-    /// A participant.
-    pub(crate) const PARTICIPANT: EntityId = EntityId([0x00, 0x00, 0x01, 0xc1]);
-
-    /// The built-in writer that announces participants.
-    pub(crate) const PARTICIPANTS: EntityId = EntityId([0x00, 0x01, 0x00, 0xc2]);
-}
-
 /// The beginning of a payload (DDSI-RTPS 2.5, 10 "Serialized Payload Representation").
 pub(crate) mod header {
     /// The size of a representation: its id, and two octets of options.
@@ -30,10 +19,6 @@ pub(crate) mod header {
     pub(crate) const CDR_BE: [u8; 2] = [0x00, 0x00];
     /// A value whose numbers have the lowest octet first.
     pub(crate) const CDR_LE: [u8; 2] = [0x00, 0x01];
-    /// A parameter list whose numbers have the highest octet first.
-    pub(crate) const PL_CDR_BE: [u8; 2] = [0x00, 0x02];
-    /// A parameter list whose numbers have the lowest octet first.
-    pub(crate) const PL_CDR_LE: [u8; 2] = [0x00, 0x03];
 }
 
 /// A list of texts or of gids: a count, and then the items (DDSI-RTPS 2.5, 10.2 "RTPS Serialized Payload").

@@ -4,7 +4,6 @@
 
 mod digits;
 mod entry;
-mod fields;
 mod gids;
 mod introductions;
 pub mod laws;

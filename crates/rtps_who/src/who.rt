@@ -6,12 +6,12 @@ ghost use Rattle.rtps_who.specs.Recorded.{IsWhoIn};
 ghost use Rattle.rtps_who.specs.Samples.{node_value};
 
 use crate::introductions::Introductions;
-use crate::layout::entity;
 use crate::node::Node;
 use crate::process::Process;
 use crate::title::Title;
 use crate::told_nodes::ToldNodes;
 use rtps_ids::{Guid, GuidPrefix, Memory};
+use rtps_policies::participant_of;
 use std::alloc::Global;
 
 /// By which names people know the endpoints and the participants of a recording.
@@ -42,8 +42,7 @@ impl<'a> Who<'a> {
     pub fn process(&self, prefix: GuidPrefix) -> Process<'a>
         ensures { (recorded : Recorded) → IsWhoIn recorded self.now → process_value result ≡ process_of_lem recorded prefix }
     {
-        let entity = entity::PARTICIPANT;
-        self.introductions.process(Guid { prefix, entity })
+        self.introductions.process(participant_of(prefix))
     }
 
     /// The node of a participant that has one alone.

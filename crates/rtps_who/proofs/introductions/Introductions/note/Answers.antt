@@ -2,7 +2,7 @@ use Rattle.std.proofs.Common.{◌++◌, ◌∷◌, [], List, refl}
 use Rattle.rtps_receiver.specs.Values.{ActValue, spoken_value}
 use Rattle.rtps_discovery.specs.Endpoint.{endpoint_value}
 use Rattle.rtps_who.specs.Introducing.{IsIntroducedBy, KeepsEndpoint}
-use Rattle.rtps_who.specs.Told.{KeepsFirst}
+use Rattle.rtps_policies.specs.Told.{KeepsFirst}
 use Rattle.rtps_who.proofs.TableLemmas.{endpoint_noted, nothing_noted, on_ok, participant_noted}
 use Rattle.rtps_who.proofs.introductions.Introductions.note.Goals as goal
 
