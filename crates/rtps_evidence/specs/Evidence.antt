@@ -16,6 +16,7 @@ use Rattle.rtps_evidence.specs.Grounds.{grounds_by, grounds_value}
 use Rattle.rtps_evidence.specs.Missed.{AreMissed}
 use Rattle.rtps_evidence.specs.OtherSide.{Beside, alone, is_held, is_there, way_against, without_other}
 use Rattle.rtps_evidence.specs.Outcomes.{AreOutcomes, absent_of, lacking_of}
+use Rattle.rtps_evidence.specs.Questions.{first_asked}
 use Rattle.rtps_evidence.specs.Received.{AreReceived}
 use Rattle.rtps_evidence.specs.Spans.{IsExtent, since_of, wrote_before}
 use Rattle.rtps_evidence.specs.Waits.{told_wait}
@@ -40,8 +41,8 @@ pub record IsShown (there : ℕ → Bool) (from : ℕ) (since : Option Location)
   pub grounds : grounds_value evidence.grounds ≡ grounds_by evidence.verdict pair (placed_in recording)
 
 -- what a row in a span has beside: the span, what became of its numbers, the greatest base of the reader's answers, what another
--- recording, if there is one, has of the pair, and the longest that the reader let the writer wait for an answer. The row is by acts of all
--- that the recording has
+-- recording, if there is one, has of the pair, the longest that the reader let the writer wait for an answer, and where it was asked first
+-- behind its last answer. The row is by acts of all that the recording has
 pub record IsInSpan (own : Span) (beside : Beside) (pair : Pair) (all recording : List (List ActValue)) (in_span : InSpan) : Type 0 where
   pub joined : in_span.joined ≡ own.joined
   pub here : in_span.is_joined_here ≡ own.is_joined_here
@@ -58,6 +59,7 @@ pub record IsInSpan (own : Span) (beside : Beside) (pair : Pair) (all recording 
       ≡ kept (lacking_of (is_held all beside.other pair) (is_there all beside.other pair) own.from
       (last_announced_from own.from (speech_by pair.writer pair.reader recording)) pair (placed_in recording))
   pub wait : in_span.wait ≡ told_wait own pair beside.times recording
+  pub waiting : in_span.waiting ≡ first_asked pair.writer pair.reader (placed_in recording)
 
 -- it has that, where rows are in spans
 abbrev pub IsBeside : Bool → Beside → Span → Pair → List (List ActValue) → List (List ActValue) → Option InSpan → Type 0

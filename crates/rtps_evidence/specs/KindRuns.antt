@@ -1,7 +1,7 @@
 -- Sets by which numbers have an outcome, and runs of the kinds that are lost. own: the sets are found for the counts of outcomes already, and
 -- the runs of a kind are what one of them has and the ones before it have not.
-use Rattle.std.specs.Prelude.{ℕ, Bool, true, false, ◌≡◌, ◌+◌, ◌≤◌, not, take, All, List, Option, Some}
-use Rattle.std.specs.BTreeMap.{BTreeMap, get}
+use Rattle.std.specs.Prelude.{ℕ, Bool, true, false, ◌≡◌, ◌+◌, ◌≤◌, ◌||◌, not, take, All, List, Option}
+use Rattle.std.specs.BTreeMap.{get}
 use Rattle.std.specs.Ordering.{nat_cmp}
 use Rattle.rtps_discovery.specs.declared.matching.Pair.{Pair}
 use Rattle.rtps_audit.specs.Placed.{PlacedValue}
@@ -16,6 +16,7 @@ use Rattle.rtps_evidence.specs.declared.kinds.KindRuns.{KindRuns}
 use Rattle.rtps_evidence.specs.declared.location.Location.{Location}
 use Rattle.rtps_evidence.specs.declared.outcome.Outcome.TheVariants.{Missed, Unsent, Unanswered}
 use Rattle.rtps_evidence.specs.declared.outcome_sets.OutcomeSets.{OutcomeSets}
+use Rattle.rtps_evidence.specs.declared.sendings.Sendings.{Sendings}
 
 -- of the numbers from `from` on, up to the last one: which are not received, which are asked for in vain, which are missed, which of the former nothing brings, and which
 -- of those that something brings are unanswered
@@ -34,13 +35,11 @@ pub record AreKindRuns (held : Bool) (there : ℕ → Bool) (from last : ℕ) (t
   pub unanswered : AreRunsOf (has_outcome Unanswered there times since pair acts) from (last + 1) runs.unanswered.items
   pub not_arrived : AreRunsOf (is_lacking held there pair acts) from (last + 1) runs.not_arrived.items
 
--- it is known where the first numbers of these runs are sent first
-abbrev pub AreSent : Pair → List PlacedValue → BTreeMap ℕ (Option Location) → List Stretch → Type 0
-AreSent pair acts sendings runs = All (λ run. get nat_cmp sendings run.lo ≡ Some (first_brought pair acts run.lo)) (take 1000 runs)
+-- n is in some of them
+abbrev pub is_in_runs : KindRuns → ℕ → Bool
+is_in_runs runs n =
+    stretches_have runs.missed.items n || (stretches_have runs.unsent.items n || (stretches_have runs.unanswered.items n || stretches_have runs.not_arrived.items n))
 
--- the same of the runs of each kind
-pub record AreSendings (pair : Pair) (acts : List PlacedValue) (runs : KindRuns) (sendings : BTreeMap ℕ (Option Location)) : Type 0 where
-  pub missed : AreSent pair acts sendings runs.missed.items
-  pub unsent : AreSent pair acts sendings runs.unsent.items
-  pub unanswered : AreSent pair acts sendings runs.unanswered.items
-  pub not_arrived : AreSent pair acts sendings runs.not_arrived.items
+-- it is known where the first numbers of these runs are sent first
+abbrev pub AreSent : Pair → List PlacedValue → Sendings → List Stretch → Type 0
+AreSent pair acts sendings runs = All (λ run. get nat_cmp sendings.places run.lo ≡ first_brought pair acts run.lo) (take 1000 runs)

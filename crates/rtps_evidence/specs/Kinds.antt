@@ -1,7 +1,7 @@
--- Which numbers of a row are lost, or look so, as ranges. own: a count says how bad it is, and not what happened; a range with the place of
--- its first number leads to the moment. Acts are those of the datagrams that a row is by; `since` is the place behind which the reader is
+-- Which numbers of a row are lost, or look so, as ranges, and between which places they are sent first. own: a count says how bad it is, and
+-- not what happened; a range with the place of its first number leads to the moment, and the places of all tell how long it took. Acts are those of the datagrams that a row is by; `since` is the place behind which the reader is
 -- there; `there` says which numbers the other recording has a payload of that the reader hears.
-use Rattle.std.specs.Prelude.{ℕ, Bool, true, false, ⊤, ◌≡◌, ◌+◌, ◌-◌, ◌≤◌, ◌<◌, ◌&&◌, nat_le, nat_lt, not, length, map, take, List, [], ◌∷◌, Option}
+use Rattle.std.specs.Prelude.{ℕ, Bool, true, false, ⊤, ◌≡◌, ◌+◌, ◌-◌, ◌≤◌, ◌<◌, ◌&&◌, ◌||◌, nat_le, nat_lt, not, length, map, take, List, [], ◌∷◌, Option, Some, None}
 use Rattle.std.specs.List.{find}
 use Rattle.std.specs.Option.{option_map}
 use Rattle.rtps_discovery.specs.declared.matching.Pair.{Pair}
@@ -17,12 +17,14 @@ use Rattle.rtps_evidence.specs.OtherSide.{Beside, is_held, is_there}
 use Rattle.rtps_evidence.specs.Outcomes.{is_outcome, outcome_of}
 use Rattle.rtps_evidence.specs.Received.{is_received}
 use Rattle.rtps_evidence.specs.Spans.{since_of}
+use Rattle.rtps_evidence.specs.Waits.{precedes}
 use Rattle.rtps_evidence.specs.declared.kinds.KindNumbers.{KindNumbers}
 use Rattle.rtps_evidence.specs.declared.kinds.LostNumbers.{LostNumbers}
 use Rattle.rtps_evidence.specs.declared.kinds.NumberRange.{NumberRange}
 use Rattle.rtps_evidence.specs.declared.location.Location.{Location}
 use Rattle.rtps_evidence.specs.declared.outcome.Outcome.{Outcome}
 use Rattle.rtps_evidence.specs.declared.outcome.Outcome.TheVariants.{Missed, Unsent, Unanswered}
+use Rattle.rtps_evidence.specs.declared.sendings.SentSpan.{SentSpan}
 use Rattle.rtps_evidence.specs.declared.span.Span.{Span}
 
 -- ---- numbers as runs
@@ -66,14 +68,35 @@ pub record AreRangesOf (has : ℕ → Bool) (from last : ℕ) (pair : Pair) (act
 abbrev pub no_ranges : KindValue
 no_ranges = record { ranges = []; more = 0 }
 
+-- ---- first sendings
+
+-- some number that has it is sent first at a place
+pub record IsSentAt (has : ℕ → Bool) (sent : ℕ → Option Location) (place : Location) : Type 0 where
+  pub number : ℕ
+  pub has_it : has number ≡ true
+  pub there : sent number ≡ Some place
+
+-- of the places where the numbers that have it are sent first, these are the least and the greatest
+pub record IsSentSpan (has : ℕ → Bool) (sent : ℕ → Option Location) (span : SentSpan) : Type 0 where
+  pub first : IsSentAt has sent span.first
+  pub last : IsSentAt has sent span.last
+  pub least : (place : Location) → IsSentAt has sent place → precedes place span.first ≡ false
+  pub greatest : (place : Location) → IsSentAt has sent place → precedes span.last place ≡ false
+
+-- the same, where some number that has it is sent; nothing, where none is
+abbrev pub IsSentIn : (ℕ → Bool) → (ℕ → Option Location) → Option SentSpan → Type 0
+IsSentIn has sent (Some span) = IsSentSpan has sent span
+IsSentIn has sent None = (n : ℕ) → has n ≡ true → sent n ≡ None
+
 -- ---- kinds
 
--- those of each kind
+-- those of each kind, and between which places all of them are sent first
 pub record LostValue : Type 0 where
   pub missed : KindValue
   pub unsent : KindValue
   pub unanswered : KindValue
   pub not_arrived : KindValue
+  pub sent : Option SentSpan
 
 -- those of the code, as values
 abbrev pub kind_value : KindNumbers → KindValue
@@ -87,11 +110,12 @@ lost_value lost =
       unsent = kind_value lost.unsent;
       unanswered = kind_value lost.unanswered;
       not_arrived = kind_value lost.not_arrived;
+      sent = lost.sent;
     }
 
 -- no numbers
 abbrev pub none_lost : LostValue
-none_lost = record { missed = no_ranges; unsent = no_ranges; unanswered = no_ranges; not_arrived = no_ranges }
+none_lost = record { missed = no_ranges; unsent = no_ranges; unanswered = no_ranges; not_arrived = no_ranges; sent = None }
 
 -- of a pair that is held against another recording, n is neither received nor there
 abbrev pub is_lacking : Bool → (ℕ → Bool) → Pair → List PlacedValue → ℕ → Bool
@@ -101,12 +125,21 @@ is_lacking held there pair acts n = held && (not (is_received pair.writer pair.r
 abbrev pub has_outcome : Outcome → (ℕ → Bool) → List (Option ℕ) → Option Location → Pair → List PlacedValue → ℕ → Bool
 has_outcome outcome there times since pair acts n = is_outcome outcome (outcome_of there times since pair acts n)
 
+-- of the numbers from `from` on, up to the last one, n is lost, or looks so, by its outcome, or did not arrive
+abbrev pub is_lost : Bool → (ℕ → Bool) → ℕ → ℕ → List (Option ℕ) → Option Location → Pair → List PlacedValue → ℕ → Bool
+is_lost held there from last times since pair acts n =
+    (nat_le from n && nat_lt n (last + 1))
+    && (has_outcome Missed there times since pair acts n
+    || (has_outcome Unsent there times since pair acts n
+    || (has_outcome Unanswered there times since pair acts n || is_lacking held there pair acts n)))
+
 -- of the numbers from `from` on, up to the last one: those that are lost, or look so, by their outcomes, and those that did not arrive
 pub record AreLost (held : Bool) (there : ℕ → Bool) (from last : ℕ) (times : List (Option ℕ)) (since : Option Location) (pair : Pair) (acts : List PlacedValue) (lost : LostValue) : Type 0 where
   pub missed : AreRangesOf (has_outcome Missed there times since pair acts) from last pair acts lost.missed
   pub unsent : AreRangesOf (has_outcome Unsent there times since pair acts) from last pair acts lost.unsent
   pub unanswered : AreRangesOf (has_outcome Unanswered there times since pair acts) from last pair acts lost.unanswered
   pub not_arrived : AreRangesOf (is_lacking held there pair acts) from last pair acts lost.not_arrived
+  pub sent : IsSentIn (is_lost held there from last times since pair acts) (first_brought pair acts) lost.sent
 
 -- those of a row, where rows are in spans; none, where they are not. The row is by acts of all that the recording has
 abbrev pub IsLostIn : Bool → Beside → Span → Pair → List (List ActValue) → List (List ActValue) → LostValue → Type 0

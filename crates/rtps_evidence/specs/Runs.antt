@@ -1,14 +1,14 @@
 -- Where runs end, and where numbers are sent first. own: runs are found, and places for them, by going once through what has them.
-use Rattle.std.specs.Prelude.{ℕ, Bool, ◌≡◌, ◌≤◌, ◌||◌, ◌+◌, ◌==◌, if◌then◌else◌, List, [], ◌∷◌, Option, None, Some}
-use Rattle.std.specs.List.{list_any}
+use Rattle.std.specs.Prelude.{ℕ, Bool, ◌≡◌, ◌≤◌, ◌||◌, ◌+◌, if◌then◌else◌, List, [], ◌∷◌, Option, None, Some}
+use Rattle.std.specs.BTreeMap.{get}
+use Rattle.std.specs.Ordering.{nat_cmp}
 use Rattle.rtps_coverage.specs.Stretches.{stretch_has, stretches_have}
 use Rattle.rtps_coverage.specs.declared.stretch.Stretch.{Stretch}
-use Rattle.rtps_discovery.specs.declared.matching.Pair.{Pair}
-use Rattle.rtps_audit.specs.Placed.{PlacedValue}
-use Rattle.rtps_evidence.specs.Kinds.{AreApart, first_brought}
-use Rattle.rtps_evidence.specs.Locations.{location_of}
-use Rattle.rtps_evidence.specs.Missed.{brings}
+use Rattle.rtps_evidence.specs.Kinds.{AreApart, IsSentIn}
+use Rattle.rtps_evidence.specs.Waits.{precedes}
 use Rattle.rtps_evidence.specs.declared.location.Location.{Location}
+use Rattle.rtps_evidence.specs.declared.sendings.Sendings.{Sendings}
+use Rattle.rtps_evidence.specs.declared.sendings.SentSpan.{SentSpan}
 
 -- from where on a run may stand behind these, which stand from lo on
 abbrev pub apart_end : ℕ → List Stretch → ℕ
@@ -28,16 +28,16 @@ pub record AreClosed (from : ℕ) (has : ℕ → Bool) (end : ℕ) (runs : List 
   pub ends : apart_end from runs ≤ end
   pub exact : (n : ℕ) → stretches_have runs n ≡ has n
 
--- n is the first number of one of these runs
-abbrev pub is_first : List Stretch → ℕ → Bool
-is_first runs n = list_any (λ run. run.lo == n) runs
+-- the places from the first to the last of these, and one more
+abbrev pub span_with : Option SentSpan → Location → SentSpan
+span_with None place = record { first = place; last = place }
+span_with (Some span) place =
+    record {
+      first = if precedes place span.first then place else span.first;
+      last = if precedes span.last place then place else span.last;
+    }
 
--- where n is sent first, behind an act, where it was sent there before
-abbrev pub sent_by : Pair → ℕ → PlacedValue → Option Location → Option Location
-sent_by pair n placed (Some place) = Some place
-sent_by pair n placed None = if brings pair.writer pair.reader n placed then Some (location_of placed) else None
-
--- the same behind these acts
-abbrev pub sent_among : Pair → ℕ → List PlacedValue → Option Location → Option Location
-sent_among pair n acts (Some place) = Some place
-sent_among pair n acts None = first_brought pair acts n
+-- of the numbers that have it these are the places where they are sent first, and between these places they are
+pub record AreSendings (has : ℕ → Bool) (sent : ℕ → Option Location) (sendings : Sendings) : Type 0 where
+  pub places : (n : ℕ) → get nat_cmp sendings.places n ≡ (if has n then sent n else None)
+  pub span : IsSentIn has sent sendings.span

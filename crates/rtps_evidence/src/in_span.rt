@@ -18,6 +18,7 @@ use crate::last_announcement::greatest_number;
 use crate::location::Location;
 use crate::outcome::Outcomes;
 use crate::outcome_sets::OutcomeSets;
+use crate::questions::first_asked;
 use crate::waits::Wait;
 use crate::way::Way;
 use rtps_audit::Verdict;
@@ -51,6 +52,9 @@ pub struct InSpan {
     pub lacking: FirstNumbers,
     /// The longest that the reader let the writer wait for an answer, where it is more than a second; None where none is.
     pub wait: Option<Wait>,
+    /// The first HEARTBEAT without the final flag that the reader hears from the writer behind its last answer to it, or behind the
+    /// beginning where there is none; None where it hears none there.
+    pub waiting: Option<Location>,
 }
 
 /// Whether each number that is asked about is acknowledged.
@@ -136,6 +140,7 @@ impl InSpan {
             absent,
             lacking,
             wait: sets.unreceived.ledger.wait.told(),
+            waiting: first_asked(exchange.said.acts, exchange.said.answers, exchange.pair),
         })
     }
 

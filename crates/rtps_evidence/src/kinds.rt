@@ -3,9 +3,11 @@ ghost use Rattle.rtps_receiver.specs.Values.{ActValue};
 ghost use Rattle.rtps_audit.specs.Placed.{PlacedValue, placed_in};
 ghost use Rattle.rtps_audit.specs.Said.{IsSaid};
 ghost use Rattle.rtps_discovery.specs.declared.matching.Pair.{Pair as PairOf};
+ghost use Rattle.rtps_coverage.specs.Rising.{AreRising};
 ghost use Rattle.rtps_coverage.specs.Stretches.{stretches_have};
-ghost use Rattle.rtps_evidence.specs.Kinds.{AreLost, AreRunsOf, kept_ranges, kind_value, lost_value, no_ranges, none_lost};
-ghost use Rattle.rtps_evidence.specs.KindRuns.{AreKindRuns, AreSendings, AreSent, AreSets};
+ghost use Rattle.rtps_evidence.specs.Kinds.{AreLost, AreRunsOf, first_brought, kept_ranges, kind_value, lost_value, no_ranges, none_lost};
+ghost use Rattle.rtps_evidence.specs.KindRuns.{AreKindRuns, AreSent, AreSets, is_in_runs};
+ghost use Rattle.rtps_evidence.specs.Runs.{AreSendings};
 ghost use Rattle.rtps_evidence.specs.Spans.{since_of};
 
 use crate::amount::AskedNumbers;
@@ -15,11 +17,11 @@ use crate::location::Location;
 use crate::missed::not_there;
 use crate::outcome_sets::OutcomeSets;
 use crate::runs::runs_of;
-use crate::sendings::{Sendings, look_for, note_sendings, sending_of};
+use crate::sendings::{Sendings, SentSpan};
 use rtps_coverage::Stretch;
+use rtps_coverage::rising::rising;
 use rtps_ids::Memory;
 use std::alloc::Global;
-use std::collections::BTreeMap;
 
 /// So many ranges of a kind are kept.
 const KEPT: usize = 1000;
@@ -49,6 +51,9 @@ pub struct LostNumbers {
     pub unanswered: KindNumbers,
     /// Of a pair that is held against another recording: the numbers that are neither received for certain nor there.
     pub not_arrived: KindNumbers,
+    /// Between which places all of these numbers are sent first, those of the ranges that are not kept, too: of those that are sent.
+    /// None where none is.
+    pub sent: Option<SentSpan>,
 }
 
 /// The same as runs.
@@ -136,16 +141,26 @@ impl KindRuns {
         })
     }
 
-    /// Where the first numbers of the runs that are kept are sent first.
-    fn sendings(&self, alloc: Global, exchange: &Exchange<'_, '_>) -> Result<Sendings, Memory>
-        ensures { (recording : List (List ActValue)) → IsSaid exchange.now.pair recording exchange.now.said → IfOk result (AreSendings exchange.now.pair (placed_in recording) self.now) }
+    /// All numbers of them, which rise.
+    fn numbers(&self, alloc: Global) -> Result<Vec<Stretch>, Memory>
+        ensures rising { IfOk result (λ numbers. AreRising numbers.items) }
+        ensures all { IfOk result (λ numbers. (n : ℕ) → stretches_have numbers.items n ≡ is_in_runs self.now n) }
     {
-        let mut sendings = BTreeMap::new(alloc);
-        look_for(&mut sendings, first_of(&self.missed))?;
-        look_for(&mut sendings, first_of(&self.unsent))?;
-        look_for(&mut sendings, first_of(&self.unanswered))?;
-        look_for(&mut sendings, first_of(&self.not_arrived))?;
-        note_sendings(&mut sendings, exchange.said.acts, exchange.pair)?;
+        let mut all = Vec::from_slice(alloc, &self.missed)?;
+        all.extend_from_slice(&self.unsent)?;
+        all.extend_from_slice(&self.unanswered)?;
+        all.extend_from_slice(&self.not_arrived)?;
+        let numbers = rising(alloc, &mut all)?;
+        Ok(numbers)
+    }
+
+    /// Where their numbers are sent first.
+    fn sendings(&self, alloc: Global, exchange: &Exchange<'_, '_>) -> Result<Sendings, Memory>
+        ensures { (recording : List (List ActValue)) → IsSaid exchange.now.pair recording exchange.now.said
+            → IfOk result (AreSendings (is_in_runs self.now) (first_brought exchange.now.pair (placed_in recording))) }
+    {
+        let numbers = self.numbers(alloc)?;
+        let sendings = Sendings::of(alloc, exchange.said.acts, exchange.pair, &numbers)?;
         Ok(sendings)
     }
 }
@@ -180,7 +195,7 @@ impl KindNumbers {
             ranges.push(NumberRange {
                 first: run.lo,
                 last: run.hi.saturating_sub(1),
-                sent: sending_of(sendings, run.lo),
+                sent: sendings.place_of(run.lo),
             })?;
         }
         Ok(KindNumbers {
@@ -200,6 +215,7 @@ impl LostNumbers {
             unsent: KindNumbers::none(alloc),
             unanswered: KindNumbers::none(alloc),
             not_arrived: KindNumbers::none(alloc),
+            sent: None,
         }
     }
 
@@ -226,6 +242,7 @@ impl LostNumbers {
             unsent,
             unanswered,
             not_arrived,
+            sent: sendings.span,
         })
     }
 }

@@ -73,6 +73,7 @@ pub use not_received::NotReceived;
 pub use other_side::{OtherSide, Sides};
 pub use outcome::{Outcome, Outcomes};
 pub use recorded::{Arrived, ArrivedNumbers, Recorded, arrived_of, recorded_of};
+pub use sendings::SentSpan;
 pub use sent_payload::Sent;
 pub use span::{Span, left_in};
 pub use teller::Teller;

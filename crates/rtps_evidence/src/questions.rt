@@ -4,7 +4,7 @@ ghost use Rattle.std.specs.Option.{option_map};
 ghost use Rattle.rtps_receiver.specs.Values.{ActValue, spoken_body_value};
 ghost use Rattle.rtps_audit.specs.Placed.{answers_among, is_from, placed_in, placed_value};
 ghost use Rattle.rtps_evidence.specs.Locations.{location_of as location_of_lem};
-ghost use Rattle.rtps_evidence.specs.Questions.{AreAsked, AreQuestions, is_question as is_question_lem, place_of as place_of_lem, questions_behind};
+ghost use Rattle.rtps_evidence.specs.Questions.{AreAsked, AreQuestions, first_asked as first_asked_lem, is_question as is_question_lem, place_of as place_of_lem, questions_behind};
 
 use crate::location::{Location, is_behind, location_of};
 use rtps_audit::{Answer, Placed};
@@ -121,4 +121,16 @@ pub(crate) fn questions_since(acts: &[Placed<'_>], answers: &[Answer], pair: Pai
     };
     let before = count_before(acts, place);
     questions_among(&acts[before..], pair, Some(place))
+}
+
+/// Where a pair's writer asks its reader first since the reader's last answer, by what the writer says and the answers.
+pub(crate) fn first_asked(acts: &[Placed<'_>], answers: &[Answer], pair: Pair) -> Option<Location>
+    ensures { (recording : List (List ActValue)) → map placed_value acts.now ≡ filter (is_from pair.writer) (placed_in recording)
+        → answers.now ≡ answers_among pair (placed_in recording) → result ≡ first_asked_lem pair.writer pair.reader (placed_in recording) }
+{
+    let Some(place) = last_place(answers) else {
+        return first_question(acts, pair, None);
+    };
+    let before = count_before(acts, place);
+    first_question(&acts[before..], pair, Some(place))
 }

@@ -1,67 +1,109 @@
-ghost use Rattle.std.specs.Prelude.{ℕ, ◌≡◌, if◌then◌else◌, map, OnOk, Option, Some, None};
+ghost use Rattle.std.specs.Prelude.{◌≡◌, ◌++◌, ◌∷◌, [], map, IfOk, OnOk, List};
 ghost use Rattle.std.specs.BTreeMap.{get};
-ghost use Rattle.std.specs.Option.{option_map};
 ghost use Rattle.std.specs.Ordering.{nat_cmp};
-ghost use Rattle.rtps_audit.specs.Placed.{placed_value};
-ghost use Rattle.rtps_evidence.specs.Runs.{is_first, sent_among, sent_by};
-ghost use Rattle.rtps_evidence.specs.declared.location.Location.{Location as LocationOf};
+ghost use Rattle.rtps_audit.specs.Placed.{PlacedValue, placed_value};
+ghost use Rattle.rtps_coverage.specs.Rising.{AreRising};
+ghost use Rattle.rtps_coverage.specs.Stretches.{stretches_have};
+ghost use Rattle.rtps_evidence.specs.Runs.{AreSendings, span_with as span_with_lem};
+ghost use Rattle.rtps_evidence.specs.Kinds.{first_brought};
 
-use crate::location::{Location, location_of};
+use crate::location::{Location, location_of, precedes};
 use crate::said_to::said_to;
 use rtps_audit::Placed;
 use rtps_coverage::Stretch;
+use rtps_coverage::rising::end_at;
 use rtps_discovery::Pair;
 use rtps_ids::Memory;
+use std::alloc::Global;
 use std::collections::BTreeMap;
 
-/// Where numbers are sent first: of those that are looked for, the place of the first act so far that brings each.
-pub(crate) type Sendings = BTreeMap<u64, Option<Location>>;
-
-/// Looks for the first numbers of these runs, too. After `Memory` what was found is of no use.
-pub(crate) fn look_for(sendings: &mut Sendings, runs: &[Stretch]) -> Result<(), Memory>
-    ensures { OnOk result ((n : ℕ) → get nat_cmp sendings.new n ≡ (if is_first runs.now n then Some None else get nat_cmp sendings.old n)) }
-{
-    for run in runs {
-        sendings.insert(run.lo, None)?;
-    }
-    Ok(())
+/// Between which places numbers are sent first.
+#[derive(Clone, Copy)]
+pub struct SentSpan {
+    /// The least of the places of their first sendings.
+    pub first: Location,
+    /// The greatest of them.
+    pub last: Location,
 }
 
-/// Notes which number an act brings the pair's reader. After `Memory` what was found is of no use.
-fn note_sending(sendings: &mut Sendings, placed: &Placed<'_>, pair: Pair) -> Result<(), Memory>
-    ensures { OnOk result ((n : ℕ) → get nat_cmp sendings.new n
-        ≡ option_map (sent_by pair n (placed_value placed.now)) (get nat_cmp sendings.old n)) }
+/// Where the numbers of some stretches are sent first, as far as a recording has come.
+#[derive(Drop)]
+pub(crate) struct Sendings {
+    /// Of each that was sent, the place of the first act that brings it.
+    places: BTreeMap<u64, Location>,
+    /// Between which places; None where none was sent.
+    pub(crate) span: Option<SentSpan>,
+}
+
+/// The places from the first to the last of these, and one more.
+fn span_with(span: Option<SentSpan>, place: Location) -> SentSpan
+    ensures { result ≡ span_with_lem span place }
 {
-    let Some(number) = said_to(placed, pair).brought else {
-        return Ok(());
+    let Some(span) = span else {
+        return SentSpan {
+            first: place,
+            last: place,
+        };
     };
-    if let Some(None) = sendings.get(&number) {
-        sendings.insert(number, Some(location_of(placed)))?;
-    }
-    Ok(())
+    let first = if precedes(place, span.first) {
+        place
+    } else {
+        span.first
+    };
+    let last = if precedes(span.last, place) {
+        place
+    } else {
+        span.last
+    };
+    SentSpan { first, last }
 }
 
-/// Notes which numbers these acts bring the pair's reader. After `Memory` what was found is of no use.
-pub(crate) fn note_sendings(
-    sendings: &mut Sendings,
-    acts: &[Placed<'_>],
-    pair: Pair,
-) -> Result<(), Memory>
-    ensures { OnOk result ((n : ℕ) → get nat_cmp sendings.new n
-        ≡ option_map (sent_among pair n (map placed_value acts.now)) (get nat_cmp sendings.old n)) }
-{
-    for placed in acts {
-        note_sending(sendings, placed, pair)?;
+impl Sendings {
+    /// Notes which number an act brings the pair's reader, where it is one of these. After `Memory` what was found is of no use.
+    fn note(&mut self, placed: &Placed<'_>, pair: Pair, numbers: &[Stretch]) -> Result<(), Memory>
+        requires { AreRising numbers.now }
+        ensures { OnOk result ((acts : List PlacedValue) → AreSendings (stretches_have numbers.now) (first_brought pair acts) self.old
+            → AreSendings (stretches_have numbers.now) (first_brought pair (acts ++ placed_value placed.now ∷ [])) self.new) }
+    {
+        let Some(number) = said_to(placed, pair).brought else {
+            return Ok(());
+        };
+        if end_at(numbers, number) <= number || self.places.contains_key(&number) {
+            return Ok(());
+        }
+        let place = location_of(placed);
+        self.places.insert(number, place)?;
+        self.span = Some(span_with(self.span, place));
+        Ok(())
     }
-    Ok(())
-}
 
-/// Where a number is sent first; None where it is not looked for.
-pub(crate) fn sending_of(sendings: &Sendings, number: u64) -> Option<Location>
-    ensures { (place : Option LocationOf) → get nat_cmp sendings.now number ≡ Some place → result ≡ place }
-{
-    match sendings.get(&number) {
-        Some(place) => *place,
-        None => None,
+    /// Where these numbers, which rise, are sent first to the pair's reader by these acts.
+    pub(crate) fn of(
+        alloc: Global,
+        acts: &[Placed<'_>],
+        pair: Pair,
+        numbers: &[Stretch],
+    ) -> Result<Sendings, Memory>
+        requires { AreRising numbers.now }
+        ensures { IfOk result (AreSendings (stretches_have numbers.now) (first_brought pair (map placed_value acts.now))) }
+    {
+        let mut sendings = Sendings {
+            places: BTreeMap::new(alloc),
+            span: None,
+        };
+        for placed in acts {
+            sendings.note(placed, pair, numbers)?;
+        }
+        Ok(sendings)
+    }
+
+    /// Where one of them is sent first; None where it is not sent.
+    pub(crate) fn place_of(&self, number: u64) -> Option<Location>
+        ensures { result ≡ get nat_cmp self.now.places number }
+    {
+        match self.places.get(&number) {
+            Some(place) => Some(*place),
+            None => None,
+        }
     }
 }
