@@ -419,7 +419,7 @@ def compare(program, count, seed):
         name = reference.kept(text_of_datagrams(there) + (b'0\n' if rng.random() < 0.03 else b''))
         differs = False
         for form in report_module().FORMS:
-            asked = some_asked(rng)
+            asked = some_asked(rng, octets)
             asked.arrived = name
             want = report_module().answer(form, octets, asked)
             words = report_module().words_of(form) + asked.words()

@@ -22,8 +22,9 @@ import report
 from asked import PLAIN, Asked
 from fragments import payloads_told
 from life import Life, Span
+from random_ends import PREFIXES, some_participant
 from random_recordings import DURABLE, RELIABLE, announced, leaving, names_of, some_announced, some_input, text_of_datagrams, true_sample
-from random_systems import PREFIXES, some_recorded
+from random_systems import some_recorded
 
 WRITERS, READERS, UNKNOWN = (b'\0\0\1\3', b'\0\0\2\3'), (b'\0\0\1\4', b'\0\0\2\4'), bytes(4)
 # octets of a sample, and of its fragments
@@ -91,13 +92,15 @@ class Crossing:
         rng.shuffle(self.unannounced)
 
     def announcements(self):
-        """of each writer and reader its announcement"""
+        """of each writer and reader its announcement, and sometimes of each participant"""
         more = self.rng.choice([b'', DURABLE])
         for w in self.writers:
             yield announced(b'\0\0\3\xc2', w.prefix, w.entity, DURABLE, names_of(b'pose'))
         for prefix, entity in self.readers:
             topic = b'pose' if self.rng.random() < 0.95 else b'odom'
             yield announced(b'\0\0\4\xc2', prefix, entity, RELIABLE + more if self.rng.random() < 0.95 else b'', names_of(topic))
+        for prefix in PREFIXES if self.rng.random() < 0.3 else ():
+            yield some_participant(self.rng, prefix)
 
     # ---- datagrams
 

@@ -99,7 +99,7 @@ def endpoint_values(endpoint):
 
 
 def option_values(asked):
-    return {'from': asked.first, 'topics': asked.topics, 'expect': asked.expect, 'tail': asked.tail, 'certain': asked.certain}
+    return {'from': asked.first, 'topics': asked.topics, 'nodes': asked.nodes, 'expect': asked.expect, 'tail': asked.tail, 'certain': asked.certain}
 
 
 # ---- the page
@@ -172,11 +172,13 @@ def some_run(rng):
     if chance < 0.4:
         return import_module('random_times').some_asked_of(rng)
     if chance < 0.7:
-        return some_recorded(rng), some_asked(rng)
+        octets = some_recorded(rng)
+        return octets, some_asked(rng, octets)
     datagrams, there = some_other(rng, some_both(rng))
-    asked = some_asked(rng)
+    octets = text_of_datagrams(datagrams)
+    asked = some_asked(rng, octets)
     asked.arrived = reference.kept(text_of_datagrams(there) + (b'0\n' if rng.random() < 0.03 else b''))
-    return text_of_datagrams(datagrams), asked
+    return octets, asked
 
 
 def compare(program, count, seed):

@@ -291,6 +291,7 @@ def some_delivery(rng, in_fragments=False, most=18):
 
 
 TOPICS = b'pose', b'rt/odom', b'rt/odom', b'rt/scan', b'odom', b'/odom', b'a*b', b'aXbYbZc', b'', b'rt/\xff\x0a', b'rq/xRequest', b'rr/xReply', b'rq/xReply'
+NODES = '*', '*', '/*', '/talker', '*cam', '/ns/*', '/', 'talker', '', '/x*'
 PATTERNS = '*', '**', 'rt/*', '/*', '*/odom', '/odom', '*odom', 'a*b', 'a*b*c', 'pose', 'p*e', '', 'rt', '*o*o*', 'rt/*\n', 'a*bc', '* request', '/x reply', 'rq/*t'
 
 
@@ -688,11 +689,18 @@ def some_two_ways(rng):
 
 # ---- what is asked
 
-def some_asked(rng):
-    """what may be asked of a report"""
+def tells_nodes(octets):
+    """whether a text or a capture seems to have nodes of ROS 2"""
+    topic = b'ros_discovery_info'
+    return topic in octets or topic.hex().encode() in octets
+
+
+def some_asked(rng, octets=b''):
+    """what may be asked of a report of these octets"""
     topics = [rng.choice(PATTERNS) for _ in range(rng.choice([0] * 6 + [1, 1, 2, 3]))]
+    nodes = [rng.choice(NODES) for _ in range(rng.choice([0, 0, 0, 0, 1, 2] if tells_nodes(octets) else [0] * 30 + [1]))]
     return Asked(rng.choice([1, 1, 1, 2, 3, 5]), topics, rng.choice([None, None, None, 0, 1, 2, 3, GREATEST]), tail=rng.choice([0, 0, 1, 2, 5]),
-                 certain=rng.random() < 0.2)
+                 certain=rng.random() < 0.2, nodes=nodes)
 
 
 def some_input(rng):

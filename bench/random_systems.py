@@ -1,10 +1,11 @@
-"""Random recordings of several participants, for comparisons with the second implementation: what they announce of their hosts and of
-their endpoints, whom they name, and what they say of few numbers, reliably and by best effort.
+"""Random recordings of several participants, for comparisons with the second implementation: what they announce of their hosts, their processes and
+their endpoints, whom they name, which nodes they tell of, and what they say of few numbers, reliably and by best effort.
 """
-from random_recordings import (A, B, C, TOPICS, Told, leaving, parameter, put, sn, some_announced, some_input, some_life, some_outage,
+from random_ends import PREFIXES, announced, some_nodes, some_participant, some_services
+from random_events import some_shared
+from random_recordings import (TOPICS, A, B, Told, leaving, parameter, put, sn, some_announced, some_input, some_life, some_outage,
                                some_ranges, some_resends, some_two_ways, text_of_datagrams, u)
 
-PREFIXES = A, B, C, b'\xdd' * 12
 KINDS = b'Pose', b'Pose', b'Pose', b'nav_msgs::msg::dds_::Odometry_', b'a::dds_::b', b'\xff::dds_::_'
 PARTITIONS = b'', b'a', b'a', b'ab', b'abc', b'a*', b'*', b'?', b'a?', b'[a-c]', b'a[!b]*', b'a[^b]', b'[]a]', b'a[', b'a[b-]', b'b\\', b'"\xff'
 DURATIONS = (0, 0), (0, 1), (0, 1 << 31), (1, 0), (1, 1), (1, 429496730), (2, 0), (-1, 7), (0x7fffffff, 0xfffffffe), (0x7fffffff, 0xffffffff)
@@ -59,42 +60,7 @@ def some_policies(rng, order, often):
     return found
 
 
-def some_locator(rng, order):
-    address = rng.choice([bytes(12) + bytes([10, 0, 0, rng.choice([1, 1, 2])]), bytes.fromhex('20010db80000000000ab0000000000') + bytes([rng.choice([1, 2])])])
-    value = u(order, 4, rng.choice([1, 1, 1, 2, 2, 16, -1])) + u(order, 4, 7400) + address
-    return parameter(order, rng.choice([0x31] * 9 + [0x32]), value if rng.random() < 0.97 else value[:-1])
-
-
-LEASES = (0, 0), (0, 1 << 31), (3, 0), (3, 0), (9, 1), (9, 2 ** 32 - 1), (10, 0), (10, 1), (20, 0), (-1, 5), (0x7fffffff, 0xffffffff)
-
-
-def some_lease(rng, order):
-    """how long a participant may say nothing, which sometimes cannot be read"""
-    seconds, fraction = rng.choice(LEASES)
-    return parameter(order, 2, (u(order, 4, seconds) + u(order, 4, fraction))[:rng.choice([8] * 12 + [7])])
-
-
-def some_host(rng, order):
-    """parameters of a participant: a domain, a lease and addresses"""
-    found = [parameter(order, 0x0f, u(order, 4, rng.choice([0, 0, 0, 1])))] if rng.random() < 0.7 else []
-    found += [some_lease(rng, order) for _ in range(rng.choice([0, 1, 1, 2]))]
-    return found + [some_locator(rng, order) for _ in range(rng.choice([0, 1, 1, 1, 2]))]
-
-
 # ---- announcements
-
-
-def announced(rng, writer, source, order, parameters):
-    parameters = list(parameters)
-    rng.shuffle(parameters)
-    value = (b'\0\2' if order == 'be' else b'\0\3') + bytes(2) + b''.join(parameters) + parameter(order, 1, b'')
-    return b'RTPS\2\5\0\0' + source + put('be', 0x15, 4, b'\0\0\0\x10' + bytes(4) + writer + sn('be', 1) + value)
-
-
-def some_participant(rng, prefix):
-    order, source = rng.choice(['be', 'le']), prefix if rng.random() < 0.95 else rng.choice(PREFIXES)
-    entity = b'\0\0\1\xc1' if rng.random() < 0.97 else b'\0\0\2\xc1'
-    return announced(rng, b'\0\1\0\xc2', source, order, [parameter(order, 0x50, prefix + entity), *some_host(rng, order)])
 
 
 class End:
@@ -145,18 +111,20 @@ def some_talk(rng, w, r):
 
 def some_system(rng):
     """up to four participants with endpoints of up to three topics"""
-    topics = [(rng.choice(TOPICS), rng.choice(KINDS)) for _ in range(rng.randrange(1, 4))]
+    topics = [(rng.choice(TOPICS), rng.choice(KINDS)) for _ in range(rng.randrange(1, 4))] + (some_services(rng) if rng.random() < 0.15 else [])
     best_effort = rng.random() < 0.25
     ends = [End(rng, k, topics, best_effort) for k in range(1, rng.randrange(3, 9))]
     start = [d for prefix in PREFIXES if rng.random() < 0.7 for d in [some_participant(rng, prefix)] * rng.choice([1, 1, 1, 2])]
     start += [some_participant(rng, rng.choice(PREFIXES)) for _ in range(rng.choice([0, 0, 1]))]
     start += [d for end in ends for _ in range(rng.choice([1, 1, 1, 2])) for d in some_announced(rng, end.announced())]
+    telling, samples = some_nodes(rng, PREFIXES[:3], [(end.prefix, end.entity) for end in ends]) if rng.random() < 0.5 else ([], [])
+    start += telling
     rng.shuffle(start)
     said = [d for w in ends for r in ends if not w.reads and r.reads and w.topic == r.topic and rng.random() < 0.8 for d in some_talk(rng, w, r)]
     contacts = [(rng.choice(PREFIXES), rng.choice(PREFIXES)) for _ in range(rng.randrange(9))]
     contacts += [(r.prefix, w.prefix) for w in ends for r in ends if best_effort and r.reads and not w.reads]
-    for source, dest in contacts:
-        said.insert(rng.randrange(len(said) + 1), named(rng, source, dest))
+    for d in samples + [named(rng, source, dest) for source, dest in contacts]:
+        said.insert(rng.randrange(len(said) + 1), d)
     for end in ends:
         if rng.random() < 0.1:
             said.insert(rng.randrange(len(said) + 1), leaving(rng, end.prefix + end.entity, rng.choice(['be', 'le'])))
@@ -171,7 +139,7 @@ def some_recorded(rng):
     """a recording text of one of several kinds"""
     kind = rng.random()
     if kind < 0.8:
-        kinds = (0.32, some_system), (0.4, some_outage), (0.48, some_ranges), (0.6, some_resends), (0.8, some_life)
+        kinds = (0.22, some_system), (0.4, some_shared), (0.45, some_outage), (0.5, some_ranges), (0.61, some_resends), (0.8, some_life)
         return text_of_datagrams(next(some for most, some in kinds if kind < most)(rng))
     return some_input(rng)
 
@@ -182,8 +150,8 @@ def some_recorded(rng):
 def some_both(rng):
     """what two participants say for a while"""
     kind = rng.random()
-    kinds = [(0.3, lambda: some_life(rng, 60)), (0.4, lambda: some_ranges(rng)), (0.5, lambda: some_resends(rng)), (0.7, lambda: some_two_ways(rng)),
-             (0.9, lambda: some_system(rng)), (1, lambda: some_life(rng))]
+    kinds = [(0.3, lambda: some_life(rng, 60)), (0.4, lambda: some_ranges(rng)), (0.5, lambda: some_resends(rng)), (0.65, lambda: some_two_ways(rng)),
+             (0.8, lambda: some_system(rng)), (0.93, lambda: some_shared(rng)), (1, lambda: some_life(rng))]
     return next(some for most, some in kinds if kind < most)()
 
 

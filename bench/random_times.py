@@ -15,8 +15,10 @@ import reference
 import report as reports
 from asked import Asked
 from capture_writer import MICROSECONDS, NANOSECONDS, enhanced, interface, old, option, packet, record, section, simple, start
+from random_ends import some_participant
+from random_events import some_shared
 from random_recordings import A, B, some_asked, some_outage, text_of_datagrams
-from random_systems import some_both, some_other, some_participant, some_recorded
+from random_systems import some_both, some_other, some_recorded
 
 SECOND, MILLISECOND = 10 ** 9, 10 ** 6
 BOUNDS = MILLISECOND, SECOND, 3 * SECOND, 10 * SECOND
@@ -36,9 +38,10 @@ def some_step(rng, is_fast):
     return step if chance < 0.97 else -step
 
 
-def some_times(rng, count):
-    """so many, none of which is before 1970; before one of the last of them nothing is heard for about ten seconds"""
-    time, times, is_fast = rng.choice([0, 5 * SECOND, 1700000000 * SECOND]), [], rng.random() < 0.5
+def some_times(rng, count, fast):
+    """so many, none of which is before 1970; before one of the last of them nothing is heard for about ten seconds. `fast` is how often they follow
+    each other fast"""
+    time, times, is_fast = rng.choice([0, 5 * SECOND, 1700000000 * SECOND]), [], rng.random() < fast
     quiet, pause = count - rng.randrange(1, 4), rng.choice([1, 3, 10, 10]) * SECOND
     for k in range(count):
         step = pause + rng.choice([-1, 0, 1, 1, 1000]) if k == quiet and not is_fast else some_step(rng, is_fast)
@@ -72,13 +75,13 @@ def blocks(rng, frames, times):
     return octets
 
 
-def some_capture(rng, datagrams):
+def some_capture(rng, datagrams, fast=0.5):
     """the octets of a capture of these, with frames that give nothing, sometimes behind all others"""
     frames = [packet(d) for d in datagrams]
     for _ in range(rng.choice([0, 0, 1, 2])):
         frames.insert(rng.randrange(len(frames) + 1), packet(b'', protocol=6))
     frames += [packet(b'', protocol=6)] if rng.random() < 0.4 else []
-    return rng.choice([classic, blocks, blocks])(rng, frames, some_times(rng, len(frames)))
+    return rng.choice([classic, blocks, blocks])(rng, frames, some_times(rng, len(frames), fast))
 
 
 def hosts(rng):
@@ -88,6 +91,8 @@ def hosts(rng):
 
 def some_timed(rng):
     """the octets of a capture. Often one of two participants says something when the others are silent"""
+    if rng.random() < 0.3:
+        return some_capture(rng, some_shared(rng), 0.25)
     found = reference.recording_of(some_recorded(rng) if rng.random() < 0.5 else text_of_datagrams(some_outage(rng)))
     datagrams = [] if isinstance(found, str) else found
     return some_capture(rng, hosts(rng) + datagrams + [some_participant(rng, rng.choice([A, B])) for _ in range(rng.choice([0, 0, 1, 2]))])
@@ -102,10 +107,11 @@ def some_two(rng):
 
 def some_asked_of(rng):
     """a capture, and what is asked of it"""
-    asked = some_asked(rng)
     if rng.random() < 0.75:
-        return some_timed(rng), asked
+        octets = some_timed(rng)
+        return octets, some_asked(rng, octets)
     octets, there = some_two(rng)
+    asked = some_asked(rng, octets)
     asked.arrived = reference.kept(there, '.pcap')
     return octets, asked
 

@@ -183,7 +183,7 @@ def differing_forms(rng, program, octets, where):
     """how many forms of the report differ, each asked for what comes by chance"""
     differing = 0
     for form in FORMS:
-        asked = some_asked(rng)
+        asked = some_asked(rng, octets)
         printed, _, status = answer(form, octets, asked)
         differing += reference.differs(program, octets, (words_of(form) + asked.words(), printed, status), where)
     return differing

@@ -78,7 +78,32 @@ def rules_of(found):
         'never asked, and left': any('it was never asked' in one for one in advice),
         'none is known to be lost': 'none is known' in last,
         'clean': last == 'clean',
+        'a row has a node': any(talk.who.node(guid) for row in rows for guid in (row.w, row.r)),
+        'nodes are asked for': bool(rows and found.asked.nodes),
+        'no node is asked for': bool(found.asked.nodes) and not rows,
+        **rules_of_events(found),
     } | (rules_of_sides(found) if found.sides else {})
+
+
+def rules_of_events(found):
+    events = found.events
+    silent, between = ([event for event in events if bool(event.silent) == is_silent] for is_silent in (True, False))
+    numbers = [event.numbers() for event in events]
+    return {
+        'an event of two participants': bool(between),
+        'an event of one that is silent': bool(silent),
+        'an event of several pairs': any(len(event.rows) > 1 for event in events),
+        'several events': len(events) > 1,
+        'two events with as many numbers': len(set(numbers)) < len(numbers),
+        'an event that is not the first one by its rows': [event.rows[0][0] for event in events] != sorted(event.rows[0][0] for event in events),
+        'an event without numbers': 0 in numbers,
+        'who is silent was asked': any(event.asked() for event in silent),
+        'who is silent was not asked': any(event.asked() is None for event in silent),
+        'both are silent': any(row.w[:12] != event.silent[:12] and len(row.silences) > 1 for event in silent for _, row in event.rows),
+        'sent first at one time': any('first sent at' in event.text() for event in between),
+        'sent first between two times': any('first sent between' in event.text() for event in between),
+        'a process': any('process' in event.text() for event in events),
+    }
 
 
 def rules_of_sides(found):
@@ -95,7 +120,8 @@ def rules_of_sides(found):
 
 
 def some_text(rng):
-    return some_recorded(rng), some_asked(rng), None
+    octets = some_recorded(rng)
+    return octets, some_asked(rng, octets), None
 
 
 def some_timed(rng):
@@ -105,7 +131,8 @@ def some_timed(rng):
 
 def some_two(rng):
     datagrams, there = some_other(rng, some_both(rng))
-    return text_of_datagrams(datagrams), some_asked(rng), arrived.Other(there)
+    octets = text_of_datagrams(datagrams)
+    return octets, some_asked(rng, octets), arrived.Other(there)
 
 
 def main():

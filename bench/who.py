@@ -309,9 +309,9 @@ def message(source, writer, value, number=1, fragment=None):
 PREFIXES = [bytes([k]) * 12 for k in (0xaa, 0xbb, 0xcc)]
 
 
-def some_participant(rng, prefix):
-    order = rng.choice(['be', 'le'])
-    found = [parameter(order, 0x50, prefix + PARTICIPANT)]
+def process_parameters(rng, order):
+    """parameters that say of which process a participant is, by chance"""
+    found = []
     for _ in range(rng.choice([0, 1, 1, 1, 2])):
         found.append(parameter(order, 0x59, some_properties(rng, order)))
     for _ in range(rng.choice([0, 1, 1, 2])):
@@ -319,7 +319,12 @@ def some_participant(rng, prefix):
     for _ in range(rng.choice([0, 1, 1, 2])):
         data = rng.choice(DATA)
         found.append(parameter(order, 0x2c, u32(order, len(data) + rng.choice([0] * 9 + [1, 5])) + data))
-    return announced(rng, b'\0\1\0\xc2', prefix, order, found)
+    return found
+
+
+def some_participant(rng, prefix):
+    order = rng.choice(['be', 'le'])
+    return announced(rng, b'\0\1\0\xc2', prefix, order, [parameter(order, 0x50, prefix + PARTICIPANT), *process_parameters(rng, order)])
 
 
 def some_topic(rng):
@@ -344,12 +349,12 @@ def some_endpoint(rng, prefix, entity):
 ENTITIES = [bytes([0, 0, k, kind]) for k in (1, 2) for kind in (3, 4)]
 
 
-def some_gid(rng, prefix, size):
-    gid = rng.choice([prefix] * 5 + PREFIXES) + rng.choice(ENTITIES)
+def some_gid(rng, prefix, size, entities):
+    gid = rng.choice([prefix] * 5 + PREFIXES) + rng.choice(entities)
     return gid + (bytes(size - 16) if rng.random() < 0.98 else b'\1' * (size - 16))
 
 
-def some_sample(rng, prefix):
+def some_sample(rng, prefix, entities=tuple(ENTITIES)):
     order, size = rng.choice(['be', 'le']), rng.choice([16, 24])
     nodes = rng.choice([0, 1, 1, 1, 2, 2, 3])
     body = prefix + PARTICIPANT + bytes(size - 16) + u32(order, nodes + rng.choice([0] * 15 + [1]))
@@ -358,7 +363,7 @@ def some_sample(rng, prefix):
             body += cdr_text(order, text) if text or rng.random() < 0.5 else u32(order, 0)
         for _ in range(2):
             count = rng.choice([0, 1, 1, 2])
-            body += u32(order, count) + b''.join(some_gid(rng, prefix, size) for _ in range(count))
+            body += u32(order, count) + b''.join(some_gid(rng, prefix, size, entities) for _ in range(count))
     body += bytes(rng.choice([0, 0, 0, 1, 3, 4]))
     head = b'\0\0' if order == 'be' else b'\0\1'
     head = head if rng.random() < 0.95 else rng.choice([b'\0\2', b'\0\6', b'\1\0'])
