@@ -20,6 +20,7 @@ pub mod Rows
 pub mod SideFacts
 pub mod Silences
 pub mod Stays
+pub mod Ends
 pub mod Talk
 pub mod Totals
 pub mod Twice
