@@ -4,6 +4,7 @@ pub mod Asked
 pub mod BestEfforts
 pub mod ByTopic
 pub mod DatagramSpan
+pub mod Events
 pub mod Findings
 pub mod FullReport
 pub mod Laws
