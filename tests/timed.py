@@ -582,6 +582,84 @@ def events(tests):
     print(f'what happened: {len(hosts) + 9}')
 
 
+SILENT_READER = 'participant 010f02020202020202020202.000001c1'
+
+
+def silent_events(tests):
+    """the reader is last heard at 2 s; the writer sends number 2 at 3 s, asks for an answer at 4 s and 5 s, and sends number 3 at 20 s"""
+    topic = pair()
+    begun = [*topic.announced, topic.sent(1), topic.asks(1, 1)]
+    asks, final = topic.asks(1, 2), topic.asks(1, 2)[:21] + b'\2' + topic.asks(1, 2)[22:]
+    nothing = topic.answers(1)[:20]
+
+    def ending(*asked):
+        last = [topic.sent(2), *asked, topic.sent(3)]
+        datagrams = [ONE.announced(), OTHER.announced(), *begun, topic.answers(2), *last]
+        return timed(datagrams, [at(50)] * 6 + [at(52), at(53), *(at(54 + k) for k in range(len(asked))), at(70)])
+
+    end = ', and did not leave: 1 pair'
+    rows = {
+        'asked': (ending(asks, asks), f'{SILENT_READER} was last heard at 2.000 s, was asked from 4.000 s on{end}'),
+        'asked with the final flag first': (ending(final, asks), f'{SILENT_READER} was last heard at 2.000 s, was asked from 5.000 s on{end}'),
+        'asked with the final flag alone': (ending(final), f'{SILENT_READER} was last heard at 2.000 s{end}'),
+        'asked before its last answer alone': (ending(), f'{SILENT_READER} was last heard at 2.000 s{end}'),
+        'heard behind its last answer': (ending(asks, nothing), f'{SILENT_READER} was last heard at 5.000 s, was asked from 4.000 s on{end}'),
+    }
+    for name, (octets, wanted) in rows.items():
+        tests.says(name, 'check', octets, [wanted], heads)
+        tests.tells(name, octets, r'"event":.*?"text":"(.*?)"', wanted)
+    tests.tells('asked', rows['asked'][0], r'"event":.*?"text"',
+                '"event":"silent","participants":["010f02020202020202020202.000001c1"],"pairs":[0],"numbers":0,"first":null,"last":null,'
+                '"asked":{"datagram":9,"at":20,"time":4.000},"text"')
+    print(f'silent events: {2 * len(rows) + 1}')
+
+
+def events_of_pairs(tests):
+    """two readers of one participant, and one of another one, each lack numbers of one writer; one of the former is silent in some recordings"""
+    one, two, other = Participant(1), Participant(2), Participant(3)
+    odom, scan = Topic(b'rt/odom', b'Odom', one, two), Topic(b'rt/scan', b'Scan', one, two)
+    third = Topic(b'rt/map', b'Map', one, other)
+    known = [p.announced(locator(p.prefix[2])) for p in (one, two, other)]
+    topics = odom, scan, third
+    begun = [*known, *(d for topic in topics for d in topic.announced)]
+    sent = [topic.sent(n) for n in range(1, 5) for topic in topics]
+
+    def ending(*answers, more=()):
+        """a datagram each 100 ms: what is announced, numbers 1 to 4 of each topic, and answers"""
+        datagrams = [*begun, *sent, *answers]
+        return timed([*datagrams, *more], [at(50) + 100 * MILLISECOND * k for k in range(len(datagrams))] + [at(80)] * len(more))
+
+    # Of number n of topic k the datagram is the (9 + 3 * (n - 1) + k + 1)th, at 0.1 * (9 + 3 * (n - 1) + k) s.
+    few = odom.answers(4, 4), scan.answers(3, 3, 4), third.answers(3, 3)
+    many = odom.answers(4, 4), scan.answers(4, 4), third.answers(2, 2, 3, 4)
+    both = odom.answers(4, 4), scan.answers(5), third.answers(4, 4)
+    rows = {
+        'more of the first': (ending(*few), ['from 10.0.0.1 to 10.0.0.2, first sent between 1.600 s and 1.900 s: 2 pairs, 3 numbers',
+                                             'from 10.0.0.1 to 10.0.0.3, first sent at 1.700 s: 1 pair, 1 number']),
+        'more of the second': (ending(*many), ['from 10.0.0.1 to 10.0.0.3, first sent between 1.400 s and 2.000 s: 1 pair, 3 numbers',
+                                               'from 10.0.0.1 to 10.0.0.2, first sent between 1.800 s and 1.900 s: 2 pairs, 2 numbers']),
+        'as many': (ending(*both), ['from 10.0.0.1 to 10.0.0.2, first sent at 1.800 s: 1 pair, 1 number',
+                                    'from 10.0.0.1 to 10.0.0.3, first sent at 2.000 s: 1 pair, 1 number']),
+        'the first is silent': (ending(*few, more=[third.sent(5), third.answers(4)[:20]]),
+                                ['10.0.0.2 was last heard at 2.200 s, and did not leave: 2 pairs, 3 numbers',
+                                 'from 10.0.0.1 to 10.0.0.3, first sent at 1.700 s: 1 pair, 1 number']),
+        'the writer is silent': (ending(*few, more=[odom.answers(1)[:20], third.answers(1)[:20]]),
+                                 ['10.0.0.1 was last heard at 2.000 s, and did not leave: 3 pairs, 4 numbers']),
+        'the writer is silent, and the second reader': (ending(*few, more=[odom.answers(1)[:20]]),
+                                                        ['10.0.0.1 was last heard at 2.000 s, and did not leave: 2 pairs, 3 numbers',
+                                                         '10.0.0.3 was last heard at 2.300 s, and did not leave: 1 pair, 1 number']),
+    }
+    for name, (octets, wanted) in rows.items():
+        tests.says(name, 'check', octets, wanted, heads)
+        tests.tells(name, octets, r'"text":"(.*?)"', *wanted)
+    tests.tells('more of the second', rows['more of the second'][0], r'"event":.*?"text"',
+                '"event":"between","participants":["010f01010101010101010101.000001c1","010f03030303030303030303.000001c1"],"pairs":[2],"numbers":3,'
+                '"first":{"datagram":15,"at":20,"time":1.400},"last":{"datagram":21,"at":20,"time":2.000},"asked":null,"text"',
+                '"event":"between","participants":["010f01010101010101010101.000001c1","010f02020202020202020202.000001c1"],"pairs":[0,1],"numbers":2,'
+                '"first":{"datagram":19,"at":20,"time":1.800},"last":{"datagram":20,"at":20,"time":1.900},"asked":null,"text"')
+    print(f'events of pairs: {2 * len(rows) + 1}')
+
+
 # ---- outages: what is told gone soon was none
 
 def outages(tests):
@@ -679,8 +757,8 @@ def main():
     if len(sys.argv) > 2:
         raise SystemExit(__doc__)
     tests = Timed(sys.argv[1] if len(sys.argv) == 2 else None)
-    for group in (units, places, frames, page_data, going_back, waiting, silence, silence_by_headers, silence_by_leases, silence_to_the_last_frame, events, outages,
-                  asked_at_the_end, given_twice):
+    for group in (units, places, frames, page_data, going_back, waiting, silence, silence_by_headers, silence_by_leases, silence_to_the_last_frame, events, silent_events,
+                  events_of_pairs, outages, asked_at_the_end, given_twice):
         group(tests)
     return tests.told()
 
