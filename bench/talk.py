@@ -8,7 +8,7 @@ from functools import cached_property
 
 from ends import End
 from life import Span
-from policies import address_in, domain_in, lease_in, policies_in, reasons, values_of
+from policies import address_in, domain_in, lease_in, may_share_memory, policies_in, reasons, values_of
 from reference import told_to
 from times import LEASE, NO_TIMES, is_silent
 from who import Who
@@ -20,14 +20,15 @@ PARTICIPANT = b'\x00\x00\x01\xc1'
 
 
 class Announced:
-    """by GUID the policies of endpoints, and of participants the place, the domain, the address and the lease. The first announcement
-    without a fault counts"""
+    """by GUID the policies of endpoints, and of participants the place, the domain, the address and the lease; and those that may share memory. The
+    first announcement without a fault counts"""
 
     def __init__(self, announcements):
-        self.policies, self.participants = {}, {}
+        self.policies, self.participants, self.sharing = {}, {}, {}
         for place, side, said, payload in announcements:
             if side == 'participant':
                 self.participants.setdefault(said[0], (place, domain_in(payload), address_in(payload), lease_in(payload)))
+                self.sharing.setdefault(said[0], may_share_memory(payload))
             else:
                 self.policies.setdefault(said[0], policies_in(payload))
 
@@ -108,7 +109,7 @@ class Talk:
     None"""
 
     def __init__(self, recording, prefixes, settled, matched, life, asked, times=NO_TIMES):
-        self.recording, self.life, self.asked, self.times = recording, life, asked, times
+        self.recording, self.settled, self.life, self.asked, self.times = recording, settled, life, asked, times
         self.announced, self.namings, self.answers = Announced(life.announced), named_by(recording), answering(recording)
         self.datagrams_by, self.who = datagrams_by(prefixes), Who(recording)
         unfit = list(self.find_unfit(settled))
