@@ -1,5 +1,5 @@
 mod AppendLemmas
 mod ArrivedLemmas
-mod HostLemmas
+mod EndLemmas
 mod OneWayLemmas
 mod UnmatchedLemmas

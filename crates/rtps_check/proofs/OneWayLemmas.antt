@@ -3,11 +3,11 @@ use Rattle.std.proofs.Common.{◌≡◌, ◌<◌, ◌∙◌, ◌+◌, ◌++◌, 
 use Rattle.std.proofs.lemmas.List.{take_more}
 use Rattle.std.proofs.lemmas.List.Concat.{flat_map-append}
 use Rattle.std.specs.List.{concat}
-use Rattle.rtps_ids.specs.declared.identity.GuidPrefix.{GuidPrefix}
+use Rattle.rtps_ids.specs.declared.identity.Guid.{Guid}
 use Rattle.rtps_lines.proofs.Offered.{two_parts}
 use Rattle.rtps_parts.specs.Parts.{amount}
-use Rattle.rtps_policies.specs.declared.host.Host.{Host}
 use Rattle.rtps_policies.specs.declared.one_way.OneWay.{OneWay}
+use Rattle.rtps_report.specs.Ends.{EndValue}
 use Rattle.rtps_check.specs.TalkText.{one_way_by, one_way_lines}
 
 -- parts behind others
@@ -26,10 +26,10 @@ lines_more line items i one start told new within so_far more =
     ∙ ap (λ all. start ++ flat_map line all) (sym (take_more items i one within))
 
 -- the lines of some
-pub some_one_way : (hosts : GuidPrefix → Host) (ones : List OneWay) (number : ℕ) → length ones ≡ number → (number == 0) ≡ false
+pub some_one_way : (ends : Guid → EndValue) (ones : List OneWay) (number : ℕ) → length ones ≡ number → (number == 0) ≡ false
     → concat (codes "\n" ∷ amount number (record { one = codes "pair of participants talks one way"; many = codes "pairs of participants talk one way" }) ∷ codes "\n" ∷ [])
-    ++ (flat_map (one_way_lines hosts) ones ++ codes "  -> a firewall, or its datagrams are not in this recording\n") ≡ one_way_by hosts ones
-some_one_way hosts [] number long some = absurd (true≢false (ap (λ n. n == 0) long ∙ some))
-some_one_way hosts (one ∷ more) number long some =
+    ++ (flat_map (one_way_lines ends) ones ++ codes "  -> a firewall, or its datagrams are not in this recording\n") ≡ one_way_by ends ones
+some_one_way ends [] number long some = absurd (true≢false (ap (λ n. n == 0) long ∙ some))
+some_one_way ends (one ∷ more) number long some =
     ap (λ n. concat (codes "\n" ∷ amount n (record { one = codes "pair of participants talks one way"; many = codes "pairs of participants talk one way" }) ∷ codes "\n" ∷ [])
-    ++ (flat_map (one_way_lines hosts) (one ∷ more) ++ codes "  -> a firewall, or its datagrams are not in this recording\n")) (sym long)
+    ++ (flat_map (one_way_lines ends) (one ∷ more) ++ codes "  -> a firewall, or its datagrams are not in this recording\n")) (sym long)

@@ -1,20 +1,20 @@
 -- The lines of writers and readers that do not match, one after another.
 use Rattle.std.proofs.Common.{◌≡◌, ◌∙◌, ◌++◌, ◌==◌, ℕ, true, false, List, [], ◌∷◌, Option, None, Some, ap, arith, codes, eqb-true, length, refl, sym, true≢false}
 use Rattle.std.proofs.lemmas.List.Sorted.{IsPermutation-refl}
-use Rattle.rtps_ids.specs.declared.identity.GuidPrefix.{GuidPrefix}
+use Rattle.rtps_ids.specs.declared.identity.Guid.{Guid}
 use Rattle.rtps_lines.proofs.Offered.{three_parts}
 use Rattle.rtps_lines.specs.Causes.{unmatched_words}
 use Rattle.rtps_parts.specs.Parts.{amount}
 use Rattle.rtps_policies.specs.Unmatched.{UnmatchedValue}
-use Rattle.rtps_policies.specs.declared.host.Host.{Host}
+use Rattle.rtps_report.specs.Ends.{EndValue}
 use Rattle.rtps_check.specs.TalkText.{AreByTopic, topic_line, unmatched_lines, unmatched_pair, unmatched_pairs}
 
 -- the lines of one more
-pub pairs_more : (hosts : GuidPrefix → Host) (before : Option (List ℕ)) (one : UnmatchedValue) (more : List UnmatchedValue) (start headed told all : List ℕ)
-    → start ++ unmatched_pairs hosts before (one ∷ more) ≡ all → headed ≡ start ++ topic_line before one.writer.endpoint.topic → told ≡ headed ++ unmatched_pair hosts one
-    → told ++ unmatched_pairs hosts (Some one.writer.endpoint.topic) more ≡ all
-pairs_more hosts before one more start headed told all so_far head pair =
-    three_parts start (topic_line before one.writer.endpoint.topic) (unmatched_pair hosts one) (unmatched_pairs hosts (Some one.writer.endpoint.topic) more) head pair refl ∙ so_far
+pub pairs_more : (ends : Guid → EndValue) (before : Option (List ℕ)) (one : UnmatchedValue) (more : List UnmatchedValue) (start headed told all : List ℕ)
+    → start ++ unmatched_pairs ends before (one ∷ more) ≡ all → headed ≡ start ++ topic_line before one.writer.endpoint.topic → told ≡ headed ++ unmatched_pair ends one
+    → told ++ unmatched_pairs ends (Some one.writer.endpoint.topic) more ≡ all
+pairs_more ends before one more start headed told all so_far head pair =
+    three_parts start (topic_line before one.writer.endpoint.topic) (unmatched_pair ends one) (unmatched_pairs ends (Some one.writer.endpoint.topic) more) head pair refl ∙ so_far
 
 -- there is none
 pub none_by_topic : (unmatched : List UnmatchedValue) → (length unmatched == 0) ≡ true → AreByTopic unmatched []
@@ -22,10 +22,10 @@ none_by_topic [] none = record { all = IsPermutation-refl []; by_topic = λ k d 
 none_by_topic (one ∷ more) none = absurd (omega (arith, eqb-true (length (one ∷ more)) 0 none))
 
 -- the lines of some
-pub some_lines : (hosts : GuidPrefix → Host) (sorted : List UnmatchedValue) (number : ℕ) → length sorted ≡ number → (number == 0) ≡ false
-    → (codes "\n" ++ (amount number unmatched_words ++ (codes "\n" ++ []))) ++ (unmatched_pairs hosts None sorted
-    ++ codes "  -> by the standard nothing passes between them: change what one offers or what the other asks for\n") ≡ unmatched_lines hosts sorted
-some_lines hosts [] number long some = absurd (true≢false (ap (λ n. n == 0) long ∙ some))
-some_lines hosts (one ∷ more) number long some =
-    ap (λ n. (codes "\n" ++ (amount n unmatched_words ++ (codes "\n" ++ []))) ++ (unmatched_pairs hosts None (one ∷ more)
+pub some_lines : (ends : Guid → EndValue) (sorted : List UnmatchedValue) (number : ℕ) → length sorted ≡ number → (number == 0) ≡ false
+    → (codes "\n" ++ (amount number unmatched_words ++ (codes "\n" ++ []))) ++ (unmatched_pairs ends None sorted
+    ++ codes "  -> by the standard nothing passes between them: change what one offers or what the other asks for\n") ≡ unmatched_lines ends sorted
+some_lines ends [] number long some = absurd (true≢false (ap (λ n. n == 0) long ∙ some))
+some_lines ends (one ∷ more) number long some =
+    ap (λ n. (codes "\n" ++ (amount n unmatched_words ++ (codes "\n" ++ []))) ++ (unmatched_pairs ends None (one ∷ more)
     ++ codes "  -> by the standard nothing passes between them: change what one offers or what the other asks for\n")) (sym long)

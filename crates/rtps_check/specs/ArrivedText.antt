@@ -7,15 +7,15 @@ use Rattle.std.specs.List.Sorted.{IsStable}
 use Rattle.std.specs.Ordering.{nat_cmp}
 use Rattle.std.specs.declared.cmp.Ordering.{Ordering}
 use Rattle.rtps_discovery.specs.declared.matching.Pair.{Pair}
-use Rattle.rtps_ids.specs.declared.identity.GuidPrefix.{GuidPrefix}
+use Rattle.rtps_ids.specs.declared.identity.Guid.{Guid}
 use Rattle.rtps_evidence.specs.FirstNumbers.{numbers_of}
 use Rattle.rtps_lines.specs.Notes.{number_words}
 use Rattle.rtps_lines.specs.NumberRanges.{more_text}
 use Rattle.rtps_parts.specs.Parts.{WordsValue, amount, share}
-use Rattle.rtps_policies.specs.declared.host.Host.{Host}
+use Rattle.rtps_report.specs.Ends.{EndValue}
 use Rattle.rtps_report.specs.BestEfforts.{HeldValue}
 use Rattle.rtps_report.specs.Talk.{TalkValue}
-use Rattle.rtps_check.specs.TalkText.{hosted, topic_line}
+use Rattle.rtps_check.specs.TalkText.{ended, topic_line}
 
 -- ---- numbers
 
@@ -44,23 +44,23 @@ pub record AreByTopic (pairs sorted : List HeldValue) : Type 0 where
   pub in_order : IsStable topic_cmp pairs sorted
 
 -- the lines of a writer and a reader
-abbrev pub two_lines : (GuidPrefix → Host) → Pair → List ℕ
-two_lines hosts pair =
-    concat (codes "  writer " ∷ hosted hosts pair.writer ∷ codes "\n  reader " ∷ hosted hosts pair.reader ∷ codes "\n" ∷ [])
+abbrev pub two_lines : (Guid → EndValue) → Pair → List ℕ
+two_lines ends pair =
+    concat (codes "  writer " ∷ ended ends pair.writer ∷ codes "\n  reader " ∷ ended ends pair.reader ∷ codes "\n" ∷ [])
 
 -- how many numbers of a pair arrived, of how many
 abbrev pub arrived_share : HeldValue → List ℕ
 arrived_share one = concat (codes "    arrived " ∷ share one.arrived.arrived one.numbers ∷ codes ", not " ∷ [])
 
 -- the lines of a pair: how many of its numbers arrived, and the first of those that did not
-abbrev pub lossy_pair : (GuidPrefix → Host) → HeldValue → List ℕ
-lossy_pair hosts one =
-    two_lines hosts one.pair ++ (arrived_share one ++ (listed (numbers_of one.arrived.lacking) (lost_of one) ++ codes "\n"))
+abbrev pub lossy_pair : (Guid → EndValue) → HeldValue → List ℕ
+lossy_pair ends one =
+    two_lines ends one.pair ++ (arrived_share one ++ (listed (numbers_of one.arrived.lacking) (lost_of one) ++ codes "\n"))
 
 -- the lines of pairs behind one of this topic, if there is one
-abbrev pub lossy_pairs : (GuidPrefix → Host) → Option (List ℕ) → List HeldValue → List ℕ
-lossy_pairs hosts before [] = []
-lossy_pairs hosts before (one ∷ more) = topic_line before one.topic ++ (lossy_pair hosts one ++ lossy_pairs hosts (Some one.topic) more)
+abbrev pub lossy_pairs : (Guid → EndValue) → Option (List ℕ) → List HeldValue → List ℕ
+lossy_pairs ends before [] = []
+lossy_pairs ends before (one ∷ more) = topic_line before one.topic ++ (lossy_pair ends one ++ lossy_pairs ends (Some one.topic) more)
 
 -- the words for pairs of best effort
 abbrev pub best_effort_words : WordsValue
@@ -72,14 +72,14 @@ lossy_head numbers pairs =
     concat (codes "\n" ∷ amount numbers number_words ∷ codes " of " ∷ amount pairs best_effort_words ∷ codes " did not arrive\n" ∷ [])
 
 -- the lines of all of them, which stand by topic; nothing where there is none
-abbrev pub lossy_lines : (GuidPrefix → Host) → List HeldValue → List ℕ
-lossy_lines hosts [] = []
-lossy_lines hosts (one ∷ more) =
+abbrev pub lossy_lines : (Guid → EndValue) → List HeldValue → List ℕ
+lossy_lines ends [] = []
+lossy_lines ends (one ∷ more) =
     lossy_head (sum_by lost_of (one ∷ more)) (length (one ∷ more))
-    ++ (lossy_pairs hosts None (one ∷ more) ++ codes "  -> by best effort nothing is sent again: look at the network, or make both reliable\n")
+    ++ (lossy_pairs ends None (one ∷ more) ++ codes "  -> by best effort nothing is sent again: look at the network, or make both reliable\n")
 
 -- those of a report are appended to a text
 pub record IsArrivedBlock (talk : TalkValue) (before text : List ℕ) : Type 0 where
   pub sorted : List HeldValue
   pub by_topic : AreByTopic (filter is_lossy talk.held) sorted
-  pub is_text : text ≡ before ++ lossy_lines talk.hosts sorted
+  pub is_text : text ≡ before ++ lossy_lines talk.ends sorted

@@ -49,7 +49,7 @@ use Rattle.rtps_lines.specs.CheckMembers.{check_members}
 use Rattle.rtps_lines.specs.JsonText.{IsJsonLine, object_of}
 use Rattle.rtps_report.specs.Findings.{ending_as}
 use Rattle.rtps_check.specs.ArrivedText.{AreByTopic as LossyByTopic, is_lossy, lossy_lines}
-use Rattle.rtps_check.specs.TalkText.{AreByTopic as UnmatchedByTopic, AreLeftByTopic as LeftOutByTopic, hosted, one_way_block, unmatched_lines}
+use Rattle.rtps_check.specs.TalkText.{AreByTopic as UnmatchedByTopic, AreLeftByTopic as LeftOutByTopic, ended, one_way_block, unmatched_lines}
 use Rattle.rtps_check.specs.declared.checked_text.Told.{Told}
 use Rattle.rtps_check.specs.declared.sections.RowTelling.{RowTelling}
 
@@ -208,7 +208,7 @@ left_text times (Some datagram) = codes ", left in datagram " ++ (decimal datagr
 -- the lines of a writer and a reader: from which number on the row is, and where the reader leaves
 abbrev pub pair_lines : RowTold → ExplanationValue → List ℕ
 pair_lines told row =
-    concat (codes "  writer " ∷ hosted told.talk.hosts row.pair.writer ∷ codes "\n  reader " ∷ hosted told.talk.hosts row.pair.reader
+    concat (codes "  writer " ∷ ended told.talk.ends row.pair.writer ∷ codes "\n  reader " ∷ ended told.talk.ends row.pair.reader
     ∷ codes ", from " ∷ decimal (row_from told.scope.from row.evidence.in_span) ∷ []) ++ (left_text told.times (left_in row.evidence.in_span) ++ codes "\n")
 
 -- the lines of a pair, up to what became of its numbers
@@ -341,8 +341,8 @@ pub record IsTextBy (scope : Scope) (beside : Beside) (rows : List ExplanationVa
   pub lossy_by_topic : LossyByTopic (filter is_lossy beside.talk.held) lossy
   pub is_text : let totals = totals_of scope rows in text ≡ first_lines totals beside
       ++ (topics_text (told_beside scope beside) beside.events totals rows
-      ++ (unmatched_lines beside.talk.hosts unmatched
-      ++ (one_way_block beside.talk ++ (lossy_lines beside.talk.hosts lossy ++ ending_text scope beside totals rows))))
+      ++ (unmatched_lines beside.talk.ends unmatched
+      ++ (one_way_block beside.talk ++ (lossy_lines beside.talk.ends lossy ++ ending_text scope beside totals rows))))
 
 -- what the code knows of it, as a value
 abbrev pub beside_value : Told → Beside

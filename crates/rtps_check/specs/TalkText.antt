@@ -8,9 +8,8 @@ use Rattle.std.specs.Ordering.{nat_cmp}
 use Rattle.std.specs.Str.{bytes_eq}
 use Rattle.std.specs.declared.cmp.Ordering.{Ordering}
 use Rattle.rtps_ids.specs.declared.identity.Guid.{Guid}
-use Rattle.rtps_ids.specs.declared.identity.GuidPrefix.{GuidPrefix}
 use Rattle.rtps_lines.specs.Causes.{unmatched_words}
-use Rattle.rtps_lines.specs.Lines.{hosted_text}
+use Rattle.rtps_lines.specs.EndText.{end_text}
 use Rattle.rtps_lines.specs.PolicyValues.{policy_words, value_text}
 use Rattle.rtps_lines.specs.declared.policy_values.Naming.TheVariants.{Ros}
 use Rattle.rtps_parts.specs.Parts.{amount}
@@ -18,13 +17,13 @@ use Rattle.rtps_parts.specs.RosNames.{topic_text}
 use Rattle.rtps_policies.specs.Announcing.{participant_of}
 use Rattle.rtps_policies.specs.Unmatched.{UnmatchedValue}
 use Rattle.rtps_policies.specs.declared.fitting.Policy.{Policy}
-use Rattle.rtps_policies.specs.declared.host.Host.{Host}
 use Rattle.rtps_policies.specs.declared.one_way.OneWay.{OneWay}
+use Rattle.rtps_report.specs.Ends.{EndValue}
 use Rattle.rtps_report.specs.Talk.{LeftOutValue, TalkValue}
 
--- a GUID, and where its participant is
-abbrev pub hosted : (GuidPrefix → Host) → Guid → List ℕ
-hosted hosts guid = hosted_text guid (hosts guid.prefix).address
+-- an end, where these are the ends by their GUIDs
+abbrev pub ended : (Guid → EndValue) → Guid → List ℕ
+ended ends guid = end_text guid (ends guid)
 
 -- ---- writers and readers that do not match
 
@@ -45,9 +44,9 @@ policy_line one policy =
     ∷ codes "\n" ∷ [])
 
 -- the lines of a writer and a reader, and of each policy that does not suit
-abbrev pub unmatched_pair : (GuidPrefix → Host) → UnmatchedValue → List ℕ
-unmatched_pair hosts one =
-    concat (codes "  writer " ∷ hosted hosts one.writer.endpoint.guid ∷ codes "\n  reader " ∷ hosted hosts one.reader.endpoint.guid ∷ codes "\n" ∷ [])
+abbrev pub unmatched_pair : (Guid → EndValue) → UnmatchedValue → List ℕ
+unmatched_pair ends one =
+    concat (codes "  writer " ∷ ended ends one.writer.endpoint.guid ∷ codes "\n  reader " ∷ ended ends one.reader.endpoint.guid ∷ codes "\n" ∷ [])
     ++ flat_map (policy_line one) one.reasons
 
 -- the line of a topic, if it is not that of the pair before
@@ -56,24 +55,24 @@ topic_line None topic = topic_text topic ++ codes "\n"
 topic_line (Some before) topic = if bytes_eq before topic then [] else topic_text topic ++ codes "\n"
 
 -- the lines of pairs behind one of this topic, if there is one
-abbrev pub unmatched_pairs : (GuidPrefix → Host) → Option (List ℕ) → List UnmatchedValue → List ℕ
-unmatched_pairs hosts before [] = []
-unmatched_pairs hosts before (one ∷ more) =
-    topic_line before one.writer.endpoint.topic ++ (unmatched_pair hosts one ++ unmatched_pairs hosts (Some one.writer.endpoint.topic) more)
+abbrev pub unmatched_pairs : (Guid → EndValue) → Option (List ℕ) → List UnmatchedValue → List ℕ
+unmatched_pairs ends before [] = []
+unmatched_pairs ends before (one ∷ more) =
+    topic_line before one.writer.endpoint.topic ++ (unmatched_pair ends one ++ unmatched_pairs ends (Some one.writer.endpoint.topic) more)
 
 -- the lines of all of them, which stand by topic, behind an empty one; nothing where there is none
-abbrev pub unmatched_lines : (GuidPrefix → Host) → List UnmatchedValue → List ℕ
-unmatched_lines hosts [] = []
-unmatched_lines hosts (one ∷ more) =
+abbrev pub unmatched_lines : (Guid → EndValue) → List UnmatchedValue → List ℕ
+unmatched_lines ends [] = []
+unmatched_lines ends (one ∷ more) =
     concat (codes "\n" ∷ amount (length (one ∷ more)) unmatched_words ∷ codes "\n" ∷ [])
-    ++ (unmatched_pairs hosts None (one ∷ more)
+    ++ (unmatched_pairs ends None (one ∷ more)
     ++ codes "  -> by the standard nothing passes between them: change what one offers or what the other asks for\n")
 
 -- they are appended to a text
 pub record IsUnmatchedBlock (talk : TalkValue) (before text : List ℕ) : Type 0 where
   pub sorted : List UnmatchedValue
   pub by_topic : AreByTopic talk.unmatched sorted
-  pub is_text : text ≡ before ++ unmatched_lines talk.hosts sorted
+  pub is_text : text ≡ before ++ unmatched_lines talk.ends sorted
 
 -- ---- pairs that are left out
 
@@ -90,20 +89,20 @@ pub record AreLeftByTopic (left sorted : List LeftOutValue) : Type 0 where
 -- ---- participants that talk one way
 
 -- a participant that never answers, and the one that names it
-abbrev pub one_way_lines : (GuidPrefix → Host) → OneWay → List ℕ
-one_way_lines hosts one =
-    concat (codes "  participant " ∷ hosted hosts (participant_of one.naming.dest) ∷ codes " never answers\n  participant "
-    ∷ hosted hosts (participant_of one.naming.source) ∷ codes ", which names it in "
+abbrev pub one_way_lines : (Guid → EndValue) → OneWay → List ℕ
+one_way_lines ends one =
+    concat (codes "  participant " ∷ ended ends (participant_of one.naming.dest) ∷ codes " never answers\n  participant "
+    ∷ ended ends (participant_of one.naming.source) ∷ codes ", which names it in "
     ∷ amount one.count (record { one = codes "datagram"; many = codes "datagrams" }) ∷ codes "\n" ∷ [])
 
 -- those of all, behind an empty line; nothing where there is none
-abbrev pub one_way_by : (GuidPrefix → Host) → List OneWay → List ℕ
-one_way_by hosts [] = []
-one_way_by hosts (one ∷ more) =
+abbrev pub one_way_by : (Guid → EndValue) → List OneWay → List ℕ
+one_way_by ends [] = []
+one_way_by ends (one ∷ more) =
     concat (codes "\n" ∷ amount (length (one ∷ more)) (record { one = codes "pair of participants talks one way"; many = codes "pairs of participants talk one way" })
     ∷ codes "\n" ∷ [])
-    ++ (flat_map (one_way_lines hosts) (one ∷ more) ++ codes "  -> a firewall, or its datagrams are not in this recording\n")
+    ++ (flat_map (one_way_lines ends) (one ∷ more) ++ codes "  -> a firewall, or its datagrams are not in this recording\n")
 
 -- the lines of all of them in a report
 abbrev pub one_way_block : TalkValue → List ℕ
-one_way_block talk = one_way_by talk.hosts talk.one_way
+one_way_block talk = one_way_by talk.ends talk.one_way

@@ -5,7 +5,7 @@ ghost use Rattle.rtps_report.specs.Talk.{talk_value};
 ghost use Rattle.rtps_check.specs.ArrivedText.{AreByTopic, IsArrivedBlock, arrived_share as arrived_share_lem, is_lossy, lossy_head as lossy_head_lem, lossy_pair, lossy_pairs, lost_of as lost_of_lem, two_lines};
 
 use crate::not_arrived::push_listed;
-use crate::unmatched_block::{hosted_by, push_topic};
+use crate::unmatched_block::{end_by, push_topic};
 use rtps_discovery::Pair;
 use rtps_lines::number_words;
 use rtps_parts::{Part, Words, render};
@@ -65,10 +65,10 @@ fn lossy_head(lost: u128, pairs: usize) -> [Part<'static>; 5]
 
 /// Appends the lines of a writer and a reader.
 fn push_two(text: &mut String, pair: Pair, talk: &Talk<'_>) -> Result<(), AllocError>
-    ensures { OnOk result (string_bytes text.new ≡ string_bytes text.old ++ two_lines (talk_value talk.now).hosts pair) }
+    ensures { OnOk result (string_bytes text.new ≡ string_bytes text.old ++ two_lines (talk_value talk.now).ends pair) }
 {
-    let writer = hosted_by(talk, pair.writer);
-    let reader = hosted_by(talk, pair.reader);
+    let writer = end_by(talk, pair.writer);
+    let reader = end_by(talk, pair.reader);
     write!(text, "  writer {writer}\n  reader {reader}\n")
 }
 
@@ -87,7 +87,7 @@ fn arrived_share(one: &HeldPair<'_>) -> [Part<'static>; 3]
 
 /// Appends the lines of a pair.
 fn push_pair(text: &mut String, one: &HeldPair<'_>, talk: &Talk<'_>) -> Result<(), AllocError>
-    ensures { OnOk result (string_bytes text.new ≡ string_bytes text.old ++ lossy_pair (talk_value talk.now).hosts (held_value one.now)) }
+    ensures { OnOk result (string_bytes text.new ≡ string_bytes text.old ++ lossy_pair (talk_value talk.now).ends (held_value one.now)) }
 {
     let first = one.arrived.lacking.as_slice();
     push_two(text, one.pair, talk)?;
@@ -102,7 +102,7 @@ fn push_pairs(
     talk: &Talk<'_>,
 ) -> Result<(), AllocError>
     ensures { OnOk result (string_bytes text.new ≡ string_bytes text.old
-        ++ lossy_pairs (talk_value talk.now).hosts None (map (λ one. held_value one.now) sorted.entry.items)) }
+        ++ lossy_pairs (talk_value talk.now).ends None (map (λ one. held_value one.now) sorted.entry.items)) }
 {
     let mut before = None;
     for one in sorted {

@@ -2,7 +2,7 @@ ghost use Rattle.std.specs.Prelude.{◌≡◌, ◌++◌, OnOk, string_bytes};
 ghost use Rattle.rtps_report.specs.Talk.{talk_value};
 ghost use Rattle.rtps_check.specs.TalkText.{one_way_block, one_way_lines};
 
-use crate::unmatched_block::hosted_by;
+use crate::unmatched_block::end_by;
 use rtps_parts::{Part, Words, render};
 use rtps_policies::{OneWay, participant_of};
 use rtps_report::Talk;
@@ -10,10 +10,10 @@ use std::alloc::AllocError;
 
 /// Appends the lines of a participant that never answers, and of the one that names it.
 fn push_one_way(text: &mut String, one: OneWay, talk: &Talk<'_>) -> Result<(), AllocError>
-    ensures { OnOk result (string_bytes text.new ≡ string_bytes text.old ++ one_way_lines (talk_value talk.now).hosts one) }
+    ensures { OnOk result (string_bytes text.new ≡ string_bytes text.old ++ one_way_lines (talk_value talk.now).ends one) }
 {
-    let silent = hosted_by(talk, participant_of(one.naming.dest));
-    let talking = hosted_by(talk, participant_of(one.naming.source));
+    let silent = end_by(talk, participant_of(one.naming.dest));
+    let talking = end_by(talk, participant_of(one.naming.source));
     let words = Words {
         one: "datagram",
         many: "datagrams",

@@ -5,7 +5,7 @@ ghost use Rattle.rtps_lines.specs.Lines.{silence_lines as silence_lines_lem};
 ghost use Rattle.rtps_parts.specs.Parts.{part_text};
 ghost use Rattle.rtps_check.specs.CheckText.{advice_line, headed, kind_text, kinds_text, left_text, missed_line, noted_lines, pair_lines, payload_line, reason_lines, row_head, row_lines, row_told, section, sentence_line, topic_head as topic_head_lem, verdict_lines, wait_line};
 
-use crate::unmatched_block::hosted_by;
+use crate::unmatched_block::end_by;
 use rtps_evidence::{Evidence, Explanation, Grounds, InSpan, Outcomes, Sent, Times};
 use rtps_lines::{
     AcknowledgedLine, AdviceText, AnnouncedLine, AskedLine, ClaimedLine, LostRows, QuestionsLine,
@@ -131,8 +131,8 @@ fn push_pair(
     ensures { OnOk result (string_bytes text.new ≡ string_bytes text.old ++ pair_lines (row_told told.entry) (explanation_value row.now)) }
 {
     let first = row_from(told.scope.from, &row.evidence);
-    let writer = hosted_by(told.talk, row.pair.writer);
-    let reader = hosted_by(told.talk, row.pair.reader);
+    let writer = end_by(told.talk, row.pair.writer);
+    let reader = end_by(told.talk, row.pair.reader);
     write!(text, "  writer {writer}\n  reader {reader}, from {first}")?;
     push_left(text, left_at(&row.evidence), told.lost.times)?;
     text.push_str("\n")

@@ -1,21 +1,22 @@
 ghost use Rattle.std.specs.Prelude.{◌≡◌, ◌++◌, IfOk, OnOk, None, map, option_copied, string_bytes};
 ghost use Rattle.rtps_policies.specs.Unmatched.{unmatched_value};
+ghost use Rattle.rtps_report.specs.Ends.{end_value};
 ghost use Rattle.rtps_report.specs.Talk.{left_out_value, talk_value};
 ghost use Rattle.rtps_check.specs.TalkText.{AreByTopic, AreLeftByTopic, IsUnmatchedBlock, policy_line, topic_line, unmatched_pair, unmatched_pairs};
 
 use rtps_ids::Guid;
-use rtps_lines::{HostedGuid, Naming, PolicyValue, unmatched_words, words_of_policy};
+use rtps_lines::{EndText, Naming, PolicyValue, unmatched_words, words_of_policy};
 use rtps_parts::{Part, render};
 use rtps_policies::{Policy, Unmatched};
 use rtps_report::{LeftOut, Talk};
 use std::alloc::{AllocError, Global};
 
-/// A GUID, and where its participant is.
-pub(crate) fn hosted_by(talk: &Talk<'_>, guid: Guid) -> HostedGuid
+/// An end, by what people know it.
+pub(crate) fn end_by<'a>(talk: &Talk<'a>, guid: Guid) -> EndText<'a>
     ensures guid { result.0 ≡ guid }
-    ensures address { result.1 ≡ ((talk_value talk.now).hosts guid.prefix).address }
+    ensures end { end_value result.1 ≡ (talk_value talk.now).ends guid }
 {
-    HostedGuid(guid, talk.end(guid).address)
+    EndText(guid, talk.end(guid))
 }
 
 /// Two each that do not match, by topic, octet by octet. Those of one topic stay in their order.
@@ -66,10 +67,10 @@ fn push_policy(text: &mut String, one: &Unmatched<'_>, policy: Policy) -> Result
 
 /// Appends the lines of a writer and a reader.
 fn push_pair(text: &mut String, one: &Unmatched<'_>, talk: &Talk<'_>) -> Result<(), AllocError>
-    ensures { OnOk result (string_bytes text.new ≡ string_bytes text.old ++ unmatched_pair (talk_value talk.now).hosts (unmatched_value one.now)) }
+    ensures { OnOk result (string_bytes text.new ≡ string_bytes text.old ++ unmatched_pair (talk_value talk.now).ends (unmatched_value one.now)) }
 {
-    let writer = hosted_by(talk, one.writer.endpoint.guid);
-    let reader = hosted_by(talk, one.reader.endpoint.guid);
+    let writer = end_by(talk, one.writer.endpoint.guid);
+    let reader = end_by(talk, one.reader.endpoint.guid);
     write!(text, "  writer {writer}\n  reader {reader}\n")?;
     for policy in &one.reasons {
         push_policy(text, one, *policy)?;
@@ -97,7 +98,7 @@ fn push_pairs(
     talk: &Talk<'_>,
 ) -> Result<(), AllocError>
     ensures { OnOk result (string_bytes text.new ≡ string_bytes text.old
-        ++ unmatched_pairs (talk_value talk.now).hosts None (map (λ one. unmatched_value one.now) sorted.entry.items)) }
+        ++ unmatched_pairs (talk_value talk.now).ends None (map (λ one. unmatched_value one.now) sorted.entry.items)) }
 {
     let mut before = None;
     for one in sorted {

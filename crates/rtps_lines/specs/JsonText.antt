@@ -26,6 +26,9 @@ use Rattle.rtps_report.specs.RowFacts.{is_clean, row_from}
 use Rattle.rtps_report.specs.Recording.{RecordingValue}
 use Rattle.rtps_report.specs.Silences.{silences_of}
 use Rattle.rtps_report.specs.Talk.{TalkValue, talk_value}
+use Rattle.rtps_discovery.specs.declared.matching.Pair.{Pair}
+use Rattle.rtps_who.specs.Samples.{NodeValue}
+use Rattle.rtps_lines.specs.EndText.{node_text}
 use Rattle.rtps_lines.specs.Lines.{advice_text, kind_text, second_in, seconds_text, silence_lines}
 use Rattle.rtps_lines.specs.declared.json_members.Clock.{Clock}
 use Rattle.rtps_lines.specs.declared.json_object.Telling.{Telling}
@@ -153,6 +156,19 @@ sent_json times (Some sent) = object_of (payload_members sent.payload ++ place_m
 -- the name of a topic or a type: a string of what `list` writes between the quotes
 abbrev pub name_json : List ℕ → Json
 name_json name = string (flat_map octet_text name)
+
+-- the name of a node
+abbrev pub node_json : NodeValue → Json
+node_json node = string (node_text node)
+
+-- the same; null where there is no node
+abbrev pub some_node_json : Option NodeValue → Json
+some_node_json None = null
+some_node_json (Some node) = node_json node
+
+-- the nodes of a pair
+abbrev pub node_members : TalkValue → Pair → List Member
+node_members talk pair = (codes "writer_node", some_node_json (talk.node pair.writer)) ∷ (codes "reader_node", some_node_json (talk.node pair.reader)) ∷ []
 
 -- whom the row is of: the writer, the reader, the topic and the type
 abbrev pub pair_members : ExplanationValue → List Member
@@ -343,7 +359,7 @@ advice_member telling row = (codes "advice", advice_json telling row)
 abbrev pub spanned_members : TellingValue → TimesValue → ExplanationValue → List Member
 spanned_members telling times row =
     span_members telling times row.evidence
-    ++ lost_member times (lost_at telling.lost row.place) ∷ (silence_members telling row ++ advice_member telling row ∷ [])
+    ++ lost_member times (lost_at telling.lost row.place) ∷ (silence_members telling row ++ advice_member telling row ∷ node_members telling.talk row.pair)
 
 -- the same; nothing of a row of an audit, which is in no span
 abbrev pub further_members : Option TellingValue → TimesValue → ExplanationValue → List Member

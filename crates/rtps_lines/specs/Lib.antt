@@ -4,10 +4,12 @@ pub mod EventMembers
 pub mod EventText
 pub mod JsonText
 pub mod Lines
+pub mod EndText
 pub mod Notes
 pub mod NumberRanges
 pub mod PolicyValues
 pub mod QosNames
 pub mod TailNames
+pub mod EndMembers
 pub mod TalkMembers
 pub mod WayNotes

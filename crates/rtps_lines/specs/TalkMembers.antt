@@ -21,6 +21,7 @@ use Rattle.rtps_report.specs.BestEfforts.{BestEffortValue, HeldValue}
 use Rattle.rtps_report.specs.FullReport.{ReportValue}
 use Rattle.rtps_report.specs.Talk.{LeftOutValue}
 use Rattle.rtps_report.specs.declared.participant.Participant.{Participant}
+use Rattle.rtps_lines.specs.EndMembers.{nodes_member, process_members}
 use Rattle.rtps_lines.specs.JsonText.{Member, array_of, count_json, frame_member, name_json, numbers_json, object_of, second_member, timed_members, until_json}
 use Rattle.rtps_lines.specs.PolicyValues.{value_text}
 use Rattle.rtps_lines.specs.declared.policy_values.Naming.TheVariants.{Dds}
@@ -131,18 +132,26 @@ stay_members times participant =
     (codes "first", until_json (first_of participant)) ∷ (codes "last", until_json (last_of participant)) ∷ (codes "left", until_json participant.left)
     ∷ stay_times times participant
 
--- a participant: where it is, and when there is something of it
-abbrev pub participant_json : TimesValue → Participant → Json
-participant_json times participant =
-    object_of ((codes "guid", string (guid_text participant.guid)) ∷ (codes "address", address_json participant.host.address)
-    ∷ (codes "domain", until_json participant.host.domain) ∷ stay_members times participant)
+-- the process of a participant, and its nodes
+abbrev pub named_members : TalkValue → Participant → List Member
+named_members talk participant = process_members (talk.ends participant.guid).process ++ nodes_member (talk.nodes participant.guid.prefix) ∷ []
+
+-- where a participant is, and when there is something of it
+abbrev pub placed_members : TimesValue → Participant → List Member
+placed_members times participant =
+    (codes "guid", string (guid_text participant.guid)) ∷ (codes "address", address_json participant.host.address)
+    ∷ (codes "domain", until_json participant.host.domain) ∷ stay_members times participant
+
+-- a participant: that, and by what it is known
+abbrev pub participant_json : TalkValue → TimesValue → Participant → Json
+participant_json talk times participant = object_of (placed_members times participant ++ named_members talk participant)
 
 -- the member of all participants
-abbrev pub participants_member : TimesValue → List Participant → Member
-participants_member times participants = (codes "participants", array_of (map (participant_json times) participants))
+abbrev pub participants_member : TimesValue → TalkValue → Member
+participants_member times talk = (codes "participants", array_of (map (participant_json talk times) talk.participants))
 
 -- all of them
 abbrev pub talk_members : TimesValue → ReportValue → List Member
 talk_members times report =
     unmatched_member report.talk.unmatched ∷ talking_member report.talk.talking ∷ unobserved_member report.talk.silence report.talk.left_out ∷ one_way_member report.talk.one_way
-    ∷ best_effort_member report.talk.best_effort ∷ (held_members (is_some report.arrived) report.talk.held ++ participants_member times report.talk.participants ∷ [])
+    ∷ best_effort_member report.talk.best_effort ∷ (held_members (is_some report.arrived) report.talk.held ++ participants_member times report.talk ∷ [])

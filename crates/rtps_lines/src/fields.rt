@@ -161,7 +161,7 @@ impl fmt::Display for PlaceComma<'_> {
 
 /// A GUID, and where its participant is, if that is known.
 #[derive(Drop)]
-pub struct HostedGuid(pub Guid, pub Option<Address>);
+pub(crate) struct HostedGuid(pub(crate) Guid, pub(crate) Option<Address>);
 
 impl fmt::Display for HostedGuid {
     ghost output = { λ text. Some (hosted_text text.0 text.1) };

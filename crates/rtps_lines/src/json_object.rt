@@ -7,8 +7,9 @@ ghost use Rattle.json.specs.Token.{key, number as number_token, string as string
 ghost use Rattle.json.specs.Tree.{depth, json_tokens};
 ghost use Rattle.rtps_evidence.specs.Explanation.{evidence_value, explanation_value};
 ghost use Rattle.rtps_evidence.specs.Grounds.{grounds_value};
-ghost use Rattle.rtps_lines.specs.JsonText.{clock_times, IsJsonLine, advice_member, arrived_member, arrived_members, counts_members, further_members, ignored_members, lacking_member, lacking_members, lost_members, outcome_members, outcomes_json, pair_members, pairs_member, reasons_members, report_json, row_json, rows_members, sentence_json, shown_members, silence_member, silence_members, span_members, spanned_members, telling_value, tokens_of, tokens_of_member, until_members, verdict_members};
+ghost use Rattle.rtps_lines.specs.JsonText.{clock_times, IsJsonLine, advice_member, arrived_member, arrived_members, counts_members, further_members, ignored_members, lacking_member, lacking_members, lost_members, node_members, outcome_members, outcomes_json, pair_members, pairs_member, reasons_members, report_json, row_json, rows_members, sentence_json, shown_members, silence_member, silence_members, span_members, spanned_members, telling_value, tokens_of, tokens_of_member, until_members, verdict_members};
 
+use crate::end_members::push_nodes_of;
 use crate::fields::AdviceText;
 use crate::json_members::{
     Clock, push_asked, push_claim, push_count, push_delivery, push_evidence, push_flag,
@@ -181,7 +182,8 @@ fn push_spanned(
     push_span(writer, &row.evidence, telling, clock)?;
     push_lost_of(writer, telling.lost, row.place, clock)?;
     push_silence(writer, row, telling, clock.alloc)?;
-    push_advice(writer, row, telling, clock.alloc)
+    push_advice(writer, row, telling, clock.alloc)?;
+    push_nodes(writer, row, telling, clock.alloc)
 }
 
 /// Appends the span of a row, what became of its numbers, whether it is clean, and its longest wait; nothing where it is in no span.
@@ -379,6 +381,21 @@ fn push_advice(
         return writer.null();
     }
     push_sentence(writer, row, telling, alloc)
+}
+
+/// Appends the nodes of a row.
+fn push_nodes(
+    writer: &mut Writer,
+    row: &Explanation<'_>,
+    telling: Telling<'_, '_>,
+    alloc: Global,
+) -> Result<(), AllocError>
+    ensures tokens { OnOk result (writer.new.tokens
+        ≡ writer.old.tokens ++ tokens_of (node_members (telling_value telling.entry).talk row.now.pair)) }
+    ensures before { writer.new.before ≡ writer.old.before }
+{
+    let mut text = String::new(alloc);
+    push_nodes_of(writer, &mut text, telling.talk, row.pair)
 }
 
 fn push_pair(

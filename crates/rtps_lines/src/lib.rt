@@ -4,6 +4,8 @@
 
 mod causes;
 mod check_members;
+mod end_members;
+mod end_text;
 mod event_members;
 mod event_text;
 mod evidence_lines;
@@ -23,14 +25,15 @@ mod way_notes;
 
 pub use causes::{Judged, causes_of, push_last, unmatched_words};
 pub use check_members::{push_check_members, push_report_last};
+pub use end_text::{EndText, PairedText};
 pub use event_text::push_event_text;
 pub use evidence_lines::{
     AcknowledgedLine, AnnouncedLine, AskedLine, ClaimedLine, QuestionsLine, ToldLine, VerdictText,
     WaitText, push_sent,
 };
 pub use fields::{
-    AdviceText, HostedGuid, PlaceComma, PlaceText, SecondText, durability_name, kind_name,
-    push_decimal, push_field, push_payload, reliability_name, side_name,
+    AdviceText, PlaceComma, PlaceText, SecondText, durability_name, kind_name, push_decimal,
+    push_field, push_payload, reliability_name, side_name,
 };
 pub use json_members::{
     Clock, push_count, push_guid, push_name, push_number, push_seconds, push_text, push_texts,

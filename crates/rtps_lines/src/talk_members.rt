@@ -9,8 +9,9 @@ ghost use Rattle.rtps_report.specs.BestEfforts.{best_effort_value, held_value};
 ghost use Rattle.rtps_report.specs.FullReport.{report_value};
 ghost use Rattle.rtps_report.specs.Talk.{left_out_value, talk_value};
 ghost use Rattle.rtps_lines.specs.JsonText.{clock_times, array_of, timed_members, tokens_of, tokens_of_member};
-ghost use Rattle.rtps_lines.specs.TalkMembers.{address_json, best_effort_json, best_effort_member, held_json, held_member, held_members, one_way_json, one_way_member, participant_json, participants_member, reasons_json, silence_name as silence_name_lem, stay_members, stay_times, talk_members, talking_json, talking_member, unmatched_json, unmatched_member, unobserved_json, unobserved_member, values_json};
+ghost use Rattle.rtps_lines.specs.TalkMembers.{address_json, best_effort_json, best_effort_member, held_json, held_member, held_members, named_members, one_way_json, one_way_member, participant_json, participants_member, placed_members, reasons_json, silence_name as silence_name_lem, stay_members, stay_times, talk_members, talking_json, talking_member, unmatched_json, unmatched_member, unobserved_json, unobserved_member, values_json};
 
+use crate::end_members::{push_node_names, push_process};
 use crate::json_members::{
     Clock, push_count, push_flag, push_framed, push_guid, push_name, push_numbers, push_optional,
     push_text, push_timed, push_total,
@@ -394,39 +395,77 @@ fn push_stay(
     push_stay_times(writer, participant, clock)
 }
 
-fn push_participant(
+/// By what participants are told.
+#[derive(Clone, Copy)]
+struct Presented<'t, 'a> {
+    talk: &'t Talk<'a>,
+    clock: Clock<'t>,
+}
+
+/// Appends the process of a participant, and its nodes.
+fn push_named(
+    writer: &mut Writer,
+    text: &mut String,
+    participant: &Participant,
+    by: Presented<'_, '_>,
+) -> Result<(), AllocError>
+    ensures tokens { OnOk result (writer.new.tokens
+        ≡ writer.old.tokens ++ tokens_of (named_members (talk_value by.entry.talk.now) participant.now)) }
+    ensures before { writer.new.before ≡ writer.old.before }
+{
+    let end = by.talk.end(participant.guid);
+    let nodes = by.talk.nodes(by.clock.alloc, participant.guid.prefix)?;
+    push_process(writer, text, &end.process)?;
+    push_node_names(writer, text, &nodes)
+}
+
+/// Appends where a participant is, and when there is something of it.
+fn push_placed(
     writer: &mut Writer,
     text: &mut String,
     participant: &Participant,
     clock: Clock<'_>,
 ) -> Result<(), AllocError>
     ensures tokens { OnOk result (writer.new.tokens
-        ≡ writer.old.tokens ++ json_tokens (participant_json (clock_times clock.entry) participant.now)) }
+        ≡ writer.old.tokens ++ tokens_of (placed_members (clock_times clock.entry) participant.now)) }
     ensures before { writer.new.before ≡ writer.old.before }
 {
     let domain = domain_number(participant.host.domain);
-    writer.begin_object()?;
     push_guid(writer, text, "guid", participant.guid)?;
     push_address(writer, text, participant.host.address)?;
     push_optional(writer, "domain", domain)?;
-    push_stay(writer, participant, clock)?;
+    push_stay(writer, participant, clock)
+}
+
+fn push_participant(
+    writer: &mut Writer,
+    text: &mut String,
+    participant: &Participant,
+    by: Presented<'_, '_>,
+) -> Result<(), AllocError>
+    ensures tokens { OnOk result (writer.new.tokens
+        ≡ writer.old.tokens ++ json_tokens (participant_json (talk_value by.entry.talk.now) (clock_times by.entry.clock) participant.now)) }
+    ensures before { writer.new.before ≡ writer.old.before }
+{
+    writer.begin_object()?;
+    push_placed(writer, text, participant, by.clock)?;
+    push_named(writer, text, participant, by)?;
     writer.end_object()
 }
 
 fn push_all_participants(
     writer: &mut Writer,
     text: &mut String,
-    participants: &[Participant],
-    clock: Clock<'_>,
+    by: Presented<'_, '_>,
 ) -> Result<(), AllocError>
     ensures tokens { OnOk result (writer.new.tokens
-        ≡ writer.old.tokens ++ tokens_of_member (participants_member (clock_times clock.entry) participants.now)) }
+        ≡ writer.old.tokens ++ tokens_of_member (participants_member (clock_times by.entry.clock) (talk_value by.entry.talk.now))) }
     ensures before { writer.new.before ≡ writer.old.before }
 {
     writer.key("participants")?;
     writer.begin_array()?;
-    for participant in participants {
-        push_participant(writer, text, participant, clock)?;
+    for participant in &by.talk.participants {
+        push_participant(writer, text, participant, by)?;
     }
     writer.end_array()
 }
@@ -460,5 +499,5 @@ pub(crate) fn push_talk_members(
     push_all_one_way(writer, &mut text, &talk.one_way)?;
     push_all_best_effort(writer, &mut text, &talk.best_effort)?;
     push_arrived(writer, &mut text, &talk.held, has_other(report))?;
-    push_all_participants(writer, &mut text, &talk.participants, clock)
+    push_all_participants(writer, &mut text, Presented { talk, clock })
 }

@@ -37,8 +37,8 @@ expect_json (Some rows) = count_json rows
 
 -- what was asked
 abbrev pub option_members : AskedValue → List Member
-option_members asked = (codes "from", count_json asked.from) ∷ (codes "topics", array_of (map string asked.topics)) ∷ (codes "expect", expect_json asked.expect)
-    ∷ (codes "tail", count_json asked.tail) ∷ (codes "certain", boolean asked.certain) ∷ []
+option_members asked = (codes "from", count_json asked.from) ∷ (codes "topics", array_of (map string asked.topics)) ∷ (codes "nodes", array_of (map string asked.nodes))
+    ∷ (codes "expect", expect_json asked.expect) ∷ (codes "tail", count_json asked.tail) ∷ (codes "certain", boolean asked.certain) ∷ []
 
 -- a GUID as a string
 abbrev pub guid_json : Guid → Json

@@ -53,6 +53,7 @@ fn push_option_members(writer: &mut Writer, asked: &Asked<'_>) -> Result<(), All
 {
     push_count(writer, "from", asked.first_asked())?;
     push_texts(writer, "topics", asked.topics)?;
+    push_texts(writer, "nodes", asked.nodes)?;
     push_expect(writer, asked.expect)?;
     push_count(writer, "tail", asked.tail)?;
     push_flag(writer, "certain", asked.certain)

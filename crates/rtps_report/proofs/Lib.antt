@@ -2,6 +2,7 @@ mod ActsInOrder
 mod AskedLemmas
 mod BestEffortLemmas
 mod BestEffortSums
+mod EndLemmas
 mod EventLemmas
 mod EventOrder
 mod FollowedLemmas
@@ -22,4 +23,5 @@ mod SameLists
 mod SortLemmas
 mod StayLemmas
 mod TalkLemmas
+mod TalkParts
 mod TopicLemmas

@@ -18,8 +18,7 @@ use Rattle.rtps_report.specs.Asked.{AskedValue}
 use Rattle.rtps_report.specs.FullReport.{IsFullReport, RecordingValue, ReportValue, rows_of}
 use Rattle.rtps_report.specs.Laws.{EachMatchIsTold, IsFoundIn, IsOneOf, IsRowOf}
 use Rattle.rtps_report.specs.RowPairs.{AreRowPairs, IsJudged, IsRowPair}
-use Rattle.rtps_report.specs.Rows.{fits_one}
-use Rattle.rtps_report.specs.Talk.{is_named, is_unfit, talks, traffic_of, unfit_in}
+use Rattle.rtps_report.specs.Talk.{choice_of, is_named, is_unfit, talks, traffic_of, unfit_in}
 use Rattle.rtps_report.proofs.RowPairLemmas.{unfit_tested}
 
 -- ---- a match is reliable where its pair is one of reliable ones
@@ -95,7 +94,7 @@ module _ (listed : AreListed) (unique : HasOneMap) (asked : AskedValue) (other :
   intake = intake_as Read recording.datagrams
 
   abbrev unfit : List UnmatchedValue
-  unfit = unfit_in asked traffic directory.endpoints
+  unfit = unfit_in (choice_of asked recording.datagrams directory.endpoints) traffic directory.endpoints
 
   same : is.talks.directory ≡ directory
   same = unique traffic.announcing is.talks.directory directory is.talks.is_map there.is_map
@@ -124,7 +123,7 @@ module _ (listed : AreListed) (unique : HasOneMap) (asked : AskedValue) (other :
 
   row_back : judged (is_unfit unfit found.pair) (talks intake found.pair) found.reliable (is_named traffic found.pair) ≡ true → IsRowOf report found.pair
   row_back said =
-      let row : IsRowPair asked intake traffic directory.endpoints found.pair = record { topic = there.topic; judged = judged_back intake traffic directory.endpoints found.pair found.reliable (is_unfit unfit found.pair) is_listed said } in
+      let row : IsRowPair asked intake traffic directory.endpoints found.pair = record { chosen = there.chosen; judged = judged_back intake traffic directory.endpoints found.pair found.reliable (is_unfit unfit found.pair) is_listed said } in
       let among = subst (λ (pairs : List Pair). Contains pairs found.pair) (sym is.rows.rows.of_pairs) ((pairs.each found.pair).1 row) in
       let made = from_map (λ (row : Explanation). row.pair) report.explained.rows.items found.pair among in
       subst (Contains (map (λ (row : ExplanationValue). row.pair) (rows_of report))) made.2
@@ -134,7 +133,7 @@ module _ (listed : AreListed) (unique : HasOneMap) (asked : AskedValue) (other :
   told_unfit : (is_unfit report.talk.unmatched found.pair ≡ true) ↔ ((is_unfit unfit found.pair ≡ true) × (not (talks intake found.pair) ≡ true))
   told_unfit =
       subst (λ (those : List UnmatchedValue). (is_unfit those found.pair ≡ true) ↔ ((is_unfit unfit found.pair ≡ true) × (not (talks intake found.pair) ≡ true)))
-      (sym (is.talks.unmatched ∙ ap (λ (of : DirectoryValue). filter (λ (one : UnmatchedValue). not (talks intake (pair_of one))) (unfit_in asked traffic of.endpoints)) same))
+      (sym (is.talks.unmatched ∙ ap (λ (of : DirectoryValue). filter (λ (one : UnmatchedValue). not (talks intake (pair_of one))) (unfit_in (choice_of asked recording.datagrams of.endpoints) traffic of.endpoints)) same))
       (unfit_tested (λ pair. not (talks intake pair)) unfit found.pair)
 
 -- ---- exactly one
@@ -216,8 +215,9 @@ exactly reliable unfit talking named fits Row Told asked row told =
 pub each_match : AreListed → HasOneMap → EachMatchIsTold
 each_match listed unique asked other recording report directory found is there =
     let traffic = traffic_of recording.datagrams in
-    exactly found.reliable (is_unfit (unfit_in asked traffic directory.endpoints) found.pair) (talks (intake_as Read recording.datagrams) found.pair) (is_named traffic found.pair)
-    (fits_one asked.topics (topic_of (settled_at directory.endpoints found.pair.writer)))
-    (IsRowOf report found.pair) (is_unfit report.talk.unmatched found.pair ≡ true) there.topic
+    let chosen = choice_of asked recording.datagrams directory.endpoints in
+    exactly found.reliable (is_unfit (unfit_in chosen traffic directory.endpoints) found.pair) (talks (intake_as Read recording.datagrams) found.pair) (is_named traffic found.pair)
+    (chosen (topic_of (settled_at directory.endpoints found.pair.writer)) found.pair)
+    (IsRowOf report found.pair) (is_unfit report.talk.unmatched found.pair ≡ true) there.chosen
     (row_there listed unique asked other recording report directory found is there, row_back listed unique asked other recording report directory found is there)
     (told_unfit listed unique asked other recording report directory found is there)

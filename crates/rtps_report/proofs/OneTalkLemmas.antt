@@ -38,11 +38,14 @@ use Rattle.rtps_report.specs.BestEfforts.{AreSumsOf, BestEffortValue, CountedVal
 use Rattle.rtps_report.specs.Laws.{TellSame}
 use Rattle.rtps_report.specs.Participants.{participant_told}
 use Rattle.rtps_report.specs.Recording.{RecordingValue}
-use Rattle.rtps_report.specs.Talk.{AreCounted, IsTalkAs, IsTalkOf, LeftOutValue, TalkValue, is_counted, is_left_out, left_out_of, talks, traffic_of, unfit_in}
+use Rattle.rtps_report.specs.Talk.{AreCounted, IsTalkAs, IsTalkOf, LeftOutValue, TalkValue, choice_of, is_counted, is_left_out, left_out_of, talks, traffic_of, unfit_in}
 use Rattle.rtps_report.specs.Ways.{ways_of_counted}
 use Rattle.std.proofs.Math.Path.{fun_ext}
 use Rattle.rtps_ids.specs.declared.identity.GuidPrefix.{GuidPrefix}
-use Rattle.rtps_policies.specs.declared.host.Host.{Host}
+use Rattle.rtps_ids.specs.declared.identity.Guid.{Guid}
+use Rattle.rtps_who.specs.Naming.{node_of, nodes_of_participant}
+use Rattle.rtps_who.specs.Samples.{NodeValue}
+use Rattle.rtps_report.specs.Ends.{EndValue, end_of, recorded_in}
 use Rattle.rtps_policies.specs.declared.silence.Silence.{Silence}
 use Rattle.rtps_report.specs.declared.participant.Participant.{Participant}
 use Rattle.rtps_report.specs.declared.ways.Ways.{Ways}
@@ -146,14 +149,17 @@ talk_once unique asked theirs recording times one other is also =
     let intake = intake_as Read recording in
     let same : is.directory ≡ also.directory = unique traffic.announcing is.directory also.directory is.is_map also.is_map in
     let entries = also.directory.endpoints in
-    let unfit = λ (of : DirectoryValue). unfit_in asked traffic of.endpoints in
-    let count = λ (of : DirectoryValue). filter (is_counted asked traffic (unfit of) of.endpoints) (matches_among (settled_in of.endpoints)) in
-    let leave = λ (of : DirectoryValue). map (left_out_of of.endpoints) (filter (is_left_out asked traffic (unfit of) of.endpoints) (matches_among (settled_in of.endpoints))) in
+    let chosen = λ (of : DirectoryValue). choice_of asked recording of.endpoints in
+    let unfit = λ (of : DirectoryValue). unfit_in (chosen of) traffic of.endpoints in
+    let count = λ (of : DirectoryValue). filter (is_counted (chosen of) traffic (unfit of) of.endpoints) (matches_among (settled_in of.endpoints)) in
+    let leave = λ (of : DirectoryValue). map (left_out_of of.endpoints) (filter (is_left_out (chosen of) traffic (unfit of) of.endpoints) (matches_among (settled_in of.endpoints))) in
     let moved = subst (λ (of : DirectoryValue). AreCounted asked theirs intake of.endpoints (count of) is.best_effort.counted) same is.best_effort.are_counted in
     let counted : is.best_effort.counted ≡ also.best_effort.counted =
     one_counted unique asked theirs intake entries (count also.directory) is.best_effort.counted also.best_effort.counted moved also.best_effort.are_counted in
     record {
-      hosts = λ prefix. is.hosts prefix ∙ sym (also.hosts prefix);
+      ends = λ guid. is.ends guid ∙ ap (λ (of : DirectoryValue). end_of (recorded_in intake of.endpoints) guid) same ∙ sym (also.ends guid);
+      node = λ guid. is.node guid ∙ ap (λ (of : DirectoryValue). node_of (recorded_in intake of.endpoints) guid) same ∙ sym (also.node guid);
+      nodes = λ prefix. is.nodes prefix ∙ ap (λ (of : DirectoryValue). nodes_of_participant (recorded_in intake of.endpoints) prefix) same ∙ sym (also.nodes prefix);
       silence = λ pair. is.silence pair ∙ sym (also.silence pair);
       unmatched = is.unmatched ∙ ap (λ (of : DirectoryValue). filter (λ (one : UnmatchedValue). not (talks intake (pair_of one))) (unfit of)) same ∙ sym also.unmatched;
       talking = is.talking ∙ ap (λ (of : DirectoryValue). filter (λ (one : UnmatchedValue). talks intake (pair_of one)) (unfit of)) same ∙ sym also.talking;
@@ -176,11 +182,13 @@ one_talk unique asked theirs recording one other is also =
     talk_once unique asked theirs recording.datagrams recording.times one other is also
 
 -- what is told of who does not talk, by its parts
-abbrev talk_of : (GuidPrefix → Host) → (Pair → Silence) → List UnmatchedValue → List UnmatchedValue → List LeftOutValue → List OneWay → List BestEffortValue → BestEffortValue
+abbrev talk_of : (Guid → EndValue) → (Guid → Option NodeValue) → (GuidPrefix → List NodeValue) → (Pair → Silence) → List UnmatchedValue → List UnmatchedValue → List LeftOutValue → List OneWay → List BestEffortValue → BestEffortValue
     → List HeldValue → List BestEffortValue → BestEffortValue → Ways → List Participant → TalkValue
-talk_of hosts silence unmatched talking left_out one_way best_effort total held held_sums held_total ways participants =
+talk_of ends node nodes silence unmatched talking left_out one_way best_effort total held held_sums held_total ways participants =
     record {
-      hosts = hosts;
+      ends = ends;
+      node = node;
+      nodes = nodes;
       silence = silence;
       unmatched = unmatched;
       talking = talking;
@@ -198,8 +206,10 @@ talk_of hosts silence unmatched talking left_out one_way best_effort total held 
 -- what tells the same is the same
 pub same_talk : (one other : TalkValue) → TellSame one other → one ≡ other
 same_talk one other same =
-    let hosts : one.hosts ≡ other.hosts = fun_ext same.hosts in
+    let ends : one.ends ≡ other.ends = fun_ext same.ends in
+    let node : one.node ≡ other.node = fun_ext same.node in
+    let nodes : one.nodes ≡ other.nodes = fun_ext same.nodes in
     let silence : one.silence ≡ other.silence = fun_ext same.silence in
     λ i.
-    talk_of (hosts i) (silence i) (same.unmatched i) (same.talking i) (same.left_out i) (same.one_way i) (same.best_effort i) (same.best_effort_total i) (same.held i) (same.held_sums i)
+    talk_of (ends i) (node i) (nodes i) (silence i) (same.unmatched i) (same.talking i) (same.left_out i) (same.one_way i) (same.best_effort i) (same.best_effort_total i) (same.held i) (same.held_sums i)
     (same.held_total i) (same.ways i) (same.participants i)

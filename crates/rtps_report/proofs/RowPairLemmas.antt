@@ -24,9 +24,9 @@ use Rattle.rtps_discovery.proofs.Offered.{from_filter, from_map, guids_total, in
 use Rattle.rtps_policies.specs.Silence.{Traffic}
 use Rattle.rtps_policies.specs.Unmatched.{UnmatchedValue, pair_of, unmatched_value}
 use Rattle.rtps_report.specs.Asked.{AskedValue}
-use Rattle.rtps_report.specs.Rows.{is_named_by}
-use Rattle.rtps_report.specs.RowPairs.{AreRowPairs, IsJudged, IsRowPair, is_match_told, is_topic_asked}
-use Rattle.rtps_report.specs.Talk.{IsKeptOf, is_named, is_pair, is_unfit, talks, unfit_in}
+use Rattle.rtps_report.specs.Rows.{Choice, is_named_by}
+use Rattle.rtps_report.specs.RowPairs.{AreRowPairs, IsJudged, IsRowPair, is_match_told, is_pair_asked}
+use Rattle.rtps_report.specs.Talk.{IsKeptOf, choice_in, is_named, is_pair, is_unfit, talks, unfit_in}
 use Rattle.rtps_report.specs.Vocabulary.{Intake, Pair}
 use Rattle.rtps_report.specs.declared.talk.Talk.{Talk}
 use Rattle.rtps_report.proofs.TalkLemmas.{pair_alike}
@@ -108,49 +108,52 @@ from_three false false topic u n t = absurd (false≢true n)
 from_three false true false u n t = absurd (false≢true t)
 
 module _ (asked : AskedValue) (intake : Intake) (traffic : Traffic) (entries : Entries) (talk : Talk) (kept : IsKeptOf asked intake traffic entries talk) where
+  abbrev chosen : Choice
+  chosen = choice_in asked intake entries
+
   abbrev unfit : List UnmatchedValue
-  unfit = unfit_in asked traffic entries
+  unfit = unfit_in chosen traffic entries
 
   abbrev matches : List Pair
-  matches = filter (is_match_told talk asked.topics entries) (reliable_pairs (matches_among (settled_in entries)))
+  matches = filter (is_match_told talk chosen entries) (reliable_pairs (matches_among (settled_in entries)))
 
   abbrev talking : List Pair
-  talking = filter (is_topic_asked asked.topics entries) (map pair_of (map unmatched_value talk.talking.items))
+  talking = filter (is_pair_asked chosen entries) (map pair_of (map unmatched_value talk.talking.items))
 
   named_alike : (pair : Pair) → is_named_by talk.namings pair ≡ is_named traffic pair
   named_alike pair = ap (nat_lt 0) (kept.namings (record { source = pair.reader.prefix; dest = pair.writer.prefix }))
 
   of_match : (pair : Pair) → Contains matches pair → IsRowPair asked intake traffic entries pair
   of_match pair has =
-      let found = from_filter (is_match_told talk asked.topics entries) (reliable_pairs (matches_among (settled_in entries))) pair has in
-      let three = all_three (contains pair_cmp talk.unfit pair) (is_named_by talk.namings pair) (is_topic_asked asked.topics entries pair) found.1 in
+      let found = from_filter (is_match_told talk chosen entries) (reliable_pairs (matches_among (settled_in entries))) pair has in
+      let three = all_three (contains pair_cmp talk.unfit pair) (is_named_by talk.namings pair) (is_pair_asked chosen entries pair) found.1 in
       record {
-        topic = three.2;
+        chosen = three.2;
         judged = subst (λ b. IsJudged b intake traffic entries pair) (sym (sym (kept.unfit pair) ∙ three.0)) (found.0, sym (named_alike pair) ∙ three.1);
       }
 
   of_talking : (pair : Pair) → Contains talking pair → IsRowPair asked intake traffic entries pair
   of_talking pair has =
-      let found = from_filter (is_topic_asked asked.topics entries) (map pair_of (map unmatched_value talk.talking.items)) pair has in
+      let found = from_filter (is_pair_asked chosen entries) (map pair_of (map unmatched_value talk.talking.items)) pair has in
       let made = from_map pair_of (map unmatched_value talk.talking.items) pair found.0 in
       let two = (unfit_tested (talks intake) unfit pair).0
       (subst (λ those. is_unfit those pair ≡ true) kept.talking (unfit_back (map unmatched_value talk.talking.items) pair made.0 made.1 made.2)) in
-      record { topic = found.1; judged = subst (λ b. IsJudged b intake traffic entries pair) (sym two.0) two.1 }
+      record { chosen = found.1; judged = subst (λ b. IsJudged b intake traffic entries pair) (sym two.0) two.1 }
 
   told_there : (pair : Pair) → Contains matches pair ⊎ Contains talking pair → IsRowPair asked intake traffic entries pair
   told_there pair (inl has) = of_match pair has
   told_there pair (inr has) = of_talking pair has
 
-  told_back : (pair : Pair) (is : Bool) → is_unfit unfit pair ≡ is → is_topic_asked asked.topics entries pair ≡ true → IsJudged is intake traffic entries pair → Contains (matches ++ talking) pair
+  told_back : (pair : Pair) (is : Bool) → is_unfit unfit pair ≡ is → is_pair_asked chosen entries pair ≡ true → IsJudged is intake traffic entries pair → Contains (matches ++ talking) pair
   told_back pair true is topic said =
       let those = map unmatched_value talk.talking.items in
       let found = unfit_there those pair (subst (λ all. is_unfit all pair ≡ true) (sym kept.talking) ((unfit_tested (talks intake) unfit pair).1 (is, said))) in
       let there = subst (Contains (map pair_of those)) found.2 (into_map pair_of those found.0 found.1) in
-      Contains-append_right matches talking pair (into_filter (is_topic_asked asked.topics entries) (map pair_of those) pair there topic)
+      Contains-append_right matches talking pair (into_filter (is_pair_asked chosen entries) (map pair_of those) pair there topic)
   told_back pair false is topic said =
       Contains-append_left matches talking pair
-      (into_filter (is_match_told talk asked.topics entries) (reliable_pairs (matches_among (settled_in entries))) pair said.0
-      (from_three (contains pair_cmp talk.unfit pair) (is_named_by talk.namings pair) (is_topic_asked asked.topics entries pair) (kept.unfit pair ∙ is) (named_alike pair ∙ said.1) topic))
+      (into_filter (is_match_told talk chosen entries) (reliable_pairs (matches_among (settled_in entries))) pair said.0
+      (from_three (contains pair_cmp talk.unfit pair) (is_named_by talk.namings pair) (is_pair_asked chosen entries pair) (kept.unfit pair ∙ is) (named_alike pair ∙ said.1) topic))
 
   -- sorted, and each once, by a test that tells them apart
   pub rows_are : (same : Pair → Pair → Bool) → ((one other : Pair) → same one other ≡ eq_by_cmp pair_cmp one other) → (sorted pairs : List Pair)
@@ -171,6 +174,6 @@ module _ (asked : AskedValue) (intake : Intake) (traffic : Traffic) (entries : E
               (Contains-from_dedup same sorted pair (subst (λ those. Contains those pair) is has)))),
           λ row.
               subst (λ those. Contains those pair) (sym is) (Contains-dedup test exact sorted pair (Contains-permutation (matches ++ talking) sorted pair moved
-              (told_back pair (is_unfit unfit pair) refl row.topic row.judged))),
+              (told_back pair (is_unfit unfit pair) refl row.chosen row.judged))),
         );
       }

@@ -47,10 +47,9 @@ use Rattle.rtps_policies.specs.declared.host.Host.{Host}
 use Rattle.rtps_policies.specs.declared.naming.Naming.{Naming}
 use Rattle.rtps_policies.specs.declared.naming.Namings.{Namings}
 use Rattle.rtps_policies.specs.declared.unmatched.Unmatched.{Unmatched}
-use Rattle.rtps_report.specs.Asked.{AskedValue}
 use Rattle.rtps_report.specs.BestEfforts.{AreSumsOf, CountedValue, arrived_among, best_effort_value, counted_value, held_among, held_value, total_of}
 use Rattle.rtps_report.specs.Participants.{AreJoined, announces, host_known, is_silent, is_that, left_of, participant_told, place_of}
-use Rattle.rtps_report.specs.Rows.{fits_one}
+use Rattle.rtps_report.specs.Rows.{Choice}
 use Rattle.rtps_report.specs.Stays.{latest_of, stay_of}
 use Rattle.rtps_report.specs.Talk.{AreCounted, AreUnfit, IsKeptOf, IsPairCounted, IsTalkOf, LeftOutValue, is_asked, is_counted, is_counted_by, is_counted_of, is_left_out, is_left_out_by, is_left_out_of, is_pair, is_unfit, left_out_of, left_out_value, talk_value, talks, traffic_of, unfit_in}
 use Rattle.rtps_report.specs.Ways.{ways_of_counted}
@@ -178,38 +177,38 @@ unfit_more unmatched i one pair old new within read added so_far =
 -- ---- pairs of best effort
 
 -- the same matches are counted by what is kept
-pub counted_alike : (asked : AskedValue) (traffic : Traffic) (unmatched : List UnmatchedValue) (entries : Entries) (unfit : BTreeSet Pair) (namings : Namings)
+pub counted_alike : (chosen : Choice) (traffic : Traffic) (unmatched : List UnmatchedValue) (entries : Entries) (unfit : BTreeSet Pair) (namings : Namings)
     → AreUnfit unmatched unfit → AreNamingsOf traffic.datagrams namings → (matches : List Match)
-    → filter (is_counted_of unfit namings asked entries) matches ≡ filter (is_counted asked traffic unmatched entries) matches
-counted_alike asked traffic unmatched entries unfit namings are counts matches =
-    filter_agree (is_counted_of unfit namings asked entries) (is_counted asked traffic unmatched entries)
+    → filter (is_counted_of unfit namings chosen entries) matches ≡ filter (is_counted chosen traffic unmatched entries) matches
+counted_alike chosen traffic unmatched entries unfit namings are counts matches =
+    filter_agree (is_counted_of unfit namings chosen entries) (is_counted chosen traffic unmatched entries)
     (λ (found : Match).
     let naming : Naming = record { source = found.pair.reader.prefix; dest = found.pair.writer.prefix } in
     let fit = are found.pair in
     let named = counts naming in
-    λ i. not found.reliable && (not (fit i) && (fits_one asked.topics (topic_of (settled_at entries found.pair.writer)) && nat_lt 0 (named i)))) matches
+    λ i. not found.reliable && (not (fit i) && (chosen (topic_of (settled_at entries found.pair.writer)) found.pair && nat_lt 0 (named i)))) matches
 
 -- a match is counted by the topic that is looked up for it
-pub counted_by_topic : (unfit : BTreeSet Pair) (namings : Namings) (asked : AskedValue) (found : Match) (topic own : List ℕ) (is : Bool) → topic ≡ own
-    → is ≡ is_counted_by unfit namings asked topic found → is_counted_by unfit namings asked own found ≡ is
-counted_by_topic unfit namings asked found topic own is same by = ap (λ t. is_counted_by unfit namings asked t found) (sym same) ∙ sym by
+pub counted_by_topic : (unfit : BTreeSet Pair) (namings : Namings) (chosen : Choice) (found : Match) (topic own : List ℕ) (is : Bool) → topic ≡ own
+    → is ≡ is_counted_by unfit namings chosen topic found → is_counted_by unfit namings chosen own found ≡ is
+counted_by_topic unfit namings chosen found topic own is same by = ap (λ t. is_counted_by unfit namings chosen t found) (sym same) ∙ sym by
 
 -- the same matches are left out by what is kept
-pub left_alike : (asked : AskedValue) (traffic : Traffic) (unmatched : List UnmatchedValue) (entries : Entries) (unfit : BTreeSet Pair) (namings : Namings)
+pub left_alike : (chosen : Choice) (traffic : Traffic) (unmatched : List UnmatchedValue) (entries : Entries) (unfit : BTreeSet Pair) (namings : Namings)
     → AreUnfit unmatched unfit → AreNamingsOf traffic.datagrams namings → (matches : List Match)
-    → filter (is_left_out_of unfit namings asked entries) matches ≡ filter (is_left_out asked traffic unmatched entries) matches
-left_alike asked traffic unmatched entries unfit namings are counts matches =
-    filter_agree (is_left_out_of unfit namings asked entries) (is_left_out asked traffic unmatched entries)
+    → filter (is_left_out_of unfit namings chosen entries) matches ≡ filter (is_left_out chosen traffic unmatched entries) matches
+left_alike chosen traffic unmatched entries unfit namings are counts matches =
+    filter_agree (is_left_out_of unfit namings chosen entries) (is_left_out chosen traffic unmatched entries)
     (λ (found : Match).
     let naming : Naming = record { source = found.pair.reader.prefix; dest = found.pair.writer.prefix } in
     let fit = are found.pair in
     let named = counts naming in
-    λ i. not (fit i) && (fits_one asked.topics (topic_of (settled_at entries found.pair.writer)) && not (nat_lt 0 (named i)))) matches
+    λ i. not (fit i) && (chosen (topic_of (settled_at entries found.pair.writer)) found.pair && not (nat_lt 0 (named i)))) matches
 
 -- a match is left out by the topic that is looked up for it
-pub left_by_topic : (unfit : BTreeSet Pair) (namings : Namings) (asked : AskedValue) (found : Match) (topic own : List ℕ) (is : Bool) → topic ≡ own
-    → is ≡ is_left_out_by unfit namings asked topic found → is_left_out_by unfit namings asked own found ≡ is
-left_by_topic unfit namings asked found topic own is same by = ap (λ t. is_left_out_by unfit namings asked t found) (sym same) ∙ sym by
+pub left_by_topic : (unfit : BTreeSet Pair) (namings : Namings) (chosen : Choice) (found : Match) (topic own : List ℕ) (is : Bool) → topic ≡ own
+    → is ≡ is_left_out_by unfit namings chosen topic found → is_left_out_by unfit namings chosen own found ≡ is
+left_by_topic unfit namings chosen found topic own is same by = ap (λ t. is_left_out_by unfit namings chosen t found) (sym same) ∙ sym by
 
 -- what is told of a match that is left out
 pub left_is : (entries : Entries) (found : Match) (one : LeftOut) → one.topic.now ≡ topic_of (settled_at entries found.pair.writer) → one.pair ≡ found.pair
@@ -323,60 +322,7 @@ heard_announced intake announcements announced same is =
 
 -- ---- all of it
 
-pub kept_unmatched : (asked : AskedValue) (found kept : List Unmatched) (all : List UnmatchedValue) → kept ≡ filter (λ (one : Unmatched). is_asked asked (unmatched_value one)) found
-    → map unmatched_value found ≡ all → map unmatched_value kept ≡ filter (is_asked asked) all
-kept_unmatched asked found kept all is same =
-    ap (map unmatched_value) is ∙ map_filter unmatched_value (is_asked asked) found ∙ ap (filter (is_asked asked)) same
-
--- what is kept, by those that were found not to match
-pub kept_is : (asked : AskedValue) (intake : Intake) (traffic : Traffic) (entries : Entries) (talk : Talk) (found : List UnmatchedValue) → found ≡ unfit_in asked traffic entries
-    → AreUnfit found talk.unfit → AreNamingsOf traffic.datagrams talk.namings → map unmatched_value talk.talking.items ≡ filter (λ one. talks intake (pair_of one)) found
-    → IsKeptOf asked intake traffic entries talk
-kept_is asked intake traffic entries talk found same unfit namings talking =
-    record {
-      unfit = subst (λ those. AreUnfit those talk.unfit) same unfit;
-      namings = namings;
-      talking = talking ∙ ap (filter (λ (one : UnmatchedValue). talks intake (pair_of one))) same;
-    }
-
-pub talk_is : (asked : AskedValue) (other : Option OtherRecording) (recording : List (List ℕ)) (times : TimesValue) (directory : DirectoryValue) (talk : Talk) (counted : List CountedValue)
-    → IsMapOf (traffic_of recording).announcing directory → IsAnnouncedBy (traffic_of recording).announcing talk.announced
-    → IsKeptOf asked (intake_as Read recording) (traffic_of recording) directory.endpoints talk
-    → map unmatched_value talk.unmatched.items ≡ filter (λ one. not (talks (intake_as Read recording) (pair_of one))) (unfit_in asked (traffic_of recording) directory.endpoints)
-    → map left_out_value talk.left_out.items
-    ≡ map (left_out_of directory.endpoints) (filter (is_left_out_of talk.unfit talk.namings asked directory.endpoints) (matches_among (settled_in directory.endpoints)))
-    → AreOneWayIn (traffic_of recording) talk.one_way.items
-    → AreCounted asked other (intake_as Read recording) directory.endpoints
-    (filter (is_counted_of talk.unfit talk.namings asked directory.endpoints) (matches_among (settled_in directory.endpoints))) counted
-    → AreSumsOf counted (map best_effort_value talk.best_effort.items) → best_effort_value talk.best_effort_total ≡ total_of counted
-    → map held_value talk.held.items ≡ held_among counted
-    → AreSumsOf (arrived_among counted) (map best_effort_value talk.held_sums.items) → best_effort_value talk.held_total ≡ total_of (arrived_among counted)
-    → talk.ways ≡ ways_of_counted counted
-    → talk.participants.items ≡ map (participant_told (intake_as Read recording) recording times) directory.participants
-    → IsTalkOf asked other recording times (talk_value talk)
-talk_is asked other recording times directory talk counted map_of announced kept unmatched left one_way are sums total held held_sums held_total ways participants =
-    let traffic = traffic_of recording in
-    let unfit = unfit_in asked traffic directory.endpoints in
-    let matches = matches_among (settled_in directory.endpoints) in
-    let alike = counted_alike asked traffic unfit directory.endpoints talk.unfit talk.namings kept.unfit kept.namings matches in
-    record {
-      directory = directory;
-      is_map = map_of;
-      hosts = hosts_are traffic.announcing talk.announced announced;
-      silence = silence_is traffic talk.announced talk.namings announced kept.namings;
-      unmatched = unmatched;
-      talking = kept.talking;
-      left_out = left ∙ ap (map (left_out_of directory.endpoints)) (left_alike asked traffic unfit directory.endpoints talk.unfit talk.namings kept.unfit kept.namings matches);
-      one_way = one_way;
-      best_effort = record {
-        counted = counted;
-        are_counted = subst (λ matches. AreCounted asked other (intake_as Read recording) directory.endpoints matches counted) alike are;
-        are_sums = sums;
-        is_total = total;
-        are_held = held;
-        are_held_sums = held_sums;
-        is_held_total = held_total;
-        are_ways = ways;
-      };
-      participants = participants;
-    }
+pub kept_unmatched : (chosen : Choice) (found kept : List Unmatched) (all : List UnmatchedValue) → kept ≡ filter (λ (one : Unmatched). is_asked chosen (unmatched_value one)) found
+    → map unmatched_value found ≡ all → map unmatched_value kept ≡ filter (is_asked chosen) all
+kept_unmatched chosen found kept all is same =
+    ap (map unmatched_value) is ∙ map_filter unmatched_value (is_asked chosen) found ∙ ap (filter (is_asked chosen)) same

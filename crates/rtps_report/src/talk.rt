@@ -45,7 +45,7 @@ use rtps_policies::{
     unmatched_pairs,
 };
 use rtps_who::{Node, Who};
-use std::alloc::Global;
+use std::alloc::{AllocError, Global};
 use std::collections::BTreeSet;
 
 /// Who does not talk, and what is known of those who do beside their rows.
@@ -120,7 +120,7 @@ impl<'a> Talk<'a> {
     }
 
     /// The nodes of a participant.
-    pub fn nodes(&self, alloc: Global, prefix: GuidPrefix) -> Result<Vec<Node<'a>>, Memory>
+    pub fn nodes(&self, alloc: Global, prefix: GuidPrefix) -> Result<Vec<Node<'a>>, AllocError>
         ensures { IfOk result (λ nodes. map node_value nodes.items ≡ (talk_value self.now).nodes prefix) }
     {
         self.who.nodes(alloc, prefix)

@@ -18,15 +18,18 @@ use Rattle.rtps_report.specs.RowFacts.{is_clean, outcomes_of}
 use Rattle.rtps_report.specs.Silences.{silences_of}
 use Rattle.rtps_report.specs.Talk.{TalkValue, talk_value}
 use Rattle.rtps_lines.specs.CheckMembers.{report_last}
+use Rattle.rtps_lines.specs.EndText.{paired_text}
 use Rattle.rtps_lines.specs.Lines.{line_of, verdict_text, acknowledged_line, advice_text, announced_line, asked_line, claimed_line, inner_line, kind_text, place_comma, place_text, questions_line, second_text, sent_line, silence_lines, told_line, wait_text}
 use Rattle.rtps_lines.specs.NumberRanges.{lost_lines}
-use Rattle.rtps_parts.specs.Names.{guid_text, name_text}
+use Rattle.rtps_parts.specs.Names.{name_text}
 use Rattle.rtps_text.specs.declared.text.why_text.RowTelling.{RowTelling}
 use Rattle.rtps_text.specs.ReportText.{pairs_line, report_counts_line}
 
 -- the line of a pair with its verdict
-abbrev pub pair_line : ExplanationValue → List ℕ
-pair_line row = line_of (codes "pair" ∷ guid_text row.pair.writer ∷ guid_text row.pair.reader ∷ verdict_text row.evidence.verdict ∷ [])
+abbrev pub pair_line : TalkValue → ExplanationValue → List ℕ
+pair_line talk row =
+    line_of (codes "pair" ∷ paired_text row.pair.writer (talk.ends row.pair.writer) ∷ paired_text row.pair.reader (talk.ends row.pair.reader)
+    ∷ verdict_text row.evidence.verdict ∷ [])
 
 -- the line of the names of its topic and its type
 abbrev pub names_line : List ℕ → List ℕ → List ℕ
@@ -96,16 +99,15 @@ rest_lines times evidence =
     ++ (not_received_line times evidence.not_received
     ++ shown_by times (number_of evidence.verdict) evidence.grounds)))
 
--- the lines of a pair
+-- the lines behind that of a pair
 abbrev pub explanation_text : TimesValue → ExplanationValue → List ℕ
 explanation_text times row =
-    pair_line row
-    ++ (names_line row.topic row.type_name
+    names_line row.topic row.type_name
     ++ (span_line times row.evidence.in_span
     ++ (announced_line times row.evidence.announcement
     ++ (acknowledged_line times row.evidence.acknowledgement
     ++ (amounts_line row.evidence.payloads row.evidence.gone row.evidence.untold
-    ++ rest_lines times row.evidence)))))
+    ++ rest_lines times row.evidence))))
 
 -- a line of a sentence
 abbrev pub sentence_line : List ℕ → List ℕ
@@ -145,10 +147,11 @@ advice_line told row =
 -- all lines of a pair
 abbrev pub row_text : RowTold → ExplanationValue → List ℕ
 row_text told row =
-    explanation_text told.times row
+    pair_line told.talk row
+    ++ (explanation_text told.times row
     ++ (numbers_lines told row
     ++ (wait_line told.times row.evidence.in_span
-    ++ (flat_map sentence_line (silence_lines told.times (silences_of told.talk row.pair)) ++ advice_line told row)))
+    ++ (flat_map sentence_line (silence_lines told.times (silences_of told.talk row.pair)) ++ advice_line told row))))
 
 -- by what the rows of this report are told
 abbrev pub report_told : AskedValue → RecordingValue → ReportValue → RowTold

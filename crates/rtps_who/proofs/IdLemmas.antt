@@ -11,6 +11,7 @@ use Rattle.std.proofs.lemmas.Map.Views.{tells_apart}
 use Rattle.rtps_ids.specs.declared.identity.Guid.{Guid}
 use Rattle.rtps_ids.specs.declared.identity.GuidPrefix.{GuidPrefix}
 use Rattle.rtps_discovery.specs.GuidOrder.{guid_cmp}
+use Rattle.rtps_discovery.proofs.Offered.{guids_total}
 use Rattle.rtps_who.specs.Introducing.{prefix_cmp}
 
 guid_of_parts : List ℕ × List ℕ → Guid
@@ -44,3 +45,17 @@ prefixes_alike one other = by (is_at (prefix_cmp one) other) (is_at (prefix_cmp 
     by false true e f =
         let same : other ≡ one = tells_apart exact_prefixes other one f in
         absurd (false≢true (sym e ∙ ap (λ p. is_at (prefix_cmp one) p) same ∙ (eq_by_cmp_equiv prefixes_total).refl one))
+
+-- one GUID is the other exactly where the other is the one
+pub guids_alike : (one other : Guid) → is_at (guid_cmp one) other ≡ is_at (guid_cmp other) one
+guids_alike one other = by (is_at (guid_cmp one) other) (is_at (guid_cmp other) one) refl refl
+  where
+    by : (there back : Bool) → is_at (guid_cmp one) other ≡ there → is_at (guid_cmp other) one ≡ back → there ≡ back
+    by true true e f = refl
+    by false false e f = refl
+    by true false e f =
+        let same : one ≡ other = tells_apart exact_guids one other e in
+        absurd (false≢true (sym f ∙ ap (λ p. is_at (guid_cmp other) p) same ∙ (eq_by_cmp_equiv guids_total).refl other))
+    by false true e f =
+        let same : other ≡ one = tells_apart exact_guids other one f in
+        absurd (false≢true (sym e ∙ ap (λ p. is_at (guid_cmp one) p) same ∙ (eq_by_cmp_equiv guids_total).refl one))

@@ -25,16 +25,16 @@ rest_stop front count counter rest less is =
 rest_end : {X : Type 0} (front : List ℕ → Option (X × List ℕ)) (count counter : ℕ) (rest : List ℕ) → count ≤ counter → rest_behind front (count - counter) rest ≡ Some rest
 rest_end front count counter rest all = ap (λ n. rest_behind front n rest) (none_left count counter all)
 
-items_step : {X : Type 0} (front : List ℕ → Option (X × List ℕ)) (count counter : ℕ) (rest : List ℕ) (found : X × List ℕ) → counter < count → Some found ≡ front rest
+pub items_step : {X : Type 0} (front : List ℕ → Option (X × List ℕ)) (count counter : ℕ) (rest : List ℕ) (found : X × List ℕ) → counter < count → Some found ≡ front rest
     → items_in front (count - counter) rest ≡ found.0 ∷ items_in front (count - (counter + 1)) found.1
 items_step front count counter rest found less is =
     ap (λ n. items_in front n rest) (one_more count counter less) ∙ ap (λ one. item_before one (items_in front (count - (counter + 1)) (behind_of one))) (sym is)
 
-items_stop : {X : Type 0} (front : List ℕ → Option (X × List ℕ)) (count counter : ℕ) (rest : List ℕ) → counter < count → None ≡ front rest → items_in front (count - counter) rest ≡ []
+pub items_stop : {X : Type 0} (front : List ℕ → Option (X × List ℕ)) (count counter : ℕ) (rest : List ℕ) → counter < count → None ≡ front rest → items_in front (count - counter) rest ≡ []
 items_stop front count counter rest less is =
     ap (λ n. items_in front n rest) (one_more count counter less) ∙ ap (λ one. item_before one (items_in front (count - (counter + 1)) (behind_of one))) (sym is)
 
-items_end : {X : Type 0} (front : List ℕ → Option (X × List ℕ)) (count counter : ℕ) (rest : List ℕ) → count ≤ counter → items_in front (count - counter) rest ≡ []
+pub items_end : {X : Type 0} (front : List ℕ → Option (X × List ℕ)) (count counter : ℕ) (rest : List ℕ) → count ≤ counter → items_in front (count - counter) rest ≡ []
 items_end front count counter rest all = ap (λ n. items_in front n rest) (none_left count counter all)
 
 -- ---- what is behind all of them

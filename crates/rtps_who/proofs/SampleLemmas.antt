@@ -5,7 +5,7 @@ use Rattle.std.specs.Option.{option_map}
 use Rattle.rtps_ids.specs.declared.order.Order.{Order}
 use Rattle.rtps_params.specs.Values.{u32_of}
 use Rattle.rtps_who.specs.Items.{behind_of, item_before, items_in, rest_behind}
-use Rattle.rtps_who.specs.Samples.{EntryValue, SampleValue, SamplesHaveTheirNodes, front_entry, nodes_in, nodes_of, order_in, size_of, width_of}
+use Rattle.rtps_who.specs.Samples.{EntryValue, SampleValue, SamplesHaveTheirNodes, front_entry, nodes_in, nodes_of, only_among, order_in, size_of, width_of}
 use Rattle.rtps_who.specs.declared.gids.Width.{Width}
 
 items_count : {X : Type 0} (front : List ℕ → Option (X × List ℕ)) (count : ℕ) (octets rest : List ℕ) → rest_behind front count octets ≡ Some rest → length (items_in front count octets) ≡ count
@@ -16,25 +16,29 @@ items_count {X} front (suc count) octets rest is = by (λ behind. items_count fr
     by onward None is = absurd (let bad = is in cc)
     by onward (Some one) is = ap suc (onward one.1 is)
 
+-- the sample of so many nodes
+abbrev read_as : ℕ → List EntryValue → SampleValue
+read_as n entries = record { count = n; entries = entries; only = only_among n entries }
+
 nodes_count : (order : Order) (width : Width) (octets : List ℕ) (sample : SampleValue) → nodes_in order width octets ≡ Some sample → length sample.entries ≡ sample.count
 nodes_count order width octets sample is = counted (u32_of order octets) is
   where
     padded : (n : ℕ) (rest : List ℕ) (b : Bool) → rest_behind (front_entry order width) n (drop 4 octets) ≡ Some rest
-        → (if b then Some (record { count = n; entries = items_in (front_entry order width) n (drop 4 octets) }) else None) ≡ Some sample → length sample.entries ≡ sample.count
+        → (if b then Some (read_as n (items_in (front_entry order width) n (drop 4 octets))) else None) ≡ Some sample → length sample.entries ≡ sample.count
     padded n rest true was is =
-        let same : record { count = n; entries = items_in (front_entry order width) n (drop 4 octets) } ≡ sample = cc in
+        let same : read_as n (items_in (front_entry order width) n (drop 4 octets)) ≡ sample = cc in
         sym (ap (λ s. length s.entries) same) ∙ items_count (front_entry order width) n (drop 4 octets) rest was ∙ ap (λ s. s.count) same
     padded n rest false was is = absurd (let bad = is in cc)
 
     whole : (n : ℕ) (found : Option (List ℕ)) → rest_behind (front_entry order width) n (drop 4 octets) ≡ found
-        → option_and_then (λ (all : List EntryValue × List ℕ). if nat_le (length all.1) 3 then Some (record { count = n; entries = all.0 }) else None)
+        → option_and_then (λ (all : List EntryValue × List ℕ). if nat_le (length all.1) 3 then Some (read_as n all.0) else None)
         (option_map (λ (rest : List ℕ). (items_in (front_entry order width) n (drop 4 octets), rest)) found) ≡ Some sample
         → length sample.entries ≡ sample.count
     whole n None was is = absurd (let bad = is in cc)
     whole n (Some rest) was is = padded n rest (nat_le (length rest) 3) was is
 
     counted : (count : Option ℕ)
-        → option_and_then (λ (n : ℕ). option_and_then (λ (all : List EntryValue × List ℕ). if nat_le (length all.1) 3 then Some (record { count = n; entries = all.0 }) else None)
+        → option_and_then (λ (n : ℕ). option_and_then (λ (all : List EntryValue × List ℕ). if nat_le (length all.1) 3 then Some (read_as n all.0) else None)
         (option_map (λ (rest : List ℕ). (items_in (front_entry order width) n (drop 4 octets), rest)) (rest_behind (front_entry order width) n (drop 4 octets)))) count ≡ Some sample
         → length sample.entries ≡ sample.count
     counted None is = absurd (let bad = is in cc)

@@ -33,7 +33,7 @@ on_ok P Q (Err e) follows holds = holds
 
 -- ---- the first value of a GUID
 
-lookup_append : {X : Type 0} (test : Guid → Bool) (xs ys : List (Guid × X)) → lookup test (xs ++ ys) ≡ option_or (lookup test xs) (lookup test ys)
+pub lookup_append : {X : Type 0} (test : Guid → Bool) (xs ys : List (Guid × X)) → lookup test (xs ++ ys) ≡ option_or (lookup test xs) (lookup test ys)
 lookup_append test [] ys = refl
 lookup_append test (x ∷ xs) ys = by (test x.0) (lookup_append test xs ys)
   where

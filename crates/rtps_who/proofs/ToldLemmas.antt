@@ -4,9 +4,10 @@ use Rattle.std.specs.BTreeMap.{is_at}
 use Rattle.std.specs.BTreeSet.{BTreeSet, contains}
 use Rattle.std.specs.List.{cons_option, filter_map}
 use Rattle.std.specs.Map.{lookup}
-use Rattle.std.specs.Option.{option_map, option_to_list}
+use Rattle.std.specs.Option.{option_map, option_or, option_to_list}
 use Rattle.std.specs.Ordering.{is_eq}
 use Rattle.std.proofs.Math.Bool.{or-false}
+use Rattle.std.proofs.lemmas.Grind.{flat_map-append}
 use Rattle.std.proofs.lemmas.List.{reverse-append}
 use Rattle.std.proofs.lemmas.List.Elements.{filter_map-append}
 use Rattle.std.proofs.lemmas.Map.Views.{tells_apart}
@@ -16,13 +17,15 @@ use Rattle.rtps_receiver.specs.Values.{ActValue}
 use Rattle.rtps_discovery.specs.Endpoint.{EndpointValue}
 use Rattle.rtps_discovery.specs.GuidOrder.{guid_cmp}
 use Rattle.rtps_who.specs.Introducing.{KeepsService, KeepsTeller, prefix_cmp, tells_nodes}
-use Rattle.rtps_who.specs.Samples.{sample_value}
+use Rattle.rtps_who.specs.Listings.{Lists, last_listed, listings_among, listings_in}
+use Rattle.rtps_who.specs.Samples.{SampleValue, sample_value}
 use Rattle.rtps_who.specs.Services.{service_of, service_value, with_name}
 use Rattle.rtps_who.specs.Telling.{IsToldBy, last_of, nodes_by, nodes_told}
 use Rattle.rtps_who.specs.declared.sample.Sample.{Sample}
 use Rattle.rtps_who.specs.declared.service.Service.{Service}
 use Rattle.rtps_who.specs.declared.told_nodes.ToldNodes.{ToldNodes}
 use Rattle.rtps_who.proofs.IdLemmas.{exact_prefixes, prefixes_alike}
+use Rattle.rtps_who.proofs.ListingLemmas.{last_append}
 
 -- what follows from what success gives
 pub if_ok : {X E : Type 0} (P Q : X → Type 0) (r : Result X E) → ((x : X) → P x → Q x) → IfOk r P → IfOk r Q
@@ -73,30 +76,54 @@ service_more old new endpoint name kept more named kept_is more_is updates prefi
 
 -- ---- samples
 
-told_more_is : (announcing acts : List ActValue) (act : ActValue) (prefix : GuidPrefix)
-    → nodes_by announcing (acts ++ act ∷ []) prefix ≡ last_of prefix (filter_map (nodes_told announcing) acts ++ cons_option (nodes_told announcing act) [])
-told_more_is announcing acts act prefix = ap (last_of prefix) (filter_map-append (nodes_told announcing) acts (act ∷ []))
+told_more_is : (announcing acts : List ActValue) (act : ActValue) → filter_map (nodes_told announcing) (acts ++ act ∷ []) ≡ filter_map (nodes_told announcing) acts ++ cons_option (nodes_told announcing act) []
+told_more_is announcing acts act = filter_map-append (nodes_told announcing) acts (act ∷ [])
+
+-- what is told where an act tells nothing
+told_same : (announcing acts : List ActValue) (act : ActValue) → None ≡ nodes_told announcing act → filter_map (nodes_told announcing) acts ≡ filter_map (nodes_told announcing) (acts ++ act ∷ [])
+told_same announcing acts act none =
+    sym (append-nil (filter_map (nodes_told announcing) acts)) ∙ ap (λ o. filter_map (nodes_told announcing) acts ++ cons_option o []) none ∙ sym (told_more_is announcing acts act)
+
+-- and where it tells a sample
+told_with : (announcing acts : List ActValue) (act : ActValue) (told : GuidPrefix × SampleValue) → Some told ≡ nodes_told announcing act
+    → filter_map (nodes_told announcing) acts ++ told ∷ [] ≡ filter_map (nodes_told announcing) (acts ++ act ∷ [])
+told_with announcing acts act told is = ap (λ o. filter_map (nodes_told announcing) acts ++ cons_option o []) is ∙ sym (told_more_is announcing acts act)
 
 pub nothing_told : (announcing acts : List ActValue) (act : ActValue) (told : ToldNodes) → None ≡ nodes_told announcing act → IsToldBy announcing acts told → IsToldBy announcing (acts ++ act ∷ []) told
-nothing_told announcing acts act told none were prefix =
-    were prefix ∙ ap (last_of prefix) (sym (append-nil (filter_map (nodes_told announcing) acts)))
-    ∙ ap (λ o. last_of prefix (filter_map (nodes_told announcing) acts ++ cons_option o [])) none ∙ sym (told_more_is announcing acts act prefix)
+nothing_told announcing acts act told none were =
+    record {
+      samples = λ prefix. were.samples prefix ∙ ap (last_of prefix) (told_same announcing acts act none);
+      listed = λ guid. were.listed guid ∙ ap (λ samples. last_listed guid (listings_among samples)) (told_same announcing acts act none);
+    }
 
 last_push : {X : Type 0} (prefix : GuidPrefix) (told : List (GuidPrefix × X)) (one : GuidPrefix × X)
     → last_of prefix (told ++ one ∷ []) ≡ cond (is_at (prefix_cmp prefix) one.0) (Some one.1) (last_of prefix told)
 last_push prefix told one = ap (lookup (is_at (prefix_cmp prefix))) (reverse-append told (one ∷ []))
 
+-- the listings of one sample more
+listings_push : (guid : Guid) (told : List (GuidPrefix × SampleValue)) (one : GuidPrefix × SampleValue)
+    → option_or (last_listed guid (listings_in one.0 one.1)) (last_listed guid (listings_among told)) ≡ last_listed guid (listings_among (told ++ one ∷ []))
+listings_push guid told one =
+    sym (last_append guid (listings_among told) (listings_in one.0 one.1))
+    ∙ ap (λ l. last_listed guid (listings_among told ++ l)) (sym (append-nil (listings_in one.0 one.1)))
+    ∙ ap (last_listed guid) (sym (flat_map-append (λ (t : GuidPrefix × SampleValue). listings_in t.0 t.1) told (one ∷ [])))
+
 pub sample_told : (announcing acts : List ActValue) (act : ActValue) (old new : ToldNodes) (source : GuidPrefix) (sample : Sample) → Some (source, sample_value sample) ≡ nodes_told announcing act
     → ((prefix : GuidPrefix) → lookup (is_at (prefix_cmp prefix)) new.samples.entries ≡ cond (is_at (prefix_cmp source) prefix) (Some sample) (lookup (is_at (prefix_cmp prefix)) old.samples.entries))
-    → IsToldBy announcing acts old → IsToldBy announcing (acts ++ act ∷ []) new
-sample_told announcing acts act old new source sample is updates were prefix =
-    ap (option_map sample_value) (updates prefix) ∙ one (is_at (prefix_cmp source) prefix)
-    ∙ ap (λ x. cond (is_at (prefix_cmp source) prefix) (Some (sample_value sample)) x) (were prefix)
-    ∙ ap (λ b. cond b (Some (sample_value sample)) (nodes_by announcing acts prefix)) (prefixes_alike source prefix)
-    ∙ sym (last_push prefix (filter_map (nodes_told announcing) acts) (source, sample_value sample))
-    ∙ ap (λ o. last_of prefix (filter_map (nodes_told announcing) acts ++ cons_option o [])) is ∙ sym (told_more_is announcing acts act prefix)
+    → Lists old.listed.entries new.listed.entries (listings_in source (sample_value sample)) → IsToldBy announcing acts old → IsToldBy announcing (acts ++ act ∷ []) new
+sample_told announcing acts act old new source sample is updates lists were =
+    let told = filter_map (nodes_told announcing) acts in
+    let more = told_with announcing acts act (source, sample_value sample) is in
+    record {
+      samples = λ prefix. ap (option_map sample_value) (updates prefix) ∙ one prefix (is_at (prefix_cmp source) prefix)
+          ∙ ap (λ x. cond (is_at (prefix_cmp source) prefix) (Some (sample_value sample)) x) (were.samples prefix)
+          ∙ ap (λ b. cond b (Some (sample_value sample)) (nodes_by announcing acts prefix)) (prefixes_alike source prefix)
+          ∙ sym (last_push prefix told (source, sample_value sample)) ∙ ap (last_of prefix) more;
+      listed = λ guid. lists guid ∙ ap (option_or (last_listed guid (listings_in source (sample_value sample)))) (were.listed guid)
+          ∙ listings_push guid told (source, sample_value sample) ∙ ap (λ samples. last_listed guid (listings_among samples)) more;
+    }
   where
-    one : (b : Bool) → option_map sample_value (cond b (Some sample) (lookup (is_at (prefix_cmp prefix)) old.samples.entries))
+    one : (prefix : GuidPrefix) (b : Bool) → option_map sample_value (cond b (Some sample) (lookup (is_at (prefix_cmp prefix)) old.samples.entries))
         ≡ cond b (Some (sample_value sample)) (option_map sample_value (lookup (is_at (prefix_cmp prefix)) old.samples.entries))
-    one true = refl
-    one false = refl
+    one prefix true = refl
+    one prefix false = refl

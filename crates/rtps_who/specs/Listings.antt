@@ -6,14 +6,14 @@ use Rattle.std.specs.Map.{lookup}
 use Rattle.std.specs.Option.{option_map, option_or}
 use Rattle.rtps_ids.specs.declared.identity.Guid.{Guid}
 use Rattle.rtps_ids.specs.declared.identity.GuidPrefix.{GuidPrefix}
+use Rattle.rtps_receiver.specs.Speech.{is_prefix}
 use Rattle.rtps_discovery.specs.GuidOrder.{guid_cmp}
-use Rattle.rtps_who.specs.Prefixes.{is_of}
 use Rattle.rtps_who.specs.Samples.{EntryValue, NodeValue, SampleValue, node_value}
 use Rattle.rtps_who.specs.declared.node.Node.{Node}
 
 -- the endpoints of a participant among these, and the node that has them
 abbrev pub listings_of : GuidPrefix → NodeValue → List Guid → List (Guid × NodeValue)
-listings_of prefix node guids = map (λ guid. (guid, node)) (filter (is_of prefix) guids)
+listings_of prefix node guids = map (λ guid. (guid, node)) (filter (λ guid. is_prefix guid.prefix prefix) guids)
 
 -- those that a node lists, its readers first
 abbrev pub listings_by : GuidPrefix → EntryValue → List (Guid × NodeValue)

@@ -6,7 +6,6 @@ use Rattle.rtps_ids.specs.declared.identity.GuidPrefix.{GuidPrefix}
 use Rattle.rtps_receiver.specs.Speech.{is_entity}
 use Rattle.rtps_receiver.specs.Values.{ActValue}
 use Rattle.rtps_policies.specs.Announcing.{participant_of}
-use Rattle.rtps_policies.specs.declared.layout.entity.TheConstants.{PARTICIPANT}
 use Rattle.rtps_who.specs.Introducing.{process_among, service_names}
 use Rattle.rtps_who.specs.Processes.{ProcessValue, unknown_process}
 use Rattle.rtps_who.specs.Samples.{NodeValue, SampleValue, node_value, nodes_among}
@@ -59,7 +58,7 @@ node_of recorded guid = option_or (listing_node recorded guid) (only_node record
 
 -- the node of an end, an endpoint or a participant: of a participant the one that it has alone
 abbrev pub node_of_end : Recorded → Guid → Option NodeValue
-node_of_end recorded guid = if is_entity guid.entity PARTICIPANT then only_node recorded guid.prefix else node_of recorded guid
+node_of_end recorded guid = if is_entity guid.entity (participant_of guid.prefix).entity then only_node recorded guid.prefix else node_of recorded guid
 
 -- ---- titles
 

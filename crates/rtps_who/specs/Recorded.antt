@@ -5,7 +5,6 @@ use Rattle.rtps_ids.specs.declared.identity.Guid.{Guid}
 use Rattle.rtps_ids.specs.declared.identity.GuidPrefix.{GuidPrefix}
 use Rattle.rtps_receiver.specs.Speech.{is_entity}
 use Rattle.rtps_policies.specs.Announcing.{participant_of}
-use Rattle.rtps_policies.specs.declared.layout.entity.TheConstants.{PARTICIPANT}
 use Rattle.rtps_who.specs.Introducing.{IsIntroducedBy, process_kept, services_kept}
 use Rattle.rtps_who.specs.Naming.{Recorded, all_by, only_by}
 use Rattle.rtps_who.specs.Processes.{ProcessValue}
@@ -38,4 +37,4 @@ node_in who guid = option_or (listing_kept who.told guid) (only_in who guid.pref
 
 -- the node of an end
 abbrev pub node_of_end_in : Who → Guid → Option NodeValue
-node_of_end_in who guid = if is_entity guid.entity PARTICIPANT then only_in who guid.prefix else node_in who guid
+node_of_end_in who guid = if is_entity guid.entity (participant_of guid.prefix).entity then only_in who guid.prefix else node_in who guid

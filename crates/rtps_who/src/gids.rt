@@ -91,7 +91,7 @@ impl Gids<'_> {
         node: Node<'n>,
         listed: &mut BTreeMap<Guid, Node<'n>>,
     ) -> Result<(), Memory>
-        ensures { OnOk result (Lists listed.old.entries listed.new.entries (listings_of prefix (node_value node) (gids_value self.now))) }
+        ensures { OnOk result (Lists listed.old.entries listed.new.entries (listings_of prefix (node_value node.entry) (gids_value self.now))) }
     {
         let mut rest = self.octets;
         for _ in 0..self.count {
@@ -112,7 +112,7 @@ fn list_one<'n>(
     node: Node<'n>,
     guid: Guid,
 ) -> Result<(), Memory>
-    ensures { OnOk result (Lists listed.old.entries listed.new.entries (listings_of prefix (node_value node) (guid ∷ []))) }
+    ensures { OnOk result (Lists listed.old.entries listed.new.entries (listings_of prefix (node_value node.entry) (guid ∷ []))) }
 {
     if guid.prefix == prefix {
         listed.insert(guid, node)?;

@@ -12,7 +12,7 @@ use crate::layout::sequence::COUNT_SIZE;
 use crate::node::Node;
 use rtps_ids::{Guid, GuidPrefix, Memory, Order};
 use rtps_params::read_u32;
-use std::alloc::Global;
+use std::alloc::{AllocError, Global};
 use std::collections::BTreeMap;
 
 /// A sample of `ros_discovery_info`: the nodes of a participant, and the endpoints of each. Its nodes are parts of the payload.
@@ -119,7 +119,7 @@ impl<'a> Sample<'a> {
     }
 
     /// All its nodes.
-    pub(crate) fn nodes(&self, alloc: Global) -> Result<Vec<Node<'a>>, Memory>
+    pub(crate) fn nodes(&self, alloc: Global) -> Result<Vec<Node<'a>>, AllocError>
         ensures { IfOk result (λ nodes. map node_value nodes.items ≡ nodes_among (sample_value self.now)) }
     {
         let mut nodes = Vec::new(alloc);

@@ -10,9 +10,9 @@ use crate::node::Node;
 use crate::process::Process;
 use crate::title::Title;
 use crate::told_nodes::ToldNodes;
-use rtps_ids::{Guid, GuidPrefix, Memory};
+use rtps_ids::{Guid, GuidPrefix};
 use rtps_policies::participant_of;
-use std::alloc::Global;
+use std::alloc::{AllocError, Global};
 
 /// By which names people know the endpoints and the participants of a recording.
 #[derive(Drop)]
@@ -58,7 +58,7 @@ impl<'a> Who<'a> {
     }
 
     /// The nodes of a participant.
-    pub fn nodes(&self, alloc: Global, prefix: GuidPrefix) -> Result<Vec<Node<'a>>, Memory>
+    pub fn nodes(&self, alloc: Global, prefix: GuidPrefix) -> Result<Vec<Node<'a>>, AllocError>
         ensures kept { IfOk result (λ nodes. map node_value nodes.items ≡ nodes_in self.now prefix) }
         ensures told { IfOk result (λ nodes. (recorded : Recorded) → IsWhoIn recorded self.now → map node_value nodes.items ≡ nodes_of_participant recorded prefix) }
     {

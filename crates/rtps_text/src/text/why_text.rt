@@ -4,7 +4,8 @@ ghost use Rattle.rtps_evidence.specs.Grounds.{grounds_value};
 ghost use Rattle.rtps_report.specs.Asked.{asked_value};
 ghost use Rattle.rtps_report.specs.FullReport.{report_value};
 ghost use Rattle.rtps_report.specs.Reported.{number_of as number_of_lem};
-ghost use Rattle.rtps_text.specs.WhyText.{IsWhyText, advice_line, explanation_text, kept_text, missed_lines, not_received_line, numbers_lines, rest_lines, row_text, row_told, shown_by, span_line, until_text};
+ghost use Rattle.rtps_report.specs.Talk.{talk_value};
+ghost use Rattle.rtps_text.specs.WhyText.{IsWhyText, advice_line, explanation_text, kept_text, missed_lines, not_received_line, numbers_lines, pair_line, rest_lines, row_text, row_told, shown_by, span_line, until_text};
 
 use crate::text::audit_text::ReportCountsLine;
 use crate::text::outcome_lines::{push_outcomes, push_silences, push_wait};
@@ -12,8 +13,8 @@ use rtps_evidence::{
     Evidence, Explanation, FirstMissed, Grounds, Location, NotReceived, Teller, Times,
 };
 use rtps_lines::{
-    AcknowledgedLine, AdviceText, AnnouncedLine, AskedLine, ClaimedLine, LostRows, PlaceComma,
-    PlaceText, QuestionsLine, SecondText, ToldLine, VerdictText, kind_name, push_field,
+    AcknowledgedLine, AdviceText, AnnouncedLine, AskedLine, ClaimedLine, LostRows, PairedText,
+    PlaceComma, PlaceText, QuestionsLine, SecondText, ToldLine, VerdictText, kind_name, push_field,
     push_lost_lines, push_report_last, push_sent,
 };
 use rtps_parts::NameText;
@@ -78,6 +79,7 @@ fn push_told_row(
 {
     let RowTelling { talk, lost, .. } = telling;
     let times = lost.times;
+    push_pair(text, row, talk)?;
     push_row(text, row, times)?;
     push_numbers(text, row, telling)?;
     push_wait(text, row.evidence.in_span.as_ref(), times)?;
@@ -118,17 +120,21 @@ fn push_advice(
     writeln!(text, "  -> {}", AdviceText(times, advice))
 }
 
+/// Appends the line of a pair with its verdict.
+fn push_pair(text: &mut String, row: &Explanation<'_>, talk: &Talk<'_>) -> Result<(), AllocError>
+    ensures { OnOk result (string_bytes text.new ≡ string_bytes text.old ++ pair_line (talk_value talk.now) (explanation_value row.now)) }
+{
+    let writer = PairedText(row.pair.writer, talk.end(row.pair.writer));
+    let reader = PairedText(row.pair.reader, talk.end(row.pair.reader));
+    let verdict = VerdictText(row.evidence.verdict);
+    writeln!(text, "pair {writer} {reader} {verdict}")
+}
+
+/// Appends what stands behind the line of a pair.
 fn push_row(text: &mut String, row: &Explanation<'_>, times: &Times) -> Result<(), AllocError>
     ensures { OnOk result (string_bytes text.new ≡ string_bytes text.old ++ explanation_text times.now (explanation_value row.now)) }
 {
     let evidence = &row.evidence;
-    writeln!(
-        text,
-        "pair {} {} {}",
-        row.pair.writer,
-        row.pair.reader,
-        VerdictText(evidence.verdict)
-    )?;
     writeln!(
         text,
         "  topic {} type {}",

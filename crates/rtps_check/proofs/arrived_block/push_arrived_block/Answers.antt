@@ -45,7 +45,7 @@ returns c =
     record {
       sorted = sorted;
       by_topic = ordered;
-      is_text = three_parts old (lossy_head lost number) (lossy_pairs talk.hosts None sorted) end (c.in_ok-render.ensures ∙ ap (λ head. old ++ head) c.lossy_head.ensures) c.in_ok-push_pairs.ensures last
-          ∙ ap (λ lines. old ++ lines) (some_lossy talk.hosts sorted lost number sum long some);
+      is_text = three_parts old (lossy_head lost number) (lossy_pairs talk.ends None sorted) end (c.in_ok-render.ensures ∙ ap (λ head. old ++ head) c.lossy_head.ensures) c.in_ok-push_pairs.ensures last
+          ∙ ap (λ lines. old ++ lines) (some_lossy talk.ends sorted lost number sum long some);
     })
     (appended c.push_str.result (string_bytes c.push_pairs.new.text) end (string_bytes c.push_str.new.self) c.push_str.ensures.bytes)

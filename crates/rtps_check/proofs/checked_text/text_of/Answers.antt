@@ -12,13 +12,13 @@ returns c =
     let told = c.args.told.now in
     let rows = map explanation_value told.rows.now in
     let beside = beside_value told in
-    let hosts = beside.talk.hosts in
+    let ends = beside.talk.ends in
     let totals = c.totals_of-totals.result in
     let block = c.in_ok-push_unmatched_block.ensures in
     let lost = c.in_ok-push_arrived_block.ensures in
-    let unmatched = unmatched_lines hosts block.sorted in
+    let unmatched = unmatched_lines ends block.sorted in
     let one_way = one_way_block beside.talk in
-    let lossy = lossy_lines hosts lost.sorted in
+    let lossy = lossy_lines ends lost.sorted in
     record {
       unmatched = block.sorted;
       unmatched_by_topic = block.by_topic;

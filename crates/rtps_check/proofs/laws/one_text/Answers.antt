@@ -65,8 +65,8 @@ text_by_once scope beside rows one other is also =
     is.is_text
     ∙ ap₂ (λ (first : List UnmatchedValue) (second : List HeldValue). first_lines totals beside
     ++ (topics_text (told_beside scope beside) totals rows
-    ++ (unmatched_lines beside.talk.hosts first
-    ++ (one_way_block beside.talk ++ (lossy_lines beside.talk.hosts second ++ ending_text scope beside totals rows)))))
+    ++ (unmatched_lines beside.talk.ends first
+    ++ (one_way_block beside.talk ++ (lossy_lines beside.talk.ends second ++ ending_text scope beside totals rows)))))
     (unmatched_once beside.talk.unmatched beside.talk.unmatched is.unmatched also.unmatched refl is.unmatched_by_topic also.unmatched_by_topic)
     (lossy_once (filter is_lossy beside.talk.held) is.lossy also.lossy is.lossy_by_topic also.lossy_by_topic)
     ∙ sym also.is_text

@@ -12,7 +12,7 @@ use Rattle.rtps_check.proofs.one_way_block.push_one_way_block.Goals as goal
 
 pub loop-one-preserved : goal.loop-one-preserved
 loop-one-preserved c =
-    lines_more (one_way_lines (talk_value c.args.talk.now).hosts) c.deref-one-items.result.now c.loop-one.one-index _ (string_bytes c.render.new.text) (string_bytes c.loop-one.text)
+    lines_more (one_way_lines (talk_value c.args.talk.now).ends) c.deref-one-items.result.now c.loop-one.one-index _ (string_bytes c.render.new.text) (string_bytes c.loop-one.text)
     (string_bytes c.push_one_way.new.text) c.loop-one-test.true c.loop-one.invariant c.in_ok-push_one_way.ensures
 
 pub returns : goal.returns
@@ -21,7 +21,7 @@ returns c =
     let old = string_bytes c.args.text.now in
     let stored = c.args.talk.now.one_way in
     let headed = string_bytes c.render.new.text in
-    let lines : List OneWay → List ℕ = flat_map (one_way_lines talk.hosts) in
+    let lines : List OneWay → List ℕ = flat_map (one_way_lines talk.ends) in
     let number = c.len.result in
     let head : List ℕ =
     concat (codes "\n" ∷ amount number (record { one = codes "pair of participants talks one way"; many = codes "pairs of participants talk one way" }) ∷ codes "\n" ∷ []) in
@@ -31,5 +31,5 @@ returns c =
     let told : string_bytes c.loop-one.text ≡ headed ++ lines stored.items =
     c.loop-one.invariant ∙ ap (λ (ones : List OneWay). headed ++ lines ones) (take_all c.loop-one.one-index c.deref-one-items.result.now c.loop-one-test.false ∙ c.deref-one-items.ensures.value) in
     on_ok_weaker c.push_str.result
-    (λ last. three_parts old head (lines stored.items) end c.in_ok-render.ensures told last ∙ ap (λ text. old ++ text) (some_one_way talk.hosts stored.items number long some))
+    (λ last. three_parts old head (lines stored.items) end c.in_ok-render.ensures told last ∙ ap (λ text. old ++ text) (some_one_way talk.ends stored.items number long some))
     (appended c.push_str.result (string_bytes c.loop-one.text) end (string_bytes c.push_str.new.self) c.push_str.ensures.bytes)

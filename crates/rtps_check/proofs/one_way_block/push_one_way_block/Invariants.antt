@@ -5,4 +5,4 @@ use Rattle.rtps_check.proofs.one_way_block.push_one_way_block.Given as goal
 
 -- the lines of those so far
 abbrev pub invariant-loop-one : goal.invariant-loop-one
-invariant-loop-one l = string_bytes l.text ≡ string_bytes l.initial.text ++ flat_map (one_way_lines (talk_value l.talk).hosts) (take l.one-index l.one-items)
+invariant-loop-one l = string_bytes l.text ≡ string_bytes l.initial.text ++ flat_map (one_way_lines (talk_value l.talk).ends) (take l.one-index l.one-items)

@@ -9,5 +9,5 @@ use Rattle.rtps_check.proofs.unmatched_block.push_pairs.Given as goal
 abbrev pub invariant-loop-one : goal.invariant-loop-one
 invariant-loop-one l =
     (into_iter_len l.one-iterator ≡ length (into_iter_items l.one-iterator))
-    × (string_bytes l.text ++ unmatched_pairs (talk_value l.talk).hosts (option_copied l.before) (map (λ one. unmatched_value one.now) (into_iter_items l.one-iterator))
-    ≡ string_bytes l.initial.text ++ unmatched_pairs (talk_value l.talk).hosts None (map (λ one. unmatched_value one.now) l.fn.sorted.items))
+    × (string_bytes l.text ++ unmatched_pairs (talk_value l.talk).ends (option_copied l.before) (map (λ one. unmatched_value one.now) (into_iter_items l.one-iterator))
+    ≡ string_bytes l.initial.text ++ unmatched_pairs (talk_value l.talk).ends None (map (λ one. unmatched_value one.now) l.fn.sorted.items))

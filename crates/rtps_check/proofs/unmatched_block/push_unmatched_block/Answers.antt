@@ -38,8 +38,8 @@ returns c =
     record {
       sorted = values;
       by_topic = ordered;
-      is_text = three_parts old (head unmatched_words) (unmatched_pairs talk.hosts None values) end
+      is_text = three_parts old (head unmatched_words) (unmatched_pairs talk.ends None values) end
           (c.in_ok-render.ensures ∙ ap (λ words. old ++ head words) c.unmatched_words.ensures) c.in_ok-push_pairs.ensures last
-          ∙ ap (λ lines. old ++ lines) (some_lines talk.hosts values number long some);
+          ∙ ap (λ lines. old ++ lines) (some_lines talk.ends values number long some);
     })
     (appended c.push_str.result (string_bytes c.push_pairs.new.text) end (string_bytes c.push_str.new.self) c.push_str.ensures.bytes)

@@ -2,6 +2,8 @@ use Rattle.std.proofs.Common.{◌∙◌, refl, subst}
 use Rattle.rtps_evidence.specs.Recorded.{IsArrivedBy, IsRecordedBy}
 use Rattle.rtps_evidence.specs.declared.exchange.Extent.{Extent}
 use Rattle.rtps_report.specs.Asked.{asked_value}
+use Rattle.rtps_who.specs.Recorded.{node_in}
+use Rattle.rtps_report.specs.Rows.{chosen_by}
 use Rattle.rtps_report.specs.Talk.{is_counted_of}
 use Rattle.rtps_report.proofs.TalkLemmas.{counted_by_topic, counted_more, counted_skip}
 use Rattle.rtps_report.proofs.talk.counted_of.Goals as goal
@@ -11,9 +13,10 @@ pub loop-found-preserved : goal.loop-found-preserved
 loop-found-preserved c = λ intake other index beside.
     let talk = c.args.talk.now in
     let asked = asked_value c.args.heard.now.asked.now in
+    let chosen = chosen_by asked (node_in talk.who) in
     let entries = c.args.heard.now.directory.now.endpoints in
-    let test = is_counted_of talk.unfit talk.namings asked entries in
-    let by_topic = counted_by_topic talk.unfit talk.namings asked _ c.topic_of-topic.result.now _ c.is_counted.result c.topic_of-topic.ensures c.is_counted.ensures in
+    let test = is_counted_of talk.unfit talk.namings chosen entries in
+    let by_topic = counted_by_topic talk.unfit talk.namings chosen _ c.topic_of-topic.result.now _ c.is_counted.result c.topic_of-topic.ensures c.is_counted.ensures in
     elim c.if-is_counted.branch [
       | then-is_counted+in_ok-recorded+in_ok-arrived+in_ok-push w ↦
           rw w.counted-is

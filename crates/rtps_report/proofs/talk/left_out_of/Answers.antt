@@ -2,6 +2,8 @@ use Rattle.std.proofs.Common.{◌∙◌, [], false, get_or, refl}
 use Rattle.rtps_discovery.specs.declared.matching.Match.{Match}
 use Rattle.rtps_ids.specs.declared.identity.Guid.{Guid}
 use Rattle.rtps_report.specs.Asked.{asked_value}
+use Rattle.rtps_who.specs.Recorded.{node_in}
+use Rattle.rtps_report.specs.Rows.{chosen_by}
 use Rattle.rtps_report.specs.Talk.{is_left_out_of, left_out_of, left_out_value}
 use Rattle.rtps_report.specs.declared.talk.LeftOut.{LeftOut}
 use Rattle.rtps_report.proofs.TalkLemmas.{left_by_topic, left_is, made_more, made_skip}
@@ -12,13 +14,14 @@ pub loop-found-preserved : goal.loop-found-preserved
 loop-found-preserved c =
     let talk = c.args.talk.now in
     let asked = asked_value c.args.heard.now.asked.now in
+    let chosen = chosen_by asked (node_in talk.who) in
     let entries = c.args.heard.now.directory.now.endpoints in
-    let test = is_left_out_of talk.unfit talk.namings asked entries in
+    let test = is_left_out_of talk.unfit talk.namings chosen entries in
     let nobody : Guid = record { prefix = record { 0 = [] }; entity = record { 0 = [] } } in
     let none : Match = record { pair = record { writer = nobody; reader = nobody }; reliable = false } in
     let found = get_or c.args.matched.now c.loop-found.found-index none in
     let one : LeftOut = record { topic = c.topic_of-topic.result; pair = found.pair } in
-    let by_topic = left_by_topic talk.unfit talk.namings asked found c.topic_of-topic.result.now _ c.is_left_out.result c.topic_of-topic.ensures c.is_left_out.ensures in
+    let by_topic = left_by_topic talk.unfit talk.namings chosen found c.topic_of-topic.result.now _ c.is_left_out.result c.topic_of-topic.ensures c.is_left_out.ensures in
     elim c.if-is_left_out.branch [
       | then-is_left_out+in_ok-push w ↦
           rw w.left-is

@@ -10,7 +10,15 @@ use Rattle.rtps_report.specs.Talk.{AreCounted, AreUnfit, IsHeardIn, IsKeptOf, is
 use Rattle.rtps_report.specs.Ways.{ways_of_counted}
 use Rattle.rtps_report.specs.declared.best_effort.Counted.{Counted}
 use Rattle.rtps_report.specs.declared.talk.Talk.{Talk}
-use Rattle.rtps_report.proofs.TalkLemmas.{heard_announced, kept_is, talk_is}
+use Rattle.rtps_discovery.specs.Directory.{settled_in}
+use Rattle.rtps_discovery.specs.Matching.{matches_among}
+use Rattle.rtps_who.specs.Recorded.{node_in}
+use Rattle.rtps_who.proofs.Offered.{node_is}
+use Rattle.rtps_report.specs.Ends.{recorded_in}
+use Rattle.rtps_report.specs.Rows.{Choice, chosen_by}
+use Rattle.rtps_report.proofs.EndLemmas.{choice_kept, who_heard}
+use Rattle.rtps_report.proofs.TalkLemmas.{heard_announced}
+use Rattle.rtps_report.proofs.TalkParts.{kept_is, talk_is}
 use Rattle.rtps_report.proofs.talk.talk_in.Goals as goal
 
 pub returns-clause-talks : goal.returns-clause-talks
@@ -23,13 +31,16 @@ returns-clause-talks c = λ other is.
     let entries = heard.directory.now.endpoints in
     let unfit = c.in_ok-unfit.unfit.items in
     let announced = heard_announced intake heard.announcements.now c.in_ok-announced.announced is.announcements c.in_ok-announced.ensures in
-    let same = c.in_ok-unfit.ensures traffic announced in
+    let who = who_heard intake entries heard.announcements.now c.in_ok-who.who is.announcements (c.in_ok-who.ensures intake is.index) in
+    let choice = choice_kept asked intake entries c.in_ok-who.who (node_is (recorded_in intake entries) c.in_ok-who.who who) in
+    let same = c.in_ok-unfit.ensures traffic announced ∙ ap (λ (chosen : Choice). unfit_in chosen traffic entries) choice in
     let parted = c.in_ok-parted.ensures intake is.index in
     let counted = map counted_value c.in_ok-counted.counted.items in
     let arrived : map counted_value c.in_ok-arrived.arrived.items ≡ arrived_among counted =
     c.in_ok-arrived.ensures ∙ ap (λ (items : List Counted). arrived_among (map counted_value items)) c.deref-7.ensures.value in
     let talk : Talk = record {
       announced = c.in_ok-announced.announced;
+      who = c.in_ok-who.who;
       namings = c.in_ok-namings.namings;
       unfit = c.in_ok-unfit_of.field-0;
       unmatched = c.in_ok-parted.parted.silent;
@@ -46,13 +57,15 @@ returns-clause-talks c = λ other is.
     } in
     let kept : IsKeptOf asked intake traffic entries talk =
     kept_is asked intake traffic entries talk (map unmatched_value unfit) same
-    (subst (λ (items : List Unmatched). AreUnfit (map unmatched_value items) c.in_ok-unfit_of.field-0) c.deref.ensures.value c.in_ok-unfit_of.ensures) c.in_ok-namings.ensures parted.1 in
-    talk_is asked other recording heard.times.now heard.directory.now talk counted is.directory announced kept
+    (subst (λ (items : List Unmatched). AreUnfit (map unmatched_value items) c.in_ok-unfit_of.field-0) c.deref.ensures.value c.in_ok-unfit_of.ensures) c.in_ok-namings.ensures parted.1 who in
+    talk_is asked other recording heard.times.now heard.directory.now talk counted is.directory announced who kept
     (parted.0 ∙ ap (filter (λ (one : UnmatchedValue). not (talks intake (pair_of one)))) same)
-    (c.in_ok-talk.ensures ∙ ap (λ (those : List Match). map (left_out_of entries) (filter (is_left_out_of talk.unfit talk.namings asked entries) those)) (c.deref-2.ensures.value ∙ c.in_ok-matched.ensures))
+    (c.in_ok-talk.ensures ∙ ap (λ (those : List Match). map (left_out_of entries) (filter (is_left_out_of talk.unfit talk.namings (chosen_by asked (node_in talk.who)) entries) those)) (c.deref-2.ensures.value ∙ c.in_ok-matched.ensures)
+    ∙ ap (λ (chosen : Choice). map (left_out_of entries) (filter (is_left_out_of talk.unfit talk.namings chosen entries) (matches_among (settled_in entries)))) choice)
     (c.in_ok-one_way_namings.ensures traffic announced c.in_ok-namings.ensures)
-    (subst (λ (those : List Match). AreCounted asked other intake entries (filter (is_counted_of talk.unfit talk.namings asked entries) those) counted) (c.deref-3.ensures.value ∙ c.in_ok-matched.ensures)
-    (c.in_ok-counted.ensures intake other is.index is.beside))
+    (subst (λ (chosen : Choice). AreCounted asked other intake entries (filter (is_counted_of talk.unfit talk.namings chosen entries) (matches_among (settled_in entries))) counted) choice
+    (subst (λ (those : List Match). AreCounted asked other intake entries (filter (is_counted_of talk.unfit talk.namings (chosen_by asked (node_in talk.who)) entries) those) counted) (c.deref-3.ensures.value ∙ c.in_ok-matched.ensures)
+    (c.in_ok-counted.ensures intake other is.index is.beside)))
     c.in_ok-talk-4.ensures
     (c.total_of-talk.ensures ∙ ap (λ (items : List Counted). total_of (map counted_value items)) c.deref-4.ensures.value)
     (c.in_ok-talk-2.ensures ∙ ap (λ (items : List Counted). held_among (map counted_value items)) c.deref-6.ensures.value)
@@ -68,7 +81,11 @@ returns-clause-kept c = λ other is.
     let recording = map (λ (datagram : Bor (List ℕ)). datagram.now) heard.datagrams.now in
     let intake = intake_as Read recording in
     let traffic = traffic_of recording in
+    let entries = heard.directory.now.endpoints in
     let announced = heard_announced intake heard.announcements.now c.in_ok-announced.announced is.announcements c.in_ok-announced.ensures in
-    kept_is asked intake traffic heard.directory.now.endpoints _ (map unmatched_value c.in_ok-unfit.unfit.items) (c.in_ok-unfit.ensures traffic announced)
+    let who = who_heard intake entries heard.announcements.now c.in_ok-who.who is.announcements (c.in_ok-who.ensures intake is.index) in
+    let choice = choice_kept asked intake entries c.in_ok-who.who (node_is (recorded_in intake entries) c.in_ok-who.who who) in
+    kept_is asked intake traffic entries _ (map unmatched_value c.in_ok-unfit.unfit.items)
+    (c.in_ok-unfit.ensures traffic announced ∙ ap (λ (chosen : Choice). unfit_in chosen traffic entries) choice)
     (subst (λ (items : List Unmatched). AreUnfit (map unmatched_value items) c.in_ok-unfit_of.field-0) c.deref.ensures.value c.in_ok-unfit_of.ensures) c.in_ok-namings.ensures
-    (c.in_ok-parted.ensures intake is.index).1
+    (c.in_ok-parted.ensures intake is.index).1 who

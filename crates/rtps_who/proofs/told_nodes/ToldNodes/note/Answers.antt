@@ -7,5 +7,5 @@ returns-in_default c = λ announcing acts introduced were. nothing_told announci
 
 pub returns : goal.returns
 returns c = λ announcing acts introduced were.
-    sample_told announcing acts (spoken_value c.args.act.now) c.args.self.now (record c.args.self.now { samples = c.insert.new.self }) c.args.act.now.source c.in-Some.sample (c.in-Some.ensures announcing introduced)
-    (λ prefix. c.in_ok-insert.ensures.updates.0 prefix) were
+    sample_told announcing acts (spoken_value c.args.act.now) c.args.self.now (record { samples = c.insert.new.self; listed = c.list.new.listed }) c.args.act.now.source c.in-Some.sample (c.in-Some.ensures announcing introduced)
+    (λ prefix. c.in_ok-insert.ensures.updates.0 prefix) c.in_ok-list.ensures were

@@ -1,0 +1,66 @@
+-- What an end is called in a text: by its title, its process and its address, and always by its GUID. own: people know nodes and processes, and
+-- a GUID tells two ends apart. What is not known is left out.
+use Rattle.std.specs.Prelude.{ℕ, ◌++◌, ◌||◌, Bool, true, false, if◌then◌else◌, List, [], ◌∷◌, Option, Some, None, codes, decimal, is_some}
+use Rattle.std.specs.List.{flat_map}
+use Rattle.std.specs.Option.{option_map}
+use Rattle.rtps_ids.specs.declared.identity.Guid.{Guid}
+use Rattle.rtps_parts.specs.Names.{guid_text, octet_text}
+use Rattle.rtps_policies.specs.AddressText.{address_text}
+use Rattle.rtps_policies.specs.declared.host.Address.{Address}
+use Rattle.rtps_who.specs.Naming.{TitleValue, title_by}
+use Rattle.rtps_who.specs.Naming.TitleValue.{OfNode, OfProgram, OfName, Untitled}
+use Rattle.rtps_who.specs.Samples.{NodeValue, full_name}
+use Rattle.rtps_report.specs.Ends.{EndValue}
+use Rattle.rtps_lines.specs.Lines.{hosted_text}
+
+-- the full name of a node
+abbrev pub node_text : NodeValue → List ℕ
+node_text node = flat_map octet_text (full_name node)
+
+-- a title, and a space; nothing where there is none
+abbrev pub title_text : TitleValue → List ℕ
+title_text (OfNode node) = node_text node ++ codes " "
+title_text (OfProgram program) = flat_map octet_text program ++ codes " "
+title_text (OfName name) = flat_map octet_text name ++ codes " "
+title_text Untitled = []
+
+-- a process and its host; nothing where neither is known
+abbrev pub process_text : Option ℕ → Option (List ℕ) → List ℕ
+process_text (Some pid) (Some host) = codes "pid " ++ (decimal pid ++ (codes " on " ++ flat_map octet_text host))
+process_text (Some pid) None = codes "pid " ++ decimal pid
+process_text None (Some host) = codes "on " ++ flat_map octet_text host
+process_text None None = []
+
+-- a process or its host is known
+abbrev pub is_placed : Option ℕ → Option (List ℕ) → Bool
+is_placed pid host = is_some pid || is_some host
+
+-- where an end is, between brackets, and a space; nothing where that is not known
+abbrev pub where_text : Bool → List ℕ → Option Address → List ℕ
+where_text true process (Some address) = codes "(" ++ (process ++ (codes ", " ++ (address_text address ++ codes ") ")))
+where_text true process None = codes "(" ++ (process ++ codes ") ")
+where_text false process (Some address) = codes "(" ++ (address_text address ++ codes ") ")
+where_text false process None = []
+
+-- a title is one
+abbrev pub is_titled : TitleValue → Bool
+is_titled Untitled = false
+is_titled title = true
+
+-- more than an address is known
+abbrev pub is_named : EndValue → Bool
+is_named end = is_titled (title_by end.node end.process) || is_placed end.process.pid end.process.host
+
+-- an end of which more is known
+abbrev pub named_text : Guid → EndValue → List ℕ
+named_text guid end =
+    title_text (title_by end.node end.process)
+    ++ (where_text (is_placed end.process.pid end.process.host) (process_text end.process.pid end.process.host) end.address ++ guid_text guid)
+
+-- an end
+abbrev pub end_text : Guid → EndValue → List ℕ
+end_text guid end = if is_named end then named_text guid end else hosted_text guid end.address
+
+-- an end in the line of a pair: where no more is known, by its GUID alone
+abbrev pub paired_text : Guid → EndValue → List ℕ
+paired_text guid end = if is_named end then named_text guid end else guid_text guid
