@@ -63,6 +63,7 @@ not_held_is_alone = λ own beside pair whole recording in_span alone is.
         absent = absent;
         lacking = lacking;
         wait = is.wait;
+        waiting = is.waiting;
       };
       arrived = arrived_is_all_that_changes.1 there own.from last beside.times (since_of own) pair all in_span.outcomes none is.outcomes;
       absent = absent;

@@ -1,9 +1,10 @@
 -- Numbers that are lost, kind by kind; and they are told in one way.
 use Rattle.std.proofs.lemmas.Bool.Decides.{nat_tests}
-use Rattle.std.proofs.Common.{◌≡◌, ◌∙◌, ℕ, ◌+◌, ◌<◌, ◌≤◌, ◌&&◌, Bool, true, false, nat_le, nat_lt, not, List, [], ◌∷◌, ◌++◌, Option, refl, sym, ap, arith, subst, zero, suc, get_or, length, map, take}
+use Rattle.std.proofs.Common.{◌≡◌, ◌∙◌, ℕ, ◌+◌, ◌<◌, ◌≤◌, ◌&&◌, ◌||◌, Bool, true, false, nat_le, nat_lt, not, List, [], ◌∷◌, ◌++◌, Option, None, refl, sym, ap, arith, subst, zero, suc, get_or, length, map, take}
 use Rattle.std.specs.Prelude.{is_some}
 use Rattle.std.specs.List.{range_with_len}
 use Rattle.std.proofs.lemmas.List.{length-append, map-append, take_more}
+use Rattle.std.proofs.lemmas.List.Folds.{list_any-append}
 use Rattle.std.proofs.lemmas.Bool.{and_parts, leb-true, ltb-true}
 use Rattle.rtps_discovery.specs.declared.matching.Pair.{Pair}
 use Rattle.rtps_audit.specs.Intake.{Intake}
@@ -12,24 +13,29 @@ use Rattle.rtps_audit.specs.Said.{datagrams_until}
 use Rattle.rtps_audit.specs.declared.report.Row.{Row}
 use Rattle.rtps_receiver.specs.Values.{ActValue}
 use Rattle.rtps_coverage.specs.Counts.{count_in}
+use Rattle.rtps_coverage.specs.Stretches.{stretch_has, stretches_have}
 use Rattle.rtps_coverage.specs.declared.stretch.Stretch.{Stretch}
 use Rattle.rtps_evidence.specs.Clean.{has_all}
 use Rattle.rtps_evidence.specs.Explanation.{AreLostOf, IsLostBy}
-use Rattle.rtps_evidence.specs.Kinds.{AreLost, AreRangesOf, AreRunsOf, IsLostIn, KindValue, LostValue, has_outcome, is_lacking, kept_ranges, lost_value, no_ranges, none_lost}
+use Rattle.rtps_evidence.specs.KindRuns.{AreKindRuns, is_in_runs}
+use Rattle.rtps_evidence.specs.Kinds.{AreLost, AreRangesOf, AreRunsOf, IsLostIn, IsSentIn, KindValue, LostValue, first_brought, has_outcome, is_lacking, is_lost, kept_ranges, lost_value, no_ranges, none_lost}
 use Rattle.rtps_evidence.specs.Missed.{is_excused, is_wanting}
 use Rattle.rtps_evidence.specs.OtherSide.{Beside}
 use Rattle.rtps_evidence.specs.Outcomes.{AreOutcomes, is_brought, is_outcome, is_unanswered, outcome_of}
 use Rattle.rtps_evidence.specs.Received.{first_claiming, is_received}
 use Rattle.rtps_evidence.specs.declared.explanation.Explanation.{Explanation}
+use Rattle.rtps_evidence.specs.declared.kinds.KindRuns.{KindRuns}
 use Rattle.rtps_evidence.specs.declared.kinds.LostNumbers.{LostNumbers}
 use Rattle.rtps_evidence.specs.declared.location.Location.{Location}
 use Rattle.rtps_evidence.specs.declared.outcome.Outcome.{Outcome}
 use Rattle.rtps_evidence.specs.declared.outcome.Outcome.TheVariants.{Missed, Unsent, Unanswered}
 use Rattle.rtps_evidence.specs.declared.outcome.Outcomes.{Outcomes}
+use Rattle.rtps_evidence.specs.declared.sendings.SentSpan.{SentSpan}
 use Rattle.rtps_evidence.specs.declared.span.Span.{Span}
 use Rattle.rtps_evidence.proofs.CleanLemmas.{first_of, none_has}
 use Rattle.rtps_evidence.proofs.KindLemmas.{runs_are_one}
 use Rattle.rtps_evidence.proofs.OneSpan.{HasOneMap, one_extent}
+use Rattle.rtps_evidence.proofs.SendingLemmas.{one_span}
 
 -- ---- runs of numbers that have two things alike
 
@@ -84,6 +90,57 @@ pub outcome_first : (outcome : Outcome) (there : ℕ → Bool) (times : List (Op
 unfolding outcome_of
 outcome_first outcome there times since pair acts n = refl
 
+-- ---- what the runs of all kinds have
+
+or_here : (b c : Bool) → b ≡ true → (b || c) ≡ true
+or_here b c is = grind (arith, nat_tests)
+
+or_there : (b c : Bool) → c ≡ true → (b || c) ≡ true
+or_there b c is = grind (arith, nat_tests)
+
+pub missed_in_runs : (runs : KindRuns) (n : ℕ) → stretches_have runs.missed.items n ≡ true → is_in_runs runs n ≡ true
+missed_in_runs runs n is = or_here _ _ is
+
+pub unsent_in_runs : (runs : KindRuns) (n : ℕ) → stretches_have runs.unsent.items n ≡ true → is_in_runs runs n ≡ true
+unsent_in_runs runs n is = or_there (stretches_have runs.missed.items n) _ (or_here _ _ is)
+
+pub unanswered_in_runs : (runs : KindRuns) (n : ℕ) → stretches_have runs.unanswered.items n ≡ true → is_in_runs runs n ≡ true
+unanswered_in_runs runs n is = or_there (stretches_have runs.missed.items n) _ (or_there (stretches_have runs.unsent.items n) _ (or_here _ _ is))
+
+pub arrived_in_runs : (runs : KindRuns) (n : ℕ) → stretches_have runs.not_arrived.items n ≡ true → is_in_runs runs n ≡ true
+arrived_in_runs runs n is = or_there (stretches_have runs.missed.items n) _ (or_there (stretches_have runs.unsent.items n) _ (or_there (stretches_have runs.unanswered.items n) _ is))
+
+of_both : (xs ys both : List Stretch) (n : ℕ) → both ≡ xs ++ ys → stretches_have both n ≡ (stretches_have xs n || stretches_have ys n)
+of_both xs ys both n is = ap (λ l. stretches_have l n) is ∙ list_any-append (stretch_has n) xs ys
+
+in_turn : (m u a l : Bool) → (((m || u) || a) || l) ≡ (m || (u || (a || l)))
+in_turn true u a l = refl
+in_turn false true a l = refl
+in_turn false false a l = refl
+
+pub all_runs : (runs : KindRuns) (one two three all : List Stretch) (n : ℕ) → one ≡ runs.missed.items → two ≡ one ++ runs.unsent.items → three ≡ two ++ runs.unanswered.items → all ≡ three ++ runs.not_arrived.items
+    → stretches_have all n ≡ is_in_runs runs n
+all_runs runs one two three all n is is2 is3 is4 =
+    of_both three runs.not_arrived.items all n is4
+    ∙ ap (λ b. b || stretches_have runs.not_arrived.items n)
+    (of_both two runs.unanswered.items three n is3
+    ∙ ap (λ b. b || stretches_have runs.unanswered.items n) (of_both one runs.unsent.items two n is2 ∙ ap (λ l. stretches_have l n || stretches_have runs.unsent.items n) is))
+    ∙ in_turn (stretches_have runs.missed.items n) (stretches_have runs.unsent.items n) (stretches_have runs.unanswered.items n) (stretches_have runs.not_arrived.items n)
+
+of_all : (i m u a l : Bool) → ((i && m) || ((i && u) || ((i && a) || (i && l)))) ≡ (i && (m || (u || (a || l))))
+of_all true m u a l = refl
+of_all false m u a l = refl
+
+four : (a b c d e f g h : Bool) → a ≡ e → b ≡ f → c ≡ g → d ≡ h → (a || (b || (c || d))) ≡ (e || (f || (g || h)))
+four a b c d e f g h h1 h2 h3 h4 = cc
+
+-- together they are the numbers that are lost
+pub lost_in_runs : (held : Bool) (there : ℕ → Bool) (from last : ℕ) (times : List (Option ℕ)) (since : Option Location) (pair : Pair) (acts : List PlacedValue) (runs : KindRuns) → AreKindRuns held there from last times since pair acts runs
+    → (n : ℕ) → is_in_runs runs n ≡ is_lost held there from last times since pair acts n
+lost_in_runs held there from last times since pair acts runs are n =
+    four _ _ _ _ _ _ _ _ (are.missed.exact n) (are.unsent.exact n) (are.unanswered.exact n) (are.not_arrived.exact n)
+    ∙ of_all (nat_le from n && nat_lt n (last + 1)) (has_outcome Missed there times since pair acts n) (has_outcome Unsent there times since pair acts n) (has_outcome Unanswered there times since pair acts n) (is_lacking held there pair acts n)
+
 -- ---- where none is counted, none is lost
 
 and_no : (b : Bool) → (b && false) ≡ false
@@ -97,26 +154,41 @@ none_exact has lo hi n none =
 none_ranges : (has : ℕ → Bool) (from last : ℕ) (pair : Pair) (acts : List PlacedValue) (found : KindValue) → ((n : ℕ) → false ≡ ((nat_le from n && nat_lt n (last + 1)) && has n)) → found ≡ no_ranges → AreRangesOf has from last pair acts found
 none_ranges has from last pair acts found none is = record { runs = []; are_runs = record { apart = tt; exact = none }; is_value = is }
 
+none_of_all : (i m u a l : Bool) → false ≡ (i && m) → false ≡ (i && u) → false ≡ (i && a) → false ≡ (i && l) → (i && (m || (u || (a || l)))) ≡ false
+none_of_all i m u a l h h2 h3 h4 = sym (of_all i m u a l) ∙ sym (four _ _ _ _ _ _ _ _ h h2 h3 h4)
+
+none_sent : (has : ℕ → Bool) (sent : ℕ → Option Location) (span : Option SentSpan) → ((n : ℕ) → has n ≡ false) → span ≡ None → IsSentIn has sent span
+none_sent has sent span none is = subst (IsSentIn has sent) (sym is) (λ n had. absurd (let no : true ≡ false = sym had ∙ none n in cc))
+
 -- where no number is lost by the counts, no kind has a number
 pub kept_all : (outcomes : Outcomes) → has_all outcomes ≡ true → (outcomes.missed ≡ 0) × (outcomes.unsent ≡ 0) × (outcomes.unanswered ≡ 0)
 kept_all outcomes all = (grind (arith, nat_tests), grind (arith, nat_tests), grind (arith, nat_tests))
 
 pub none_are_lost : (there : ℕ → Bool) (from last : ℕ) (times : List (Option ℕ)) (since : Option Location) (pair : Pair) (acts : List PlacedValue) (outcomes : Outcomes) (lost : LostValue)
     → AreOutcomes there from last times since pair acts outcomes → outcomes.missed ≡ 0 → outcomes.unsent ≡ 0 → outcomes.unanswered ≡ 0 → lost ≡ none_lost → AreLost false there from last times since pair acts lost
-none_are_lost there from last times since pair acts outcomes lost are missed unsent unanswered is = record {
-  missed = none_ranges (has_outcome Missed there times since pair acts) from last pair acts lost.missed (λ n. none_exact (has_outcome Missed there times since pair acts) from (last + 1) n (sym are.missed ∙ missed)) (ap (λ (l : LostValue). l.missed) is);
-  unsent = none_ranges (has_outcome Unsent there times since pair acts) from last pair acts lost.unsent (λ n. none_exact (has_outcome Unsent there times since pair acts) from (last + 1) n (sym are.unsent ∙ unsent)) (ap (λ (l : LostValue). l.unsent) is);
-  unanswered = none_ranges (has_outcome Unanswered there times since pair acts) from last pair acts lost.unanswered (λ n. none_exact (has_outcome Unanswered there times since pair acts) from (last + 1) n (sym are.unanswered ∙ unanswered)) (ap (λ (l : LostValue). l.unanswered) is);
-  not_arrived = none_ranges (is_lacking false there pair acts) from last pair acts lost.not_arrived (λ n. sym (and_no (nat_le from n && nat_lt n (last + 1)))) (ap (λ (l : LostValue). l.not_arrived) is);
-}
+none_are_lost there from last times since pair acts outcomes lost are missed unsent unanswered is =
+    let no_missed = λ (n : ℕ). none_exact (has_outcome Missed there times since pair acts) from (last + 1) n (sym are.missed ∙ missed) in
+    let no_unsent = λ (n : ℕ). none_exact (has_outcome Unsent there times since pair acts) from (last + 1) n (sym are.unsent ∙ unsent) in
+    let no_unanswered = λ (n : ℕ). none_exact (has_outcome Unanswered there times since pair acts) from (last + 1) n (sym are.unanswered ∙ unanswered) in
+    let no_lacking = λ (n : ℕ). sym (and_no (nat_le from n && nat_lt n (last + 1))) in
+    record {
+      missed = none_ranges (has_outcome Missed there times since pair acts) from last pair acts lost.missed no_missed (ap (λ (l : LostValue). l.missed) is);
+      unsent = none_ranges (has_outcome Unsent there times since pair acts) from last pair acts lost.unsent no_unsent (ap (λ (l : LostValue). l.unsent) is);
+      unanswered = none_ranges (has_outcome Unanswered there times since pair acts) from last pair acts lost.unanswered no_unanswered (ap (λ (l : LostValue). l.unanswered) is);
+      not_arrived = none_ranges (is_lacking false there pair acts) from last pair acts lost.not_arrived no_lacking (ap (λ (l : LostValue). l.not_arrived) is);
+      sent = none_sent (is_lost false there from last times since pair acts) (first_brought pair acts) lost.sent
+          (λ n. none_of_all (nat_le from n && nat_lt n (last + 1)) (has_outcome Missed there times since pair acts n) (has_outcome Unsent there times since pair acts n) (has_outcome Unanswered there times since pair acts n) (is_lacking false there pair acts n)
+          (no_missed n) (no_unsent n) (no_unanswered n) (no_lacking n))
+          (ap (λ (l : LostValue). l.sent) is);
+    }
 
 -- ---- they are told in one way
 
 one_ranges : (has : ℕ → Bool) (from last : ℕ) (pair : Pair) (acts : List PlacedValue) (one other : KindValue) → AreRangesOf has from last pair acts one → AreRangesOf has from last pair acts other → one ≡ other
 one_ranges has from last pair acts one other is also = is.is_value ∙ ap (kept_ranges pair acts) (runs_are_one has from (last + 1) is.runs also.runs is.are_runs also.are_runs) ∙ sym also.is_value
 
-lost_is : (one other : LostValue) → one.missed ≡ other.missed → one.unsent ≡ other.unsent → one.unanswered ≡ other.unanswered → one.not_arrived ≡ other.not_arrived → one ≡ other
-lost_is one other missed unsent unanswered not_arrived = grind (arith, nat_tests)
+lost_is : (one other : LostValue) → one.missed ≡ other.missed → one.unsent ≡ other.unsent → one.unanswered ≡ other.unanswered → one.not_arrived ≡ other.not_arrived → one.sent ≡ other.sent → one ≡ other
+lost_is one other missed unsent unanswered not_arrived sent = grind (arith, nat_tests)
 
 one_are_lost : (held : Bool) (there : ℕ → Bool) (from last : ℕ) (times : List (Option ℕ)) (since : Option Location) (pair : Pair) (acts : List PlacedValue) (one other : LostValue) → AreLost held there from last times since pair acts one → AreLost held there from last times since pair acts other → one ≡ other
 one_are_lost held there from last times since pair acts one other is also =
@@ -125,6 +197,7 @@ one_are_lost held there from last times since pair acts one other is also =
     (one_ranges (has_outcome Unsent there times since pair acts) from last pair acts one.unsent other.unsent is.unsent also.unsent)
     (one_ranges (has_outcome Unanswered there times since pair acts) from last pair acts one.unanswered other.unanswered is.unanswered also.unanswered)
     (one_ranges (is_lacking held there pair acts) from last pair acts one.not_arrived other.not_arrived is.not_arrived also.not_arrived)
+    (one_span (is_lost held there from last times since pair acts) (first_brought pair acts) one.sent other.sent is.sent also.sent)
 
 one_lost_in : (spans : Bool) (beside : Beside) (own : Span) (pair : Pair) (all recording : List (List ActValue)) (one other : LostValue) → IsLostIn spans beside own pair all recording one → IsLostIn spans beside own pair all recording other → one ≡ other
 one_lost_in true beside own pair all recording one other is also = one_are_lost _ _ _ _ _ _ _ _ one other is also

@@ -116,17 +116,21 @@ find_same : {X : Type 0} (test : X → Bool) (xs ys : List X) → filter test xs
 find_same test xs ys same = find_first test xs ∙ ap (λ l. slice_get l 0) same ∙ sym (find_first test ys)
 
 -- what the writer's acts ask is what all acts do
+asked_kept : (place : Option Location) (writer reader : Guid) (placed : List PlacedValue) → filter (questions_behind place writer reader) (filter (is_from writer) placed) ≡ filter (questions_behind place writer reader) placed
+asked_kept place writer reader placed = filter_filter (questions_behind place writer reader) (is_from writer) (λ at passes. speaker_is_origin writer at
+    (and_parts (is_spoken_by at.act writer) (is_heard_by at.act reader && is_question at.act.body) (and_parts (is_behind place at) (is_spoken_by at.act writer && (is_heard_by at.act reader && is_question at.act.body)) passes).1).0) placed
+
+pub first_kept : (place : Option Location) (writer reader : Guid) (placed : List PlacedValue) → option_map location_of (find (questions_behind place writer reader) (filter (is_from writer) placed)) ≡ option_map location_of (find (questions_behind place writer reader) placed)
+first_kept place writer reader placed = ap (option_map location_of) (find_same (questions_behind place writer reader) (filter (is_from writer) placed) placed (asked_kept place writer reader placed))
+
 pub asked_same : (place : Option Location) (writer reader : Guid) (placed : List PlacedValue) (questions : Questions) → AreAsked place writer reader (filter (is_from writer) placed) questions → AreAsked place writer reader placed questions
 asked_same place writer reader placed questions is =
+    let same = asked_kept place writer reader placed in
     record {
       count = is.count ∙ ap length same;
-      first = is.first ∙ ap (option_map location_of) (find_same (questions_behind place writer reader) (filter (is_from writer) placed) placed same);
+      first = is.first ∙ first_kept place writer reader placed;
       last = is.last ∙ ap (λ l. option_map location_of (last_or None l)) same;
     }
-  where
-    same : filter (questions_behind place writer reader) (filter (is_from writer) placed) ≡ filter (questions_behind place writer reader) placed
-    same = filter_filter (questions_behind place writer reader) (is_from writer) (λ at passes. speaker_is_origin writer at
-        (and_parts (is_spoken_by at.act writer) (is_heard_by at.act reader && is_question at.act.body) (and_parts (is_behind place at) (is_spoken_by at.act writer && (is_heard_by at.act reader && is_question at.act.body)) passes).1).0) placed
 
 -- ---- what stands before
 
@@ -183,21 +187,29 @@ none_asks_before place writer reader recording acts count of_writer within befor
         (subst (AreOrdered 1) (sym of_writer) (kept_ordered (is_from writer) 1 (placed_in recording) (placed_ordered 0 recording))) there early
 
 -- so what all acts ask behind the place is what the others ask
-pub asked_rest : (place : Option Location) (writer reader : Guid) (acts : List Placed) (start : ℕ) (questions : Questions) → filter (questions_behind place writer reader) (take start (map placed_value acts)) ≡ []
-    → AreAsked place writer reader (map placed_value (take (length acts - start) (drop start acts))) questions → AreAsked place writer reader (map placed_value acts) questions
-asked_rest place writer reader acts start questions none is =
-    record {
-      count = is.count ∙ ap length same;
-      first = is.first ∙ ap (option_map location_of) (find_same (questions_behind place writer reader) (map placed_value (take (length acts - start) (drop start acts))) (map placed_value acts) same);
-      last = is.last ∙ ap (λ l. option_map location_of (last_or None l)) same;
-    }
+rest_kept : (place : Option Location) (writer reader : Guid) (acts : List Placed) (start : ℕ) → filter (questions_behind place writer reader) (take start (map placed_value acts)) ≡ []
+    → filter (questions_behind place writer reader) (map placed_value (take (length acts - start) (drop start acts))) ≡ filter (questions_behind place writer reader) (map placed_value acts)
+rest_kept place writer reader acts start none =
+    ap (λ l. filter (questions_behind place writer reader) (map placed_value l)) all
+    ∙ ap (filter (questions_behind place writer reader)) (sym (drop-map placed_value start acts))
+    ∙ sym (ap (filter (questions_behind place writer reader)) (sym (take-append-drop start (map placed_value acts)))
+    ∙ filter-append (questions_behind place writer reader) (take start (map placed_value acts)) (drop start (map placed_value acts))
+    ∙ ap (λ l. l ++ filter (questions_behind place writer reader) (drop start (map placed_value acts))) none)
   where
     all : take (length acts - start) (drop start acts) ≡ drop start acts
     all = take_all (length acts - start) (drop start acts) (let e = length-drop start acts in omega arith)
 
-    same : filter (questions_behind place writer reader) (map placed_value (take (length acts - start) (drop start acts))) ≡ filter (questions_behind place writer reader) (map placed_value acts)
-    same = ap (λ l. filter (questions_behind place writer reader) (map placed_value l)) all
-        ∙ ap (filter (questions_behind place writer reader)) (sym (drop-map placed_value start acts))
-        ∙ sym (ap (filter (questions_behind place writer reader)) (sym (take-append-drop start (map placed_value acts)))
-        ∙ filter-append (questions_behind place writer reader) (take start (map placed_value acts)) (drop start (map placed_value acts))
-        ∙ ap (λ l. l ++ filter (questions_behind place writer reader) (drop start (map placed_value acts))) none)
+pub first_rest : (place : Option Location) (writer reader : Guid) (acts : List Placed) (start : ℕ) → filter (questions_behind place writer reader) (take start (map placed_value acts)) ≡ []
+    → option_map location_of (find (questions_behind place writer reader) (map placed_value (take (length acts - start) (drop start acts)))) ≡ option_map location_of (find (questions_behind place writer reader) (map placed_value acts))
+first_rest place writer reader acts start none =
+    ap (option_map location_of) (find_same (questions_behind place writer reader) (map placed_value (take (length acts - start) (drop start acts))) (map placed_value acts) (rest_kept place writer reader acts start none))
+
+pub asked_rest : (place : Option Location) (writer reader : Guid) (acts : List Placed) (start : ℕ) (questions : Questions) → filter (questions_behind place writer reader) (take start (map placed_value acts)) ≡ []
+    → AreAsked place writer reader (map placed_value (take (length acts - start) (drop start acts))) questions → AreAsked place writer reader (map placed_value acts) questions
+asked_rest place writer reader acts start questions none is =
+    let same = rest_kept place writer reader acts start none in
+    record {
+      count = is.count ∙ ap length same;
+      first = is.first ∙ first_rest place writer reader acts start none;
+      last = is.last ∙ ap (λ l. option_map location_of (last_or None l)) same;
+    }

@@ -54,4 +54,5 @@ returns c = λ whole recording beside is there times last sets longest_wait.
           ∙ ap (λ from. kept (lacking_of (is_held whole beside.other pair) has from (last_announced_from from (speech_by pair.writer pair.reader recording)) pair all))
           c.requires.from;
       wait = waited ∙ ap (λ t. told_wait exchange.span pair t recording) times;
+      waiting = c.first_asked.ensures recording is.acts is.answers;
     }
