@@ -63,7 +63,8 @@ pub(crate) fn push_events(
 {
     let kept = EventRows::of(alloc, told.talk, told.scope.tail, rows)?;
     for event in events {
-        push_event(alloc, text, event, kept.rows(event.key), told)?;
+        let own = kept.rows(alloc, event.key)?;
+        push_event(alloc, text, event, &own, told)?;
     }
     Ok(())
 }

@@ -1,11 +1,13 @@
 -- How deep the object of a report that is checked nests.
-use Rattle.std.proofs.Common.{◌≤◌, ◌++◌, ℕ, Bool, true, false, is_some, Option, Some, arith}
+use Rattle.std.proofs.Common.{◌≤◌, ◌++◌, ◌∷◌, ℕ, Bool, true, false, is_some, Option, Some, arith}
 use Rattle.json.specs.Json.{max_depth}
 use Rattle.json.specs.Tree.{depth, members_depth}
+use Rattle.rtps_report.specs.Events.{events_of}
 use Rattle.rtps_report.specs.FullReport.{AskedValue, RecordingValue, ReportValue, rows_of}
-use Rattle.rtps_lines.specs.CheckMembers.{check_members, check_telling, last_members, notes_members, report_causes, report_notes, status_members, wrong_way_members}
+use Rattle.rtps_lines.specs.CheckMembers.{check_members, check_telling, notes_members, report_causes, report_ends, report_events, report_notes, status_members, wrong_way_members}
 use Rattle.rtps_lines.specs.JsonText.{TellingValue, members_of, object_of, rows_members}
 use Rattle.rtps_lines.specs.TalkMembers.{talk_members}
+use Rattle.rtps_lines.proofs.EventLemmas.{events_within}
 use Rattle.rtps_lines.proofs.JsonLemmas.{joined, rows_depth, strings_within}
 use Rattle.rtps_lines.proofs.TalkLemmas.{talk_depth}
 
@@ -23,8 +25,10 @@ check_depth asked recording report =
     let last = strings_within notes in
     let talk = talk_members recording.times report in
     let wrong = wrong_way_members (is_some report.arrived) report.order.wrong in
-    let ends = last_members (is_some report.arrived) report.order.wrong notes in
-    let behind_talk = joined 7 wrong (notes_members notes) (wrong_within (is_some report.arrived) report.order.wrong) (omega (arith, last)) in
+    let events = report_events asked recording report in
+    let ends = report_ends asked recording report notes in
+    let told = events_within recording.times report.talk (events_of asked report) in
+    let behind_talk = joined 7 wrong (events ∷ notes_members notes) (wrong_within (is_some report.arrived) report.order.wrong) (omega (arith, last, told)) in
     let end = joined 7 talk ends (omega (arith, talk_depth recording.times report)) behind_talk in
     let behind = joined 7 rows (talk ++ ends) (rows_depth telling (rows_of report) report.explained.counts recording) end in
     joined 7 (status_members report.ending causes) (rows ++ (talk ++ ends)) (omega (arith, few)) behind

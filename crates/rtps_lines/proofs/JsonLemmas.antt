@@ -215,7 +215,7 @@ verdict_within (Unfounded datagram n) = omega arith
 evidence_within : (times : TimesValue) (evidence : EvidenceValue) → members_depth (members_of (evidence_members times evidence)) ≤ 2
 evidence_within times evidence = omega (arith, announcement_within times evidence.announcement, claim_within times evidence.acknowledgement)
 
-place_within : (times : TimesValue) (place : Option Location) → depth (place_json times place) ≤ 1
+pub place_within : (times : TimesValue) (place : Option Location) → depth (place_json times place) ≤ 1
 place_within times None = omega arith
 place_within times (Some place) = omega (arith, places_within times place)
 

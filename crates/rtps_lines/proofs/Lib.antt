@@ -4,6 +4,7 @@ pub mod Offered
 mod PartLemmas
 mod TalkLemmas
 mod SecondLemmas
+mod EventLemmas
 mod JoinLemmas
 mod LostLemmas
 mod NoteLemmas

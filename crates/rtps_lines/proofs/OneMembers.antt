@@ -4,6 +4,7 @@ use Rattle.rtps_audit.specs.declared.report.Counts.{Counts}
 use Rattle.rtps_evidence.specs.Explanation.{ExplanationValue}
 use Rattle.rtps_evidence.specs.Kinds.{LostValue}
 use Rattle.rtps_report.specs.Asked.{AskedValue}
+use Rattle.rtps_report.specs.Events.{events_by}
 use Rattle.rtps_report.specs.FullReport.{ReportValue}
 use Rattle.rtps_report.specs.Laws.{AreSame}
 use Rattle.rtps_report.specs.NoteFacts.{facts_by, is_unread}
@@ -16,6 +17,7 @@ use Rattle.rtps_report.specs.declared.findings.Ending.{Ending}
 use Rattle.rtps_report.specs.declared.order.Order.{Order}
 use Rattle.rtps_lines.specs.Causes.{causes_of, findings_in}
 use Rattle.rtps_lines.specs.CheckMembers.{check_members, last_members, status_members}
+use Rattle.rtps_lines.specs.EventMembers.{events_member}
 use Rattle.rtps_lines.specs.JsonText.{Member, rows_members}
 use Rattle.rtps_lines.specs.Notes.{notes}
 use Rattle.rtps_lines.specs.TalkMembers.{best_effort_member, held_members, one_way_member, participants_member, talking_member, unmatched_member, unobserved_member}
@@ -29,7 +31,7 @@ members_with asked recording arrived order ending counts rows lost talk =
     ++ (rows_members (Some (record { scope = scope; talk = talk; lost = lost; times = recording.times; has_other = is_some arrived })) rows counts recording
     ++ ((unmatched_member talk.unmatched ∷ talking_member talk.talking ∷ unobserved_member talk.silence talk.left_out ∷ one_way_member talk.one_way
     ∷ best_effort_member talk.best_effort ∷ (held_members (is_some arrived) talk.held ++ participants_member recording.times talk.participants ∷ []))
-    ++ last_members (is_some arrived) order.wrong (notes (codes " -> ") (facts_by rows scope counts recording)
+    ++ last_members (is_some arrived) order.wrong (events_member recording.times talk (events_by asked talk lost rows)) (notes (codes " -> ") (facts_by rows scope counts recording)
     (record { talk = talk; talking = []; left_out = talk.left_out; late = []; tails = []; rows = []; side = facts_if rows order arrived; named = false }))))
 
 -- a report of which all this is the same has the same members

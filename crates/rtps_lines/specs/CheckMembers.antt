@@ -37,10 +37,13 @@ notes_members notes = (codes "notes", array_of (map string notes)) ∷ []
 abbrev pub report_events : AskedValue → RecordingValue → ReportValue → Member
 report_events asked recording report = events_member recording.times report.talk (events_of asked report)
 
--- the ones that stand last
-abbrev pub last_members : AskedValue → RecordingValue → ReportValue → List (List ℕ) → List Member
-last_members asked recording report notes =
-    wrong_way_members (is_some report.arrived) report.order.wrong ++ report_events asked recording report ∷ notes_members notes
+-- the ones that stand last, with this one of events
+abbrev pub last_members : Bool → ℕ → Member → List (List ℕ) → List Member
+last_members has_other wrong events notes = wrong_way_members has_other wrong ++ events ∷ notes_members notes
+
+-- those of this report
+abbrev pub report_ends : AskedValue → RecordingValue → ReportValue → List (List ℕ) → List Member
+report_ends asked recording report notes = last_members (is_some report.arrived) report.order.wrong (report_events asked recording report) notes
 
 -- why the run of this report does not end clean
 abbrev pub report_causes : AskedValue → RecordingValue → ReportValue → List (List ℕ)
@@ -70,4 +73,4 @@ abbrev pub check_members : AskedValue → RecordingValue → ReportValue → Lis
 check_members asked recording report =
     status_members report.ending (report_causes asked recording report)
     ++ (rows_members (Some (check_telling asked recording report)) (rows_of report) report.explained.counts recording
-    ++ (talk_members recording.times report ++ last_members asked recording report (report_notes asked recording report)))
+    ++ (talk_members recording.times report ++ report_ends asked recording report (report_notes asked recording report)))

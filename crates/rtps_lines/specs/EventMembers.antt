@@ -24,13 +24,13 @@ abbrev pub party_json : GuidPrefix → Json
 party_json prefix = string (guid_text (participant_of prefix))
 
 -- that of the second one, if there is one
-abbrev pub second_json : Option GuidPrefix → List Json
-second_json None = []
-second_json (Some prefix) = party_json prefix ∷ []
+abbrev pub parties_by : Option GuidPrefix → List Json
+parties_by None = []
+parties_by (Some prefix) = party_json prefix ∷ []
 
 -- those of an event
 abbrev pub parties_json : EventKey → Json
-parties_json key = array_of (party_json key.first ∷ second_json key.second)
+parties_json key = array_of (party_json key.first ∷ parties_by key.second)
 
 -- the places of its rows, and how many numbers they lost
 abbrev pub amounts_members : EventValue → List Member

@@ -2,7 +2,7 @@ ghost use Rattle.std.specs.Prelude.{◌≡◌, ◌++◌, IfOk, OnOk, map};
 ghost use Rattle.std.specs.String.{string_bytes};
 ghost use Rattle.rtps_report.specs.Asked.{asked_value};
 ghost use Rattle.rtps_report.specs.FullReport.{report_value};
-ghost use Rattle.rtps_lines.specs.CheckMembers.{check_members, check_telling, last_members, report_causes, report_events, report_last, report_notes, status_members, status_text, wrong_way_members};
+ghost use Rattle.rtps_lines.specs.CheckMembers.{check_members, check_telling, report_causes, report_ends, report_events, report_last, report_notes, status_members, status_text, wrong_way_members};
 ghost use Rattle.rtps_lines.specs.JsonText.{telling_value, tokens_of, tokens_of_member};
 
 use crate::causes::{Judged, causes_of, push_last};
@@ -134,7 +134,7 @@ fn push_last_members(
     notes: &[String],
 ) -> Result<(), AllocError>
     ensures tokens { OnOk result (writer.new.tokens ≡ writer.old.tokens
-        ++ tokens_of (last_members (asked_value report.now.asked.now) report.now.recording.now (report_value report.now) (map string_bytes notes.now))) }
+        ++ tokens_of (report_ends (asked_value report.now.asked.now) report.now.recording.now (report_value report.now) (map string_bytes notes.now))) }
     ensures before { writer.new.before ≡ writer.old.before }
 {
     push_wrong_way(writer, has_other(report), report.order.wrong)?;

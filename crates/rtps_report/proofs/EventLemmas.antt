@@ -1,20 +1,22 @@
 -- Rows of events, with one row more, and events in their order.
-use Rattle.std.proofs.Common.{Bor, ◌≡◌, ◌∙◌, ℕ, suc, ◌+◌, ◌-◌, ◌<◌, ◌≤◌, ◌&&◌, Bool, true, false, cond, not, List, [], ◌∷◌, ◌++◌, Option, Some, None, append-nil, ap, ap₂, arith, filter, get_or, is_lt, length, map, nat_cmp, nat_lt, refl, sym}
+use Rattle.std.proofs.Common.{Bor, ◌≡◌, ◌∙◌, ℕ, suc, ◌+◌, ◌-◌, ◌<◌, ◌≤◌, ◌&&◌, Bool, true, false, cond, not, List, [], ◌∷◌, ◌++◌, Option, Some, None, append-nil, ap, ap₂, arith, filter, get_or, is_lt, length, map, nat_cmp, nat_lt, refl, subst, sym, take}
 use Rattle.std.specs.Cmp.Lexicographic.{texts_ties}
 use Rattle.std.specs.Global.{Vec}
 use Rattle.std.specs.Option.{option_cmp}
 use Rattle.std.specs.Ordering.{is_eq, ordering_then}
 use Rattle.std.specs.declared.cmp.Ordering.{Ordering}
 use Rattle.std.specs.declared.cmp.Ordering.TheVariants.{Less, Equal, Greater}
+use Rattle.std.proofs.lemmas.List.{map_more}
 use Rattle.std.proofs.lemmas.List.Elements.{filter-append}
 use Rattle.std.proofs.lemmas.Slice.Eq.{bytes_eq-Decides}
 use Rattle.rtps_ids.specs.declared.identity.GuidPrefix.{GuidPrefix}
 use Rattle.rtps_receiver.specs.Speech.{is_prefix}
 use Rattle.rtps_audit.proofs.Offered.{bytes_eq-sym}
-use Rattle.rtps_report.specs.Events.{before_others, is_key, is_second, is_that, key_cmp, keys_of, noted_key, prefix_cmp, rows_in, rows_with}
+use Rattle.rtps_report.specs.Events.{AreEventRows, before_others, has_none, is_key, is_second, is_that, key_cmp, keys_of, noted_key, prefix_cmp, rows_at, rows_in, rows_with}
 use Rattle.rtps_report.specs.Talk.{TalkValue}
-use Rattle.rtps_report.specs.Vocabulary.{Explanation, ExplanationValue}
+use Rattle.rtps_report.specs.Vocabulary.{Explanation, ExplanationValue, explanation_value}
 use Rattle.rtps_report.specs.declared.event_rows.EventKey.{EventKey}
+use Rattle.rtps_report.specs.declared.event_rows.EventRows.{EventRows}
 
 -- ---- keys that compare alike
 
@@ -98,46 +100,86 @@ pub by_none : List ExplanationValue → List EventKey → List EventKey
 by_none [] keys = keys
 by_none (row ∷ rows) keys = []
 
+kept : (first : ExplanationValue) (key k : EventKey) (left : List ExplanationValue) (b : Bool) → is_key key k ≡ b
+    → filter (λ other. not (is_key k other)) (by_none left (key ∷ [])) ≡ by_none (cond b (first ∷ left) left) (key ∷ [])
+unfolding by_none
+kept first key k [] true e = ap (λ (b : Bool). cond (not b) (key ∷ []) []) (key-sym k key ∙ e)
+kept first key k [] false e = ap (λ (b : Bool). cond (not b) (key ∷ []) []) (key-sym k key ∙ e)
+kept first key k (one ∷ left) true e = refl
+kept first key k (one ∷ left) false e = refl
+
+kept_by_test : (first : ExplanationValue) (key k : EventKey) (left : List ExplanationValue)
+    → filter (λ other. not (is_key k other)) (by_none left (key ∷ [])) ≡ by_none (cond (is_key key k) (first ∷ left) left) (key ∷ [])
+kept_by_test first key k left = kept first key k left (is_key key k) refl
+
+-- keys behind a row, with one key more that there may be already
+one_more : (first : ExplanationValue) (k : Option EventKey) (key : EventKey) (all known : List EventKey) (left : List ExplanationValue) → all ≡ known ++ by_none left (key ∷ [])
+    → before_others k all ≡ before_others k known ++ by_none (cond (is_that key k) (first ∷ left) left) (key ∷ [])
+one_more first None key all known left onward = onward
+one_more first (Some k) key all known left onward =
+    ap (λ (keys : List EventKey). k ∷ filter (λ other. not (is_key k other)) keys) onward
+    ∙ ap (λ (keys : List EventKey). k ∷ keys) (filter-append (λ other. not (is_key k other)) known (by_none left (key ∷ []))
+    ∙ ap (λ (keys : List EventKey). filter (λ other. not (is_key k other)) known ++ keys) (kept_by_test first key k left))
+
 pub keys_more : (talk : TalkValue) (tail : ℕ) (rows : List ExplanationValue) (row : ExplanationValue) (key : EventKey) → noted_key talk tail row ≡ Some key
     → keys_of talk tail (rows ++ row ∷ []) ≡ keys_of talk tail rows ++ by_none (rows_with talk tail rows key) (key ∷ [])
 unfolding by_none
 keys_more talk tail [] row key is = ap (λ k. before_others k []) is
-keys_more talk tail (first ∷ rows) row key is = step (noted_key talk tail first)
-  where
-    known : List EventKey
-    known = keys_of talk tail rows
-
-    own : List ExplanationValue
-    own = rows_with talk tail rows key
-
-    onward : keys_of talk tail (rows ++ row ∷ []) ≡ keys_of talk tail rows ++ by_none (rows_with talk tail rows key) (key ∷ [])
-    onward = keys_more talk tail rows row key is
-
-    kept : (k : EventKey) (left : List ExplanationValue) (b : Bool) → is_key key k ≡ b
-        → filter (λ other. not (is_key k other)) (by_none left (key ∷ [])) ≡ by_none (cond b (first ∷ left) left) (key ∷ [])
-    kept k [] true e = ap (λ (b : Bool). cond (not b) (key ∷ []) []) (key-sym k key ∙ e)
-    kept k [] false e = ap (λ (b : Bool). cond (not b) (key ∷ []) []) (key-sym k key ∙ e)
-    kept k (one ∷ left) true e = refl
-    kept k (one ∷ left) false e = refl
-
-    by_test : (k : EventKey) (b : Bool) → is_key key k ≡ b
-        → filter (λ other. not (is_key k other)) (keys_of talk tail rows) ++ filter (λ other. not (is_key k other)) (by_none (rows_with talk tail rows key) (key ∷ []))
-        ≡ filter (λ other. not (is_key k other)) (keys_of talk tail rows)
-        ++ by_none (cond (is_key key k) (first ∷ rows_with talk tail rows key) (rows_with talk tail rows key)) (key ∷ [])
-    by_test k b e =
-        ap (λ keys. filter (λ other. not (is_key k other)) (keys_of talk tail rows) ++ keys)
-        (kept k (rows_with talk tail rows key) b e
-        ∙ ap (λ (b : Bool). by_none (cond b (first ∷ rows_with talk tail rows key) (rows_with talk tail rows key)) (key ∷ [])) (sym e))
-
-    step : (k : Option EventKey) → before_others k (keys_of talk tail (rows ++ row ∷ []))
-        ≡ before_others k (keys_of talk tail rows) ++ by_none (cond (is_that key k) (first ∷ rows_with talk tail rows key) (rows_with talk tail rows key)) (key ∷ [])
-    step None = onward
-    step (Some k) =
-        ap (λ keys. k ∷ filter (λ other. not (is_key k other)) keys) onward
-        ∙ ap (λ keys. k ∷ keys) (filter-append (λ other. not (is_key k other)) (keys_of talk tail rows) (by_none (rows_with talk tail rows key) (key ∷ []))
-        ∙ by_test k (is_key key k) refl)
+keys_more talk tail (first ∷ rows) row key is =
+    one_more first (noted_key talk tail first) key (keys_of talk tail (rows ++ row ∷ [])) (keys_of talk tail rows) (rows_with talk tail rows key)
+    (keys_more talk tail rows row key is)
 
 pub keys_same : (talk : TalkValue) (tail : ℕ) (rows : List ExplanationValue) (row : ExplanationValue) → noted_key talk tail row ≡ None
     → keys_of talk tail (rows ++ row ∷ []) ≡ keys_of talk tail rows
 keys_same talk tail [] row none = ap (λ k. before_others k []) none
 keys_same talk tail (first ∷ rows) row none = ap (before_others (noted_key talk tail first)) (keys_same talk tail rows row none)
+
+-- what is kept of rows, with one row more of an event
+pub noted : (talk : TalkValue) (tail : ℕ) (rows : List ExplanationValue) (row : ExplanationValue) (key : EventKey) (old new : EventRows)
+    → noted_key talk tail row ≡ Some key → AreEventRows talk tail rows old
+    → ((other : EventKey) → rows_at new.map other ≡ rows_at old.map other ++ cond (is_key other key) (row ∷ []) [])
+    → new.keys.items ≡ old.keys.items ++ by_none (rows_at old.map key) (key ∷ []) → AreEventRows talk tail (rows ++ row ∷ []) new
+noted talk tail rows row key old new is were each grown =
+    record {
+      each = λ other.
+          each other ∙ ap (λ (own : List ExplanationValue). own ++ cond (is_key other key) (row ∷ []) []) (were.each other)
+          ∙ ap (λ (k : Option EventKey). rows_with talk tail rows other ++ cond (is_that other k) (row ∷ []) []) (sym is) ∙ sym (rows_more talk tail rows row other);
+      keys = grown ∙ ap (λ (own : List ExplanationValue). old.keys.items ++ by_none own (key ∷ [])) (were.each key)
+          ∙ ap (λ (known : List EventKey). known ++ by_none (rows_with talk tail rows key) (key ∷ [])) were.keys ∙ sym (keys_more talk tail rows row key is);
+    }
+
+-- the same with one that nobody has to look at
+pub not_noted : (talk : TalkValue) (tail : ℕ) (rows : List ExplanationValue) (row : ExplanationValue) (kept : EventRows) → noted_key talk tail row ≡ None → AreEventRows talk tail rows kept
+    → AreEventRows talk tail (rows ++ row ∷ []) kept
+not_noted talk tail rows row kept none were =
+    record {
+      each = λ other.
+          were.each other ∙ sym (append-nil (rows_with talk tail rows other))
+          ∙ ap (λ (k : Option EventKey). rows_with talk tail rows other ++ cond (is_that other k) (row ∷ []) []) (sym none) ∙ sym (rows_more talk tail rows row other);
+      keys = were.keys ∙ sym (keys_same talk tail rows row none);
+    }
+
+-- keys, by whether there are rows
+pub none_of : (rows : List ExplanationValue) (keys : List EventKey) → has_none rows ≡ true → by_none rows keys ≡ keys
+unfolding by_none
+none_of [] keys none = refl
+none_of (row ∷ rows) keys none = absurd (let clash : false ≡ true = none in cc)
+
+pub some_of : (rows : List ExplanationValue) (keys : List EventKey) → has_none rows ≡ false → by_none rows keys ≡ []
+unfolding by_none
+some_of [] keys some = absurd (let clash : true ≡ false = some in cc)
+some_of (row ∷ rows) keys some = refl
+
+-- ---- the loop over rows
+
+-- what is kept of the rows so far and the next one
+pub with_next : (talk : TalkValue) (tail : ℕ) (rows : List Explanation) (i : ℕ) (d : Explanation) (kept : EventRows) → i < length rows
+    → AreEventRows talk tail (map explanation_value (take i rows) ++ explanation_value (get_or rows i d) ∷ []) kept → AreEventRows talk tail (map explanation_value (take (i + 1) rows)) kept
+with_next talk tail rows i d kept within are = subst (λ all. AreEventRows talk tail all kept) (sym (map_more explanation_value rows i d within)) are
+
+-- the same where nobody has to look at the next one
+pub without_next : (talk : TalkValue) (tail : ℕ) (rows : List Explanation) (i : ℕ) (d : Explanation) (key : Option EventKey) (kept : EventRows) → i < length rows
+    → key ≡ noted_key talk tail (explanation_value (get_or rows i d)) → key ≡ None
+    → AreEventRows talk tail (map explanation_value (take i rows)) kept → AreEventRows talk tail (map explanation_value (take (i + 1) rows)) kept
+without_next talk tail rows i d key kept within is none are =
+    with_next talk tail rows i d kept within (not_noted talk tail (map explanation_value (take i rows)) (explanation_value (get_or rows i d)) kept (sym is ∙ none) are)

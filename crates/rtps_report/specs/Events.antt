@@ -174,25 +174,25 @@ event_value event =
     }
 
 -- what is told of an event with these rows
-abbrev pub event_with : AskedValue → ReportValue → EventKey → List ExplanationValue → EventValue
-event_with asked report key rows =
+abbrev pub event_with : AskedValue → TalkValue → List LostValue → EventKey → List ExplanationValue → EventValue
+event_with asked talk lost key rows =
     record {
       key = key;
       places = map (λ row. row.place) rows;
       numbers = sum_by (λ row. numbers_lost asked.from row.evidence) rows;
-      first = first_among (lost_of report) rows;
-      last = last_among (lost_of report) rows;
+      first = first_among lost rows;
+      last = last_among lost rows;
       asked = asked_among key rows;
-      heard = heard_in report.talk key;
+      heard = heard_in talk key;
     }
 
--- an event of a report: its rows are all that belong to it
-abbrev pub event_of : AskedValue → ReportValue → EventKey → EventValue
-event_of asked report key = event_with asked report key (rows_with report.talk asked.tail (rows_of report) key)
+-- an event among these rows: all that belong to it
+abbrev pub event_of : AskedValue → TalkValue → List LostValue → List ExplanationValue → EventKey → EventValue
+event_of asked talk lost rows key = event_with asked talk lost key (rows_with talk asked.tail rows key)
 
--- the events of a report, by their first rows
-abbrev pub events_in : AskedValue → ReportValue → List EventValue
-events_in asked report = map (event_of asked report) (keys_of report.talk asked.tail (rows_of report))
+-- the events of these rows, by their first rows
+abbrev pub events_in : AskedValue → TalkValue → List LostValue → List ExplanationValue → List EventValue
+events_in asked talk lost rows = map (event_of asked talk lost rows) (keys_of talk asked.tail rows)
 
 -- an event before others that stand in their order: behind those that lost more
 abbrev pub placed : EventValue → List EventValue → List EventValue
@@ -204,9 +204,13 @@ abbrev pub worst_first : List EventValue → List EventValue
 worst_first [] = []
 worst_first (event ∷ events) = placed event (worst_first events)
 
--- the events of a report: the one with most numbers first; those with as many stand by their first rows
+-- the events of these rows: the one with most numbers first; those with as many stand by their first rows
+abbrev pub events_by : AskedValue → TalkValue → List LostValue → List ExplanationValue → List EventValue
+events_by asked talk lost rows = worst_first (events_in asked talk lost rows)
+
+-- those of a report
 abbrev pub events_of : AskedValue → ReportValue → List EventValue
-events_of asked report = worst_first (events_in asked report)
+events_of asked report = events_by asked report.talk (lost_of report) (rows_of report)
 
 -- ---- the same of the code
 
@@ -228,6 +232,11 @@ rows_in (Some rows) = rows_value rows.items
 
 abbrev pub rows_at : BTreeMap EventKey (Vec (Bor Explanation)) → EventKey → List ExplanationValue
 rows_at kept key = rows_in (get key_cmp kept key)
+
+-- there are no rows
+abbrev pub has_none : List ExplanationValue → Bool
+has_none [] = true
+has_none (row ∷ rows) = false
 
 -- what is kept is of these rows: those of each event, and which events there are
 pub record AreEventRows (talk : TalkValue) (tail : ℕ) (rows : List ExplanationValue) (kept : EventRows) : Type 0 where

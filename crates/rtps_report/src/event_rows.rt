@@ -1,6 +1,6 @@
-ghost use Rattle.std.specs.Prelude.{ℕ, ◌≡◌, ◌++◌, ◌∷◌, [], if◌then◌else◌, IfOk, List, OnOk, Some, map};
+ghost use Rattle.std.specs.Prelude.{ℕ, ◌≡◌, ◌++◌, ◌∷◌, [], if◌then◌else◌, IfOk, List, OnOk, Some, map, not};
 ghost use Rattle.rtps_evidence.specs.Explanation.{ExplanationValue as ExplanationValueOf, explanation_value};
-ghost use Rattle.rtps_report.specs.Events.{AreEventRows, is_key, key_by, noted_key as noted_key_lem, rows_at, rows_value};
+ghost use Rattle.rtps_report.specs.Events.{AreEventRows, has_none, is_key, key_by, noted_key as noted_key_lem, rows_at, rows_value};
 ghost use Rattle.rtps_report.specs.Talk.{TalkValue as TalkValueOf, talk_value};
 ghost use Rattle.rtps_report.specs.declared.event_rows.EventKey.{EventKey as EventKeyOf};
 
@@ -93,7 +93,7 @@ impl<'r, 'a> EventRows<'r, 'a> {
         ensures { OnOk result ((talk : TalkValueOf) (tail : ℕ) (rows : List ExplanationValueOf) → noted_key_lem talk tail (explanation_value row.entry.now) ≡ Some key
             → AreEventRows talk tail rows self.old → AreEventRows talk tail (rows ++ explanation_value row.entry.now ∷ []) self.new) }
     {
-        if self.rows(key).is_empty() {
+        if !self.has_rows(key) {
             self.keys.push(key)?;
         }
         self.append(key, row)
@@ -117,13 +117,23 @@ impl<'r, 'a> EventRows<'r, 'a> {
         Ok(found)
     }
 
-    /// Those of an event, in their order.
-    pub fn rows(&self, key: EventKey) -> &[&'r Explanation<'a>]
-        ensures { rows_value result.now ≡ rows_at self.now.map key }
+    /// Whether an event has some.
+    fn has_rows(&self, key: EventKey) -> bool
+        ensures { result ≡ not (has_none (rows_at self.now.map key)) }
     {
         match self.map.get(&key) {
-            Some(rows) => rows,
-            None => &[],
+            Some(rows) => !rows.is_empty(),
+            None => false,
+        }
+    }
+
+    /// Those of an event, in their order.
+    pub fn rows(&self, alloc: Global, key: EventKey) -> Result<Vec<&'r Explanation<'a>>, AllocError>
+        ensures { IfOk result (λ rows. rows_value rows.items ≡ rows_at self.now.map key) }
+    {
+        match self.map.get(&key) {
+            Some(rows) => Vec::from_slice(alloc, rows),
+            None => Ok(Vec::new(alloc)),
         }
     }
 }

@@ -4,7 +4,7 @@ ghost use Rattle.rtps_evidence.specs.Kinds.{lost_value};
 ghost use Rattle.rtps_evidence.specs.Waits.{precedes as precedes_lem};
 ghost use Rattle.rtps_report.specs.Asked.{asked_value};
 ghost use Rattle.rtps_report.specs.Events.{asked_among, asked_in as asked_in_lem, earlier as earlier_lem, event_value, event_with, events_in, events_of as events_of_lem, first_among, first_sent as first_sent_lem, heard_in, last_among, last_sent as last_sent_lem, later as later_lem, numbers_lost as numbers_lost_lem, rows_value, sent_in, waiting_in};
-ghost use Rattle.rtps_report.specs.FullReport.{report_value};
+ghost use Rattle.rtps_report.specs.FullReport.{lost_of as lost_of_report, report_value, rows_of};
 ghost use Rattle.rtps_report.specs.Talk.{talk_value};
 
 use crate::event_rows::{EventKey, EventRows};
@@ -209,7 +209,7 @@ impl Event {
         key: EventKey,
         rows: &[&Explanation<'_>],
     ) -> Result<Event, AllocError>
-        ensures { IfOk result (λ event. event_value event ≡ event_with (asked_value report.now.asked.now) (report_value report.now) key (rows_value rows.now)) }
+        ensures { IfOk result (λ event. event_value event ≡ event_with (asked_value report.now.asked.now) (talk_value report.now.talk) (lost_of_report (report_value report.now)) key (rows_value rows.now)) }
     {
         let losses = Losses {
             from: report.asked.first_asked(),
@@ -229,7 +229,7 @@ impl Event {
 
 /// The events of a report, by their first rows.
 fn found_in(alloc: Global, report: &FullReport<'_>) -> Result<Vec<Event>, AllocError>
-    ensures { IfOk result (λ events. map event_value events.items ≡ events_in (asked_value report.now.asked.now) (report_value report.now)) }
+    ensures { IfOk result (λ events. map event_value events.items ≡ events_in (asked_value report.now.asked.now) (talk_value report.now.talk) (lost_of_report (report_value report.now)) (rows_of (report_value report.now))) }
 {
     let rows = EventRows::of(
         alloc,
@@ -239,7 +239,8 @@ fn found_in(alloc: Global, report: &FullReport<'_>) -> Result<Vec<Event>, AllocE
     )?;
     let mut events = Vec::with_capacity(alloc, rows.keys.len())?;
     for key in &rows.keys {
-        events.push(Event::of(alloc, report, *key, rows.rows(*key))?)?;
+        let own = rows.rows(alloc, *key)?;
+        events.push(Event::of(alloc, report, *key, &own)?)?;
     }
     Ok(events)
 }

@@ -1,10 +1,10 @@
-use Rattle.std.proofs.Common.{◌++◌, ◌∙◌, Bool, List, ℕ, ap, is_some, map, Some}
+use Rattle.std.proofs.Common.{◌++◌, ◌∙◌, List, ℕ, ap, map, Some}
 use Rattle.std.proofs.lemmas.Result.{on_ok_weaker}
 use Rattle.std.specs.String.{string_bytes}
 use Rattle.json.specs.Token.{Token}
 use Rattle.rtps_report.specs.Asked.{asked_value}
 use Rattle.rtps_report.specs.FullReport.{report_value, rows_of}
-use Rattle.rtps_lines.specs.CheckMembers.{check_telling, last_members, report_causes, report_notes, status_members}
+use Rattle.rtps_lines.specs.CheckMembers.{check_telling, report_causes, report_ends, report_notes, status_members}
 use Rattle.rtps_lines.specs.JsonText.{Member, TellingValue, rows_members, tokens_of}
 use Rattle.rtps_lines.specs.TalkMembers.{talk_members}
 use Rattle.rtps_lines.proofs.PartLemmas.{four_parts}
@@ -22,7 +22,7 @@ returns-clause-tokens c =
     let status = status_members report.ending (report_causes asked recording value) in
     let members = rows_members (Some (check_telling asked recording value)) rows report.explained.counts recording in
     let talk = talk_members recording.times value in
-    let ends : Bool → List (List ℕ) → List Member = λ has_other notes. last_members has_other report.order.wrong notes in
+    let ends : List (List ℕ) → List Member = report_ends asked recording value in
     let first = c.in_ok-push_status.ensures.tokens
     ∙ ap (λ (all : List (List ℕ)). start ++ tokens_of (status_members report.ending all)) (ap (map string_bytes) c.deref.ensures.value ∙ c.in_ok-causes.ensures) in
     let second = c.in_ok-push_report_members.ensures.tokens
@@ -30,9 +30,8 @@ returns-clause-tokens c =
     let told = ap (map string_bytes) c.deref-2.ensures.value ∙ c.in_ok-notes.ensures in
     on_ok_weaker c.push_last_members.result
     (λ last.
-    four_parts start (tokens_of status) (tokens_of members) (tokens_of talk) (tokens_of (ends (is_some value.arrived) (report_notes asked recording value))) first second
+    four_parts start (tokens_of status) (tokens_of members) (tokens_of talk) (tokens_of (ends (report_notes asked recording value))) first second
     c.in_ok-push_talk_members.ensures.tokens
-    (last ∙ ap (λ (has_other : Bool). c.push_talk_members.new.writer.tokens ++ tokens_of (ends has_other (map string_bytes c.deref-2.result.now))) c.has_other.ensures
-    ∙ ap (λ (all : List (List ℕ)). c.push_talk_members.new.writer.tokens ++ tokens_of (ends (is_some value.arrived) all)) told)
-    ∙ ap (λ (tokens : List Token). start ++ tokens) (tokens_of_four status members talk (ends (is_some value.arrived) (report_notes asked recording value))))
+    (last ∙ ap (λ (all : List (List ℕ)). c.push_talk_members.new.writer.tokens ++ tokens_of (ends all)) told)
+    ∙ ap (λ (tokens : List Token). start ++ tokens) (tokens_of_four status members talk (ends (report_notes asked recording value))))
     c.push_last_members.ensures.tokens
