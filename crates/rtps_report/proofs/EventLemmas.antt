@@ -71,6 +71,16 @@ second-sym (Some one) (Some other) = bytes_eq-sym one.0 other.0
 pub key-sym : (one other : EventKey) → is_key one other ≡ is_key other one
 key-sym one other = ap₂ (λ (a b : Bool). a && b) (bytes_eq-sym one.first.0 other.first.0) (second-sym one.second other.second)
 
+prefix-refl : (prefix : GuidPrefix) → is_prefix prefix prefix ≡ true
+prefix-refl prefix = (bytes_eq-Decides prefix.0 prefix.0).1 refl
+
+second-refl : (second : Option GuidPrefix) → is_second second second ≡ true
+second-refl None = refl
+second-refl (Some prefix) = prefix-refl prefix
+
+pub key-refl : (key : EventKey) → is_key key key ≡ true
+key-refl key = ap₂ (λ (a b : Bool). a && b) (prefix-refl key.first) (second-refl key.second)
+
 -- ---- a row more of one event
 
 -- rows of an event are written with one more

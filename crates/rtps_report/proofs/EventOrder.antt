@@ -11,7 +11,7 @@ use Rattle.rtps_report.proofs.OrderLemmas.{one_order}
 abbrev pub is_worse : EventValue → EventValue → Bool
 is_worse one other = is_lt (nat_cmp other.numbers one.numbers)
 
-less_is : (m n : ℕ) → is_lt (nat_cmp m n) ≡ nat_lt m n
+pub less_is : (m n : ℕ) → is_lt (nat_cmp m n) ≡ nat_lt m n
 less_is m n = grind arith
 
 -- ---- numbers do not rise
@@ -101,6 +101,10 @@ worst_ties w [] = refl
 worst_ties w (event ∷ events) =
     placed_ties w event (worst_first events) ∙ ap (λ kept. cond (ties is_worse w event) (event ∷ kept) kept) (worst_ties w events)
 
+-- they do not rise
+pub worst_sorted : (found : List EventValue) → IsSortedBy is_worse (worst_first found)
+worst_sorted found = sorted_from (most_of found) (worst_first found) (worst_falls (most_of found) found (up_to_most found))
+
 worse_ranks : IsStrictWeakOrder is_worse
 worse_ranks = IsStrictWeakOrder-flip (λ (one other : EventValue). is_lt (nat_cmp one.numbers other.numbers)) (ranks_by nat_cmp_total (λ (event : EventValue). event.numbers))
 
@@ -108,5 +112,5 @@ worse_ranks = IsStrictWeakOrder-flip (λ (one other : EventValue). is_lt (nat_cm
 pub sorted_worst : (found sorted : List EventValue) → IsSortedBy is_worse sorted
     → ((w : EventValue) → filter (ties is_worse w) sorted ≡ filter (ties is_worse w) found) → sorted ≡ worst_first found
 sorted_worst found sorted falls stands =
-    one_order is_worse worse_ranks sorted (worst_first found) falls (sorted_from (most_of found) (worst_first found) (worst_falls (most_of found) found (up_to_most found)))
+    one_order is_worse worse_ranks sorted (worst_first found) falls (worst_sorted found)
     (λ w. stands w ∙ sym (worst_ties w found))

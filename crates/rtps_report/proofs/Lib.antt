@@ -3,6 +3,7 @@ mod AskedLemmas
 mod BestEffortLemmas
 mod BestEffortSums
 mod EndLemmas
+mod EventLaws
 mod EventLemmas
 mod EventOrder
 mod FollowedLemmas

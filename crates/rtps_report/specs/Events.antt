@@ -1,9 +1,10 @@
 -- Which rows belong together, and how many numbers they lost. own: what happens once, as a process that is killed or a link that fails for
 -- some seconds, leaves many rows that are not clean. Told as one event, it is seen once, and first what cost most.
-use Rattle.std.specs.Prelude.{ℕ, ◌≡◌, ◌++◌, ◌-◌, ◌&&◌, nat_lt, Bool, true, false, not, if◌then◌else◌, is_none, is_some, filter, fold, map, sum_by, List, [], ◌∷◌, Option, Some, None}
+use Rattle.std.specs.Prelude.{ℕ, ◌≡◌, ◌++◌, ◌-◌, ◌&&◌, nat_lt, Bool, true, false, not, if◌then◌else◌, is_none, is_some, count_by, filter, fold, map, sum_by, List, [], ◌∷◌, Option, Some, None}
 use Rattle.std.specs.Borrow.{Bor}
 use Rattle.std.specs.BTreeMap.{BTreeMap, get}
 use Rattle.std.specs.Cmp.Lexicographic.{slice_cmp}
+use Rattle.std.specs.List.Sorted.{IsSortedBy}
 use Rattle.std.specs.Option.{option_cmp}
 use Rattle.std.specs.Ordering.{nat_cmp, ordering_then}
 use Rattle.std.specs.Global.{Vec}
@@ -212,6 +213,28 @@ events_by asked talk lost rows = worst_first (events_in asked talk lost rows)
 abbrev pub events_of : AskedValue → ReportValue → List EventValue
 events_of asked report = events_by asked report.talk (lost_of report) (rows_of report)
 
+-- ---- what holds of events
+
+-- there are no rows
+abbrev pub has_none : List ExplanationValue → Bool
+has_none [] = true
+has_none (row ∷ rows) = false
+
+-- the rows that someone has to look at
+abbrev pub noted_among : TalkValue → ℕ → List ExplanationValue → List ExplanationValue
+noted_among talk tail rows = filter (λ row. is_some (noted_key talk tail row)) rows
+
+-- These are events of rows: one of each key that some row has, and no other one, so that each row that someone has to look at is of exactly one
+-- event; together they lost as many numbers as these rows did; and none lost more than the one before it.
+pub record AreWhole (asked : AskedValue) (talk : TalkValue) (rows : List ExplanationValue) (events : List EventValue) : Type 0 where
+  pub once : (key : EventKey) → count_by (λ event. is_key event.key key) events ≡ (if has_none (rows_with talk asked.tail rows key) then 0 else 1)
+  pub numbers : sum_by (λ event. event.numbers) events ≡ sum_by (λ row. numbers_lost asked.from row.evidence) (noted_among talk asked.tail rows)
+  pub falling : IsSortedBy (λ one other. nat_lt other.numbers one.numbers) events
+
+-- it is so of what is asked of each report
+abbrev pub EventsAreWhole : Type 0
+EventsAreWhole = (asked : AskedValue) (report : ReportValue) → AreWhole asked report.talk (rows_of report) (events_of asked report)
+
 -- ---- the same of the code
 
 -- by first participants, octet by octet, and then by second ones, of which none stands first
@@ -232,11 +255,6 @@ rows_in (Some rows) = rows_value rows.items
 
 abbrev pub rows_at : BTreeMap EventKey (Vec (Bor Explanation)) → EventKey → List ExplanationValue
 rows_at kept key = rows_in (get key_cmp kept key)
-
--- there are no rows
-abbrev pub has_none : List ExplanationValue → Bool
-has_none [] = true
-has_none (row ∷ rows) = false
 
 -- what is kept is of these rows: those of each event, and which events there are
 pub record AreEventRows (talk : TalkValue) (tail : ℕ) (rows : List ExplanationValue) (kept : EventRows) : Type 0 where

@@ -1,5 +1,6 @@
 //! Laws of the definitions, each the contract of a function that does nothing.
 
+ghost use Rattle.rtps_report.specs.Events.{EventsAreWhole};
 ghost use Rattle.rtps_report.specs.Laws.{AuditedRowsAreExact, EachMatchIsTold, ExplainedRowsAreExact, HasOneFullReport, ReportedRowsAreExact, ReportedUnansweredIsByItsWords};
 ghost use Rattle.rtps_report.specs.Patterns.{FitsAsFilled};
 
@@ -50,3 +51,9 @@ pub fn each_match_is_told()
     matches_and_pairs();
     one_map();
 }
+
+/// Each row that someone has to look at is of exactly one event, the events lost as many numbers as these rows, and none lost more than the one
+/// before it.
+pub fn events_are_whole()
+    ensures { EventsAreWhole }
+{}

@@ -1,4 +1,4 @@
-use Rattle.std.proofs.Common.{◌∙◌, Bor, ℕ, List, Option, map, string_bytes, subst}
+use Rattle.std.proofs.Common.{◌∙◌, Bor, ℕ, List, Option, ap, map, string_bytes, subst}
 use Rattle.rtps_evidence.specs.Kinds.{LostValue, lost_value}
 use Rattle.rtps_evidence.specs.Times.{TimesValue}
 use Rattle.rtps_evidence.specs.declared.kinds.LostNumbers.{LostNumbers}
@@ -6,6 +6,7 @@ use Rattle.rtps_report.specs.Vocabulary.{Explanation, explanation_value}
 use Rattle.rtps_report.specs.declared.advice.Scope.{Scope}
 use Rattle.rtps_report.specs.Asked.{asked_value}
 use Rattle.rtps_report.specs.ByTopic.{AreByTopic}
+use Rattle.rtps_report.specs.Events.{EventValue, event_value, events_of}
 use Rattle.rtps_report.specs.FullReport.{report_value}
 use Rattle.rtps_report.specs.NoteFacts.{note_facts, scope_of}
 use Rattle.rtps_report.specs.SideFacts.{side_facts}
@@ -29,10 +30,11 @@ returns c =
     let talking = map (λ (one : Bor Unmatched). unmatched_value one.now) c.in_ok-talking.talking.items in
     let left_out = map left_out_value c.in_ok-left_out.left_out.items in
     let text = string_bytes c.in_ok-text.text in
-    let IsText = λ (scope : Scope) (lost : List LostValue) (times : TimesValue) (facts : NoteFacts) (side : Option SideFacts) (all : List Explanation) (talk : List ℕ) (left : List LeftOut).
+    let IsText = λ (scope : Scope) (lost : List LostValue) (happened : List EventValue) (times : TimesValue) (facts : NoteFacts) (side : Option SideFacts) (all : List Explanation) (talk : List ℕ) (left : List LeftOut).
     IsTextBy scope (record {
       times = times;
       lost = lost;
+      events = happened;
       facts = facts;
       side = side;
       talking = talk;
@@ -46,10 +48,12 @@ returns c =
     let times = recording.times in
     let facts = note_facts asked recording (report_value report) in
     let side = side_facts (report_value report) in
+    let happened = events_of asked (report_value report) in
     let kept = map lost_value c.deref-4.result.now in
     let own = c.deref-5.result.now in
-    let those = c.deref-6.result.now in
-    let these = c.deref-7.result.now in
+    let known = map event_value c.deref-6.result.now in
+    let those = c.deref-7.result.now in
+    let these = c.deref-8.result.now in
     record {
       rows = rows;
       rows_by_topic = subst (λ all. AreByTopic all rows) c.deref.ensures.value c.in_ok-rows.ensures;
@@ -57,12 +61,13 @@ returns c =
       talking_by_topic = subst (λ (all : List Unmatched). UnmatchedByTopic (map unmatched_value all) talking) c.deref-2.ensures.value c.in_ok-talking.ensures;
       left_out = left_out;
       left_out_by_topic = subst (λ (all : List LeftOut). AreLeftByTopic (map left_out_value all) left_out) c.deref-3.ensures.value c.in_ok-left_out.ensures;
-      is_text = subst (λ left. IsText scope lost times facts side rows (talking_names talking) left) c.deref-7.ensures.value
-          (subst (λ talk. IsText scope lost times facts side rows talk these) (c.deref-6.ensures ∙ c.in_ok-names.ensures)
-          (subst (λ all. IsText scope lost times facts side all those these) c.deref-5.ensures.value
-          (subst (λ beside. IsText scope lost times facts beside own those these) c.facts_of_side.ensures
-          (subst (λ known. IsText scope lost times known c.facts_of_side.result own those these) c.notes_on.ensures
-          (subst (λ all. IsText scope lost all c.notes_on.result c.facts_of_side.result own those these) c.times.ensures
-          (subst (λ (some : List LostNumbers). IsText scope (map lost_value some) c.times.result.now c.notes_on.result c.facts_of_side.result own those these) c.deref-4.ensures.value
-          (subst (λ first. IsText first kept c.times.result.now c.notes_on.result c.facts_of_side.result own those these) c.scope_of.ensures c.in_ok-text.ensures)))))));
+      is_text = subst (λ left. IsText scope lost happened times facts side rows (talking_names talking) left) c.deref-8.ensures.value
+          (subst (λ talk. IsText scope lost happened times facts side rows talk these) (c.deref-7.ensures ∙ c.in_ok-names.ensures)
+          (subst (λ all. IsText scope lost all times facts side rows those these) (ap (map event_value) c.deref-6.ensures.value ∙ c.in_ok-events.ensures)
+          (subst (λ all. IsText scope lost known times facts side all those these) c.deref-5.ensures.value
+          (subst (λ beside. IsText scope lost known times facts beside own those these) c.facts_of_side.ensures
+          (subst (λ weak. IsText scope lost known times weak c.facts_of_side.result own those these) c.notes_on.ensures
+          (subst (λ all. IsText scope lost known all c.notes_on.result c.facts_of_side.result own those these) c.times.ensures
+          (subst (λ (some : List LostNumbers). IsText scope (map lost_value some) known c.times.result.now c.notes_on.result c.facts_of_side.result own those these) c.deref-4.ensures.value
+          (subst (λ first. IsText first kept known c.times.result.now c.notes_on.result c.facts_of_side.result own those these) c.scope_of.ensures c.in_ok-text.ensures))))))));
     }

@@ -24,9 +24,9 @@ returns c =
       unmatched_by_topic = block.by_topic;
       lossy = lost.sorted;
       lossy_by_topic = lost.by_topic;
-      is_text = six_parts [] (first_lines totals beside) (topics_text (told_beside told.scope beside) totals rows) unmatched one_way lossy (ending_text told.scope beside totals rows)
+      is_text = six_parts [] (first_lines totals beside) (topics_text (told_beside told.scope beside) beside.events totals rows) unmatched one_way lossy (ending_text told.scope beside totals rows)
           (c.in_ok-push_first.ensures ∙ ap (λ bytes. bytes ++ first_lines totals beside) c.new-text.ensures.bytes) c.in_ok-push_topics.ensures block.is_text c.in_ok-push_one_way_block.ensures lost.is_text
           c.in_ok-push_ending.ensures
-          ∙ ap (λ (totals : Totals). first_lines totals beside ++ (topics_text (told_beside told.scope beside) totals rows ++ (unmatched ++ (one_way ++ (lossy ++ ending_text told.scope beside totals rows)))))
+          ∙ ap (λ (totals : Totals). first_lines totals beside ++ (topics_text (told_beside told.scope beside) beside.events totals rows ++ (unmatched ++ (one_way ++ (lossy ++ ending_text told.scope beside totals rows)))))
           c.totals_of-totals.ensures;
     }

@@ -11,6 +11,7 @@ use Rattle.rtps_policies.specs.Unmatched.{UnmatchedValue}
 use Rattle.rtps_report.specs.Asked.{AskedValue}
 use Rattle.rtps_report.specs.BestEfforts.{HeldValue}
 use Rattle.rtps_report.specs.ByTopic.{AreByTopic}
+use Rattle.rtps_report.specs.Events.{events_by}
 use Rattle.rtps_report.specs.FullReport.{ReportValue}
 use Rattle.rtps_report.specs.Laws.{AreSame}
 use Rattle.rtps_report.specs.NoteFacts.{facts_by, is_unread, note_facts, scope_of}
@@ -64,7 +65,7 @@ text_by_once scope beside rows one other is also =
     let totals = totals_of scope rows in
     is.is_text
     ∙ ap₂ (λ (first : List UnmatchedValue) (second : List HeldValue). first_lines totals beside
-    ++ (topics_text (told_beside scope beside) totals rows
+    ++ (topics_text (told_beside scope beside) beside.events totals rows
     ++ (unmatched_lines beside.talk.ends first
     ++ (one_way_block beside.talk ++ (lossy_lines beside.talk.ends second ++ ending_text scope beside totals rows)))))
     (unmatched_once beside.talk.unmatched beside.talk.unmatched is.unmatched also.unmatched refl is.unmatched_by_topic also.unmatched_by_topic)
@@ -89,7 +90,7 @@ text_once asked recording one other text last same is also =
     let side : side_facts one ≡ side_facts other = λ i. facts_if (same.rows i) (same.order i) (same.arrived i) in
     let talk = same_talk one.talk other.talk same.talk in
     let beside : beside_of asked recording one (talking_names is.talking) is.left_out ≡ beside_of asked recording other (talking_names also.talking) also.left_out =
-    λ i. record (beside_of asked recording one (talking_names is.talking) is.left_out) { lost = same.lost i; facts = facts i; side = side i; talking = talking_names (talking i); left_out = left_out i; talk = talk i; ending = same.ending i } in
+    λ i. record (beside_of asked recording one (talking_names is.talking) is.left_out) { lost = same.lost i; events = events_by asked (talk i) (same.lost i) (same.rows i); facts = facts i; side = side i; talking = talking_names (talking i); left_out = left_out i; talk = talk i; ending = same.ending i } in
     let told : Told = (scope_of asked recording one, beside_of asked recording one (talking_names is.talking) is.left_out, map explanation_value is.rows) in
     let told' : Told = (scope_of asked recording other, beside_of asked recording other (talking_names also.talking) also.left_out, map explanation_value also.rows) in
     let path : told ≡ told' = λ i. (scope i, beside i, rows i) in

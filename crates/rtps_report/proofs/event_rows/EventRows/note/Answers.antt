@@ -9,12 +9,12 @@ use Rattle.rtps_report.proofs.event_rows.EventRows.note.Goals as goal
 use Rattle.rtps_report.proofs.event_rows.EventRows.note.Goals.{then-not-has_rows+in_ok-push, else-not-has_rows}
 
 turned : (has none : Bool) → has ≡ not none → has ≡ false → none ≡ true
-turned has true is no = refl
-turned has false is no = absurd (let clash : true ≡ false = sym is ∙ no in cc)
+turned has true is fails = refl
+turned has false is fails = absurd (let clash : true ≡ false = sym is ∙ fails in cc)
 
 kept : (has none : Bool) → has ≡ not none → has ≡ true → none ≡ false
-kept has false is yes = refl
-kept has true is yes = absurd (let clash : false ≡ true = sym is ∙ yes in cc)
+kept has false is holds = refl
+kept has true is holds = absurd (let clash : false ≡ true = sym is ∙ holds in cc)
 
 pub returns : goal.returns
 returns c =
@@ -25,12 +25,12 @@ returns c =
       | then-not-has_rows+in_ok-push w ↦ (
         ap (λ (s : EventRows). s.map) w.self-is,
         ap (λ (s : EventRows). s.keys.items) w.self-is ∙ w.in_ok-push.ensures.items
-        ∙ ap (λ (keys : List EventKey). old.keys.items ++ keys) (sym (none_of own (c.args.key ∷ []) (turned c.has_rows.result (has_none own) c.has_rows.ensures w.if-not-has_rows.true))),
+            ∙ ap (λ (keys : List EventKey). old.keys.items ++ keys) (sym (none_of own (c.args.key ∷ []) (turned c.has_rows.result (has_none own) c.has_rows.ensures w.if-not-has_rows.true))),
       )
       | else-not-has_rows w ↦ (
         ap (λ (s : EventRows). s.map) w.self-is,
         ap (λ (s : EventRows). s.keys.items) w.self-is ∙ sym (append-nil old.keys.items)
-        ∙ ap (λ (keys : List EventKey). old.keys.items ++ keys) (sym (some_of own (c.args.key ∷ []) (kept c.has_rows.result (has_none own) c.has_rows.ensures w.if-not-has_rows.false))),
+            ∙ ap (λ (keys : List EventKey). old.keys.items ++ keys) (sym (some_of own (c.args.key ∷ []) (kept c.has_rows.result (has_none own) c.has_rows.ensures w.if-not-has_rows.false))),
       )
     ] in
     on_ok_weaker c.append.result
