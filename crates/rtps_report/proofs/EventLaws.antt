@@ -1,6 +1,5 @@
 -- Each row that someone has to look at is of one event, and events lost as many numbers as these rows.
-use Rattle.std.proofs.Common.{◌≡◌, ◌∙◌, ℕ, ◌+◌, ◌<◌, Bool, true, false, cond, not, is_some, List, [], ◌∷◌, Option, Some, None, ap, arith, filter, is_lt, length, map, nat_cmp, nat_lt, refl, sum_by, sym}
-use Rattle.std.specs.List.Sorted.{IsSortedBy}
+use Rattle.std.proofs.Common.{◌≡◌, ◌∙◌, ℕ, ◌+◌, Bool, true, false, cond, not, is_some, List, [], ◌∷◌, Option, Some, None, ap, arith, filter, map, nat_lt, refl, sum_by, sym}
 use Rattle.std.proofs.lemmas.List.Sums.{sum_by-cons}
 use Rattle.rtps_evidence.specs.Kinds.{LostValue}
 use Rattle.rtps_report.specs.Asked.{AskedValue}
@@ -9,7 +8,7 @@ use Rattle.rtps_report.specs.Talk.{TalkValue}
 use Rattle.rtps_report.specs.Vocabulary.{ExplanationValue}
 use Rattle.rtps_report.specs.declared.event_rows.EventKey.{EventKey}
 use Rattle.rtps_report.proofs.EventLemmas.{key-refl, key-sym, same_key}
-use Rattle.rtps_report.proofs.EventOrder.{is_worse, less_is, worst_sorted}
+use Rattle.rtps_report.proofs.EventOrder.{less_is, worst_sorted}
 
 -- ---- sums
 

@@ -1,5 +1,5 @@
 -- Rows of events, with one row more, and events in their order.
-use Rattle.std.proofs.Common.{Bor, ◌≡◌, ◌∙◌, ℕ, suc, ◌+◌, ◌-◌, ◌<◌, ◌≤◌, ◌&&◌, Bool, true, false, cond, not, List, [], ◌∷◌, ◌++◌, Option, Some, None, append-nil, ap, ap₂, arith, filter, get_or, is_lt, length, map, nat_cmp, nat_lt, refl, subst, sym, take}
+use Rattle.std.proofs.Common.{Bor, ◌≡◌, ◌∙◌, ℕ, ◌+◌, ◌<◌, ◌&&◌, Bool, true, false, cond, not, List, [], ◌∷◌, ◌++◌, Option, Some, None, append-nil, ap, ap₂, filter, get_or, length, map, refl, subst, sym, take}
 use Rattle.std.specs.Cmp.Lexicographic.{texts_ties}
 use Rattle.std.specs.Global.{Vec}
 use Rattle.std.specs.Option.{option_cmp}

@@ -1,6 +1,6 @@
 -- Which rows belong together, and how many numbers they lost. own: what happens once, as a process that is killed or a link that fails for
 -- some seconds, leaves many rows that are not clean. Told as one event, it is seen once, and first what cost most.
-use Rattle.std.specs.Prelude.{ℕ, ◌≡◌, ◌++◌, ◌-◌, ◌&&◌, nat_lt, Bool, true, false, not, if◌then◌else◌, is_none, is_some, count_by, filter, fold, map, sum_by, List, [], ◌∷◌, Option, Some, None}
+use Rattle.std.specs.Prelude.{ℕ, ◌≡◌, ◌-◌, ◌&&◌, nat_lt, Bool, true, false, not, if◌then◌else◌, is_none, is_some, count_by, filter, fold, map, sum_by, List, [], ◌∷◌, Option, Some, None}
 use Rattle.std.specs.Borrow.{Bor}
 use Rattle.std.specs.BTreeMap.{BTreeMap, get}
 use Rattle.std.specs.Cmp.Lexicographic.{slice_cmp}

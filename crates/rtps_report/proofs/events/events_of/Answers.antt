@@ -1,4 +1,4 @@
-use Rattle.std.proofs.Common.{◌≡◌, ◌∙◌, ℕ, Ordering, ap, map, nat_cmp, refl, rules}
+use Rattle.std.proofs.Common.{◌∙◌, ℕ, Ordering, ap, map, nat_cmp, refl, rules}
 use Rattle.std.proofs.lemmas.List.Sorted.{answers_always}
 use Rattle.rtps_report.specs.Events.{EventValue, event_value, worst_first}
 use Rattle.rtps_report.specs.declared.events.Event.{Event}

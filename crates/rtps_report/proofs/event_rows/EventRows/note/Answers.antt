@@ -1,6 +1,6 @@
 use Rattle.std.proofs.Common.{◌≡◌, ◌++◌, ◌∷◌, [], ◌∙◌, Bool, List, false, not, true, append-nil, ap, cond, refl, sym}
 use Rattle.std.proofs.lemmas.Result.{on_ok_weaker}
-use Rattle.rtps_evidence.specs.Explanation.{ExplanationValue, explanation_value}
+use Rattle.rtps_evidence.specs.Explanation.{explanation_value}
 use Rattle.rtps_report.specs.Events.{has_none, is_key, rows_at}
 use Rattle.rtps_report.specs.declared.event_rows.EventKey.{EventKey}
 use Rattle.rtps_report.specs.declared.event_rows.EventRows.{EventRows}

@@ -2,7 +2,6 @@ use Rattle.std.proofs.Common.{◌∙◌, ◌+◌, sym, map, subst, take}
 use Rattle.rtps_report.specs.Events.{AreEventRows}
 use Rattle.rtps_report.specs.Talk.{talk_value}
 use Rattle.rtps_report.specs.Vocabulary.{explanation_value}
-use Rattle.rtps_report.specs.declared.event_rows.EventRows.{EventRows}
 use Rattle.rtps_report.proofs.EventLemmas.{with_next, without_next}
 use Rattle.rtps_report.proofs.event_rows.EventRows.of.Goals as goal
 use Rattle.rtps_report.proofs.event_rows.EventRows.of.Goals.{in-Some+in_ok-note, in_default}
