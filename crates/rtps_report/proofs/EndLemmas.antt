@@ -12,7 +12,7 @@ use Rattle.rtps_discovery.specs.Directory.{Entries}
 use Rattle.rtps_discovery.specs.Endpoint.{EndpointValue, endpoint_value}
 use Rattle.rtps_discovery.specs.declared.endpoint.Endpoint.{Endpoint}
 use Rattle.rtps_audit.specs.Intake.{Intake, acts_together}
-use Rattle.rtps_audit.specs.Placed.{PlacedValue, placed_in, placed_value}
+use Rattle.rtps_audit.specs.Placed.{PlacedValue, is_from, placed_in, placed_value}
 use Rattle.rtps_audit.specs.declared.placed.Placed.{Placed}
 use Rattle.rtps_fragments.specs.Announcements.{announcements_in, is_of_built_in}
 use Rattle.rtps_policies.specs.Announcing.{IsAnnouncedBy, first_of}
@@ -106,6 +106,19 @@ writer_more intake endpoints i d within tells =
     ∙ ap (λ b. flat_map (acts_by intake) (filter tells_nodes before ++ cond b (one ∷ []) [])) (sym tells)
     ∙ ap (flat_map (acts_by intake)) (sym (filter-append tells_nodes before (one ∷ [])))
     ∙ ap (λ l. flat_map (acts_by intake) (filter tells_nodes l)) (sym (map_more endpoint_value endpoints i d within))
+
+-- what is kept after the acts of one writer more
+pub writer_told : (intake : Intake) (announcing : List ActValue) (endpoints : List Endpoint) (i : ℕ) (d : Endpoint) (acts : List Placed) (told : ToldNodes) → i < length endpoints
+    → tells_nodes (endpoint_value (get_or endpoints i d)) ≡ true → map placed_value acts ≡ filter (is_from (endpoint_value (get_or endpoints i d)).guid) (placed_in intake.acts)
+    → IsToldBy announcing (told_to intake (take i endpoints) ++ map (λ (p : PlacedValue). p.act) (map placed_value acts)) told
+    → IsToldBy announcing (told_to intake (take (i + 1) endpoints)) told
+writer_told intake announcing endpoints i d acts told within tells are is =
+    subst (λ those. IsToldBy announcing those told)
+    (ap (λ (placed : List PlacedValue). told_to intake (take i endpoints) ++ map (λ (p : PlacedValue). p.act) placed) are ∙ writer_more intake endpoints i d within tells) is
+
+-- the endpoints that are gone through are the settled ones
+pub endpoints_told : (those found : List Endpoint) (settled : List EndpointValue) → those ≡ found → map endpoint_value found ≡ settled → map endpoint_value those ≡ settled
+endpoints_told those found settled same are = ap (map endpoint_value) same ∙ are
 
 pub writer_skip : (intake : Intake) (endpoints : List Endpoint) (i : ℕ) (d : Endpoint) → i < length endpoints → tells_nodes (endpoint_value (get_or endpoints i d)) ≡ false
     → told_to intake (take i endpoints) ≡ told_to intake (take (i + 1) endpoints)

@@ -47,6 +47,7 @@ use Rattle.rtps_policies.specs.declared.host.Host.{Host}
 use Rattle.rtps_policies.specs.declared.naming.Naming.{Naming}
 use Rattle.rtps_policies.specs.declared.naming.Namings.{Namings}
 use Rattle.rtps_policies.specs.declared.unmatched.Unmatched.{Unmatched}
+use Rattle.rtps_report.specs.Asked.{AskedValue}
 use Rattle.rtps_report.specs.BestEfforts.{AreSumsOf, CountedValue, arrived_among, best_effort_value, counted_value, held_among, held_value, total_of}
 use Rattle.rtps_report.specs.Participants.{AreJoined, announces, host_known, is_silent, is_that, left_of, participant_told, place_of}
 use Rattle.rtps_report.specs.Rows.{Choice}
