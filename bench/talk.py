@@ -111,7 +111,7 @@ class Talk:
     def __init__(self, recording, prefixes, settled, matched, life, asked, times=NO_TIMES):
         self.recording, self.settled, self.life, self.asked, self.times = recording, settled, life, asked, times
         self.announced, self.namings, self.answers = Announced(life.announced), named_by(recording), answering(recording)
-        self.datagrams_by, self.who = datagrams_by(prefixes), Who(recording)
+        self.datagrams_by, self.who = datagrams_by(prefixes), Who(recording, by_writer=True)
         unfit = list(self.find_unfit(settled))
         self.talking = [one for one in unfit if self.talks(one.w, one.r)]
         self.unmatched = [one for one in unfit if not self.talks(one.w, one.r)]

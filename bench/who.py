@@ -6,7 +6,8 @@
     who.py samples TRIALS COUNT SEED        the same on single samples with any octets
 
 Participants: of the first announcement without a fault the property list, the entity name and the user data. Nodes: the last sample of
-`ros_discovery_info` that can be read, of a writer of the participant's prefix; or else the topics of parameter services. Texts are octets.
+`ros_discovery_info` that can be read, of a writer of the participant's prefix; or else the topics of parameter services. An endpoint is of the
+node that listed it last. In a report samples are taken writer by writer, of writers whose announcements agree. Texts are octets.
 """
 import os
 import random
@@ -178,10 +179,10 @@ def samples_in(recording):
 class Who:
     """what a recording tells of the names of participants and endpoints. A recording is a list of datagrams, each a list of acts"""
 
-    def __init__(self, recording):
+    def __init__(self, recording, by_writer=False):
         samples = [*samples_in(recording)]
-        self.processes, self.endpoints, self.nodes = {}, [], {}
-        services, tellers = {}, set()
+        self.processes, self.endpoints, self.nodes, self.listed = {}, [], {}, {}
+        services, tellers, announced = {}, set(), {}
         for _, writer, octets in samples:
             side = BUILTIN.get(writer)
             said = announcement(octets, side) if side else ''
@@ -191,15 +192,20 @@ class Who:
                 self.processes.setdefault(said[0], Process(octets))
                 continue
             self.endpoints.append(said[0])
+            announced.setdefault(said[0], set()).add((side, said))
             if side == 'writer' and said[2:4] == (TOPIC, TYPE):
                 tellers.add(said[0])
             name = service_of(side, said[2])
             if name is not None:
                 services.setdefault(said[0][:12], set()).add(name)
+        if by_writer:
+            tellers = {guid for guid in tellers if len(announced[guid]) == 1}
+            samples.sort(key=lambda sample: sample[0] + sample[1])
         for source, writer, octets in samples:
             nodes = nodes_of(octets) if source + writer in tellers else None
             if nodes is not None:
                 self.nodes[source] = nodes
+                self.listed |= {guid: name for name, ends in nodes for guid in ends if guid[:12] == source}
         for prefix, names in services.items():
             if prefix not in self.nodes and len(names) == 1:
                 self.nodes[prefix] = [(b'/' + name, []) for name in names]
@@ -212,8 +218,8 @@ class Who:
         return names[0] if len(names) == 1 else None
 
     def node(self, guid):
-        """the one whose list has it, or else the only one of its participant"""
-        listing = next((name for name, ends in self.nodes.get(guid[:12], []) if guid in ends), None)
+        """the one whose list had it last, or else the only one of its participant"""
+        listing = self.listed.get(guid)
         return self.only_node(guid[:12]) if listing is None else listing
 
     def process(self, prefix):

@@ -9,12 +9,12 @@ _rtps_audit() {
     local behind=${COMP_WORDS[COMP_CWORD - 1]}
     if [ "$behind" = = ]; then behind=${COMP_WORDS[COMP_CWORD - 2]}; fi
     case $behind in
-    --from | --topic | --expect | --tail | --max-datagrams | --max-octets) return ;;
+    --from | --topic | --node | --expect | --tail | --max-datagrams | --max-octets) return ;;
     esac
     case $command in
     check | show | list | audit | why | page)
         local options='--max-datagrams --max-octets -h --help'
-        local report='--from --topic --expect --tail --certain --arrived'
+        local report='--from --topic --node --expect --tail --certain --arrived'
         case $command in
         check) options="$report --json $options" ;;
         why | page) options="$report $options" ;;

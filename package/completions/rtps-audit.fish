@@ -13,6 +13,7 @@ complete -c rtps-audit -s h -l help -d 'Print help'
 complete -c rtps-audit -n '__fish_seen_subcommand_from check show list audit why page' -F
 complete -c rtps-audit -n '__fish_seen_subcommand_from check audit why page' -x -l from -d 'The first number to ask for; smaller numbers are left out'
 complete -c rtps-audit -n '__fish_seen_subcommand_from check why page' -x -l topic -d 'Only topics whose name, of DDS or of ROS 2, is PATTERN, in which * stands for any octets'
+complete -c rtps-audit -n '__fish_seen_subcommand_from check why page' -x -l node -d 'Only pairs of which the node of the writer or of the reader is NODE, in which * stands for any octets'
 complete -c rtps-audit -n '__fish_seen_subcommand_from check why page' -x -l expect -d 'Status 1 also if the report has fewer rows than this'
 complete -c rtps-audit -n '__fish_seen_subcommand_from check why page' -x -l tail -d 'A pair is clean though so many last numbers are not acknowledged'
 complete -c rtps-audit -n '__fish_seen_subcommand_from check why page' -l certain -d 'Status 1 also if a number of a pair is not received for certain'

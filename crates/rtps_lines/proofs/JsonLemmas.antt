@@ -25,12 +25,13 @@ use Rattle.rtps_report.specs.Advice.{advice_of}
 use Rattle.rtps_report.specs.RowFacts.{is_clean}
 use Rattle.rtps_report.specs.Recording.{RecordingValue}
 use Rattle.rtps_report.specs.Silences.{silences_of}
+use Rattle.rtps_who.specs.Samples.{NodeValue}
 use Rattle.rtps_lines.specs.declared.json_object.Telling.{Telling}
 use Rattle.rtps_lines.specs.Lines.{advice_text, silence_lines}
 use Rattle.rtps_evidence.specs.Explanation.{lost_at}
 use Rattle.rtps_evidence.specs.Kinds.{KindValue, LostValue}
 use Rattle.rtps_evidence.specs.declared.kinds.NumberRange.{NumberRange}
-use Rattle.rtps_lines.specs.JsonText.{Member, TellingValue, advice_json, advice_member, announcement_json, array_of, claim_json, count_json, counts_members, delivery_members, evidence_members, first_missed_members, frame_at, frame_members, further_members, ignored_members, items_of, kind_json, kind_members, kinds_members, lacking_members, lost_member, members_of, not_received_json, numbers_json, object_of, outcomes_json, pair_members, payload_members, place_json, place_members, range_json, reasons_members, report_json, row_json, rows_members, second_at, second_json, sent_json, shown_members, silence_member, silence_members, span_by, span_members, spanned_members, teller_json, telling_value, timed_members, times_told, tokens_of, tokens_of_member, until_json, until_members, verdict_members, wait_json, wait_member, wait_members}
+use Rattle.rtps_lines.specs.JsonText.{Member, TellingValue, advice_json, advice_member, announcement_json, array_of, claim_json, count_json, counts_members, delivery_members, evidence_members, first_missed_members, frame_at, frame_members, further_members, ignored_members, items_of, kind_json, kind_members, kinds_members, lacking_members, lost_member, members_of, node_members, not_received_json, numbers_json, object_of, outcomes_json, pair_members, payload_members, place_json, place_members, range_json, reasons_members, report_json, row_json, rows_members, second_at, second_json, sent_json, shown_members, silence_member, silence_members, some_node_json, span_by, span_members, spanned_members, teller_json, telling_value, timed_members, times_told, tokens_of, tokens_of_member, until_json, until_members, verdict_members, wait_json, wait_member, wait_members}
 use Rattle.rtps_lines.proofs.PartLemmas.{four_parts}
 
 -- ---- tokens
@@ -316,13 +317,19 @@ kinds_within times lost =
     let behind = joined 4 unsent (unanswered ++ not_arrived) (named_within (codes "unsent") times lost.unsent) last in
     joined 4 missed (unsent ++ (unanswered ++ not_arrived)) (named_within (codes "missed") times lost.missed) behind
 
+some_node_within : (node : Option NodeValue) → depth (some_node_json node) ≤ 0
+some_node_within None = omega arith
+some_node_within (Some node) = omega arith
+
 spanned_within : (telling : TellingValue) (times : TimesValue) (row : ExplanationValue) → members_depth (members_of (spanned_members telling times row)) ≤ 5
 spanned_within telling times row =
     let silence = silence_members telling row in
-    let advice : List Member = advice_member telling row ∷ [] in
+    let last : List Member = advice_member telling row ∷ node_members telling.talk row.pair in
     let lost = lost_at telling.lost row.place in
-    let end = joined 1 silence advice (silences_within telling row) (omega (arith, advice_within telling row)) in
-    joined 5 (span_members telling times row.evidence) (lost_member times lost ∷ (silence ++ advice)) (omega (arith, span_by_within telling times row.evidence row.evidence.in_span))
+    let writer = some_node_within (telling.talk.node row.pair.writer) in
+    let reader = some_node_within (telling.talk.node row.pair.reader) in
+    let end = joined 1 silence last (silences_within telling row) (omega (arith, advice_within telling row, writer, reader)) in
+    joined 5 (span_members telling times row.evidence) (lost_member times lost ∷ (silence ++ last)) (omega (arith, span_by_within telling times row.evidence row.evidence.in_span))
     (omega (arith, kinds_within times lost, end))
 
 further_within : (telling : Option TellingValue) (times : TimesValue) (row : ExplanationValue) → members_depth (members_of (further_members telling times row)) ≤ 5

@@ -30,7 +30,7 @@ members_with asked recording arrived order ending counts rows lost talk =
     status_members ending (causes_of asked.certain (totals_of scope rows) (findings_in ending))
     ++ (rows_members (Some (record { scope = scope; talk = talk; lost = lost; times = recording.times; has_other = is_some arrived })) rows counts recording
     ++ ((unmatched_member talk.unmatched ∷ talking_member talk.talking ∷ unobserved_member talk.silence talk.left_out ∷ one_way_member talk.one_way
-    ∷ best_effort_member talk.best_effort ∷ (held_members (is_some arrived) talk.held ++ participants_member recording.times talk.participants ∷ []))
+    ∷ best_effort_member talk.best_effort ∷ (held_members (is_some arrived) talk.held ++ participants_member recording.times talk ∷ []))
     ++ last_members (is_some arrived) order.wrong (events_member recording.times talk (events_by asked talk lost rows)) (notes (codes " -> ") (facts_by rows scope counts recording)
     (record { talk = talk; talking = []; left_out = talk.left_out; late = []; tails = []; rows = []; side = facts_if rows order arrived; named = false }))))
 

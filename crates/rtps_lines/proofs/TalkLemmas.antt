@@ -15,11 +15,13 @@ use Rattle.rtps_policies.specs.declared.host.Address.{Address}
 use Rattle.rtps_evidence.specs.FirstNumbers.{numbers_of}
 use Rattle.rtps_report.specs.BestEfforts.{HeldValue}
 use Rattle.rtps_report.specs.FullReport.{ReportValue}
-use Rattle.rtps_report.specs.Talk.{LeftOutValue}
+use Rattle.rtps_report.specs.Talk.{LeftOutValue, TalkValue}
+use Rattle.rtps_who.specs.Processes.{ProcessValue}
+use Rattle.rtps_lines.specs.EndMembers.{known_json, nodes_member, process_members}
 use Rattle.rtps_report.specs.declared.participant.Participant.{Participant}
-use Rattle.rtps_lines.specs.JsonText.{Member, array_of, frame_at, members_of, second_at, second_json, timed_members, tokens_of, tokens_of_member, until_json}
+use Rattle.rtps_lines.specs.JsonText.{Member, array_of, frame_at, members_of, node_json, second_at, second_json, timed_members, tokens_of, tokens_of_member, until_json}
 use Rattle.rtps_lines.specs.PolicyValues.{value_text}
-use Rattle.rtps_lines.specs.TalkMembers.{address_json, best_effort_json, first_of, held_json, held_members, last_of, one_way_json, participant_json, participants_member, reasons_json, stay_times, talk_members, talking_json, unmatched_json, unobserved_json, values_json}
+use Rattle.rtps_lines.specs.TalkMembers.{address_json, best_effort_json, first_of, held_json, held_members, last_of, named_members, one_way_json, participant_json, participants_member, placed_members, reasons_json, stay_times, talk_members, talking_json, unmatched_json, unobserved_json, values_json}
 use Rattle.rtps_lines.specs.declared.policy_values.Naming.TheVariants.{Dds}
 use Rattle.rtps_lines.proofs.JsonLemmas.{items_within, joined, mapped_tokens, numbers_within, second_within, timed_within}
 use Rattle.rtps_lines.proofs.PartLemmas.{four_parts}
@@ -95,8 +97,28 @@ stay_times_within times participant =
       until_within (frame_at times left),
     ))
 
-participant_within : (times : TimesValue) (participant : Participant) → depth (participant_json times participant) ≤ 1
-participant_within times participant =
+known_within : (octets : Option (List ℕ)) → depth (known_json octets) ≤ 0
+known_within None = omega arith
+known_within (Some octets) = omega arith
+
+process_within : (process : ProcessValue) → members_depth (members_of (process_members process)) ≤ 1
+process_within process =
+    omega (
+      arith,
+      known_within process.host,
+      known_within process.program,
+      until_within process.pid,
+      known_within process.name,
+      known_within process.enclave,
+    )
+
+named_within : (talk : TalkValue) (participant : Participant) → members_depth (members_of (named_members talk participant)) ≤ 1
+named_within talk participant =
+    joined 1 (process_members (talk.ends participant.guid).process) (nodes_member (talk.nodes participant.guid.prefix) ∷ []) (process_within (talk.ends participant.guid).process)
+    (omega (arith, items_within node_json 0 (talk.nodes participant.guid.prefix) (λ node. omega arith)))
+
+placed_within : (times : TimesValue) (participant : Participant) → members_depth (members_of (placed_members times participant)) ≤ 1
+placed_within times participant =
     omega (
       arith,
       address_within participant.host.address,
@@ -106,6 +128,11 @@ participant_within times participant =
       until_within participant.left,
       stay_times_within times participant,
     )
+
+participant_within : (talk : TalkValue) (times : TimesValue) (participant : Participant) → depth (participant_json talk times participant) ≤ 2
+participant_within talk times participant =
+    let all = joined 1 (placed_members times participant) (named_members talk participant) (placed_within times participant) (named_within talk participant) in
+    omega (arith, all)
 
 held_within : (has_other : Bool) (held : List HeldValue) → members_depth (members_of (held_members has_other held)) ≤ 3
 held_within true held = omega (arith, items_within held_json 2 held (λ one. omega (arith, numbers_within (numbers_of one.arrived.lacking))))
@@ -118,7 +145,7 @@ talk_depth times report =
     let left_out = items_within (λ (one : LeftOutValue). unobserved_json (report.talk.silence one.pair) one) 1 report.talk.left_out (λ one. omega arith) in
     let one_way = items_within one_way_json 1 report.talk.one_way (λ one. omega arith) in
     let sums = items_within best_effort_json 1 report.talk.best_effort (λ sum. omega arith) in
-    let participants = items_within (participant_json times) 1 report.talk.participants (participant_within times) in
+    let participants = items_within (participant_json report.talk times) 2 report.talk.participants (participant_within report.talk times) in
     let held = held_members (is_some report.arrived) report.talk.held in
-    let end = joined 3 held (participants_member times report.talk.participants ∷ []) (held_within (is_some report.arrived) report.talk.held) (omega (arith, participants)) in
+    let end = joined 3 held (participants_member times report.talk ∷ []) (held_within (is_some report.arrived) report.talk.held) (omega (arith, participants)) in
     omega (arith, unmatched, talking, left_out, one_way, sums, end)

@@ -18,14 +18,14 @@ abbrev pub node_text : NodeValue → List ℕ
 node_text node = flat_map octet_text (full_name node)
 
 -- a title, and a space; nothing where there is none
-abbrev pub title_text : TitleValue → List ℕ
+unfoldable pub title_text : TitleValue → List ℕ
 title_text (OfNode node) = node_text node ++ codes " "
 title_text (OfProgram program) = flat_map octet_text program ++ codes " "
 title_text (OfName name) = flat_map octet_text name ++ codes " "
 title_text Untitled = []
 
 -- a process and its host; nothing where neither is known
-abbrev pub process_text : Option ℕ → Option (List ℕ) → List ℕ
+unfoldable pub process_text : Option ℕ → Option (List ℕ) → List ℕ
 process_text (Some pid) (Some host) = codes "pid " ++ (decimal pid ++ (codes " on " ++ flat_map octet_text host))
 process_text (Some pid) None = codes "pid " ++ decimal pid
 process_text None (Some host) = codes "on " ++ flat_map octet_text host
@@ -36,7 +36,7 @@ abbrev pub is_placed : Option ℕ → Option (List ℕ) → Bool
 is_placed pid host = is_some pid || is_some host
 
 -- where an end is, between brackets, and a space; nothing where that is not known
-abbrev pub where_text : Bool → List ℕ → Option Address → List ℕ
+unfoldable pub where_text : Bool → List ℕ → Option Address → List ℕ
 where_text true process (Some address) = codes "(" ++ (process ++ (codes ", " ++ (address_text address ++ codes ") ")))
 where_text true process None = codes "(" ++ (process ++ codes ") ")
 where_text false process (Some address) = codes "(" ++ (address_text address ++ codes ") ")

@@ -35,6 +35,7 @@ struct TitleText<'a>(Title<'a>);
 impl fmt::Display for TitleText<'_> {
     ghost output = { λ text. Some (title_text (title_value text.0)) };
 
+    #[tactic(auto, unfolding(crate::specs::EndText::title_text))]
     fn fmt<W: fmt::Write>(&self, f: &mut fmt::Formatter<W>) -> fmt::Result {
         match self.0 {
             Title::Node(node) => write!(f, "{} ", NodeText(node)),
@@ -52,6 +53,7 @@ struct ProcessText<'a>(Option<u32>, Option<&'a [u8]>);
 impl fmt::Display for ProcessText<'_> {
     ghost output = { λ text. Some (process_text text.0 (option_copied text.1)) };
 
+    #[tactic(auto, unfolding(crate::specs::EndText::process_text))]
     fn fmt<W: fmt::Write>(&self, f: &mut fmt::Formatter<W>) -> fmt::Result {
         match (self.0, self.1) {
             (Some(pid), Some(host)) => write!(f, "pid {pid} on {}", NameOctets(host)),
@@ -77,6 +79,7 @@ impl fmt::Display for WhereText<'_> {
     ghost output = { λ text. Some (where_text (is_placed_lem (end_value text.0).process.pid (end_value text.0).process.host)
         (process_text (end_value text.0).process.pid (end_value text.0).process.host) text.0.address) };
 
+    #[tactic(auto, unfolding(crate::specs::EndText::where_text))]
     fn fmt<W: fmt::Write>(&self, f: &mut fmt::Formatter<W>) -> fmt::Result {
         let End {
             process,

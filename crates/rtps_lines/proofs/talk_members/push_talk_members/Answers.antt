@@ -21,7 +21,7 @@ returns-clause-tokens c =
     let best_effort = best_effort_member report.talk.best_effort in
     let held = held_members (is_some report.arrived) report.talk.held in
     let times = c.args.report.now.recording.now.times in
-    let participants = participants_member times report.talk.participants in
+    let participants = participants_member times report.talk in
     on_ok_weaker c.push_all_participants.result
     (λ last.
     seven_parts start (tokens_of_member unmatched) (tokens_of_member talking) (tokens_of_member unobserved) (tokens_of_member one_way) (tokens_of_member best_effort) (tokens_of held) (tokens_of_member participants)
@@ -34,7 +34,6 @@ returns-clause-tokens c =
     (c.in_ok-push_arrived.ensures.tokens
     ∙ ap (λ has_other. c.push_all_best_effort.new.writer.tokens ++ tokens_of (held_members has_other (map held_value c.deref-5.result.now))) c.has_other.ensures
     ∙ ap (λ items. c.push_all_best_effort.new.writer.tokens ++ tokens_of (held_members (is_some report.arrived) (map held_value items))) c.deref-5.ensures.value)
-    (last ∙ ap (λ all. c.push_arrived.new.writer.tokens ++ tokens_of_member (participants_member all c.deref-6.result.now)) c.times.ensures
-    ∙ ap (λ items. c.push_arrived.new.writer.tokens ++ tokens_of_member (participants_member times items)) c.deref-6.ensures.value)
+    (last ∙ ap (λ all. c.push_arrived.new.writer.tokens ++ tokens_of_member (participants_member all report.talk)) c.times.ensures)
     ∙ ap (λ tokens. start ++ tokens) (seven_tokens unmatched talking unobserved one_way best_effort held participants))
     c.push_all_participants.ensures.tokens

@@ -2,8 +2,8 @@ use Rattle.std.proofs.Common.{string_bytes}
 use Rattle.std.proofs.lemmas.Result.{on_ok_weaker}
 use Rattle.rtps_evidence.specs.Explanation.{explanation_value}
 use Rattle.rtps_lines.specs.Lines.{acknowledged_line, announced_line}
-use Rattle.rtps_text.specs.WhyText.{amounts_line, names_line, pair_line, rest_lines, span_line}
-use Rattle.rtps_lines.proofs.Offered.{seven_parts}
+use Rattle.rtps_text.specs.WhyText.{amounts_line, names_line, rest_lines, span_line}
+use Rattle.rtps_lines.proofs.Offered.{six_parts}
 use Rattle.rtps_text.proofs.text.why_text.push_row.Goals as goal
 
 pub returns : goal.returns
@@ -12,7 +12,7 @@ returns c =
     let evidence = row.evidence in
     let times = c.args.times.now in
     on_ok_weaker c.push_rest.result
-    (seven_parts (string_bytes c.args.text.now) (pair_line row) (names_line row.topic row.type_name) (span_line times evidence.in_span) (announced_line times evidence.announcement)
+    (six_parts (string_bytes c.args.text.now) (names_line row.topic row.type_name) (span_line times evidence.in_span) (announced_line times evidence.announcement)
     (acknowledged_line times evidence.acknowledgement) (amounts_line evidence.payloads evidence.gone evidence.untold) (rest_lines times evidence)
-    c.in_ok-writeln.ensures.bytes c.in_ok-writeln-2.ensures.bytes c.in_ok-push_span.ensures c.in_ok-write.ensures.bytes c.in_ok-write-2.ensures.bytes c.in_ok-writeln-3.ensures.bytes)
+    c.in_ok-writeln.ensures.bytes c.in_ok-push_span.ensures c.in_ok-write.ensures.bytes c.in_ok-write-2.ensures.bytes c.in_ok-writeln-2.ensures.bytes)
     c.push_rest.ensures
