@@ -1,5 +1,5 @@
 -- All of who does not talk, by what is kept.
-use Rattle.std.proofs.Common.{◌≡◌, ◌∙◌, ℕ, List, ap, filter, map, not, subst}
+use Rattle.std.proofs.Common.{◌≡◌, ◌∙◌, ℕ, List, Option, ap, filter, map, not, subst}
 use Rattle.rtps_discovery.specs.Directory.{DirectoryValue, Entries, IsMapOf, settled_in}
 use Rattle.rtps_discovery.specs.Matching.{matches_among}
 use Rattle.rtps_audit.specs.Intake.{Intake}

@@ -3,10 +3,11 @@ ghost use Rattle.rtps_receiver.specs.Values.{ActValue};
 ghost use Rattle.rtps_audit.specs.Index.{IsIndexBy};
 ghost use Rattle.rtps_audit.specs.Intake.{Intake};
 ghost use Rattle.rtps_audit.specs.Placed.{placed_value};
+ghost use Rattle.rtps_fragments.specs.Announcements.{announcements_in};
 ghost use Rattle.rtps_who.specs.Introducing.{IsIntroducedBy};
 ghost use Rattle.rtps_who.specs.Recorded.{IsWhoIn};
 ghost use Rattle.rtps_who.specs.Telling.{IsToldBy};
-ghost use Rattle.rtps_report.specs.Ends.{acts_told};
+ghost use Rattle.rtps_report.specs.Ends.{acts_told, recorded_in};
 
 use rtps_audit::{Index, Placed};
 use rtps_discovery::Directory;
@@ -80,7 +81,8 @@ pub(crate) fn who_of<'a>(
     index: &Index<'a>,
     directory: &Directory<'a>,
 ) -> Result<Who<'a>, Memory>
-    ensures { IfOk result (λ who. (intake : Intake) → IsIndexBy intake index.now → IsWhoIn (record { announcing = map (λ placed. placed.act) (map placed_value announcements.now); acts = acts_told intake directory.now.endpoints }) who) }
+    ensures { IfOk result (λ who. (intake : Intake) → IsIndexBy intake index.now → map placed_value announcements.now ≡ announcements_in intake.announcing
+        → IsWhoIn (recorded_in intake directory.now.endpoints) who) }
 {
     let introductions = introductions_of(alloc, announcements)?;
     let told = told_of(alloc, &introductions, index, directory)?;

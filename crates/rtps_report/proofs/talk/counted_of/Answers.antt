@@ -1,10 +1,13 @@
-use Rattle.std.proofs.Common.{◌∙◌, refl, subst}
+use Rattle.std.proofs.Common.{◌∙◌, List, filter, map, refl, subst}
+use Rattle.std.proofs.lemmas.List.{take_all}
+use Rattle.rtps_discovery.specs.declared.matching.Match.{Match}
 use Rattle.rtps_evidence.specs.Recorded.{IsArrivedBy, IsRecordedBy}
 use Rattle.rtps_evidence.specs.declared.exchange.Extent.{Extent}
 use Rattle.rtps_report.specs.Asked.{asked_value}
 use Rattle.rtps_who.specs.Recorded.{node_in}
 use Rattle.rtps_report.specs.Rows.{chosen_by}
-use Rattle.rtps_report.specs.Talk.{is_counted_of}
+use Rattle.rtps_report.specs.BestEfforts.{counted_value}
+use Rattle.rtps_report.specs.Talk.{AreCounted, is_counted_of}
 use Rattle.rtps_report.proofs.TalkLemmas.{counted_by_topic, counted_more, counted_skip}
 use Rattle.rtps_report.proofs.talk.counted_of.Goals as goal
 use Rattle.rtps_report.proofs.talk.counted_of.Goals.{then-is_counted+in_ok-recorded+in_ok-arrived+in_ok-push, else-is_counted}
@@ -33,3 +36,11 @@ loop-found-preserved c = λ intake other index beside.
           rw w.counted-is
           (counted_skip asked other intake entries test c.args.matched.now _ c.loop-found.found-index _ c.loop-found-test.true (by_topic ∙ w.if-is_counted.false) (c.loop-found.invariant intake other index beside))
     ]
+
+pub returns : goal.returns
+returns c = λ intake other index beside.
+    let asked = asked_value c.args.heard.now.asked.now in
+    let entries = c.args.heard.now.directory.now.endpoints in
+    let test = is_counted_of c.args.talk.now.unfit c.args.talk.now.namings (chosen_by asked (node_in c.args.talk.now.who)) entries in
+    subst (λ (those : List Match). AreCounted asked other intake entries (filter test those) (map counted_value c.loop-found.counted.items))
+    (take_all c.loop-found.found-index c.args.matched.now c.loop-found-test.false) (c.loop-found.invariant intake other index beside)

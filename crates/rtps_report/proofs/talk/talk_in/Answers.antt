@@ -16,7 +16,7 @@ use Rattle.rtps_who.specs.Recorded.{node_in}
 use Rattle.rtps_who.proofs.Offered.{node_is}
 use Rattle.rtps_report.specs.Ends.{recorded_in}
 use Rattle.rtps_report.specs.Rows.{Choice, chosen_by}
-use Rattle.rtps_report.proofs.EndLemmas.{choice_kept, who_heard}
+use Rattle.rtps_report.proofs.EndLemmas.{choice_kept}
 use Rattle.rtps_report.proofs.TalkLemmas.{heard_announced}
 use Rattle.rtps_report.proofs.TalkParts.{kept_is, talk_is}
 use Rattle.rtps_report.proofs.talk.talk_in.Goals as goal
@@ -31,7 +31,7 @@ returns-clause-talks c = λ other is.
     let entries = heard.directory.now.endpoints in
     let unfit = c.in_ok-unfit.unfit.items in
     let announced = heard_announced intake heard.announcements.now c.in_ok-announced.announced is.announcements c.in_ok-announced.ensures in
-    let who = who_heard intake entries heard.announcements.now c.in_ok-who.who is.announcements (c.in_ok-who.ensures intake is.index) in
+    let who = c.in_ok-who.ensures intake is.index is.announcements in
     let choice = choice_kept asked intake entries c.in_ok-who.who (node_is (recorded_in intake entries) c.in_ok-who.who who) in
     let same = c.in_ok-unfit.ensures traffic announced ∙ ap (λ (chosen : Choice). unfit_in chosen traffic entries) choice in
     let parted = c.in_ok-parted.ensures intake is.index in
@@ -83,7 +83,7 @@ returns-clause-kept c = λ other is.
     let traffic = traffic_of recording in
     let entries = heard.directory.now.endpoints in
     let announced = heard_announced intake heard.announcements.now c.in_ok-announced.announced is.announcements c.in_ok-announced.ensures in
-    let who = who_heard intake entries heard.announcements.now c.in_ok-who.who is.announcements (c.in_ok-who.ensures intake is.index) in
+    let who = c.in_ok-who.ensures intake is.index is.announcements in
     let choice = choice_kept asked intake entries c.in_ok-who.who (node_is (recorded_in intake entries) c.in_ok-who.who who) in
     kept_is asked intake traffic entries _ (map unmatched_value c.in_ok-unfit.unfit.items)
     (c.in_ok-unfit.ensures traffic announced ∙ ap (λ (chosen : Choice). unfit_in chosen traffic entries) choice)
