@@ -1,21 +1,20 @@
 -- What an end is called in a text: by its title, its process and its address, and always by its GUID. own: people know nodes and processes, and
 -- a GUID tells two ends apart. What is not known is left out.
-use Rattle.std.specs.Prelude.{ℕ, ◌++◌, ◌||◌, Bool, true, false, if◌then◌else◌, List, [], ◌∷◌, Option, Some, None, codes, decimal, is_some}
-use Rattle.std.specs.List.{flat_map}
-use Rattle.std.specs.Option.{option_map}
+use Rattle.std.specs.Prelude.{ℕ, ◌++◌, ◌||◌, Bool, true, false, if◌then◌else◌, List, [], ◌∷◌, Option, Some, None, codes, decimal, is_some, nat_eq}
+use Rattle.std.specs.List.{ends_with, flat_map}
 use Rattle.rtps_ids.specs.declared.identity.Guid.{Guid}
 use Rattle.rtps_parts.specs.Names.{guid_text, octet_text}
 use Rattle.rtps_policies.specs.AddressText.{address_text}
 use Rattle.rtps_policies.specs.declared.host.Address.{Address}
 use Rattle.rtps_who.specs.Naming.{TitleValue, title_by}
 use Rattle.rtps_who.specs.Naming.TitleValue.{OfNode, OfProgram, OfName, Untitled}
-use Rattle.rtps_who.specs.Samples.{NodeValue, full_name}
+use Rattle.rtps_who.specs.Samples.{NodeValue}
 use Rattle.rtps_report.specs.Ends.{EndValue}
 use Rattle.rtps_lines.specs.Lines.{hosted_text}
 
--- the full name of a node
-abbrev pub node_text : NodeValue → List ℕ
-node_text node = flat_map octet_text (full_name node)
+-- the full name of a node: a slash between its namespace and its name, unless the namespace ends with one
+unfoldable pub node_text : NodeValue → List ℕ
+node_text node = flat_map octet_text node.namespace ++ ((if ends_with nat_eq node.namespace (codes "/") then [] else codes "/") ++ flat_map octet_text node.name)
 
 -- a title, and a space; nothing where there is none
 unfoldable pub title_text : TitleValue → List ℕ

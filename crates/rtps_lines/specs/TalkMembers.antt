@@ -19,7 +19,7 @@ use Rattle.rtps_policies.specs.declared.silence.Silence.{Silence}
 use Rattle.rtps_policies.specs.declared.silence.Silence.TheVariants as silence
 use Rattle.rtps_report.specs.BestEfforts.{BestEffortValue, HeldValue}
 use Rattle.rtps_report.specs.FullReport.{ReportValue}
-use Rattle.rtps_report.specs.Talk.{LeftOutValue}
+use Rattle.rtps_report.specs.Talk.{LeftOutValue, TalkValue}
 use Rattle.rtps_report.specs.declared.participant.Participant.{Participant}
 use Rattle.rtps_lines.specs.EndMembers.{nodes_member, process_members}
 use Rattle.rtps_lines.specs.JsonText.{Member, array_of, count_json, frame_member, name_json, numbers_json, object_of, second_member, timed_members, until_json}

@@ -18,6 +18,7 @@ pub(crate) struct NodeText<'a>(pub(crate) Node<'a>);
 impl fmt::Display for NodeText<'_> {
     ghost output = { λ text. Some (node_text (node_value text.0)) };
 
+    #[tactic(auto, unfolding(crate::specs::EndText::node_text))]
     fn fmt<W: fmt::Write>(&self, f: &mut fmt::Formatter<W>) -> fmt::Result {
         let Node { namespace, name } = self.0;
         if namespace.ends_with(b"/") {
