@@ -43,10 +43,10 @@ unfoldable pub asked_text : Option Seconds → List ℕ
 asked_text None = []
 asked_text (Some second) = codes ", was asked from " ++ (seconds_text second ++ codes " s on")
 
--- when it was heard last, and when it was asked first behind its last answer
-abbrev pub silent_text : TimesValue → TalkValue → EventValue → List ℕ
-silent_text times talk event =
-    called talk event.key.first ++ (codes " was last heard" ++ (ended_text times event.heard ++ (asked_text (place_second times event.asked) ++ codes ", and did not leave")))
+-- when one that is called so was heard last, and when it was asked first behind its last answer
+abbrev pub silent_by : TimesValue → List ℕ → EventValue → List ℕ
+silent_by times who event =
+    who ++ (codes " was last heard" ++ (ended_text times event.heard ++ (asked_text (place_second times event.asked) ++ codes ", and did not leave")))
 
 -- ---- two participants
 
@@ -74,16 +74,16 @@ sent_text (Some first) None = []
 sent_text (Some first) (Some last) = between_seconds first last
 
 -- from whom to whom numbers are lost, and between which times they were sent first
-abbrev pub between_text : TimesValue → TalkValue → EventValue → GuidPrefix → List ℕ
-between_text times talk event reader =
-    codes "from " ++ (called talk event.key.first ++ (codes " to " ++ (called talk reader ++ sent_text (place_second times event.first) (place_second times event.last))))
+abbrev pub between_by : TimesValue → List ℕ → List ℕ → EventValue → List ℕ
+between_by times who whom event =
+    codes "from " ++ (who ++ (codes " to " ++ (whom ++ sent_text (place_second times event.first) (place_second times event.last))))
 
 -- ---- both
 
 -- what an event is about
 abbrev pub about_text : TimesValue → TalkValue → EventValue → Option GuidPrefix → List ℕ
-about_text times talk event None = silent_text times talk event
-about_text times talk event (Some reader) = between_text times talk event reader
+about_text times talk event None = silent_by times (called talk event.key.first) event
+about_text times talk event (Some reader) = between_by times (called talk event.key.first) (called talk reader) event
 
 -- how many numbers are lost, behind a comma; nothing where none is
 abbrev pub numbers_text : ℕ → List ℕ

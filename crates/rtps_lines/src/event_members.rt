@@ -1,10 +1,10 @@
 ghost use Rattle.std.specs.Prelude.{◌≡◌, ◌++◌, ◌∷◌, OnOk, codes, map};
 ghost use Rattle.json.specs.Token.{key as key_token};
-ghost use Rattle.json.specs.Tree.{json_tokens};
+ghost use Rattle.json.specs.Tree.{items_tokens, json_tokens};
 ghost use Rattle.rtps_report.specs.Events.{event_value};
 ghost use Rattle.rtps_report.specs.Talk.{talk_value};
-ghost use Rattle.rtps_lines.specs.EventMembers.{amounts_members, event_json, event_name as event_name_lem, events_member, parties_json, party_json, places_members, sentence_member};
-ghost use Rattle.rtps_lines.specs.JsonText.{clock_times, tokens_of, tokens_of_member};
+ghost use Rattle.rtps_lines.specs.EventMembers.{amounts_members, event_json, event_name as event_name_lem, events_member, parties_by, parties_json, party_json, places_members, sentence_member};
+ghost use Rattle.rtps_lines.specs.JsonText.{clock_times, items_of, tokens_of, tokens_of_member};
 
 use crate::event_text::push_event_text;
 use crate::json_members::{Clock, push_numbers, push_standing, push_text, push_total};
@@ -34,6 +34,22 @@ fn push_party(writer: &mut Writer, text: &mut String, prefix: GuidPrefix) -> Res
     writer.string(text)
 }
 
+/// Appends the GUID of the second participant of an event, if there is one, and the end of the array.
+fn push_second(
+    writer: &mut Writer,
+    text: &mut String,
+    second: Option<GuidPrefix>,
+) -> Result<(), AllocError>
+    ensures tokens { OnOk result (writer.new.tokens ≡ writer.old.tokens ++ items_tokens (items_of (parties_by second))) }
+    ensures before { writer.new.before ≡ writer.old.before }
+{
+    let Some(prefix) = second else {
+        return writer.end_array();
+    };
+    push_party(writer, text, prefix)?;
+    writer.end_array()
+}
+
 /// Appends the GUIDs of the participants of an event.
 fn push_parties(writer: &mut Writer, text: &mut String, key: EventKey) -> Result<(), AllocError>
     ensures tokens { OnOk result (writer.new.tokens ≡ writer.old.tokens ++ key_token (codes "participants") ∷ json_tokens (parties_json key)) }
@@ -42,10 +58,7 @@ fn push_parties(writer: &mut Writer, text: &mut String, key: EventKey) -> Result
     writer.key("participants")?;
     writer.begin_array()?;
     push_party(writer, text, key.first)?;
-    if let Some(second) = key.second {
-        push_party(writer, text, second)?;
-    }
-    writer.end_array()
+    push_second(writer, text, key.second)
 }
 
 /// Appends the places of the rows of an event, and how many numbers they lost.

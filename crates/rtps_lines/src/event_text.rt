@@ -1,9 +1,8 @@
 ghost use Rattle.std.specs.Prelude.{◌≡◌, ◌++◌, OnOk, Some};
 ghost use Rattle.std.specs.String.{string_bytes};
 ghost use Rattle.rtps_report.specs.Events.{event_value};
-ghost use Rattle.rtps_report.specs.Talk.{TalkValue as TalkValueOf, talk_value};
-ghost use Rattle.rtps_ids.specs.declared.identity.GuidPrefix.{GuidPrefix as GuidPrefixOf};
-ghost use Rattle.rtps_lines.specs.EventText.{about_text, amounts_text, asked_text, between_text, called as called_lem, event_text, is_same_second, numbers_text, sent_text, silent_text, told_as};
+ghost use Rattle.rtps_report.specs.Talk.{talk_value};
+ghost use Rattle.rtps_lines.specs.EventText.{about_text, amounts_text, asked_text, between_by, called as called_lem, event_text, is_same_second, numbers_text, sent_text, silent_by, told_as};
 
 use crate::fields::{EndedText, SecondsText};
 use crate::notes::{number_words, pair_words};
@@ -109,8 +108,7 @@ fn push_silent(
     silent: ParticipantText<'_>,
     times: &Times,
 ) -> Result<(), AllocError>
-    ensures { (talk : TalkValueOf) → told_as silent.entry ≡ called_lem talk event.now.key.first
-        → OnOk result (string_bytes text.new ≡ string_bytes text.old ++ silent_text times.now talk (event_value event.now)) }
+    ensures { OnOk result (string_bytes text.new ≡ string_bytes text.old ++ silent_by times.now (told_as silent.entry) (event_value event.now)) }
 {
     let heard = EndedText(times, event.heard);
     let asked = AskedText(place_second(times, event.asked));
@@ -127,8 +125,8 @@ fn push_between(
     parties: (ParticipantText<'_>, ParticipantText<'_>),
     times: &Times,
 ) -> Result<(), AllocError>
-    ensures { (talk : TalkValueOf) (reader : GuidPrefixOf) → told_as parties.entry.0 ≡ called_lem talk event.now.key.first → told_as parties.entry.1 ≡ called_lem talk reader
-        → OnOk result (string_bytes text.new ≡ string_bytes text.old ++ between_text times.now talk (event_value event.now) reader) }
+    ensures { OnOk result (string_bytes text.new
+        ≡ string_bytes text.old ++ between_by times.now (told_as parties.entry.0) (told_as parties.entry.1) (event_value event.now)) }
 {
     let (writer, reader) = parties;
     let first = place_second(times, event.first);

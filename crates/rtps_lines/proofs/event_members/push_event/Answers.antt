@@ -8,6 +8,7 @@ use Rattle.rtps_report.specs.Events.{event_value}
 use Rattle.rtps_report.specs.Talk.{talk_value}
 use Rattle.rtps_lines.specs.EventMembers.{amounts_members, event_name, parties_json, places_members, sentence_member}
 use Rattle.rtps_lines.specs.JsonText.{Member, clock_times, object_of, tokens_of, tokens_of_member}
+use Rattle.rtps_lines.proofs.EventLemmas.{event_tokens}
 use Rattle.rtps_lines.proofs.JsonLemmas.{object_tokens}
 use Rattle.rtps_lines.proofs.PartLemmas.{seven_parts}
 use Rattle.rtps_lines.proofs.event_members.push_event.Goals as goal
@@ -24,13 +25,11 @@ returns-clause-tokens c =
     let sentence = sentence_member times (talk_value c.args.talk.now) event in
     let end : List Token = end_object ∷ [] in
     let told = c.in_ok-push_text.ensures.tokens ∙ ap (λ octets. c.begin_object.new.self.tokens ++ tokens_of_member (codes "event", text octets)) c.event_name.ensures in
-    let joined : tokens_of_member name ++ (tokens_of_member parties ++ (tokens_of amounts ++ (tokens_of places ++ (tokens_of_member sentence ++ end))))
-    ≡ tokens_of (name ∷ parties ∷ (amounts ++ (places ++ sentence ∷ []))) ++ end = ? in
     on_ok_weaker c.end_object.result
     (λ last.
     seven_parts start (begin_object ∷ []) (tokens_of_member name) (tokens_of_member parties) (tokens_of amounts) (tokens_of places) (tokens_of_member sentence) end
     c.in_ok-begin_object.ensures.ok told c.in_ok-push_parties.ensures.tokens c.in_ok-push_amounts.ensures.tokens c.in_ok-push_places.ensures.tokens
     c.in_ok-push_sentence.ensures.tokens last
-    ∙ ap (λ tokens. start ++ begin_object ∷ tokens) joined
+    ∙ ap (λ tokens. start ++ begin_object ∷ tokens) (event_tokens name parties amounts places sentence end)
     ∙ ap (λ tokens. start ++ tokens) (sym (object_tokens (name ∷ parties ∷ (amounts ++ (places ++ sentence ∷ []))))))
     c.end_object.ensures.ok
