@@ -10,49 +10,100 @@ const MANY_DOTS = 3000;
 const MANY_ANSWERS = 150;
 const POINT = 'Point at a dot to read it.';
 
+// At most so many lost numbers of a kind are marked.
+const MOST_LOST = 5000;
+
 // What is drawn of a row: dots for DATA to its reader, bands for numbers that are told gone to it, steps for what HEARTBEATs announce
-// and for what the reader acknowledged, and marks for the numbers and the datagram that its verdict is about.
+// and for what the reader acknowledged, a mark for each number that is lost, dots for those that another recording has, and marks for the
+// numbers and the datagram that its verdict is about.
 function marksOf(report, row, axis) {
   const acts = report.actsOf(row).map((entry) => entryParts(entry, axis));
   const to = namesOf(row.reader);
   const heard = acts.filter(({ named }) => to.includes(named));
   const answers = report.basesOf(row).map(([datagram, at, base]) => ({ x: axis.at(datagram), y: Number(base) - 1, at }));
+  const dots = dotsOf(heard.filter(({ what }) => what === 'data'));
+  const announced = stepsOf(acts.filter(({ what }) => what === 'announced').map(({ x, numbers: [last] }) => ({ x, y: Number(last) })));
+  const told = stepsOf(acts.filter(({ what }) => what !== 'gone').map(({ x, numbers: [last] }) => ({ x, y: Number(last) })));
   return {
-    dots: dotsOf(heard.filter(({ what }) => what === 'data')),
+    dots,
     bands: bandsOf(heard.filter(({ what }) => what === 'gone')),
-    announced: stepsOf(acts.filter(({ what }) => what === 'announced').map(({ x, numbers: [last] }) => ({ x, y: Number(last) }))),
+    announced,
     answers,
     acknowledged: stepsOf(answers),
+    lost: lostMarks(row, dots, told, axis),
+    arrived: arrivedDots(row, dots),
     numbers: markedNumbers(row),
     datagrams: row.verdict === 'unfounded' ? [{ x: axis.at(row.datagram), label: `datagram ${row.datagram}` }] : [],
   };
 }
 
+// Each number of a row that is lost: where it was sent first to the reader, or, where it never was, where the writer first told of it.
+function lostMarks({ numbers }, dots, told, axis) {
+  const sent = firstOf(dots);
+  return Object.keys(LOST_WORDS).filter((kind) => numbers[kind]).flatMap((kind) => (
+    eachNumber(numbers[kind].ranges, MOST_LOST).map((number) => {
+      const dot = sent.get(number);
+      const x = dot ? dot.x : (told.find(({ y }) => y >= number) || { x: axis.low }).x;
+      return { x, y: number, kind, isSent: dot !== undefined };
+    })));
+}
+
+// The first dot of each number.
+function firstOf(dots) {
+  const found = new Map();
+  for (const dot of dots) if (!found.has(dot.y)) found.set(dot.y, dot);
+  return found;
+}
+
+// The numbers of ranges, but no more than so many.
+function eachNumber(ranges, most) {
+  const numbers = [];
+  for (const { first, last } of ranges) {
+    for (let number = Number(first); number <= Number(last) && numbers.length < most; number += 1) numbers.push(number);
+  }
+  return numbers;
+}
+
+// Of a row that is held against another recording: where each number was sent first of which this one is certain that it came, or that has it.
+function arrivedDots(row, dots) {
+  if (!isHeld(row) || row.numbers.not_arrived?.more > 0) return [];
+  const lacking = row.numbers.not_arrived?.ranges || [];
+  const isLacking = (y) => lacking.some(({ first, last }) => y >= first && y <= last);
+  return [...firstOf(dots).values()].filter(({ y }) => y >= row.from && !isLacking(y)).map(({ x, y }) => ({ x, y }));
+}
+
 // What stands to the right: the seconds of datagrams, where each that is drawn has one; or else their numbers. It has the word for
-// them, its ends, the smallest window, the smallest step between its marks, and the text of a mark.
+// them, the ends of the recording and those of what is drawn, the smallest window, the smallest step between its marks, and the text of a
+// mark.
 function axisOf(report, row) {
   const drawn = [...report.actsOf(row), ...report.basesOf(row)].map(([datagram]) => datagram);
   const seconds = drawn.map((datagram) => report.secondOf(datagram));
-  if (drawn.length === 0 || seconds.includes(undefined)) {
+  const isTimed = drawn.length > 0 && !seconds.includes(undefined);
+  const ends = isTimed ? endsOfAll(seconds) : endsOfAll(drawn);
+  if (!isTimed) {
+    const high = Math.max(2, report.data.datagrams + 1);
     return {
-      word: 'datagram', name: 'Datagrams', at: (datagram) => datagram, low: 0, high: Math.max(2, report.data.datagrams + 1), window: 4, step: 1, text: shortNumber,
+      word: 'datagram', name: 'Datagrams', at: (datagram) => datagram, low: 0, high, own: within(ends, 1, [0, high]), window: 4, step: 1, text: shortNumber,
     };
   }
-  const [first, last] = [seconds.reduce((a, b) => Math.min(a, b)), seconds.reduce((a, b) => Math.max(a, b))];
-  const room = Math.max(0.01, (last - first) * 0.02);
+  const last = Math.max(ends[1], report.seconds());
+  const room = Math.max(0.01, last * 0.01);
+  const [low, high] = [Math.min(0, ends[0]) - room, last + room];
   return {
-    word: 's', name: 'Seconds', at: (datagram) => report.secondOf(datagram), low: first - room, high: last + room, window: 0.02, step: 0.001, text: shortSecond,
+    word: 's', name: 'Seconds', at: (datagram) => report.secondOf(datagram), low, high, own: within(ends, Math.max(0.01, (ends[1] - ends[0]) * 0.02), [low, high]),
+    window: 0.02, step: 0.001, text: shortSecond,
   };
 }
+
+// The least and the greatest of these, with some room at both ends, within other ends.
+const endsOfAll = (values) => [values.reduce((a, b) => Math.min(a, b), Infinity), values.reduce((a, b) => Math.max(a, b), -Infinity)];
+const within = ([first, last], room, [low, high]) => (first > last ? [low, high] : [Math.max(low, first - room), Math.min(high, last + room)]);
 
 // The parts of an entry: where it stands, what it says, of which numbers, and whom it names.
 function entryParts([datagram, at, what, ...rest], axis) {
   const count = what === 'gone' ? 2 : 1;
   return { x: axis.at(datagram), datagram, at, what, numbers: rest.slice(0, count), named: rest[count] };
 }
-
-// The names by which an entry is for a reader: it names nobody, or the reader, its participant or its entity.
-const namesOf = (reader) => [undefined, reader, prefixOf(reader), entityOf(reader)];
 
 function markedNumbers({ verdict, number, first_missed: missed }) {
   const found = [{ y: Number(number), label: `${verdict} ${number}` }];
@@ -111,37 +162,45 @@ class Chart {
     this.axis = axisOf(report, row);
     this.marks = marksOf(report, row, this.axis);
     this.all = this.extent();
-    Object.assign(this, { view: this.all, at: null, drag: null, width: 0, still: document.createElement('canvas') });
+    Object.assign(this, { report, row, view: this.all, at: null, drag: null, width: 0, still: document.createElement('canvas') });
     this.canvas = make('canvas', {
-      tabindex: '0', role: 'application', 'aria-label': this.description(row), 'aria-describedby': 'chart-help',
+      tabindex: '0', role: 'application', 'aria-label': this.description(row), 'aria-describedby': `chart-help-${row.at + 1}`,
     });
     this.readout = make('p', { class: 'readout', role: 'status' }, POINT);
-    this.element = make('figure', { class: 'chart' }, this.canvas, this.controls(), this.readout, legend(),
-      make('figcaption', { id: 'chart-help' }, `${this.axis.name} to the right, numbers upwards. Drag to zoom, double-click to show all. Keys: left and `
-        + 'right go from dot to dot, + and − zoom, Shift and an arrow move, 0 shows all.'));
+    this.element = make('figure', { class: 'chart' }, this.canvas, this.readout, this.controls(), legend(this.marks),
+      make('figcaption', { id: `chart-help-${row.at + 1}` }, `${this.axis.name} to the right, numbers upwards. Drag to zoom, double-click to show all. Keys: left and `
+        + 'right go from dot to dot, + and − zoom, Shift and an arrow move, 0 shows all, 1 the pair’s own span.'));
     this.listen();
   }
 
   // Everything, with some room above.
   extent() {
-    const { dots, bands, announced, acknowledged, numbers } = this.marks;
+    const { dots, bands, announced, acknowledged, numbers, lost } = this.marks;
     let top = 1;
-    for (const { y, high } of [...announced, ...acknowledged, ...numbers, ...bands]) top = Math.max(top, y ?? high);
+    for (const { y, high } of [...announced, ...acknowledged, ...numbers, ...bands, ...lost]) top = Math.max(top, y ?? high);
     for (const { y } of dots) top = Math.max(top, y);
     return { x0: this.axis.low, x1: this.axis.high, y0: 0, y1: top * 1.06 + 1 };
   }
 
+  // The part of it in which something of the row is drawn.
+  ownSpan() {
+    const [x0, x1] = this.axis.own;
+    const { answers, dots, announced } = this.marks;
+    const low = [...dots, ...answers, ...announced].reduce((least, { y }) => Math.min(least, y), this.all.y1);
+    return this.within([x0, x1, Math.max(0, low - 2), this.all.y1]);
+  }
+
   description(row) {
-    const { dots, answers } = this.marks;
+    const { dots, answers, lost } = this.marks;
     const again = dots.filter((dot) => dot.again).length;
     return `Chart of ${this.axis.name.toLowerCase()} and numbers: ${plural(dots.length, 'DATA', 'DATA')} to this reader, ${counted(again)} of them sent again, `
-      + `${plural(answers.length, 'answer')} of the reader, and a line at ${row.verdict} ${row.number}.`;
+      + `${plural(answers.length, 'answer')} of the reader, ${plural(lost.length, 'mark')} of lost numbers, and a line at ${row.verdict} ${row.number}.`;
   }
 
   controls() {
     const acts = [
       ['Zoom in', () => this.zoom(0.5)], ['Zoom out', () => this.zoom(2)], ['Earlier', () => this.pan(-0.5, 0)], ['Later', () => this.pan(0.5, 0)],
-      ['Lower', () => this.pan(0, -0.5)], ['Higher', () => this.pan(0, 0.5)], ['Show all', () => this.show(this.all)],
+      ['Lower', () => this.pan(0, -0.5)], ['Higher', () => this.pan(0, 0.5)], ['Own span', () => this.show(this.ownSpan())], ['Show all', () => this.show(this.all)],
     ];
     return make('div', { class: 'controls', role: 'group', 'aria-label': 'Chart' }, ...acts.map(([label, act]) => makeButton(null, label, act)));
   }
@@ -228,8 +287,9 @@ class Chart {
   }
 
   dotText({ number, datagram, at, again, x }) {
-    const place = placeText({ datagram, at, time: this.axis.word === 's' ? x : null });
-    return `DATA of number ${number} in ${place}${again ? ', sent again' : ''}.`;
+    const place = placeText({ datagram, at, frame: this.report.frameOf(datagram), time: this.axis.word === 's' ? x : null });
+    const kinds = this.marks.lost.filter((mark) => mark.y === Number(number)).map(({ kind }) => LOST_WORDS[kind].toLowerCase());
+    return `DATA of number ${number} in ${place}${again ? ', sent again' : ''}${kinds.length > 0 ? `; ${number} is ${kinds.join(' and ')}` : ''}.`;
   }
 
   pointed({ offsetX, offsetY }) {
@@ -271,7 +331,7 @@ class Chart {
     const acts = event.shiftKey
       ? { ArrowLeft: () => this.pan(-0.2, 0), ArrowRight: () => this.pan(0.2, 0), ArrowUp: () => this.pan(0, 0.2), ArrowDown: () => this.pan(0, -0.2) }
       : { ArrowLeft: () => this.step(-1), ArrowRight: () => this.step(1) };
-    Object.assign(acts, { '+': () => this.zoom(0.5), '=': () => this.zoom(0.5), '-': () => this.zoom(2), 0: () => this.show(this.all) });
+    Object.assign(acts, { '+': () => this.zoom(0.5), '=': () => this.zoom(0.5), '-': () => this.zoom(2), 0: () => this.show(this.all), 1: () => this.show(this.ownSpan()) });
     if (event.ctrlKey || event.metaKey || event.altKey || !Object.hasOwn(acts, event.key)) return;
     event.preventDefault();
     acts[event.key]();
@@ -307,6 +367,8 @@ class Chart {
     this.drawAnswers();
     this.drawMarks();
     this.drawDots();
+    this.drawLost();
+    this.drawArrived();
     this.paint();
   }
 
@@ -434,6 +496,33 @@ class Chart {
     }
   }
 
+  // Each number that is lost as a red cross; of those that fall on one pixel, one. Where it was never sent, it stands in a box.
+  drawLost() {
+    const lost = this.marks.lost.filter((mark) => this.isInSight(mark));
+    const pen = this.penOf('--mark', 2.25);
+    const arm = lost.length > 400 ? 3 : 4.5;
+    const drawn = new Set();
+    for (const mark of lost) {
+      const [x, y] = [Math.round(this.pixelX(mark.x)), Math.round(this.pixelY(mark.y))];
+      if (drawn.has(x * CHART_HEIGHT + y)) continue;
+      drawn.add(x * CHART_HEIGHT + y);
+      this.line(x - arm, y - arm, x + arm, y + arm);
+      this.line(x - arm, y + arm, x + arm, y - arm);
+      if (!mark.isSent) pen.strokeRect(x - arm - 2, y - arm - 2, 2 * arm + 4, 2 * arm + 4);
+    }
+  }
+
+  // What is received or arrived, as a row of dots along the foot.
+  drawArrived() {
+    const pen = this.penOf('--acknowledged', 1);
+    const columns = new Set(this.marks.arrived.filter((dot) => this.isInSight(dot)).map(({ x }) => Math.round(this.pixelX(x))));
+    for (const x of columns) {
+      pen.beginPath();
+      pen.arc(x, CHART_HEIGHT - EDGES.bottom - 5, 2.2, 0, 7);
+      pen.fill();
+    }
+  }
+
   // The numbers that the verdict is about and the datagram of `unfounded`, as dashed lines with their words.
   drawMarks() {
     const { width } = this;
@@ -467,24 +556,16 @@ class Chart {
 
 // ---- the legend
 
-const SVG = 'http://www.w3.org/2000/svg';
-
-function drawn(tag, attributes, ...children) {
-  const element = document.createElementNS(SVG, tag);
-  for (const [name, value] of Object.entries(attributes)) element.setAttribute(name, value);
-  element.append(...children);
-  return element;
-}
-
-function legend() {
-  const item = (text, ...shapes) => make('li', null,
-    drawn('svg', { viewBox: '0 0 24 14', width: '24', height: '14', 'aria-hidden': 'true' }, ...shapes), text);
+function legend({ lost, arrived }) {
   return make('ul', { class: 'legend' },
-    item('DATA to this reader', drawn('circle', { class: 'sent', cx: 12, cy: 7, r: 4 })),
-    item('sent again', drawn('circle', { class: 'again', cx: 12, cy: 7, r: 4.5 })),
-    item('told gone', drawn('rect', { class: 'band', x: 2, y: 1, width: 20, height: 12 })),
-    item('announced by HEARTBEATs', drawn('path', { class: 'announced', d: 'M1 12H11V3H23' })),
-    item('acknowledged, a stroke for each answer',
+    legendItem('DATA to this reader', drawn('circle', { class: 'sent', cx: 12, cy: 7, r: 4 })),
+    legendItem('sent again', drawn('circle', { class: 'again', cx: 12, cy: 7, r: 4.5 })),
+    lost.length > 0 && legendItem('lost: missed, unsent, unanswered or not arrived', drawn('path', { class: 'cross', d: 'M8 3l8 8m0-8l-8 8' })),
+    lost.some(({ isSent }) => !isSent) && legendItem('lost, and never sent here', drawn('path', { class: 'cross', d: 'M9 4l6 6m0-6l-6 6M6 1h12v12H6z' })),
+    arrived.length > 0 && legendItem('received, or in the other recording', drawn('circle', { class: 'came', cx: 12, cy: 10, r: 2.5 })),
+    legendItem('told gone', drawn('rect', { class: 'band', x: 2, y: 1, width: 20, height: 12 })),
+    legendItem('announced by HEARTBEATs', drawn('path', { class: 'announced', d: 'M1 12H11V3H23' })),
+    legendItem('acknowledged, a stroke for each answer',
       drawn('path', { class: 'acknowledged', d: 'M1 7H23' }), drawn('path', { class: 'answer', d: 'M8 1V13M17 1V13' })),
-    item('what the verdict is about', drawn('path', { class: 'mark', d: 'M1 7H23' })));
+    legendItem('what the verdict is about', drawn('path', { class: 'verdict-line', d: 'M1 7H23' })));
 }

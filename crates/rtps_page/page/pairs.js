@@ -1,5 +1,5 @@
 'use strict';
-// The table of pairs, grouped by topic: filter, order, and the pair that is chosen.
+// The table of topics, each with its pairs: filter, order, what is folded, and the pair that is chosen.
 
 // So many rows are shown at first, and so many more each time.
 const FIRST_ROWS = 100;
@@ -7,37 +7,52 @@ const MORE_ROWS = 500;
 
 const byText = (member) => (a, b) => (a[member] < b[member] ? -1 : Number(a[member] > b[member]));
 const byCount = (numberOf) => (a, b) => compareNumbers(numberOf(a), numberOf(b));
-const worse = (a, b) => a.rank - b.rank;
 
 // Where no number is announced or acknowledged, 0 stands in the order and a dash on the page.
-function placeColumn(name, head, member) {
+function placeColumn(name, head, member, meaning) {
   const numberOf = (row) => (row[name] ? row[name][member] : 0);
-  return { name, head, class: 'count', compare: byCount(numberOf), cell: (report, row) => (row[name] ? String(numberOf(row)) : '–') };
+  return { name, head, meaning, class: 'count', compare: byCount(numberOf), cell: (report, row) => (row[name] ? String(numberOf(row)) : '–'), total: () => null };
 }
 
 // Of a row that has no such count, too. A count above 0 is marked in the rows in which it is bad.
-function countColumn(name, head, isBad, numberOf) {
+function countColumn(name, meaning, isBad, numberOf) {
+  const marked = (count, isMarked) => (isMarked && isAbove(count, 0) ? make('b', { class: 'bad' }, counted(count)) : counted(count));
   const cell = (report, row) => {
     const count = numberOf(row);
-    if (count === null) return '–';
-    return isBad(row) && isAbove(count, 0) ? make('b', { class: 'bad' }, counted(count)) : counted(count);
+    return count === null ? '–' : marked(count, isBad(row));
   };
-  return { name, head, class: 'count', compare: byCount((row) => numberOf(row) || 0), cell };
+  const sums = new Map();
+  const sum = (group) => entryOf(sums, group, () => sumOf(group.rows, (row) => numberOf(row) || 0));
+  return {
+    name, head: name[0].toUpperCase() + name.slice(1), meaning, class: 'count', compare: byCount((row) => numberOf(row) || 0), cell, isAmount: true, sum,
+    total: (group) => marked(sum(group), group.rows.some(isBad)),
+  };
 }
 
-const OUTCOMES = ['received', 'arrived', 'likely', 'missed', 'unsent', 'unanswered', 'unconfirmed'];
-const LOST = ['missed', 'unsent', 'unanswered'];
 // Numbers of some outcomes are lost. A likely one did not arrive where the row is held against another recording.
-const isLost = (name, { outcomes: { arrived = null } }) => LOST.includes(name) || (name === 'likely' && arrived !== null);
+const isLost = (name, row) => LOST.includes(name) || (name === 'likely' && isHeld(row));
 
-// The columns: name, head, order, and what stands in a cell.
-const COLUMNS = [
-  { name: 'verdict', head: 'Verdict', compare: (a, b) => worse(a, b) || compareNumbers(a.number, b.number), cell: verdictCell },
-  { name: 'writer', head: 'Writer', compare: byText('writer'), cell: (report, row) => endpointName(report, row.writer) },
-  { name: 'reader', head: 'Reader', compare: byText('reader'), cell: (report, row) => endpointName(report, row.reader) },
-  placeColumn('announced', 'Last announced', 'number'),
-  placeColumn('acknowledged', 'Acknowledged below', 'below'),
-  ...OUTCOMES.map((name) => countColumn(name, name[0].toUpperCase() + name.slice(1), (row) => isLost(name, row), ({ outcomes }) => outcomes[name])),
+// What became of a number, in the words of this page.
+const OUTCOME_MEANINGS = {
+  missed: 'the reader asked for the number, and nothing shows that it came',
+  unsent: 'the reader acknowledged a number that the recording never sends to it',
+  unanswered: 'the writer asked about it, and dropped it before the reader answered',
+  likely: 'sent and acknowledged, but not so that it is certain',
+  unconfirmed: 'sent, and not acknowledged by the end',
+  received: 'for certain: it was sent before the answer that acknowledges it',
+  arrived: 'the recording at the reader’s host has it',
+};
+const outcomeColumn = (name) => countColumn(name, OUTCOME_MEANINGS[name], (row) => isLost(name, row), ({ outcomes }) => outcomes[name]);
+
+// The columns, those of what is lost first: name, head, order, and what stands in a cell.
+const columnsOf = ({ data: { options } }) => [
+  { name: 'verdict', head: 'Topic and pairs', compare: (a, b) => worse(a, b) || compareNumbers(a.number, b.number), cell: verdictCell },
+  { name: 'writer', head: 'Writer', compare: byText('writer'), cell: (report, row) => endpointBriefly(report, row.writer, row.writer_node) },
+  { name: 'reader', head: 'Reader', compare: byText('reader'), cell: (report, row) => endpointBriefly(report, row.reader, row.reader_node) },
+  ...['missed', 'unsent', 'unanswered', 'likely', 'unconfirmed', 'received', 'arrived'].map(outcomeColumn),
+  countColumn('before', 'numbers of before the reader joined', () => false, ({ from }) => differenceOf(from, options.from)),
+  placeColumn('announced', 'Last announced', 'number', 'the last number that the writer announced'),
+  placeColumn('acknowledged', 'Acknowledged below', 'below', 'the reader acknowledged all numbers below this one'),
 ];
 
 const WORST_FIRST = { name: 'worst', head: 'Worst first', compare: worse };
@@ -45,20 +60,26 @@ const BY_TOPIC = { name: 'topic', head: 'Topic', compare: (a, b) => byText('topi
 const BY_TYPE = { name: 'type', head: 'Type', compare: (a, b) => byText('type')(a, b) || worse(a, b) };
 
 function verdictCell(report, row) {
-  const bad = OUTCOMES.filter((name) => isLost(name, row) && row.outcomes[name] > 0);
+  const bad = OUTCOMES.filter((name) => isLost(name, row) && isAbove(row.outcomes[name], 0));
   return make('a', { href: `#pair-${row.at + 1}`, 'aria-expanded': 'false' },
-    badge(row.verdict, row.verdict), ' ', make('span', { class: 'number' }, String(row.number)),
+    make('span', { class: 'pair-name' }, `Pair ${row.at + 1} `), badge(row.verdict, row.verdict), ' ', make('span', { class: 'number' }, String(row.number)),
     row.datagram !== undefined && make('span', { class: 'in-datagram' }, ` in datagram ${row.datagram}`),
     bad.flatMap((name) => [' ', badge('missed', `${name} ${counted(row.outcomes[name])}`)]),
-    row.clean && [' ', badge('clean', 'clean')],
-    make('span', { class: 'hidden' }, `, pair ${row.at + 1}`));
+    row.clean && [' ', badge('clean', 'clean')]);
 }
+
+// How much of a topic is open: nothing, the pairs that are not clean, or all.
+const [FOLDED, BAD, ALL] = ['folded', 'bad', 'all'];
 
 class Pairs {
   constructor(report) {
-    Object.assign(this, { report, words: [], kinds: new Set(), order: WORST_FIRST, isDown: false, most: FIRST_ROWS, chosen: null });
-    this.columns = COLUMNS.filter(({ name }) => name !== 'arrived' || report.data.arrived);
+    Object.assign(this, { report, words: [], kinds: new Set(), order: WORST_FIRST, isDown: false, most: FIRST_ROWS, chosen: null, isPaper: false });
+    // Columns of zeros are left out.
+    this.columns = columnsOf(report).filter(({ name, isAmount, sum }) => (
+      name === 'arrived' ? report.data.arrived : !isAmount || name === 'received' || report.groups.some((group) => isAbove(sum(group), 0))));
     this.orders = [WORST_FIRST, BY_TOPIC, BY_TYPE, ...this.columns];
+    this.openness = new Map(report.groups.map((group) => [group, group.clean ? FOLDED : BAD]));
+    this.areCleanShown = report.groups.every(({ clean }) => clean);
     this.sort();
     this.build();
     this.render();
@@ -73,21 +94,32 @@ class Pairs {
 
   // Whether a row has a word: in the names of its topic and type, in those of its writer and reader, or in its verdict.
   hasWord(word) {
-    const has = (...texts) => texts.some((text) => text !== null && text.toLowerCase().includes(word));
+    const has = (...texts) => texts.some((text) => typeof text === 'string' && text.toLowerCase().includes(word));
     const { groups, data } = this.report;
     const found = new Set(groups.filter(({ topic, type }) => has(topic, type, rosTopic(topic), rosType(type))));
     for (const { guid } of data.endpoints) {
-      const { name, nodes } = this.report.participantOf(guid);
-      if (has(guid, name, ...nodes)) found.add(guid);
+      const participant = this.report.participantOf(guid);
+      const { address, host, process, name } = participant.announced || {};
+      if (has(guid, participant.name, ...participant.nodes, address, host, process, name)) found.add(guid);
     }
-    return ({ group, writer, reader, verdict, kind, number }) => (
-      found.has(group) || found.has(writer) || found.has(reader) || has(verdict, kind, String(number)));
+    return ({ group, writer, reader, verdict, kind, number, writer_node: sender, reader_node: receiver }) => (
+      found.has(group) || found.has(writer) || found.has(reader) || has(verdict, kind, sender, receiver, String(number)));
   }
 
   matching() {
     const tests = this.words.map((word) => this.hasWord(word));
     if (this.kinds.size > 0) tests.push(({ kind }) => this.kinds.has(kind));
     return tests.reduce((rows, test) => rows.filter(test), this.sorted);
+  }
+
+  // Whether all that is found is shown, and nothing is folded.
+  isAllOpen() {
+    return this.isPaper || this.words.length > 0 || this.kinds.size > 0;
+  }
+
+  isShown(row) {
+    const openness = this.openness.get(row.group);
+    return openness === ALL || (openness === BAD && !row.clean);
   }
 
   setFilter(text) {
@@ -111,7 +143,7 @@ class Pairs {
   // ---- the parts of the page
 
   build() {
-    this.filter = make('input', { type: 'search', id: 'filter', autocomplete: 'off', spellcheck: 'false', placeholder: 'topic, node, verdict, GUID' });
+    this.filter = make('input', { type: 'search', id: 'filter', autocomplete: 'off', spellcheck: 'false', placeholder: 'topic, node, host, verdict, GUID' });
     this.filter.addEventListener('input', () => this.setFilter(this.filter.value));
     this.select = make('select', { id: 'order' }, ...this.orders.map(({ name, head }) => make('option', { value: name }, head)));
     this.select.addEventListener('change', () => this.setOrder(this.orders.find(({ name }) => name === this.select.value)));
@@ -121,11 +153,12 @@ class Pairs {
     this.table.addEventListener('click', (event) => this.clicked(event));
     const tools = make('div', { class: 'tools' },
       make('label', { for: 'filter' }, 'Filter'), this.filter,
-      make('label', { for: 'order' }, 'Order'), this.select, makeButton(null, 'Reverse', () => this.setOrder(this.order)));
+      make('label', { for: 'order' }, 'Order'), this.select, makeButton(null, 'Reverse', () => this.setOrder(this.order)),
+      makeButton({ class: 'open-all' }, 'Open all', () => this.openAll(ALL)), makeButton(null, 'Fold', () => this.openAll(null)));
     const wide = make('div', { class: 'wide' }, this.table);
-    tools.hidden = wide.hidden = this.report.rows.length === 0;
-    document.getElementById('pairs').append(tools, this.status, wide, this.more);
-    this.buildVerdicts();
+    const words = this.explanation();
+    tools.hidden = wide.hidden = words.hidden = this.report.rows.length === 0;
+    document.getElementById('pairs').append(this.kindButtons(), tools, this.status, wide, this.more, words);
   }
 
   heads() {
@@ -133,15 +166,21 @@ class Pairs {
       { scope: 'col', class: `${column.name} ${column.class || ''}` }, makeButton(null, column.head, () => this.setOrder(column))))));
   }
 
+  // What the heads mean, and the verdicts.
+  explanation() {
+    const said = this.columns.filter(({ meaning }) => meaning).flatMap(({ head, meaning }, at) => [at > 0 && '; ', make('b', null, head), ` ${meaning}`]);
+    return make('p', { class: 'hint words' }, ...said, '.');
+  }
+
   // A button for each kind that there is, which shows these alone.
-  buildVerdicts() {
+  kindButtons() {
     const countOf = (kind) => this.report.rows.filter((row) => row.kind === kind).length;
     this.buttons = KINDS.filter(countOf).map((kind) => makeButton({ class: `badge ${kind}`, 'aria-pressed': 'false' },
       `${counted(countOf(kind))} ${KIND_WORDS[kind]}`, (button) => {
         this.toggleKind(kind);
         button.setAttribute('aria-pressed', String(this.kinds.has(kind)));
       }));
-    document.getElementById('verdicts').append(...this.buttons);
+    return make('div', { id: 'verdicts', role: 'group', 'aria-label': 'Show only pairs with these verdicts' }, ...this.buttons);
   }
 
   // ---- what is shown
@@ -151,56 +190,112 @@ class Pairs {
     this.render();
   }
 
-  // Shows more rows. Where these are the last ones, the focus goes to the first of them.
-  showMore() {
-    const first = this.most;
-    this.most += MORE_ROWS;
-    this.render();
-    if (this.more.hidden) this.table.querySelectorAll('tr.pair > th a')[first].focus();
+  // Opens or folds all topics; folded they are as at first.
+  openAll(openness) {
+    for (const group of this.report.groups) this.openness.set(group, openness ?? (group.clean ? FOLDED : BAD));
+    this.areCleanShown = openness === ALL || this.report.groups.every(({ clean }) => clean);
+    this.renderFirst();
   }
 
-  // Shows all rows that match, as on paper, or as many as before.
-  showAll(isAll) {
-    [this.most, this.before] = isAll ? [Infinity, this.most] : [this.before, null];
+  openGroup(group, openness) {
+    this.openness.set(group, openness);
+    this.areCleanShown ||= group.clean;
+    this.render();
+  }
+
+  // Shows more rows. Where these are the last ones, the focus goes to the first of them.
+  showMore() {
+    const first = this.table.querySelectorAll('tr.pair').length;
+    this.most += MORE_ROWS;
+    this.render();
+    if (this.more.hidden) (this.table.querySelectorAll('tr.pair > th a')[first] || this.table.querySelector('tbody button'))?.focus();
+  }
+
+  // Shows all rows, as on paper, and what is told of those that are not clean; or as many as before.
+  showAll(isPaper) {
+    if (isPaper === this.isPaper) return;
+    [this.most, this.before] = isPaper ? [Infinity, this.most] : [this.before, null];
+    this.isPaper = isPaper;
     this.render();
   }
 
   render() {
     const rows = this.matching();
-    const shown = rows.slice(0, this.most);
+    const open = this.isAllOpen() ? rows : rows.filter((row) => this.isShown(row));
+    const shown = open.slice(0, this.most);
     this.table.querySelectorAll('tbody').forEach((body) => body.remove());
-    this.table.append(...this.bodies(rows, shown));
+    const hasMore = this.showBodies(rows, shown) || shown.length < open.length;
     this.table.querySelectorAll('thead th').forEach((head, at) => {
       if (this.columns[at] === this.order) head.setAttribute('aria-sort', this.isDown ? 'descending' : 'ascending');
       else head.removeAttribute('aria-sort');
     });
     this.select.value = this.order.name;
-    this.status.textContent = this.statusText(rows.length, shown.length);
-    this.more.hidden = shown.length === rows.length;
+    this.status.textContent = this.statusText(rows.length, open.length, shown.length);
+    this.more.hidden = !hasMore;
     this.showChosen();
   }
 
-  statusText(found, shown) {
+  statusText(found, open, shown) {
     const all = this.report.rows.length;
     // The first lines of the text say what to do where there is none.
-    if (all === 0) return document.querySelector('#text pre').textContent.split('\n\n')[0].replace(/\s+/g, ' ');
-    return shown < found ? `${partOf(found, all, 'pair')}; the first ${counted(shown)} are shown.` : `${partOf(found, all, 'pair')}.`;
+    if (all === 0) return document.querySelector('#text pre').textContent.split('\n\n')[0].replace(/\s+/g, ' ').replaceAll(' -> ', ': ');
+    const folded = found - open;
+    const some = shown < open ? `; the first ${counted(shown)} are shown` : '';
+    return `${partOf(found, all, 'pair')}${some}${folded > 0 ? `; ${counted(folded)} ${folded === 1 ? 'is' : 'are'} folded` : ''}.`;
   }
 
-  // The rows by topic, in the order of the first of each.
-  bodies(rows, shown) {
+  // The topics in the order of the first row of each, with the rows that are shown. Whether there are more topics than have room.
+  showBodies(rows, shown) {
     const sizes = new Map();
     for (const { group } of rows) sizes.set(group, (sizes.get(group) || 0) + 1);
-    const bodies = new Map();
-    for (const row of shown) {
-      entryOf(bodies, row.group, () => make('tbody', null, this.groupRow(row.group, sizes.get(row.group)))).append(this.row(row));
-    }
-    return bodies.values();
+    const groups = [...sizes.keys()];
+    const isSeen = (group) => this.isAllOpen() || this.areCleanShown || !group.clean;
+    const seen = groups.filter(isSeen).slice(0, this.most);
+    const bodies = new Map(seen.map((group) => [group, make('tbody', null, this.groupRow(group, sizes.get(group)))]));
+    for (const row of shown) bodies.get(row.group)?.append(this.row(row));
+    for (const [group, body] of bodies) this.addFolded(group, body);
+    this.table.append(...bodies.values());
+    this.addCleanTopics(groups.filter((group) => !isSeen(group)));
+    return seen.length < groups.filter(isSeen).length;
   }
 
-  groupRow({ topic, type, rows }, size) {
-    return make('tr', { class: 'group' }, make('th', { scope: 'rowgroup', colspan: this.columns.length }, ...topicName(topic),
-      make('span', { class: 'type' }, ...typeName(type)), make('span', { class: 'size' }, partOf(size, rows.length, 'pair'))));
+  // A line of the clean topics, where these are folded.
+  addCleanTopics(groups) {
+    if (groups.length === 0) return;
+    const names = groups.slice(0, NAMED_TOPICS).map(({ topic }) => shownTopic(topic)).join(', ');
+    const button = makeButton({ class: 'fold', 'aria-expanded': 'false' }, `${plural(groups.length, 'clean topic')}`, () => {
+      this.areCleanShown = true;
+      this.render();
+      this.table.querySelector(`#topic-${groups[0].at + 1} button`)?.focus();
+    });
+    this.table.append(make('tbody', { class: 'clean-topics' }, make('tr', null, make('td', { colspan: this.columns.length }, button,
+      make('span', { class: 'size' }, `${names}${groups.length > NAMED_TOPICS ? ` and ${groups.length - NAMED_TOPICS} more` : ''}`)))));
+  }
+
+  // The line of a topic: its name, which folds it, how many pairs it has, and the sums of its rows.
+  groupRow(group, size) {
+    const { at, topic, type, rows, bad } = group;
+    const isOpen = this.isAllOpen() || this.openness.get(group) !== FOLDED;
+    const fold = makeButton({ class: 'fold', 'aria-expanded': String(isOpen) }, shownTopic(topic), () => {
+      this.openGroup(group, isOpen ? FOLDED : group.clean ? ALL : BAD);
+      document.querySelector(`#topic-${at + 1} button`)?.focus();
+    });
+    const clean = bad === rows.length ? 'none clean' : bad === 0 ? 'clean' : `${counted(rows.length - bad)} clean`;
+    const head = make('th', { scope: 'rowgroup', colspan: 3 }, fold, make('span', { class: 'type' }, oneName('span', rosType(type) || type)),
+      make('span', { class: 'size' }, `${partOf(size, rows.length, 'pair')}, ${clean}`));
+    return make('tr', { class: 'group', id: `topic-${at + 1}` }, head,
+      ...this.columns.slice(3).map((column) => make('td', { class: `sum ${column.name}` }, column.total(group))));
+  }
+
+  // How many clean rows of a topic are folded, below those that are not.
+  addFolded(group, body) {
+    const count = group.rows.length - group.bad;
+    if (this.isAllOpen() || this.openness.get(group) !== BAD || count === 0) return;
+    body.append(make('tr', { class: 'folded' }, make('td', { colspan: this.columns.length },
+      makeButton({ class: 'fold', 'aria-expanded': 'false' }, `${plural(count, 'clean pair')}`, () => {
+        this.openGroup(group, ALL);
+        document.querySelector(`#topic-${group.at + 1} button`)?.focus();
+      }))));
   }
 
   row(row) {
@@ -222,22 +317,36 @@ class Pairs {
     history.replaceState(null, '', this.chosen === null ? '#' : `#${line.id}`);
   }
 
-  // Shows the pair of an address, also where the filter or the length of the table leaves it out.
+  // Shows the pair of an address, also where a fold, the filter or the length of the table leaves it out.
   goTo(at) {
     if (at === this.chosen || !this.report.rows[at]) return;
-    const { writer, reader } = this.report.rows[at];
+    const row = this.report.rows[at];
     this.chosen = at;
-    if (!document.getElementById(`pair-${at + 1}`)) {
-      this.filter.value = `${writer} ${reader}`;
-      this.kinds.clear();
-      this.buttons.forEach((button) => button.setAttribute('aria-pressed', 'false'));
-      this.setFilter(this.filter.value);
-    } else {
-      this.showChosen();
-    }
+    const isThere = () => document.getElementById(`pair-${at + 1}`) !== null;
+    if (!isThere() && !this.isAllOpen()) this.openGroup(row.group, row.clean || this.openness.get(row.group) === ALL ? ALL : BAD);
+    if (!isThere()) this.filterBy(`${row.writer} ${row.reader}`);
+    else this.showChosen();
     const line = document.getElementById(`pair-${at + 1}`);
     line.scrollIntoView();
     line.querySelector('a').focus({ preventScroll: true });
+  }
+
+  // Shows the rows of a topic.
+  goToTopic(at) {
+    const group = this.report.groups[at];
+    if (!group) return;
+    const lineOf = () => document.getElementById(`topic-${at + 1}`);
+    if (this.openness.get(group) === FOLDED || !lineOf()) this.openGroup(group, group.clean ? ALL : BAD);
+    if (!lineOf()) this.filterBy(group.topic);
+    lineOf().scrollIntoView();
+    lineOf().querySelector('button').focus({ preventScroll: true });
+  }
+
+  filterBy(words) {
+    this.filter.value = words;
+    this.kinds.clear();
+    this.buttons.forEach((button) => button.setAttribute('aria-pressed', 'false'));
+    this.setFilter(words);
   }
 
   showChosen() {
@@ -246,12 +355,19 @@ class Pairs {
       row.classList.remove('chosen');
       row.querySelector('th a').setAttribute('aria-expanded', 'false');
     });
-    const line = this.chosen === null ? null : document.getElementById(`pair-${this.chosen + 1}`);
+    forgetCharts();
+    const bad = this.isPaper ? this.report.rows.filter(({ clean, at }) => !clean && at !== this.chosen).slice(0, MOST_PRINTED) : [];
+    for (const { at } of bad) this.showDetail(at);
+    if (this.chosen !== null) this.showDetail(this.chosen);
+    redrawChart();
+  }
+
+  showDetail(at) {
+    const line = document.getElementById(`pair-${at + 1}`);
     if (!line) return;
     line.classList.add('chosen');
     line.querySelector('th a').setAttribute('aria-expanded', 'true');
     line.after(make('tr', { class: 'detail' },
-      make('td', { colspan: this.columns.length }, pairDetail(this.report, this.report.rows[this.chosen]))));
-    redrawChart();
+      make('td', { colspan: this.columns.length }, pairDetail(this.report, this.report.rows[at]))));
   }
 }

@@ -1,40 +1,75 @@
 'use strict';
-// Participants with their writers and readers, and the pairs of the report that each is in.
+// Participants, a line each, with their writers and readers behind it, and the pairs of the report that each is in.
 
 // So many participants are shown at first, and so many more each time.
 const PARTICIPANT_LINES = [20, 200];
 
-function showParticipants(report) {
-  const section = document.getElementById('participants');
-  const participants = [...report.participants.values()];
+class Participants {
+  constructor(report) {
+    const section = document.getElementById('participants');
+    this.list = [...report.participants.values()];
+    this.showAtLeast = () => {};
+    const { length } = this.list;
+    section.append(make('p', { class: 'hint' }, length === 0
+      ? 'None is announced.'
+      : `${plural(length, 'participant')}, mostly one process each, with ${plural(report.data.endpoints.length, 'endpoint')}. Each opens to its endpoints.`));
+    if (length === 0) return;
+    const place = make('div', { class: 'participants' });
+    section.append(place);
+    const pairsOf = memo(() => pairsByEnd(report));
+    this.showAtLeast = inParts(section, 'participant', this.list, PARTICIPANT_LINES, (some) => {
+      const folds = some.map((participant) => participantFold(report, participant, pairsOf));
+      place.append(...folds);
+      return folds.map((fold) => fold.querySelector('summary'));
+    });
+  }
+
+  // Shows the participant of an address, and opens it.
+  goTo(at) {
+    if (at > this.list.length) return;
+    this.showAtLeast(at);
+    const fold = document.getElementById(`participant-${at}`);
+    openFold(fold);
+    fold.scrollIntoView();
+    fold.querySelector('summary').focus({ preventScroll: true });
+  }
+}
+
+function pairsByEnd({ rows }) {
   const pairsOf = new Map();
-  for (const row of report.rows) for (const guid of [row.writer, row.reader]) entryOf(pairsOf, guid, () => []).push(row);
-  section.append(make('p', null, participants.length === 0
-    ? 'None is announced.'
-    : `${plural(participants.length, 'participant')}, mostly one process each, with ${plural(report.data.endpoints.length, 'endpoint')}. `
-      + 'Pairs of best effort are not judged.'));
-  if (participants.length === 0) return;
-  const table = make('table', { class: 'endpoints' }, make('caption', { class: 'hidden' }, 'Endpoints by participant'),
-    tableHead('Endpoint', 'Topic', 'QoS', 'Pairs of this report'));
-  section.append(make('div', { class: 'wide' }, table));
-  inParts(section, 'participant', participants, PARTICIPANT_LINES, (some) => {
-    const bodies = some.map((participant) => participantBody(report, participant, pairsOf));
-    table.append(...bodies);
-    return bodies.map((body) => body.querySelector('tr'));
-  });
+  for (const row of rows) for (const guid of [row.writer, row.reader]) entryOf(pairsOf, guid, () => []).push(row);
+  return pairsOf;
+}
+
+function participantFold(report, participant, pairsOf) {
+  return makeFold({ class: 'participant', id: `participant-${participant.at}` }, participantLine(participant), () => participantBody(report, participant, pairsOf()));
+}
+
+function participantLine(participant) {
+  const { name, nodes, announced, endpoints } = participant;
+  const [title, where] = [titleOf(participant), whereOf(participant)];
+  return [make('b', { class: 'name' }, name), title && make('span', { class: 'node' }, nodes.length > 1 ? nodesText({ nodes }, NAMED_NODES) : title),
+    make('span', { class: 'host' }, where || (announced === null ? 'its own announcement is not in the recording' : 'no address')),
+    make('span', { class: 'life' }, [plural(endpoints.length, 'endpoint'), ...lifeText(announced)].join(', '))];
+}
+
+// From when to when it is heard of, and how it ends.
+function lifeText(announced) {
+  if (announced === null || announced.first === null) return [];
+  const { first, last, left, silent, first_time: from = null, last_time: to = null } = announced;
+  const life = from !== null && to !== null ? `${from.toFixed(3)} s to ${to.toFixed(3)} s` : `datagram ${first} to ${last}`;
+  return [life, ...(left !== null ? ['left'] : []), ...(silent ? ['silent since'] : [])];
 }
 
 function participantBody(report, participant, pairsOf) {
-  const { name, nodes, prefix, announced, endpoints } = participant;
-  const head = make('tr', { class: 'group', id: `participant-${participant.at}`, tabindex: '-1' },
-    make('th', { scope: 'rowgroup', colspan: 4 }, make('b', { class: 'name' }, name),
-      make('span', { class: 'node' }, nodes.length > 0 && ` ${nodes.length === 1 ? 'node' : 'nodes'} ${nodes.join(', ')}`), ' ',
-      make('code', { class: 'guid' }, prefix),
-      announced !== null && announced.address !== null && make('span', { class: 'host' }, ` at ${announced.address}`),
-      announced === null && make('span', { class: 'hint' }, ' (its own announcement is not in the recording)')));
+  const { prefix, announced, endpoints } = participant;
   const ordered = [...endpoints].sort((a, b) => byText('side')(b, a) || byText('topic')(a, b));
   const lines = ordered.map((endpoint) => endpointRow(report, endpoint, pairsOf.get(endpoint.guid) || []));
-  return make('tbody', null, head, ...lines, endpoints.length === 0 && make('tr', null, make('td', { colspan: 4 }, 'It announced no endpoint.')));
+  const { name = null, enclave = null, domain = null } = announced || {};
+  const words = [name !== null && `name ${name}`, enclave !== null && `enclave ${enclave}`, domain !== null && `domain ${domain}`].filter(Boolean).join(', ');
+  return [make('p', { class: 'hint' }, 'GUID prefix ', make('code', { class: 'guid' }, prefix), words && `, ${words}`),
+    endpoints.length === 0 ? make('p', null, 'It announced no endpoint.') : make('div', { class: 'wide' }, make('table', { class: 'endpoints' },
+      make('caption', { class: 'hidden' }, `Endpoints of ${participant.name}`), tableHead('Endpoint', 'Topic', 'QoS', 'Pairs of this report'), make('tbody', null, ...lines)))];
 }
 
 function endpointRow(report, endpoint, rows) {

@@ -7,6 +7,15 @@ const KINDS = ['unfounded', 'conflict', 'open', 'lost', 'clean'];
 // How a kind is called on the page. What is complete is said to be so first.
 const KIND_WORDS = Object.fromEntries(KINDS.map((kind) => [kind, kind === 'lost' ? `complete, ${kind}` : kind]));
 
+// What became of numbers, and which of them are lost.
+const OUTCOMES = ['received', 'arrived', 'likely', 'missed', 'unsent', 'unanswered', 'unconfirmed'];
+const LOST = ['missed', 'unsent', 'unanswered'];
+// The kinds of lost numbers that are told as ranges, in their order, and their words.
+const LOST_WORDS = { missed: 'Missed', unsent: 'Unsent', unanswered: 'Unanswered', not_arrived: 'Not arrived' };
+
+// Topics that each program of ROS 2 has for itself. They stand last among equals.
+const PLUMBING = ['ros_discovery_info', 'rt/parameter_events'];
+
 // A string of JSON, or an integer that can pass what a number of JavaScript holds.
 const STRING_OR_LARGE = /"(?:[^"\\]|\\.)*"|\d{16,}/g;
 
@@ -27,7 +36,7 @@ function valueOf(text) {
   return JSON.parse(text.replace(STRING_OR_LARGE, (found) => (found[0] === '"' ? found : `"${found}"`)));
 }
 
-// Compares two integers, each a number or a string of digits.
+// Compares two integers, each a number, a BigInt or a string of digits.
 function compareNumbers(a, b) {
   if (typeof a === 'number' && typeof b === 'number') return a - b;
   const [x, y] = [BigInt(a), BigInt(b)];
@@ -36,8 +45,16 @@ function compareNumbers(a, b) {
 
 const isAbove = (a, b) => compareNumbers(a, b) > 0;
 
-// The sum of integers, as a BigInt.
-const sumOf = (rows, numberOf) => rows.reduce((sum, row) => sum + BigInt(numberOf(row)), 0n);
+// The sum of integers: a BigInt where one of them, or the sum, may be too large for a number.
+function added(a, b) {
+  if (typeof a === 'number' && typeof b === 'number' && a + b <= Number.MAX_SAFE_INTEGER) return a + b;
+  return BigInt(a) + BigInt(b);
+}
+
+// How much one is above another.
+const differenceOf = (a, b) => (typeof a === 'number' && typeof b === 'number' ? a - b : BigInt(a) - BigInt(b));
+
+const sumOf = (rows, numberOf) => rows.reduce((sum, row) => added(sum, numberOf(row)), 0);
 
 // An integer as one counts with it: 18,240. Numbers that one looks up, of samples, datagrams and octets, are written plainly.
 const counted = (n) => String(n).replace(/\B(?=(\d{3})+$)/g, ',');
@@ -49,10 +66,19 @@ const plural = (n, noun, nouns = `${noun}s`) => `${counted(n)} ${String(n) === '
 const partOf = (n, all, noun) => (n === all ? plural(all, noun) : `${counted(n)} of ${plural(all, noun)}`);
 
 // How many numbers are asked about: those from the first one on, up to the last one that is announced.
-const askedAbout = ({ payloads, gone, untold }) => BigInt(payloads) + BigInt(gone) + BigInt(untold);
+const askedAbout = ({ payloads, gone, untold }) => added(added(payloads, gone), untold);
 
 // How many more numbers of a row arrived, by another recording.
 const arrivedOf = ({ outcomes }) => outcomes.arrived || 0;
+
+// Whether a row is held against another recording.
+const isHeld = ({ outcomes: { arrived = null } }) => arrived !== null;
+
+// How many numbers of a row are lost, or look so: of one that is held all that did not arrive.
+function lostOf(row) {
+  const names = isHeld(row) ? ['likely', 'missed', 'unsent', 'unanswered', 'unconfirmed'] : LOST;
+  return names.reduce((sum, name) => added(sum, row.outcomes[name]), 0);
+}
 
 const prefixOf = (guid) => guid.slice(0, 24);
 const entityOf = (guid) => guid.slice(24);
@@ -68,6 +94,12 @@ function entryOf(map, key, made) {
   return map.get(key);
 }
 
+// What is worse of two rows, or of two topics: what is not clean, then what lost more numbers, then the worse verdict; a topic that
+// each program has stands behind others.
+function worse(a, b) {
+  return Number(a.clean) - Number(b.clean) || compareNumbers(b.lost, a.lost) || a.rank - b.rank || Number(a.isPlumbing) - Number(b.isPlumbing);
+}
+
 class Report {
   constructor(data) {
     this.data = data;
@@ -76,13 +108,39 @@ class Report {
     this.acts = new Map(data.writers.map(({ guid, acts }) => [guid, acts]));
     this.endpointOf = new Map(data.endpoints.map((endpoint) => [endpoint.guid, endpoint]));
     this.participants = participantsOf(data);
-    this.seconds = new Map(data.times || []);
+    this.times = new Map((data.times || []).map(([datagram, ...rest]) => [datagram, rest]));
+    this.isTimed = data.times !== undefined;
+    this.hasSilent = data.participants.some(({ silent }) => silent);
     this.bases = null;
+    this.numbered = new Map();
   }
 
   // the second of a datagram that a chart has, or undefined where it has none
   secondOf(datagram) {
-    return this.seconds.get(datagram);
+    return this.times.get(datagram)?.[0];
+  }
+
+  // its frame, or undefined
+  frameOf(datagram) {
+    return this.times.get(datagram)?.[1];
+  }
+
+  // What the recording's axis has: seconds, where there are times, or else datagrams.
+  axis() {
+    this.range ||= this.isTimed ? { word: 's', low: 0, high: this.seconds() } : { word: 'datagram', low: 0, high: this.data.datagrams };
+    return this.range;
+  }
+
+  // How many seconds the recording has: by its end, or else by the last datagram that is known to have a time.
+  seconds() {
+    const { begin = null, end = null } = this.data.recording || {};
+    const last = this.data.participants.reduce((most, { last_time: time }) => Math.max(most, time || 0), 0);
+    return Math.max(last, begin !== null && end !== null ? (end - begin) / 1000 : 0);
+  }
+
+  // where a place stands on it; null where it has no time
+  onAxis({ datagram, time = null }) {
+    return this.isTimed ? time : datagram;
   }
 
   // the counts of the recording, as the last line of `audit` has them
@@ -101,9 +159,25 @@ class Report {
     return this.acts.get(writer);
   }
 
+  // the first entry that brings each number to the reader of a row, by the number
+  sendingsOf({ writer, reader }) {
+    const byNumber = entryOf(this.numbered, writer, () => dataByNumber(this.acts.get(writer) || []));
+    const to = namesOf(reader);
+    return (number) => (byNumber.get(number) || []).find((entry) => to.includes(entry[4]));
+  }
+
   participantOf(guid) {
     return this.participants.get(prefixOf(guid));
   }
+}
+
+// The names by which an entry is for a reader: it names nobody, or the reader, its participant or its entity.
+const namesOf = (reader) => [undefined, reader, prefixOf(reader), entityOf(reader)];
+
+function dataByNumber(acts) {
+  const found = new Map();
+  for (const entry of acts) if (entry[2] === 'data') entryOf(found, entry[3], () => []).push(entry);
+  return found;
 }
 
 // The rows by topic and type, in the order of their first row. Each row gets its place, its kind, how bad it is, and its group.
@@ -111,26 +185,33 @@ function groupsOf(rows) {
   const topics = new Map();
   for (const [at, row] of rows.entries()) {
     const { topic, type } = row;
-    row.at = at;
-    row.kind = kindOf(row);
-    row.rank = KINDS.indexOf(row.kind);
     row.group = entryOf(entryOf(topics, topic, () => new Map()), type, () => ({ topic, type, rows: [] }));
+    const kind = kindOf(row);
+    row.numbers ||= {};
+    Object.assign(row, { at, kind, rank: KINDS.indexOf(kind), lost: lostOf(row), isPlumbing: PLUMBING.includes(topic) });
     row.group.rows.push(row);
   }
-  return [...topics.values()].flatMap((types) => [...types.values()]);
+  const groups = [...topics.values()].flatMap((types) => [...types.values()]);
+  groups.forEach(judgeGroup);
+  return groups;
 }
 
-// Participants by their prefixes, in order, each with a short name, what it announced, its endpoints and the nodes that it seems to have.
+// How bad a topic is: as its rows together.
+function judgeGroup(group, at) {
+  const { rows } = group;
+  const bad = rows.filter(({ clean }) => !clean).length;
+  Object.assign(group, {
+    at, bad, clean: bad === 0, lost: sumOf(rows, ({ lost }) => lost), rank: rows.reduce((least, { rank }) => Math.min(least, rank), KINDS.length),
+    isPlumbing: rows[0].isPlumbing,
+  });
+}
+
+// Participants by their prefixes, in order, each with a short name, what it announced, its endpoints and its nodes.
 function participantsOf(data) {
   const announced = new Map([...data.endpoints, ...data.participants].map(({ guid }) => [prefixOf(guid), null]));
   for (const participant of data.participants) announced.set(prefixOf(participant.guid), participant);
   const participants = new Map([...announced.keys()].sort().map((prefix, at) => (
-    [prefix, { at: at + 1, name: `P${at + 1}`, prefix, announced: announced.get(prefix), endpoints: [], nodes: [] }])));
-  for (const endpoint of data.endpoints) {
-    const { endpoints, nodes } = participants.get(prefixOf(endpoint.guid));
-    const node = nodeOf(endpoint);
-    endpoints.push(endpoint);
-    if (node && !nodes.includes(node)) nodes.push(node);
-  }
+    [prefix, { at: at + 1, name: `P${at + 1}`, prefix, announced: announced.get(prefix), endpoints: [], nodes: announced.get(prefix)?.nodes || [] }])));
+  for (const endpoint of data.endpoints) participants.get(prefixOf(endpoint.guid)).endpoints.push(endpoint);
   return participants;
 }

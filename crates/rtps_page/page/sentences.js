@@ -42,7 +42,6 @@ function completeSentence({ number, announced, from }) {
 const listed = (numbers, count) => `${numbers.join(', ')}${isAbove(count, numbers.length) ? ` and ${counted(count - BigInt(numbers.length))} more` : ''}`;
 
 // The numbers of a row that are lost, or look so, by their kinds. So many ranges of a kind are told.
-const LOST_WORDS = { missed: 'Missed', unsent: 'Unsent', unanswered: 'Unanswered', not_arrived: 'Not arrived' };
 const LOST_TOLD = 10;
 
 const lostSentences = ({ numbers }) => Object.keys(LOST_WORDS).filter((kind) => numbers[kind]).map((kind) => `${LOST_WORDS[kind]} ${rangesText(numbers[kind])}.`);
@@ -127,9 +126,6 @@ function askedSentence({ asked_since: count, last_asked: last }) {
 }
 
 const payloadText = ({ payload, octets }) => (payload === 'absent' ? 'no payload' : `${payload === 'key' ? 'a key' : 'a sample'} of ${plural(octets, 'octet')}`);
-
-// How the run ends: the last line of the text.
-const lastLine = () => document.querySelector('#text pre').textContent.trimEnd().split('\n').pop();
 
 // How many pairs are clean, how many numbers are surely received, and how many more arrived.
 function receivedSentence({ rows, data }) {

@@ -1,22 +1,49 @@
 'use strict';
-// Who does not talk: endpoints that do not match, participants that talk one way, pairs that are left out, and pairs of best effort.
+// Discovery that is not complete: endpoints that do not match, or that talk all the same, participants that talk one way, and pairs that
+// are left out. And pairs of best effort, which no verdict is about.
 
 // So many lines of each are shown at first, and so many more each time.
-const TALK_LINES = [20, 200];
+const TALK_LINES = [10, 200];
 
-function showTalk(report, section) {
-  const { unmatched, one_way: oneWay, unobserved, best_effort: bestEffort, arrived = [] } = report.data;
-  const lacking = arrived.filter(({ not_arrived: named }) => named.length > 0).sort(byText('topic'));
-  section.hidden = [unmatched, oneWay, unobserved, bestEffort].every((items) => items.length === 0);
-  const ends = ({ topic, writer, reader }) => [topicName(topic), endpointName(report, writer), endpointName(report, reader)];
+function showTalk(report) {
+  const section = document.getElementById('talk');
+  const { unmatched, talking, one_way: oneWay, unobserved } = report.data;
+  section.hidden = [unmatched, talking, oneWay, unobserved].every((items) => items.length === 0);
+  const ends = endsOf(report);
   talkTable(section, 'unmatched', 'Endpoints that do not match', ['Topic', 'Writer', 'Reader', 'What does not fit'], unmatched,
     (one) => [...ends(one), unfitLines(one)]);
+  talkTable(section, 'talking', 'Endpoints that would not match by the standard, and talk', ['Topic', 'Writer', 'Reader', 'What does not fit'], talking,
+    (one) => [...ends(one), [one.because.map(spaced).join(', ')]]);
   talkTable(section, 'one-way', 'Participants that talk one way', ['Participant that never answers', 'Who names it', 'Datagrams'], oneWay,
     ({ from, to, named }) => [endpointName(report, to), endpointName(report, from), [counted(named)]]);
-  talkTable(section, 'unobserved', 'Pairs that are left out', ['Topic', 'Writer', 'Reader', 'Why'], unobserved,
-    (one) => [...ends(one), [one.because]]);
-  talkTable(section, 'best-effort', 'Pairs of best effort', ['Topic', 'Pairs', 'Numbers in this recording'], bestEffort,
-    ({ topic, pairs, numbers, recorded }) => [topicName(topic), [counted(pairs)], [`${counted(recorded)} of ${counted(numbers)}`]]);
+  showLeftOut(section, unobserved, ends);
+}
+
+// The parts of what has a topic, a writer and a reader.
+const endsOf = (report) => ({ topic, writer, reader }) => (
+  [[oneName('b', shownTopic(topic))], endpointName(report, writer), endpointName(report, reader)]);
+
+// Pairs that are left out, behind one line: how many, and why.
+function showLeftOut(section, unobserved, ends) {
+  if (unobserved.length === 0) return;
+  const reasons = new Map();
+  for (const { because } of unobserved) reasons.set(because, (reasons.get(because) || 0) + 1);
+  const why = [...reasons].map(([because, count]) => `${counted(count)} ${because}`).join(', ');
+  section.append(makeFold({ class: 'talk-fold' }, [make('b', null, `${plural(unobserved.length, 'pair')} ${unobserved.length === 1 ? 'is' : 'are'} left out`), `: ${why}`], () => {
+    const part = make('div', null);
+    talkTable(part, 'unobserved', null, ['Topic', 'Writer', 'Reader', 'Why'], unobserved, (one) => [...ends(one), [one.because]]);
+    return [part];
+  }));
+}
+
+function showBestEffort(report) {
+  const section = document.getElementById('best-effort');
+  const { best_effort: bestEffort, arrived = [] } = report.data;
+  const lacking = arrived.filter(({ not_arrived: named }) => named.length > 0).sort(byText('topic'));
+  const ends = endsOf(report);
+  section.hidden = bestEffort.length === 0 && lacking.length === 0;
+  talkTable(section, 'best-effort', null, ['Topic', 'Pairs', 'Numbers in this recording'], bestEffort,
+    ({ topic, pairs, numbers, recorded }) => [[oneName('b', shownTopic(topic))], [counted(pairs)], [`${counted(recorded)} of ${counted(numbers)}`]]);
   talkTable(section, 'not-arrived', lackingHead(lacking), ['Topic', 'Writer', 'Reader', 'Numbers at the reader’s host'], lacking,
     (one) => [...ends(one), [`arrived ${counted(one.arrived)} of ${counted(one.numbers)}, not ${listed(one.not_arrived, lackingOf(one))}`]]);
 }
@@ -25,11 +52,13 @@ function showTalk(report, section) {
 const lackingOf = ({ numbers, arrived }) => BigInt(numbers) - BigInt(arrived);
 const lackingHead = (pairs) => `${plural(sumOf(pairs, lackingOf), 'number')} of ${plural(pairs.length, 'best-effort pair')} did not arrive`;
 
+const spaced = (policy) => policy.replaceAll('_', ' ');
+
 // The policies for which a writer and a reader do not match, each with what is offered and what is asked for.
 function unfitLines({ because, offered, requested }) {
   return because.map((policy, at) => {
     const [offer, request] = [offered[at], requested[at]].map((text) => (policy === 'type' && rosType(text)) || text);
-    return make('div', null, `${policy.replaceAll('_', ' ')}: offers ${offer}; asks for ${request}`);
+    return make('div', null, `${spaced(policy)}: offers ${offer}; asks for ${request}`);
   });
 }
 
@@ -37,8 +66,8 @@ function unfitLines({ because, offered, requested }) {
 function talkTable(section, name, head, heads, items, cellsOf) {
   if (items.length === 0) return;
   const body = make('tbody', null);
-  const table = make('table', { class: `talk ${name}` }, make('caption', { class: 'hidden' }, head), tableHead(...heads), body);
-  const part = make('div', { class: 'talk-part' }, make('h3', null, head), make('div', { class: 'wide' }, table));
+  const table = make('table', { class: `talk ${name}` }, make('caption', { class: 'hidden' }, head ?? section.querySelector('h2')?.textContent ?? 'Pairs'), tableHead(...heads), body);
+  const part = make('div', { class: 'talk-part' }, head !== null && make('h3', null, head), make('div', { class: 'wide' }, table));
   section.append(part);
   inParts(part, 'line', items, TALK_LINES, (some) => {
     const rows = some.map((item) => make('tr', { tabindex: '-1' },

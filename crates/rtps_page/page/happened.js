@@ -1,0 +1,81 @@
+'use strict';
+// What happened: the events of the report, worst first, each with its pairs by topic; and the other pairs for which something is to be done.
+
+// So many lines of an event are shown at first, and so many more each time; and so many events.
+const EVENT_LINES = [8, 200];
+const EVENTS_SHOWN = [6, 50];
+// So many pairs are named of those that stand in one line.
+const NAMED_PAIRS = 3;
+
+// The rows for which something is to be done, by topic and advice: worst first, then those of most rows.
+function topicLines(rows) {
+  const lines = new Map();
+  for (const row of rows) {
+    if (row.advice !== null) entryOf(entryOf(lines, row.group, () => new Map()), row.kind + row.advice, () => []).push(row);
+  }
+  return [...lines.values()].flatMap((found) => [...found.values()])
+    .sort((one, other) => worse(lineWeight(one), lineWeight(other)) || other.length - one.length || one[0].at - other[0].at);
+}
+
+// How bad the rows of a line are together.
+const lineWeight = (rows) => ({ ...rows[0], clean: rows[0].clean, lost: sumOf(rows, ({ lost }) => lost) });
+
+// The events, each with its rows, and behind them the rows that stand in none. Where the data tells no events, these are all.
+function eventsOf({ data, rows }) {
+  const events = (data.events || []).map(({ text, pairs }) => ({ text, rows: pairs.map((at) => rows[at]) }));
+  const told = new Set(events.flatMap((event) => event.rows));
+  const others = rows.filter((row) => row.advice !== null && !told.has(row));
+  const head = events.length > 0 && others.length > 0 ? 'Other pairs to look at' : null;
+  return others.length > 0 ? [...events, { text: head, rows: others }] : events;
+}
+
+function showHappened(report, section) {
+  const events = eventsOf(report);
+  section.hidden = events.length === 0;
+  if (section.hidden) return;
+  const list = make('div', { class: 'events' });
+  section.append(list);
+  inParts(section, 'event', events, EVENTS_SHOWN, (some) => {
+    const shown = some.map((event) => eventPart(report, event));
+    list.append(...shown);
+    return shown;
+  });
+}
+
+function eventPart(report, { text, rows }) {
+  const body = make('tbody', null);
+  const head = text === null ? null : `${text[0].toUpperCase()}${text.slice(1)}`;
+  const part = make('div', { class: 'event', tabindex: '-1' }, head !== null && make('h3', null, head),
+    make('table', { class: 'topics' }, make('caption', { class: 'hidden' }, head ?? 'Topics with something to look at'), tableHead('Topic', 'What happened', 'What to do'), body));
+  inParts(part, 'line', topicLines(rows), EVENT_LINES, (some) => {
+    const shown = some.map((line) => topicLine(report, line));
+    body.append(...shown);
+    return shown;
+  });
+  return part;
+}
+
+// A line of rows of one topic. Of several rows the first is told as an example.
+function topicLine(report, rows) {
+  const [first] = rows;
+  const { topic, rows: all } = first.group;
+  const links = rows.slice(0, NAMED_PAIRS).map((row) => make('li', null, pairLink(report, row)));
+  return make('tr', { class: first.kind, tabindex: '-1' },
+    make('th', { scope: 'row' }, oneName('b', shownTopic(topic)), make('div', { class: 'type' }, oneName('span', rosType(first.type) || first.type))),
+    make('td', null, make('p', null, badge(first.kind, KIND_WORDS[first.kind]), ` ${counted(rows.length)} of ${plural(all.length, 'pair')}`, ...lineCounts(rows)),
+      make('p', null, rows.length > 1 && `Pair ${first.at + 1}: `, verdictSentence(first)),
+      make('ul', { class: 'which' }, ...links, rows.length > NAMED_PAIRS && make('li', null, `and ${counted(rows.length - NAMED_PAIRS)} more`))),
+    make('td', { class: 'advice' }, first.advice));
+}
+
+// How many numbers of each kind its rows lost.
+function lineCounts(rows) {
+  const held = rows.some(isHeld);
+  const counts = held ? [['not arrived', sumOf(rows.filter(isHeld), lostOf)]] : LOST.map((kind) => [kind, sumOf(rows, ({ outcomes }) => outcomes[kind])]);
+  return counts.filter(([, count]) => isAbove(count, 0)).flatMap(([kind, count]) => [' ', badge('missed', `${kind} ${counted(count)}`)]);
+}
+
+function pairLink(report, row) {
+  return make('a', { href: `#pair-${row.at + 1}` }, `pair ${row.at + 1}`,
+    make('span', { class: 'ends' }, `: ${endText(report, row.writer, row.writer_node)} to ${endText(report, row.reader, row.reader_node)}`));
+}
