@@ -27,6 +27,9 @@ from random_systems import some_both, some_other, some_recorded
 from report import Report
 from times import json_text
 
+# The version of the program.
+VERSION = '0.2.0'
+
 # So many entries of acts and answers a page has room for.
 ENTRIES = 200000
 
@@ -104,13 +107,25 @@ def option_values(asked):
 # ---- the page
 
 def times_in(times, writers, answers):
-    """the second of each datagram that has one and stands in an entry, in order"""
+    """the second and the frame of each datagram that has a second and stands in an entry, in order"""
     named = {entry[0] for one in writers for entry in one['acts']} | {entry[0] for one in answers for entry in one['bases']}
-    return [[datagram, times.second(datagram)] for datagram in sorted(named) if times.second(datagram)]
+    return [[datagram, times.second(datagram), *([] if times.frame(datagram) is None else [times.frame(datagram)])]
+            for datagram in sorted(named) if times.second(datagram)]
 
 
-def parts_of(report):
-    """the text and the data of the page of a report, as Python has it"""
+def recording_values(times, name):
+    """which recording it is, and when it begins and ends, in milliseconds"""
+    begin, end = (None if time is None else time // 1000000 for time in (times.start, times.last))
+    return {'name': name, 'version': VERSION, 'begin': begin, 'end': end}
+
+
+def joined_values(times, row):
+    """where the reader of a row joins, if it does so in this recording"""
+    return [*row.since, times.second(row.since[0]) or None] if row.joined_here else None
+
+
+def parts_of(report, name):
+    """the text and the data of the page of a report on a recording of this name, as Python has it"""
     _, endpoints, _, _, _ = reference.discovery(report.datagrams, True)
     rows = [row.names() | {'verdict': row.kind} for row in report.rows]
     traffic = Traffic(report.talk.recording, rows)
@@ -120,16 +135,18 @@ def parts_of(report):
     answers = [{'writer': row['writer'], 'reader': row['reader'], 'bases': traffic.bases_of(row)} for row in shown]
     times = report.talk.times
     return report.text(), report.members() | {
+        'recording': recording_values(times, name),
         'options': option_values(report.asked),
         'endpoints': [endpoint_values(endpoint) for endpoint in endpoints],
+        'joined': [joined_values(times, row) for row in report.rows],
         'writers': writers,
         'answers': answers,
     } | ({'times': times_in(times, writers, answers)} if times.are_there() else {})
 
 
-def page_of(datagrams, asked=PLAIN):
+def page_of(datagrams, asked=PLAIN, name='-'):
     """the text and the data of the page of a text of these datagrams"""
-    return parts_of(Report(datagrams, asked))
+    return parts_of(Report(datagrams, asked), name)
 
 
 def data_text(values):
@@ -150,7 +167,7 @@ def page_text(text, values):
 
 def read_page(octets, asked=PLAIN, name='-'):
     """the text and the data of the page of an input of this name"""
-    return parts_of(reports.report_of(octets, asked, name, view='page'))
+    return parts_of(reports.report_of(octets, asked, name, view='page'), name)
 
 
 def answer(octets, asked=PLAIN, name='-'):

@@ -82,7 +82,7 @@ class Row:
     def __init__(self, recording, talk, w, r, asked, other=None):
         self.w, self.r, self.key, self.asked = w[0], r[0], w[2:4], asked
         span = Span(recording, talk.life, self.w, self.r, asked.first)
-        self.first, self.until, self.joined_here = span.first, span.until, span.joined_here
+        self.first, self.until, self.joined_here, self.since = span.first, span.until, span.joined_here, span.since
         self.datagrams = span.datagrams(recording)
         # which way round the two recordings are, by this row; None where the other one has nothing of it
         self.way = other.way(recording, self.w, self.r) if other else None

@@ -3,21 +3,50 @@
 
 const textsOf = (element, selector) => [...element.querySelectorAll(selector)].map((found) => found.textContent);
 
+// The cells of a line by the names of their columns.
+function cellsOf(line, kind) {
+  return Object.fromEntries([...line.querySelectorAll(`td.${kind}`)].map((cell) => [cell.className.replace(kind, '').trim(), cell.textContent]));
+}
+
 // The rows of the table in their order, each with the topic and the type of its group.
 function rowsShown() {
   return [...document.querySelectorAll('table.pairs tbody')].flatMap((body) => {
-    const [topic, type] = [textsOf(body, 'tr.group > th > .name, tr.group > th > .dds'), textsOf(body, 'tr.group .type > *')];
+    const [topic, type] = [body.querySelector('button.fold')?.textContent, textsOf(body, 'tr.group .type')[0]];
     return [...body.querySelectorAll('tr.pair')].map((row) => ({
       id: row.id,
       topic,
       type,
+      name: row.querySelector('.pair-name').textContent.trim(),
       badges: textsOf(row, '.badge'),
       number: row.querySelector('.number').textContent,
       datagram: textsOf(row, '.in-datagram').map((text) => text.trim()),
-      guids: textsOf(row, 'td > .guid'),
-      counts: textsOf(row, 'td.count'),
+      ends: textsOf(row, 'td.writer, td.reader'),
+      counts: cellsOf(row, 'count'),
     }));
   });
+}
+
+// The lines of topics: how many pairs each has, and the sums of its columns.
+function groupsShown() {
+  return [...document.querySelectorAll('tr.group')].map((line) => ({
+    id: line.id, topic: line.querySelector('button.fold').textContent, size: line.querySelector('.size').textContent, sums: cellsOf(line, 'sum'),
+  }));
+}
+
+// The strips of the picture: the topic, where each leads, what it says, how many marks of each kind it has, and whether it has samples.
+function stripsShown() {
+  return [...document.querySelectorAll('a.strip')].map((strip) => ({
+    topic: strip.querySelector('.strip-name').textContent,
+    leads: strip.getAttribute('href'),
+    words: strip.querySelector('.strip-words').textContent,
+    marks: Object.fromEntries([...strip.querySelectorAll('.mark')].map((mark) => [mark.classList[1], (mark.getAttribute('d').match(/M/g) || []).length]).filter(([, n]) => n > 0)),
+    hasSamples: strip.querySelector('.samples').getAttribute('d') !== '',
+  }));
+}
+
+// The events: the head of each, and the pairs that its lines name.
+function eventsShown() {
+  return [...document.querySelectorAll('.event')].map((event) => ({ head: textsOf(event, 'h3'), pairs: textsOf(event, '.which a').map((text) => text.split(':')[0]) }));
 }
 
 function countsShown() {
@@ -25,23 +54,33 @@ function countsShown() {
   return Object.fromEntries(lines.map((line) => [line.querySelector('dt').textContent, line.querySelector('.count').textContent]));
 }
 
-// The lines of what to look at: names, kind, how many pairs, and the advice.
+// The lines of what to look at: the event, names, kind, how many pairs, and the advice.
 function topicsShown() {
   return [...document.querySelectorAll('table.topics tbody tr')].map((row) => ({
-    topic: textsOf(row.cells[0], ':scope > :first-child > *'),
-    type: textsOf(row.cells[0], '.type > *'),
+    event: textsOf(row.closest('.event'), 'h3')[0] ?? null,
+    topic: row.cells[0].querySelector('.name').textContent,
+    type: row.cells[0].querySelector('.type').textContent,
     kind: row.className,
-    pairs: row.cells[1].querySelector('p').lastChild.textContent.trim().split(' ')[0],
+    pairs: row.cells[1].querySelector('p').childNodes[1].textContent.trim().split(' ')[0],
     advice: row.cells[2].textContent,
   }));
 }
 
+// Opens each participant, and gives the line of each.
+function participantsShown() {
+  for (let more; (more = document.querySelector('#participants > .more:not([hidden])'));) more.click();
+  return [...document.querySelectorAll('.participant')].map((fold) => {
+    openFold(fold);
+    return { id: fold.id, line: fold.querySelector('summary').textContent, prefix: fold.querySelector('.guid').textContent };
+  });
+}
+
 // The endpoints in their order: participant, side, entity id, names, and the pairs that each is in.
 function endpointsShown() {
-  return [...document.querySelectorAll('table.endpoints tbody')].flatMap((body) => {
-    const rows = [...body.querySelectorAll('tr:not(.group)')].filter((row) => row.cells.length === 4);
+  return [...document.querySelectorAll('.participant')].flatMap((fold) => {
+    const rows = [...fold.querySelectorAll('table.endpoints tbody tr')];
     return rows.map(({ cells: [head, names, qos, pairs] }) => ({
-      prefix: body.querySelector('tr.group .guid').textContent,
+      prefix: fold.querySelector('.guid').textContent,
       side: head.textContent.split(' ')[0],
       entity: head.querySelector('.guid').textContent,
       topic: textsOf(names, ':scope > :first-child > *'),
@@ -106,7 +145,7 @@ function faintTexts(least) {
     const found = contrast(partsOf(style.color), behind(element));
     if (found < least) faint.add(`${element.tagName}.${element.className} ${found.toFixed(2)} ${node.textContent.slice(0, 30)}`);
   }
-  for (const name of ['--data', '--announced', '--acknowledged', '--mark', '--faint']) {
+  for (const name of ['--data', '--announced', '--acknowledged', '--mark', '--faint', '--complete']) {
     const found = contrast(partsOf(getComputedStyle(document.documentElement).getPropertyValue(name)), behind(document.body));
     if (found < least) faint.add(`${name} ${found.toFixed(2)}`);
   }
@@ -125,7 +164,7 @@ function unspoken() {
   }
   for (const head of document.querySelectorAll('th')) if (!head.scope) found.push(`th without scope: ${head.textContent}`);
   for (const field of document.querySelectorAll('input, select')) if (!field.labels.length) found.push(`${field.tagName} without label`);
-  for (const button of document.querySelectorAll('button, a')) if (!button.textContent.trim()) found.push(`${button.tagName} without a name`);
+  for (const button of document.querySelectorAll('button, a, summary')) if (!button.textContent.trim()) found.push(`${button.tagName} without a name`);
   const ids = [...document.querySelectorAll('[id]')].map((element) => element.id);
   if (new Set(ids).size !== ids.length) found.push('an id stands twice');
   return found;

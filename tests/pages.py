@@ -9,6 +9,7 @@ with --recordings of each recording of a folder, too. A PROGRAM has to write the
 octet. Where no Chromium is installed, that is said, and only what needs none is tried. A NAME is a word of the name of a test below.
 With --pictures the pages are kept as pictures of 1280 and 390 pixels, light and dark. The last line is 'N passed, M failed'.
 """
+import datetime
 import gzip
 import html
 import json
@@ -31,7 +32,7 @@ from arrived import listed
 from asked import asked_by
 from browser import SHIFT, Browser, Tab, browser_path
 from capture_writer import enhanced, interface, packet, section, simple
-from ros import ros_type
+from ros import ros_topic, ros_type
 from times import json_text
 from wording import grouped as counted
 
@@ -60,18 +61,88 @@ def lost_outcomes(row):
     return (*(['likely'] if row['outcomes'].get('arrived') is not None else []), 'missed', 'unsent', 'unanswered')
 
 
-def row_wanted(at, row):
+def topic_name(topic):
+    """a topic as the page names it"""
+    return ros_topic(topic.encode()).decode()
+
+
+def type_name(kind):
+    """a type as the page names it"""
+    return ros_type(kind.encode()).decode()
+
+
+def sum_of(rows, kind):
+    """how many numbers of rows have this outcome, or stand before the first one of their row"""
+    return sum((row['from'] if kind == 'before' else row['outcomes'].get(kind)) or 0 for row in rows)
+
+
+def columns_of(values):
+    """the columns of amounts that the page has: those of zeros are left out"""
+    first = values['options']['from'] * len(values['pairs'])
+    return [kind for kind in ('missed', 'unsent', 'unanswered', 'likely', 'unconfirmed', 'received', 'arrived', 'before')
+            if kind == 'received' or (kind == 'arrived' and 'arrived' in values) or (kind != 'arrived' and sum_of(values['pairs'], kind) > (first if kind == 'before' else 0))]
+
+
+def amounts_of(values, row):
+    """what a row has in these columns"""
+    amounts = row['outcomes'] | {'before': row['from'] - values['options']['from']}
+    return {kind: '–' if amounts[kind] is None else counted(amounts[kind]) for kind in columns_of(values)}
+
+
+def title_of(participant):
+    """what a participant is called: its one node, its program, its name, or its nodes"""
+    nodes = participant['nodes']
+    more = f' and {len(nodes) - 2} more' if len(nodes) > 2 else ''
+    return (nodes[0] if len(nodes) == 1 else None) or participant['process'] or participant['name'] or ', '.join(nodes[:2]) + more
+
+
+def end_of(values, guid, node):
+    """an end of a row as its line names it: its participant's number, its node or what else is known, and its host or its address"""
+    prefixes = sorted({one['guid'][:24] for one in values['endpoints'] + values['participants']})
+    participant = next((one for one in values['participants'] if one['guid'][:24] == guid[:24]), None)
+    title = node or (title_of(participant) if participant else '')
+    where = '' if participant is None else f" on {participant['host']}" if participant['host'] is not None else f" at {participant['address']}" if participant['address'] else ''
+    return f"P{prefixes.index(guid[:24]) + 1}{f' {title}' if title else ''}{where}"
+
+
+def row_wanted(values, at):
     """what the page shows of a row"""
+    row = values['pairs'][at]
     badges = [row['verdict']] + [f'{kind} {counted(row["outcomes"][kind])}' for kind in lost_outcomes(row) if row['outcomes'][kind]]
     badges += ['clean'] if row['clean'] else []
     announced, below = row['announced'], row['acknowledged']
-    counts = [str(announced['number']) if announced else '–', str(below['below']) if below else '–']
-    amounts = [row['outcomes'][kind] for kind in OUTCOMES if kind in row['outcomes']]
+    places = {'announced': str(announced['number']) if announced else '–', 'acknowledged': str(below['below']) if below else '–'}
     return {
-        'id': f'pair-{at + 1}', 'topic': row['topic'], 'type': row['type'], 'badges': badges, 'number': str(row['number']),
-        'datagram': [f"in datagram {row['datagram']}"] if 'datagram' in row else [], 'guids': [row['writer'], row['reader']],
-        'counts': counts + ['–' if amount is None else counted(amount) for amount in amounts],
+        'id': f'pair-{at + 1}', 'topic': topic_name(row['topic']), 'type': type_name(row['type']), 'name': f'Pair {at + 1}', 'badges': badges,
+        'number': str(row['number']), 'datagram': [f"in datagram {row['datagram']}"] if 'datagram' in row else [],
+        'ends': [end_of(values, row[side], row.get(f'{side}_node')) for side in ('writer', 'reader')], 'counts': amounts_of(values, row) | places,
     }
+
+
+def group_wanted(values, rows):
+    """what the page shows of a topic, of these rows"""
+    clean = sum(row['clean'] for row in rows)
+    words = 'clean' if clean == len(rows) else 'none clean' if clean == 0 else f'{counted(clean)} clean'
+    before = values['options']['from'] * len(rows)
+    return {
+        'topic': topic_name(rows[0]['topic']), 'size': f"{counted(len(rows))} {'pair' if len(rows) == 1 else 'pairs'}, {words}",
+        'sums': {kind: counted(sum_of(rows, kind) - (before if kind == 'before' else 0)) for kind in columns_of(values)} | {'announced': '', 'acknowledged': ''},
+    }
+
+
+# Topics that each program has stand last among equals.
+PLUMBING = 'ros_discovery_info', 'rt/parameter_events'
+
+
+def lost_in(row):
+    """how many numbers of a row are lost: of one that is held against another recording all that did not arrive"""
+    kinds = ('missed', 'unsent', 'unanswered') if row['outcomes'].get('arrived') is None else ('likely', 'missed', 'unsent', 'unanswered', 'unconfirmed')
+    return sum(row['outcomes'][kind] for kind in kinds)
+
+
+def badness(row):
+    """what comes first: what is not clean, then what lost more numbers, then the worse verdict"""
+    return row['clean'], -lost_in(row), KINDS.index(kind_of(row)), row['topic'] in PLUMBING
 
 
 def lacking_wanted(one):
@@ -88,7 +159,7 @@ def lacking_pairs(values):
 def unfit_wanted(one):
     """what the page shows of a writer and a reader that do not match"""
     def shown(policy, text):
-        return ros_type(text.encode()).decode() if policy == 'type' else text
+        return type_name(text) if policy == 'type' else text
 
     return ''.join(f"{policy.replace('_', ' ')}: offers {shown(policy, offered)}; asks for {shown(policy, requested)}"
                    for policy, offered, requested in zip(one['because'], one['offered'], one['requested']))
@@ -106,6 +177,16 @@ def kind_of(row):
 
 
 KINDS = ['unfounded', 'conflict', 'open', 'lost', 'clean']
+# What the last line says of a clean report behind its word.
+MORE_SAID = "textsOf(document, '.more-said').map((text) => `:${text}`).join('')"
+
+
+def by_topic(rows):
+    """numbered rows, each list of one topic and type"""
+    groups = {}
+    for _, row in rows:
+        groups.setdefault((row['topic'], row['type']), []).append(row)
+    return list(groups.values())
 
 
 def grouped(rows):
@@ -244,20 +325,20 @@ class PageTests(Counts):
                 values = recorded.many(300, [('rt/camera/points', 'sensor_msgs::msg::dds_::PointCloud2_')], recorded.some_verdict)
                 self.made[name] = many_text(values), values
             elif name == 'none':
-                self.made[name] = page.page_of([])
+                self.made[name] = page.page_of([], name='none.rec')
             elif name in MADE:
-                self.made[name] = page.page_of(getattr(recorded, name)())
+                self.made[name] = page.page_of(getattr(recorded, name)(), name=f'{name}.rec')
             elif name in IN_TIME:
-                self.made[name] = page.read_page(IN_TIME[name]())
+                self.made[name] = page.read_page(IN_TIME[name](), name=f'{name}.pcap')
             elif name in BOTH_SIDES:
                 path, other = self.both_sides(name)
-                self.made[name] = page.read_page(octets_of(path), asked_by(['--arrived', other]))
+                self.made[name] = page.read_page(octets_of(path), asked_by(['--arrived', other]), name)
             elif name in TALKING:
-                self.made[name] = page.read_page(file_of('tests', 'rows', name))
+                self.made[name] = page.read_page(file_of('tests', 'rows', name), name=name)
             elif name in self.recordings:
-                self.made[name] = page.read_page(octets_of(self.recordings[name]))
+                self.made[name] = page.read_page(octets_of(self.recordings[name]), name=name)
             else:
-                self.made[name] = page.read_page(file_of('examples', name))
+                self.made[name] = page.read_page(file_of('examples', name), name=name)
         return self.made[name]
 
     def values(self, name):
@@ -305,8 +386,13 @@ class PageTests(Counts):
 
     @staticmethod
     def shown(tab):
-        """the rows in sight, by the names of DDS"""
-        return [row | {'topic': row['topic'][-1], 'type': row['type'][-1]} for row in tab.evaluate('rowsShown()')]
+        """the rows in sight"""
+        return tab.evaluate('rowsShown()')
+
+    @staticmethod
+    def open_all(tab):
+        """opens all topics"""
+        tab.evaluate("document.querySelector('.open-all').click()")
 
     def topics(self, tab):
         return [row['topic'] for row in self.shown(tab)]
@@ -315,7 +401,7 @@ class PageTests(Counts):
         return [row['id'] for row in self.shown(tab)]
 
     def wanted(self, name):
-        return [row_wanted(at, row) for at, row in enumerate(self.rows(name))]
+        return [row_wanted(self.values(name), at) for at in range(len(self.rows(name)))]
 
     @staticmethod
     def choose(tab, at):
@@ -408,13 +494,22 @@ class PageTests(Counts):
     def each_row(self):
         for name in self.names:
             tab, values = self.open(name), self.values(name)
+            bad = {f'pair-{at + 1}' for at, row in enumerate(self.rows(name)) if not row['clean']}
+            self.holds(f'{name}: what is not clean is shown, and what is clean is folded', bad, set(self.ids(tab)))
+            self.open_all(tab)
             self.holds(f'{name}: each row is that of the report', self.wanted(name), in_order(self.shown(tab)))
-            order = grouped(sorted(enumerate(self.rows(name)), key=lambda one: KINDS.index(kind_of(one[1]))))
+            order = grouped(sorted(enumerate(self.rows(name)), key=lambda one: badness(one[1])))
             self.holds(f'{name}: worst first', [f'pair-{at + 1}' for at, _ in order], self.ids(tab))
-            counts = {key: counted(n) for key, n in values.items() if isinstance(n, int)}
+            groups = [group_wanted(values, rows) for rows in by_topic(order)]
+            self.holds(f'{name}: each topic with its sums', groups, [{key: one[key] for key in ('topic', 'size', 'sums')} for one in tab.evaluate('groupsShown()')])
+            counts = {key.replace('_', ' '): counted(n) for key, n in values.items() if isinstance(n, int)}
             self.holds(f'{name}: each count is that of the report', counts, tab.evaluate('countsShown()'))
-            self.holds(f'{name}: the outcome', [headline(self.parts(name)[0])] * 2, [self.text(tab, '#outcome'), tab.evaluate('document.title').removesuffix(': rtps-audit')])
-            self.holds(f'{name}: what weakens the report', values['notes'], tab.evaluate("textsOf(document, '#notes li')"))
+            said = [': '.join(filter(None, [self.text(tab, '#outcome .word'), '; '.join(tab.evaluate("textsOf(document, '#because li')"))])) + tab.evaluate(MORE_SAID),
+                    tab.evaluate('document.title').removesuffix(': rtps-audit')]
+            self.holds(f'{name}: the outcome', [headline(self.parts(name)[0])] * 2, said)
+            self.holds(f'{name}: what weakens the report', [note.replace(' -> ', '') for note in values['notes']], tab.evaluate("textsOf(document, '#notes li')"))
+            if name != 'hostile':
+                self.holds(f'{name}: no arrow in any text', False, '->' in tab.evaluate('document.body.innerText'))
             self.leave(name, tab)
 
     def working_copy(self):
@@ -422,6 +517,7 @@ class PageTests(Counts):
         tab = Tab(self.browser)
         tab.open(os.path.join(parts.FOLDER, 'page.html'))
         tab.evaluate(PROBE)
+        self.open_all(tab)
         self.holds('page.html is shown as it lies there', self.wanted('robot'), in_order(self.shown(tab)))
         self.holds('page.html: nothing is said', [], tab.complaints())
         tab.close()
@@ -437,29 +533,30 @@ class PageTests(Counts):
         }
         for name, (sentence, received) in wanted.items():
             tab = self.open(name)
-            self.holds(f'{name}: the outcome', sentence, self.text(tab, '#outcome'))
+            word, *reasons = re.split(': |; ', sentence)
+            self.holds(f'{name}: the outcome', [f'✗ {word}', reasons], [self.text(tab, '#outcome'), tab.evaluate("textsOf(document, '#because li')")])
             self.holds(f'{name}: what is received', received, self.text(tab, '#received'))
             tab.close()
         tab = self.open('unmatched')
-        self.holds('no pair: what to do', ' '.join(self.parts('unmatched')[0].split('\n')[:2]), self.text(tab, '#shown').replace(' ->', '   ->'))
+        self.holds('no pair: what to do', ' '.join(self.parts('unmatched')[0].split('\n')[:2]).replace('   -> ', ': '), self.text(tab, '#shown'))
         self.leave('unmatched', tab)
 
     def asked(self):
         """the options that were given"""
-        given = {'from': 7, 'topics': ["rt/*", "<&'"], 'expect': 9, 'tail': 5, 'certain': True}
+        given = {'from': 7, 'topics': ["rt/*", "<&'"], 'nodes': ['/na*'], 'expect': 9, 'tail': 5, 'certain': True}
         self.made['asked'] = self.parts('robot')[0], self.values('robot') | {'options': given}
         tab = self.open('asked')
-        words = "--from 7 --topic 'rt/*' --topic '<&'' --expect 9 --tail 5 --certain"
-        self.holds('the options are told', f'rtps-audit, a report of the numbers from 7 on, with {words}', self.text(tab, '#asked'))
+        words = "--from 7 --topic 'rt/*' --topic '<&'' --node '/na*' --expect 9 --tail 5 --certain"
+        self.holds('the options are told', f'rtps-audit {page.VERSION}, a report of the numbers from 7 on, with {words}', self.text(tab, '#program'))
         self.leave('asked', tab)
 
     def first_screen(self):
         """of a report with an open and an unfounded pair: which topics, what happened, and what to do"""
         tab = self.open('robot')
         lines = tab.evaluate('''[...document.querySelectorAll('table.topics tbody tr')].map((row) => ({
-            isInSight: row.getBoundingClientRect().bottom <= innerHeight, cells: [...row.cells].map((cell) => cell.innerText) }))''')
+            isInSight: row.getBoundingClientRect().bottom <= 1500, cells: [...row.cells].map((cell) => cell.innerText) }))''')
         self.holds('robot: each topic is in sight', [True] * 3, [line['isInSight'] for line in lines])
-        wanted = (('/tf', 'acknowledged sample 12'), ('/scan', 'samples 24 to 40'), ('/odom', 'acknowledged each sample from 1 to 60'))
+        wanted = (('/tf', 'acknowledged sample 12'), ('/odom', 'acknowledged each sample from 1 to 60'), ('/scan', 'samples 24 to 40'))
         for line, words in zip(lines, wanted):
             self.holds(f'robot: the line of {words[0]}', [], [word for word, cell in zip(words, line['cells']) if word not in cell])
         self.leave('robot', tab)
@@ -467,22 +564,34 @@ class PageTests(Counts):
     def topics_to_look_at(self):
         """rows with advice, by topic and advice, and no others"""
         for name in self.names:
-            tab, wanted = self.open(name), {}
-            for row in self.rows(name):
+            tab, wanted, events = self.open(name), {}, self.values(name).get('events', [])
+            for at, row in enumerate(self.rows(name)):
                 if row['advice'] is not None:
-                    key = row['topic'], row['type'], kind_of(row), row['advice']
+                    key = event_of(events, at), topic_name(row['topic']), type_name(row['type']), kind_of(row), row['advice']
                     wanted[key] = wanted.get(key, 0) + 1
-            tab.evaluate("document.querySelectorAll('#topics > .more').forEach((button) => button.click())")
-            shown = {(one['topic'][-1], one['type'][-1], one['kind'], one['advice']): one['pairs'] for one in tab.evaluate('topicsShown()')}
+            if not events:
+                wanted = {(None, *key[1:]): n for key, n in wanted.items()}
+            self.all_lines(tab)
+            shown = {(one['event'], one['topic'], one['type'], one['kind'], one['advice']): one['pairs'] for one in tab.evaluate('topicsShown()')}
             self.holds(f'{name}: what to look at', {key: counted(n) for key, n in wanted.items()}, shown)
+            heads = [one['head'] for one in tab.evaluate('eventsShown()')]
+            self.holds(f'{name}: the events in their order', [[head_of(event)] for event in events], heads[:len(events)])
             tab.close()
+
+    @staticmethod
+    def all_lines(tab):
+        """shows all lines of events"""
+        tab.evaluate("(() => { for (let more; (more = document.querySelector('#happened .more:not([hidden])')); ) more.click(); })()")
 
     def chosen_pairs(self):
         for name in self.names:
             tab = self.open(name)
             for at, row in enumerate(self.rows(name)[:MOST_CHOSEN]):
                 self.choose(tab, at)
+                tab.evaluate("document.querySelectorAll('tr.detail details').forEach(openFold)")
                 text = self.text(tab, 'tr.detail .detail-words')
+                names = [row[member] for member in ('topic', 'type', 'writer', 'reader')]
+                self.holds(f'{name}: pair {at + 1} has its names behind a click', names, tab.evaluate("textsOf(document, 'tr.detail .names dd')"))
                 self.holds(f'{name}: pair {at + 1} tells each place', [], sorted(place for place in places_of(row) if place not in text))
                 self.lost_numbers(f'{name}: pair {at + 1}', tab, row)
                 self.waits_and_silence(name, tab, row)
@@ -501,14 +610,15 @@ class PageTests(Counts):
 
     def waits_and_silence(self, name, tab, row):
         """those of the pair that is chosen, each once"""
-        sentences = tab.evaluate("textsOf(document, 'tr.detail .detail-words li')")
+        sentences = tab.evaluate("textsOf(document, 'tr.detail .rests-on li')")
         said = waits_of(row) + [sentence_of(line) for line in row.get('silence', [])]
         self.holds(f'{name}: waits and silence', said, [one for one in sentences if 'wait' in one or 'silent' in one])
 
     def participants(self):
         for name in self.names:
             values, tab = self.values(name), self.open(name)
-            tab.evaluate("(() => { for (let more; (more = document.querySelector('#participants > .more:not([hidden])')); ) more.click(); })()")
+            lines = tab.evaluate('participantsShown()')
+            self.holds(f'{name}: each participant has a line', *self.participant_lines(values, lines))
             shown = {f"{one['prefix']}.{one['entity']}": one for one in tab.evaluate('endpointsShown()')}
             names = {one['guid']: (one['side'], one['topic'], one['type'], f"{one['reliability']}, {one['durability']}") for one in values['endpoints']}
             self.holds(f'{name}: each endpoint with its names', names,
@@ -519,19 +629,113 @@ class PageTests(Counts):
             self.holds(f'{name}: an endpoint in no pair', [], [guid for guid, found in pairs.items() if not found and shown[guid]['pairs'] != 'in no pair'])
             tab.close()
 
+    @staticmethod
+    def participant_lines(values, lines):
+        """what stands in the line of each participant, and what is wanted there but does not"""
+        told = {one['guid'][:24]: one for one in values['participants']}
+        wanted = {prefix: [] for prefix in sorted({one['guid'][:24] for one in values['endpoints']} | set(told))}
+        lacking = {one['prefix']: [] for one in lines}
+        for one in lines:
+            found = told.get(one['prefix'])
+            words = [] if found is None else [title_of(found), found['host'], found['address'], None if found.get('first_time') is None else f"{found['first_time']:.3f} s",
+                                              None if found.get('last_time') is None else f"{found['last_time']:.3f} s", found['left'] and 'left']
+            lacking[one['prefix']] += [word for word in words if word and word not in one['line']]
+        return wanted, lacking
+
+    # ---- the head, the picture, and what is folded
+
+    def head(self):
+        """which recording it is of"""
+        for name in self.names:
+            tab, values = self.open(name), self.values(name)
+            self.holds(f'{name}: its name', name if '.' in name else values['recording']['name'], self.text(tab, '#name'))
+            self.holds(f'{name}: the version', True, self.text(tab, '#program').startswith(f'rtps-audit {page.VERSION}, '))
+            begin, end = values['recording']['begin'], values['recording']['end']
+            when = self.text(tab, '#when')
+            self.holds(f'{name}: how many datagrams', True, f"{counted(values['datagrams'])} datagram" in when)
+            if begin is not None and 'times' in values:
+                moments = [moment_text(moment) for moment in (begin, end)]
+                moments[1] = moments[1][11 if moments[0][:10] == moments[1][:10] else 0:]
+                self.holds(f'{name}: when it was made', [], [word for word in (*moments, 'UTC', f'{(end - begin) % 60000 / 1000:.3f} s') if word not in when])
+            addresses = [one['host'] or one['address'] for one in values['participants'] if one['host'] or one['address']]
+            hosts = self.text(tab, '#hosts')
+            self.holds(f'{name}: the hosts', [], [one for one in list(dict.fromkeys(addresses))[:12] if one not in hosts])
+            self.leave(name, tab)
+
+    def pictures_of_topics(self):
+        """a strip for each topic with a pair, the worst first, and marks for what is lost and who leaves"""
+        for name in (*self.names, *BOTH_SIDES):
+            tab, values = self.open(name), self.values(name)
+            order = sorted(by_topic(enumerate(self.rows(name))), key=group_badness)
+            strips = tab.evaluate('stripsShown()')
+            self.holds(f'{name}: the strips', [topic_name(rows[0]['topic']) for rows in order[:20]], [strip['topic'] for strip in strips])
+            for rows, strip in zip(order, strips):
+                wanted = {kind for row in rows for kind, lost in row['numbers'].items() if any(has_place(values, one['sent']) for one in lost['ranges'])
+                          and (row['outcomes'].get('arrived') is None) == (kind != 'not_arrived')}
+                wanted |= {'leaves' for row in rows if row['until'] is not None and has_place(values, {'time': row.get('until_time')})}
+                wanted |= {'joins' for row in rows if values['joined'][values['pairs'].index(row)] is not None}
+                wanted |= {'silent' for row in rows for one in values['participants'] if one.get('silent') and one['guid'][:24] in (row['writer'][:24], row['reader'][:24])}
+                self.holds(f"{name}: the marks of {strip['topic']}", wanted, set(strip['marks']))
+                self.holds(f"{name}: at most 2,000 marks", True, all(n <= 2000 for n in strip['marks'].values()))
+                self.holds(f"{name}: the words of {strip['topic']}", lost_words(rows), strip['words'].split(', ')[:len(lost_words(rows))])
+            if strips:
+                tab.evaluate(f"document.querySelector('a.strip').click()")
+                tab.settle()
+                group = int(strips[0]['leads'].removeprefix('#topic-')) - 1
+                rows = list(by_topic(enumerate(self.rows(name))))[group]
+                shown = {one['id'] for one in self.shown(tab) if one['topic'] == topic_name(rows[0]['topic'])}
+                wanted = {f"pair-{self.rows(name).index(row) + 1}" for row in rows if not row['clean'] or all(one['clean'] for one in rows)}
+                self.holds(f'{name}: a strip leads to its pairs', True, wanted <= shown)
+            self.leave(name, tab)
+
+    def folds(self):
+        tab = self.open('robot')
+        self.holds('the clean topic is folded', [['/tf', '/odom', '/scan'], ['1 clean topic']], [self.topics(tab), tab.evaluate("textsOf(document, '.clean-topics button')")])
+        tab.click('.clean-topics button')
+        self.holds('it has a line, and no pair', [4, 3], [self.found(tab, 'tr.group'), len(self.shown(tab))])
+        tab.click('#topic-4 button')
+        self.holds('it opens', ['/tf', '/odom', '/scan', '/cmd_vel'], self.topics(tab))
+        tab.click('#topic-4 button')
+        self.holds('it folds', ['/tf', '/odom', '/scan'], self.topics(tab))
+        tab.evaluate("[...document.querySelectorAll('.tools button')].find((e) => e.textContent === 'Fold').click()")
+        self.holds('all is as at first', [3, 3], [self.found(tab, 'tr.group'), len(self.shown(tab))])
+        tab.evaluate("location.hash = '#pair-4'")
+        tab.settle()
+        self.holds('the address of a folded pair opens it', ['pair-4', True], [self.shown(tab)[-1]['id'], self.found(tab, 'tr.detail') == 1])
+        self.leave('robot', tab)
+
+    def bar(self):
+        tab = self.open('robot')
+        self.holds('the bar has the sections', ['Picture', 'What happened', 'Discovery', 'Topics', 'Notes', 'Participants', 'Counts'], tab.evaluate("textsOf(document, '#bar a')"))
+        tab.evaluate('scrollTo(0, document.body.scrollHeight)')
+        self.holds('it stays at the top', 0, tab.evaluate("Math.round(document.getElementById('bar').getBoundingClientRect().top)"))
+        self.leave('robot', tab)
+
+    def heights(self):
+        """before anything is opened"""
+        for name in self.names:
+            tab = self.open(name)
+            self.holds(f'{name}: no higher than 6,000 pixels', True, tab.evaluate('document.documentElement.scrollHeight') <= 6000)
+            first = tab.evaluate("(document.querySelector('.event tbody tr') || document.querySelector('#outcome')).getBoundingClientRect().top")
+            self.holds(f'{name}: what is lost first stands within 1,500 pixels', True, first <= 1500)
+            tab.close()
+
     def talk(self):
         """who does not talk, as the data has it"""
         for name in (*self.names, *TALKING):
             values, tab = self.values(name), self.open(name)
-            tab.evaluate("(() => { for (let more; (more = document.querySelector('#talk .more:not([hidden])')); ) more.click(); })()")
+            tab.evaluate("document.querySelectorAll('.talk-fold').forEach(openFold)")
+            tab.evaluate("(() => { for (let more; (more = document.querySelector('#talk .more:not([hidden]), #best-effort .more:not([hidden])')); ) more.click(); })()")
             wanted = {
+                'talking': [', '.join(policy.replace('_', ' ') for policy in one['because']) for one in values['talking']],
                 'unmatched': [unfit_wanted(one) for one in values['unmatched']], 'one-way': [counted(one['named']) for one in values['one_way']],
                 'unobserved': [one['because'] for one in values['unobserved']],
                 'best-effort': [f"{counted(one['recorded'])} of {counted(one['numbers'])}" for one in values['best_effort']],
                 'not-arrived': [lacking_wanted(one) for one in lacking_pairs(values)],
             }
             self.holds(f'{name}: who does not talk', wanted, {kind: tab.evaluate(f"talkShown('{kind}')") for kind in wanted})
-            self.holds(f'{name}: there is a part for it', any(wanted.values()), not tab.evaluate("document.getElementById('talk').hidden"))
+            for section, kinds in {'talk': ('unmatched', 'talking', 'one-way', 'unobserved'), 'best-effort': ('best-effort', 'not-arrived')}.items():
+                self.holds(f'{name}: there is a part for it', any(wanted[kind] for kind in kinds), not tab.evaluate(f"document.getElementById('{section}').hidden"))
             self.leave(name, tab)
 
     # ---- seconds, and what arrived
@@ -539,10 +743,10 @@ class PageTests(Counts):
     def seconds(self):
         """in words that are written out here"""
         tab = self.open('waiting', '#pair-1')
-        self.holds('seconds: what the pair rests on', WAITING, tab.evaluate("textsOf(document, 'tr.detail .detail-words li')"))
+        self.holds('seconds: what the pair rests on', WAITING, tab.evaluate("textsOf(document, 'tr.detail .rests-on li')"))
         tab.close()
         wanted = {
-            'missed_in_time': ('s', 'seconds', [[0.4, 1], [0.7, 2], [1, 2]], 'datagram 11, octet 36, 1.000 s, sent again.'),
+            'missed_in_time': ('s', 'seconds', [[0.4, 1], [0.7, 2], [1, 2]], 'datagram 11, octet 36, frame 11, 1.000 s, sent again; 2 is missed.'),
             'half_timed': ('datagram', 'datagrams', [[5, 1], [8, 2]], 'datagram 8, octet 20.'),
         }
         for name, (word, axis, dots, last) in wanted.items():
@@ -550,7 +754,7 @@ class PageTests(Counts):
             self.holds(f'{name}: the axis', word, tab.evaluate('chartInSight.axis.word'))
             self.holds(f'{name}: the dots', dots, tab.evaluate('chartInSight.marks.dots.map(({ x, y }) => [x, y])'))
             self.holds(f'{name}: the chart is told', [f'Chart of {axis} and numbers', f'{axis.capitalize()} to the right, numbers upwards'],
-                       [tab.evaluate("document.querySelector('canvas').ariaLabel").split(':')[0], self.text(tab, '#chart-help').split('.')[0]])
+                       [tab.evaluate("document.querySelector('canvas').ariaLabel").split(':')[0], self.text(tab, '#chart-help-1').split('.')[0]])
             tab.evaluate("document.querySelector('canvas').focus()")
             for _ in dots:
                 tab.press('ArrowRight')
@@ -569,13 +773,14 @@ class PageTests(Counts):
             lines = self.parts(name)[0].splitlines()
             more = re.findall(r', [\d,]+ more arrived$', lines[0])
             self.holds(f'{name}: how many more arrived', more, re.findall(r', [\d,]+ more arrived(?=\.$)', self.text(tab, '#received')))
+            self.open_all(tab)
             self.holds(f'{name}: each row is that of the report', self.wanted(name), in_order(self.shown(tab)))
             self.holds(f'{name}: it is told what arrived means', [], tab.evaluate("hidden('#arrived')"))
-            self.holds(f'{name}: the option is told', True, self.text(tab, '#asked').endswith(' with --arrived OTHER'))
+            self.holds(f'{name}: the option is told', True, self.text(tab, '#program').endswith(' with --arrived OTHER'))
             pairs = [line.strip() for line in lines if line.startswith('    arrived ')]
             self.holds(f'{name}: pairs of best effort', pairs, tab.evaluate("talkShown('not-arrived')"))
             heads = [line for line in lines if re.match(r'[\d,]+ numbers? of .* did not arrive$', line)]
-            self.holds(f'{name}: their head', heads, [head for head in tab.evaluate("textsOf(document, '.talk-part h3')") if head != 'Pairs of best effort'])
+            self.holds(f'{name}: their head', heads, tab.evaluate("textsOf(document, '#best-effort .talk-part h3')"))
             self.lacking_sentences(name, tab, values, lines)
             self.leave(name, tab)
 
@@ -605,6 +810,7 @@ class PageTests(Counts):
                    tab.evaluate("talkShown('not-arrived')"))
         tab.close()
         tab = self.open('a_reader_of_which_the_other_recording_has_no_act')
+        self.open_all(tab)
         self.holds('both sides: a row that is not held', ['–', '1'], tab.evaluate("textsOf(document, 'td.arrived')"))
         for ids in ['pair-2', 'pair-1'], ['pair-1', 'pair-2']:
             tab.click('.pairs thead th.arrived button')
@@ -647,21 +853,22 @@ class PageTests(Counts):
         tab = self.open('robot')
         rows = self.rows('robot')
         wanted = {
-            'scan': ['rt/scan'], '/amcl': ['rt/tf', 'rt/scan', 'rt/odom'], 'open': ['rt/scan'], 'lost': ['rt/odom'], 'P3 teleop tf': ['rt/tf'],
-            rows[0]['writer']: ['rt/odom'], 'nothing of this': [], 'nav_msgs/msg/odometry': ['rt/odom'],
-            '': ['rt/tf', 'rt/scan', 'rt/odom', 'rt/cmd_vel'],
+            'scan': ['/scan'], '/amcl': ['/tf', '/odom', '/scan'], 'open': ['/scan'], 'lost': ['/odom'], 'P3 teleop tf': ['/tf'],
+            rows[0]['writer']: ['/odom'], 'nothing of this': [], 'nav_msgs/msg/odometry': ['/odom'], 'rt/odom': ['/odom'], 'cmd': ['/cmd_vel'],
+            '': ['/tf', '/odom', '/scan'],
         }
         for text, topics in wanted.items():
             tab.evaluate(f'timeToFilter({json.dumps(text)})')
             self.holds(f'robot: the filter {text!r}', topics, self.topics(tab))
         tab.click('#verdicts .badge.open')
         tab.click('#verdicts .badge.unfounded')
-        self.holds('robot: two verdicts', ['rt/tf', 'rt/scan'], self.topics(tab))
+        self.holds('robot: two verdicts', ['/tf', '/scan'], self.topics(tab))
         self.holds('robot: what is shown is told', '2 of 4 pairs.', self.text(tab, '#shown'))
         self.leave('robot', tab)
 
     def orders(self):
         tab = self.open('robot')
+        self.open_all(tab)
         within = {'announced': 'number', 'acknowledged': 'below'}
         for name in ('announced', 'acknowledged', 'received', 'likely', 'missed', 'unconfirmed'):
             for order, sign in (('descending', -1), ('ascending', 1)):
@@ -688,7 +895,7 @@ class PageTests(Counts):
     def keyboard(self):
         tab = self.open('robot')
         seen, reached = [], None
-        for _ in range(60):
+        for _ in range(100):
             tab.press('Tab')
             found = tab.evaluate('focused()')
             seen.append(found['isSeen'])
@@ -701,7 +908,7 @@ class PageTests(Counts):
         self.holds('Enter chooses it', '#pair-2', tab.evaluate('location.hash'))
         while seen.append(tab.evaluate('focused()')['isSeen']) or tab.evaluate('focused()')['tag'] != 'CANVAS':
             tab.press('Tab')
-            if len(seen) > 100:
+            if len(seen) > 200:
                 break
         self.holds('the focus is always seen', [], [at for at, one in enumerate(seen) if not one])
         dots = tab.evaluate('chartInSight.marks.dots')
@@ -798,6 +1005,17 @@ class PageTests(Counts):
                 self.holds(f'{name}: each row is in sight at {width} pixels', [], tab.evaluate("hidden('tbody tr')"))
                 tab.close()
 
+    def opened_on_paper(self):
+        """all rows, and what is told of those that are not clean, with their charts"""
+        tab = self.open('robot')
+        found = lambda: [self.found(tab, selector) for selector in ('tr.pair', 'tr.detail', 'tr.detail canvas')]
+        before = found()
+        tab.evaluate("dispatchEvent(new Event('beforeprint'))")
+        self.holds('on paper all pairs stand, and those that are not clean are open', [4, 3, 3], found())
+        tab.evaluate("dispatchEvent(new Event('afterprint'))")
+        self.holds('behind it all is as before', before, found())
+        self.leave('robot', tab)
+
     def paper(self):
         tab = self.open('robot', '#pair-2', dark=True)
         tab.evaluate("addEventListener('beforeprint', () => { window.drawnFor = chartInSight.colour('--sheet'); })")
@@ -808,8 +1026,8 @@ class PageTests(Counts):
         tab.resize(700, 1000)
         tab.settle()
         self.holds('it fits on paper', 700, tab.evaluate('document.documentElement.scrollWidth'))
-        self.holds('what is on paper', [], tab.evaluate("hidden('table.pairs, tr.pair, tr.pair td, tr.detail, canvas, #text pre')"))
-        self.holds('what is not on paper', 2, tab.evaluate("hidden('.tools, .controls').length"))
+        self.holds('what is on paper', [], tab.evaluate("hidden('table.pairs, tr.pair, tr.pair td, tr.detail, canvas, .strip-picture, #text pre')"))
+        self.holds('what is not on paper', 3, tab.evaluate("hidden('.tools, .controls, #bar').length"))
         self.holds('it is light on paper', [], tab.evaluate('faintTexts(4.5)')['faint'])
         self.holds('it is white on paper', [255, 255, 255, 1], tab.evaluate('behind(document.body)'))
         self.picture(tab, 'robot_on_paper', True)
@@ -821,12 +1039,15 @@ class PageTests(Counts):
         self.made['some'] = many_text(values), values
         tab = self.open('some')
         focused = lambda element: tab.evaluate(f"document.activeElement === {element}")
-        self.holds('441 pairs: the first ones', '441 pairs; the first 100 are shown.', self.text(tab, '#shown'))
+        self.holds('441 pairs: the first ones', '441 pairs; the first 100 are shown; 147 are folded.', self.text(tab, '#shown'))
         tab.click('#pairs > button.more')
-        self.holds('441 pairs: all of them', '441 pairs.', self.text(tab, '#shown'))
+        self.holds('441 pairs: all that are not folded', '441 pairs; 147 are folded.', self.text(tab, '#shown'))
         self.holds('441 pairs: the focus', True, focused("document.querySelectorAll('tr.pair > th a')[100]"))
+        tab.click('tr.folded button')
+        tab.click('#pairs > button.more')
+        self.holds('441 pairs: all of them', ['441 pairs.', 441], [self.text(tab, '#shown'), self.found(tab, 'tr.pair')])
         tab.click('#participants > button.more')
-        self.holds('21 participants: the focus', True, focused("document.querySelectorAll('.endpoints tr.group')[20]"))
+        self.holds('21 participants: the focus', True, focused("document.querySelectorAll('.participant > summary')[20]"))
         self.leave('some', tab)
         tab = self.open('many')
         tab.click('#pairs > button.more')
@@ -845,11 +1066,11 @@ class PageTests(Counts):
         slowest = max(self.time_to_filter(tab, text) for text in ('000a07', 'unfounded', 'p1', 'nothing', ''))
         size = os.path.getsize(self.path('many'))
         print(f'90,000 pairs: {size:,} octets, seen after {first:.2f} s of processor time, filtered in {slowest * 1000:.0f} ms')
-        self.holds('90,000 pairs: what is shown', '90,000 pairs; the first 100 are shown.', self.text(tab, '#shown'))
+        self.holds('90,000 pairs: what is shown', '90,000 pairs; the first 100 are shown; 30,000 are folded.', self.text(tab, '#shown'))
         tab.click('#pairs > button.more')
-        self.holds('90,000 pairs: more of them', '90,000 pairs; the first 600 are shown.', self.text(tab, '#shown'))
+        self.holds('90,000 pairs: more of them', '90,000 pairs; the first 600 are shown; 30,000 are folded.', self.text(tab, '#shown'))
         self.choose(tab, 77776)
-        self.holds('90,000 pairs: one by its address', [row_wanted(77776, self.rows('many')[77776])], self.shown(tab))
+        self.holds('90,000 pairs: one by its address', [row_wanted(self.values('many'), 77776)], [row for row in self.shown(tab) if row['id'] == 'pair-77777'])
         self.holds('90,000 pairs: its advice', [self.rows('many')[77776]['advice']], tab.evaluate("textsOf(document, 'tr.detail .advice')"))
         self.leave('many', tab)
 
@@ -892,6 +1113,41 @@ def more_of(text):
     return int(found.group(1).replace(',', '')) if found else 0
 
 
+def moment_text(milliseconds):
+    """a moment in universal time"""
+    return (datetime.datetime(1970, 1, 1) + datetime.timedelta(milliseconds=milliseconds)).isoformat(' ', 'milliseconds')
+
+
+def group_badness(rows):
+    """the same of a topic"""
+    clean = all(row['clean'] for row in rows)
+    return clean, -sum(map(lost_in, rows)), min(KINDS.index(kind_of(row)) for row in rows), rows[0]['topic'] in PLUMBING
+
+
+def has_place(values, place):
+    """whether a place stands on the axis of a recording"""
+    return place is not None and ('times' not in values or place.get('time') is not None)
+
+
+def lost_words(rows):
+    """what a strip says of what is lost"""
+    held = [row for row in rows if row['outcomes'].get('arrived') is not None]
+    alone = [row for row in rows if row not in held] if held else rows
+    counts = {kind: sum(row['outcomes'][kind] for row in alone) for kind in ('missed', 'unsent', 'unanswered')} | {'not arrived': sum(map(lost_in, held))}
+    words = [f'{n:,} {kind}' for kind, n in counts.items() if n]
+    return words or ['clean' if all(row['clean'] for row in rows) else 'not clean']
+
+
+def head_of(event):
+    """the head of an event, as the page has it"""
+    return event['text'][0].upper() + event['text'][1:]
+
+
+def event_of(events, at):
+    """the head of the event of a row, or of those that stand in none"""
+    return next((head_of(event) for event in events if at in event['pairs']), 'Other pairs to look at')
+
+
 def is_heard(act, reader):
     """whether the audience of an entry has a reader"""
     to = act[5:] if act[2] == 'gone' else act[4:]
@@ -902,8 +1158,8 @@ def is_heard(act, reader):
 WITHOUT_BROWSER = 'constants', 'pages_of_the_program', 'text_of_a_page', 'data_of_check', 'rows_with_charts'
 IN_BROWSER = (
     'each_row', 'working_copy', 'outcome', 'asked', 'first_screen', 'topics_to_look_at', 'chosen_pairs', 'participants', 'talk', 'seconds',
-    'both_sides_shown', 'all_arrived', 'hostile_names',
-    'without_scripts', 'filters', 'orders', 'clicks', 'keyboard', 'charts', 'pointer', 'charts_left_out', 'contrast', 'widths', 'paper',
+    'head', 'pictures_of_topics', 'folds', 'bar', 'heights', 'both_sides_shown', 'all_arrived', 'hostile_names',
+    'without_scripts', 'filters', 'orders', 'clicks', 'keyboard', 'charts', 'pointer', 'charts_left_out', 'contrast', 'widths', 'paper', 'opened_on_paper',
     'more_rows', 'many_pairs',
 )
 

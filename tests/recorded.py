@@ -267,7 +267,7 @@ def some_verdict(at):
 def spanned(received, is_clean, advice):
     """the members of a row of 18 numbers that tell its span, what became of them, and what to do"""
     outcomes = {'received': received, 'missed': 0, 'unsent': 0, 'unanswered': 0, 'likely': 0, 'unconfirmed': 18 - received}
-    return {'from': 1, 'until': None, 'outcomes': outcomes, 'clean': is_clean, 'advice': advice}
+    return {'from': 1, 'until': None, 'outcomes': outcomes, 'clean': is_clean, 'numbers': {}, 'advice': advice}
 
 
 RECORDINGS = {'robot': robot, 'hostile': hostile, 'greatest': greatest, 'chatty': chatty, 'unmatched': unmatched}

@@ -8,9 +8,9 @@ const NAMED_NODES = 16;
 function showHead(report) {
   const { data } = report;
   const at = (id) => document.getElementById(id);
-  const { name = null, program = null } = data.recording || {};
+  const { name = null, version = null } = data.recording || {};
   document.title = `${lastLine()}: rtps-audit`;
-  fill(at('program'), `${program || 'rtps-audit'}, a report of `, askedText(data));
+  fill(at('program'), `rtps-audit${version === null ? '' : ` ${version}`}, a report of `, askedText(data));
   fill(at('name'), name === null ? 'A recording' : name === '-' ? 'Standard input (-)' : name);
   fill(at('when'), ...whenParts(report));
   showOutcome(report, at('outcome'));

@@ -167,7 +167,7 @@ function rangePoints(report, { first, last, sent }, sendings, left) {
 function addReader(report, row, points) {
   const joined = report.data.joined?.[row.at];
   const add = (kind, x) => x !== null && x !== undefined && points[kind].push(x);
-  if (joined) add('joins', report.onAxis(joined));
+  if (joined) add('joins', report.onAxis({ datagram: joined[0], time: joined[2] }));
   if (row.until !== null) add('leaves', report.onAxis({ datagram: row.until, time: row.until_time }));
   for (const guid of report.hasSilent ? [row.reader, row.writer] : []) {
     const announced = report.participantOf(guid)?.announced;

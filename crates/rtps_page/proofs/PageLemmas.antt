@@ -3,7 +3,7 @@ use Rattle.std.proofs.Common.{◌≤◌, ◌++◌, ◌∷◌, [], ℕ, ℤ, List
 use Rattle.std.specs.List.{range_with_len}
 use Rattle.json.specs.Json.{Json, max_depth, string}
 use Rattle.json.specs.Tree.{depth, items_depth, members_depth}
-use Rattle.rtps_report.specs.Vocabulary.{Location, Pair, PayloadValue}
+use Rattle.rtps_report.specs.Vocabulary.{ExplanationValue, Location, Pair, PayloadValue}
 use Rattle.rtps_ids.specs.declared.identity.Guid.{Guid}
 use Rattle.rtps_receiver.specs.Values.{ActBodyValue}
 use Rattle.rtps_receiver.specs.Values.ActBodyValue.{Data, Heartbeat, AckNack, Gap, DataFrag, NackFrag}
@@ -11,17 +11,19 @@ use Rattle.rtps_discovery.specs.Directory.{DirectoryValue, settled_in}
 use Rattle.rtps_receiver.specs.Speech.{is_spoken_by}
 use Rattle.rtps_audit.specs.Placed.{PlacedValue, answers_among}
 use Rattle.rtps_report.specs.Asked.{AskedValue}
-use Rattle.rtps_evidence.specs.Times.{TimesValue}
+use Rattle.rtps_evidence.specs.Times.{TimesValue, frame_of}
 use Rattle.rtps_evidence.specs.declared.times.Seconds.{Seconds}
-use Rattle.rtps_lines.specs.JsonText.{items_of, members_of}
+use Rattle.rtps_lines.specs.JsonText.{items_of, members_of, second_json}
 use Rattle.rtps_lines.specs.Lines.{second_in}
-use Rattle.rtps_report.specs.FullReport.{ReportValue}
+use Rattle.rtps_report.specs.FullReport.{ReportValue, rows_of}
 use Rattle.rtps_report.specs.Recording.{RecordingValue}
 use Rattle.rtps_lines.proofs.Offered.{check_depth, joined, timed_within}
 use Rattle.rtps_page.specs.ChartEntries.{entries_of, members_of as numbers_of, piece_json}
-use Rattle.rtps_page.specs.ChartTimes.{datagrams_shown, is_among, time_json}
+use Rattle.rtps_page.specs.ChartTimes.{datagrams_shown, frame_items, is_among, time_json, time_of_json}
+use Rattle.rtps_page.specs.Joining.{joined_in}
+use Rattle.rtps_page.specs.Origin.{OriginValue}
 use Rattle.rtps_page.specs.Page.{page_json, pairs_with_charts}
-use Rattle.rtps_page.proofs.Written.{acts_judged, answers_json, base_json, chart_members, check_members, endpoint_json, entries_at, entry_json, expect_json, gone_json, named_json, number_json, object_of, one_gone_json, option_members, own_members, times_member, writer_json, writers_behind}
+use Rattle.rtps_page.proofs.Written.{acts_judged, answers_json, base_json, chart_members, check_members, endpoint_json, entries_at, entry_json, expect_json, gone_json, joined_json, joining_json, moment_json, named_json, number_json, object_of, one_gone_json, option_members, own_members, recording_members, times_member, writer_json, writers_behind}
 
 -- ---- depth
 
@@ -89,19 +91,42 @@ expect_within (Some rows) = omega arith
 options_within : (asked : AskedValue) → depth (object_of (option_members asked)) ≤ 2
 options_within asked =
     let topics = mapped_within 0 string (λ topic. omega arith) asked.topics in
-    omega (arith, topics, expect_within asked.expect)
+    let nodes = mapped_within 0 string (λ node. omega arith) asked.nodes in
+    omega (arith, topics, nodes, expect_within asked.expect)
+
+moment_within : (moment : Option ℕ) → depth (moment_json moment) ≤ 0
+moment_within None = omega arith
+moment_within (Some nanoseconds) = omega arith
+
+recording_within : (origin : OriginValue) (times : TimesValue) → depth (object_of (recording_members origin times)) ≤ 1
+recording_within origin times = omega (arith, moment_within times.start, moment_within times.end)
+
+second_within : (second : Option Seconds) → depth (second_json second) ≤ 0
+second_within None = omega arith
+second_within (Some second) = omega arith
+
+joined_within : (times : TimesValue) (place : Option Location) → depth (joined_json times place) ≤ 1
+joined_within times None = omega arith
+joined_within times (Some place) = omega (arith, second_within (second_in times place.datagram))
+
+joining_within : (times : TimesValue) (rows : List ExplanationValue) → items_depth (items_of (map (joining_json times) rows)) ≤ 1
+joining_within times rows = mapped_within 1 (joining_json times) (λ row. joined_within times (joined_in row.evidence.in_span)) rows
 
 endpoints_within : (directory : DirectoryValue) → items_depth (items_of (map endpoint_json (settled_in directory.endpoints))) ≤ 1
 endpoints_within directory = mapped_within 1 endpoint_json (λ endpoint. omega arith) (settled_in directory.endpoints)
 
-time_within : (datagram : ℕ) (second : Option Seconds) → items_depth (items_of (time_json datagram second)) ≤ 1
-time_within datagram None = omega arith
-time_within datagram (Some second) = omega arith
+frame_within : (frame : Option ℕ) → items_depth (items_of (frame_items frame)) ≤ 0
+frame_within None = omega arith
+frame_within (Some frame) = omega arith
+
+time_within : (datagram : ℕ) (frame : Option ℕ) (second : Option Seconds) → items_depth (items_of (time_json datagram frame second)) ≤ 1
+time_within datagram frame None = omega arith
+time_within datagram frame (Some second) = omega (arith, frame_within frame)
 
 times_within : (times : TimesValue) (acts : List PlacedValue) (pairs : List Pair) → members_depth (members_of (times_member times acts pairs ∷ [])) ≤ 2
 times_within times acts pairs =
     let shown = is_among (datagrams_shown acts pairs) in
-    let each = flat_within 1 (λ datagram. time_json datagram (second_in times datagram)) (λ datagram. time_within datagram (second_in times datagram))
+    let each = flat_within 1 (time_of_json times) (λ datagram. time_within datagram (frame_of times.frames datagram) (second_in times datagram))
     (filter shown (range_with_len 1 (length times.of_datagrams))) in
     omega (arith, each)
 
@@ -112,11 +137,12 @@ chart_part times acts pairs =
     let seconds = timed_within 2 times (times_member times acts pairs ∷ []) (times_within times acts pairs) in
     omega (arith, writers, answers, seconds)
 
-pub page_within : (asked : AskedValue) (recording : RecordingValue) (report : ReportValue) (directory : DirectoryValue)
-    → depth (page_json asked recording report directory) ≤ max_depth
-page_within asked recording report directory =
+pub page_within : (origin : OriginValue) (asked : AskedValue) (recording : RecordingValue) (report : ReportValue) (directory : DirectoryValue)
+    → depth (page_json origin asked recording report directory) ≤ max_depth
+page_within origin asked recording report directory =
     let pairs = pairs_with_charts recording report in
-    let own : members_depth (members_of (own_members asked recording directory pairs)) ≤ 5 =
-    omega (arith, options_within asked, endpoints_within directory, chart_part recording.times (acts_judged recording) pairs) in
-    let all = joined 7 (check_members asked recording report) (own_members asked recording directory pairs) (check_depth asked recording report) (omega (arith, own)) in
+    let rows = rows_of report in
+    let own : members_depth (members_of (own_members origin asked recording rows directory pairs)) ≤ 5 =
+    omega (arith, recording_within origin recording.times, joining_within recording.times rows, options_within asked, endpoints_within directory, chart_part recording.times (acts_judged recording) pairs) in
+    let all = joined 7 (check_members asked recording report) (own_members origin asked recording rows directory pairs) (check_depth asked recording report) (omega (arith, own)) in
     omega (arith, all)

@@ -10,9 +10,9 @@ use Rattle.std.specs.List.Sorted.{IsStrictlyIncreasing, IsStrictlySortedBy}
 use Rattle.std.specs.Ordering.{MatchOrdering, nat_cmp}
 use Rattle.json.specs.Json.{Json}
 use Rattle.json.specs.Tree.{json_tokens}
-use Rattle.rtps_evidence.specs.Times.{TimesValue, second_of, time_of}
+use Rattle.rtps_evidence.specs.Times.{TimesValue, frame_of, second_of, time_of}
 use Rattle.rtps_lines.specs.Lines.{second_in}
-use Rattle.rtps_page.specs.ChartTimes.{is_among, time_json, times_json}
+use Rattle.rtps_page.specs.ChartTimes.{is_among, time_json, time_of_json, times_json}
 
 -- ---- what is kept of numbers
 
@@ -121,11 +121,12 @@ first_none f false xs none = refl
 
 -- the tokens of the times of datagrams that rise, and that are those that are shown
 pub times_tokens : (times : TimesValue) (shown ns : List ℕ) → IsStrictlyIncreasing ns → ((n : ℕ) → is_among ns n ≡ is_among shown n)
-    → flat_map (λ datagram. flat_map json_tokens (time_json datagram (second_in times datagram))) ns ≡ flat_map json_tokens (times_json times shown)
+    → flat_map (λ datagram. flat_map json_tokens (time_of_json times datagram)) ns ≡ flat_map json_tokens (times_json times shown)
 times_tokens times shown ns rising same =
-    let f : ℕ → List Json = λ datagram. time_json datagram (second_in times datagram) in
+    let f : ℕ → List Json = time_of_json times in
+    let frame : ℕ → Option ℕ = frame_of times.frames in
     let size = length times.of_datagrams in
     let all = rising_give f (is_among shown) (suc size) 0 ns (rise_all ns (sorted_from_strictly_increasing ns rising)) (λ k low. sym (same k))
-    (λ k past. ap (time_json k) (past_times times k (omega (arith, past)))) in
+    (λ k past. ap (time_json k (frame k)) (past_times times k (omega (arith, past)))) in
     flat_twice f json_tokens ns
-    ∙ ap (flat_map json_tokens) (all ∙ first_none f (is_among shown 0) (filter (is_among shown) (range_with_len 1 size)) (ap (time_json 0) (no_second times.start (time_of times.of_datagrams 0) refl)))
+    ∙ ap (flat_map json_tokens) (all ∙ first_none f (is_among shown 0) (filter (is_among shown) (range_with_len 1 size)) (ap (time_json 0 (frame 0)) (no_second times.start (time_of times.of_datagrams 0) refl)))

@@ -11,4 +11,6 @@ pub use Rattle.rtps_lines.proofs.Offered.{eight_parts, five_parts, four_parts, m
 pub use Rattle.rtps_parts.specs.Names.{guid_text, octet_text}
 pub use Rattle.rtps_page.specs.ChartEntries.{base_json, entries_at, entries_by, entry_json, gone_json, members_of, named_json, one_gone_json}
 pub use Rattle.rtps_page.specs.ChartRoom.{writers_behind}
+pub use Rattle.rtps_page.specs.Joining.{joined_json, joined_member, joining_json}
+pub use Rattle.rtps_page.specs.Origin.{moment_json, origin_value, recording_member, recording_members}
 pub use Rattle.rtps_page.specs.Page.{acts_judged, answers_json, chart_members, directory_member, endpoint_json, expect_json, guid_json, intake_in, json_in, members_in, option_members, options_member, own_members, times_member, writer_json}

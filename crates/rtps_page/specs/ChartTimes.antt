@@ -1,5 +1,5 @@
 -- When the datagrams came that stand in the entries of charts. own: an entry names its datagram by its number. So a page tells the
--- second of each such datagram once, and not in each entry.
+-- second and the frame of each such datagram once, and not in each entry.
 use Rattle.std.specs.Prelude.{ℕ, ◌++◌, ◌==◌, nat_lt, Bool, List, [], ◌∷◌, filter, length, map, Option, None, Some, flat_map}
 use Rattle.std.specs.List.{list_any, range_with_len}
 use Rattle.json.specs.Json.{Json}
@@ -7,7 +7,7 @@ use Rattle.rtps_ids.specs.declared.identity.Guid.{Guid}
 use Rattle.rtps_receiver.specs.Speech.{is_spoken_by}
 use Rattle.rtps_discovery.specs.declared.matching.Pair.{Pair}
 use Rattle.rtps_audit.specs.Placed.{PlacedValue, answers_among}
-use Rattle.rtps_evidence.specs.Times.{TimesValue}
+use Rattle.rtps_evidence.specs.Times.{TimesValue, frame_of}
 use Rattle.rtps_evidence.specs.declared.times.Seconds.{Seconds}
 use Rattle.rtps_lines.specs.JsonText.{array_of, count_json, second_json}
 use Rattle.rtps_lines.specs.Lines.{second_in}
@@ -34,12 +34,21 @@ datagrams_shown acts pairs = flat_map (said_in acts) (writers_behind None pairs)
 abbrev pub is_among : List ℕ → ℕ → Bool
 is_among numbers number = list_any (λ other. number == other) numbers
 
--- a datagram and its second; nothing where it has no time
-abbrev pub time_json : ℕ → Option Seconds → List Json
-time_json datagram None = []
-time_json datagram (Some second) = array_of (count_json datagram ∷ second_json (Some second) ∷ []) ∷ []
+-- a frame as an item; nothing where there is none
+abbrev pub frame_items : Option ℕ → List Json
+frame_items None = []
+frame_items (Some frame) = count_json frame ∷ []
+
+-- a datagram, its second and its frame; nothing where it has no time
+abbrev pub time_json : ℕ → Option ℕ → Option Seconds → List Json
+time_json datagram frame None = []
+time_json datagram frame (Some second) = array_of (count_json datagram ∷ second_json (Some second) ∷ frame_items frame) ∷ []
+
+-- that of a datagram of a recording
+abbrev pub time_of_json : TimesValue → ℕ → List Json
+time_of_json times datagram = time_json datagram (frame_of times.frames datagram) (second_in times datagram)
 
 -- of all datagrams of a recording those that are shown and have a time, each with its second
 abbrev pub times_json : TimesValue → List ℕ → List Json
 times_json times shown =
-    flat_map (λ datagram. time_json datagram (second_in times datagram)) (filter (is_among shown) (range_with_len 1 (length times.of_datagrams)))
+    flat_map (time_of_json times) (filter (is_among shown) (range_with_len 1 (length times.of_datagrams)))

@@ -2,15 +2,15 @@
 -- Interchange Format".
 -- own: a page is three constant texts with two recorded ones between them: the text of `check`, which is shown where scripts do not run
 -- and is printed, and the data from which the scripts of the page make all that they show. No tag can begin in what is recorded. The
--- data is the object of `check --json`; behind its members stand what was asked, what discovery announced as `list` prints it, and for
--- the rows that have a chart what their writers say and their readers answer, and when the datagrams of that came, in the order
--- given here.
+-- data is the object of `check --json`; behind its members stand which recording it is of, what was asked, what discovery announced as
+-- `list` prints it, where readers join, and for the rows that have a chart what their writers say and their readers answer, and when the
+-- datagrams of that came, in the order given here.
 use Rattle.std.specs.Prelude.{ℕ, ◌≡◌, ◌++◌, List, [], ◌∷◌, codes, map, Option, None, Some, IsUtf8}
 use Rattle.json.specs.Json.{Json, boolean, null, string, document}
 use Rattle.json.specs.Lex.{tokens}
 use Rattle.json.specs.Print.{print}
 use Rattle.json.specs.Tree.{json_tokens}
-use Rattle.rtps_report.specs.Vocabulary.{acts_together, Intake, intake_as, Pair, Read}
+use Rattle.rtps_report.specs.Vocabulary.{acts_together, ExplanationValue, Intake, intake_as, Pair, Read}
 use Rattle.rtps_ids.specs.declared.identity.Guid.{Guid}
 use Rattle.rtps_discovery.specs.Directory.{DirectoryValue, settled_in, IsMapOf}
 use Rattle.rtps_discovery.specs.Endpoint.{EndpointValue}
@@ -26,6 +26,8 @@ use Rattle.rtps_parts.specs.Names.{guid_text}
 use Rattle.rtps_page.specs.ChartEntries.{base_json, entries_by}
 use Rattle.rtps_page.specs.ChartRoom.{charted_pairs, writers_behind}
 use Rattle.rtps_page.specs.ChartTimes.{datagrams_shown, times_json}
+use Rattle.rtps_page.specs.Joining.{joined_member}
+use Rattle.rtps_page.specs.Origin.{OriginValue, origin_value, recording_member}
 use Rattle.rtps_page.specs.declared.page_data.Shown.{Shown}
 use Rattle.rtps_page.specs.SafeText.{IsSafe, IsShownAs, in_html, in_json, safe_text}
 use Rattle.rtps_page.specs.declared.page_parts.TheConstants.{HEAD, MIDDLE, TAIL}
@@ -84,19 +86,20 @@ chart_members times acts pairs = (codes "writers", array_of (map (writer_json ac
 abbrev pub acts_judged : RecordingValue → List PlacedValue
 acts_judged recording = placed_in (intake_as Read recording.datagrams).acts
 
--- what a page has beside the object of `check --json`, for charts of these pairs
-abbrev pub own_members : AskedValue → RecordingValue → DirectoryValue → List Pair → List Member
-own_members asked recording directory pairs =
-    options_member asked ∷ directory_member directory ∷ chart_members recording.times (acts_judged recording) pairs
+-- what a page of these rows has beside the object of `check --json`, for charts of these pairs
+abbrev pub own_members : OriginValue → AskedValue → RecordingValue → List ExplanationValue → DirectoryValue → List Pair → List Member
+own_members origin asked recording rows directory pairs =
+    recording_member origin recording.times ∷ options_member asked ∷ directory_member directory ∷ joined_member recording.times rows
+    ∷ chart_members recording.times (acts_judged recording) pairs
 
 -- which rows have a chart
 abbrev pub pairs_with_charts : RecordingValue → ReportValue → List Pair
 pairs_with_charts recording report = charted_pairs (acts_judged recording) (rows_of report)
 
 -- all of it
-abbrev pub page_json : AskedValue → RecordingValue → ReportValue → DirectoryValue → Json
-page_json asked recording report directory =
-    object_of (check_members asked recording report ++ own_members asked recording directory (pairs_with_charts recording report))
+abbrev pub page_json : OriginValue → AskedValue → RecordingValue → ReportValue → DirectoryValue → Json
+page_json origin asked recording report directory =
+    object_of (check_members asked recording report ++ own_members origin asked recording (rows_of report) directory (pairs_with_charts recording report))
 
 -- what the report of a page is by
 abbrev pub intake_in : Shown → Intake
@@ -107,11 +110,12 @@ abbrev pub members_in : Shown → List Pair → List Member
 members_in shown pairs =
     let asked = asked_value shown.report.now.asked.now in
     let recording = shown.report.now.recording.now in
-    check_members asked recording (report_value shown.report.now) ++ own_members asked recording shown.directory.now pairs
+    let report = report_value shown.report.now in
+    check_members asked recording report ++ own_members (origin_value shown.origin) asked recording (rows_of report) shown.directory.now pairs
 
 -- its data
 abbrev pub json_in : Shown → Json
-json_in shown = page_json (asked_value shown.report.now.asked.now) shown.report.now.recording.now (report_value shown.report.now) shown.directory.now
+json_in shown = page_json (origin_value shown.origin) (asked_value shown.report.now.asked.now) shown.report.now.recording.now (report_value shown.report.now) shown.directory.now
 
 -- this is the text of a value, in UTF-8, and its tokens are read back
 pub record IsPrinted (value : Json) (text : List ℕ) : Type 0 where
@@ -137,15 +141,15 @@ pub record IsPageWith (plain : List ℕ) (value : Json) (page : List ℕ) : Type
   pub data_is_safe : IsSafe (data_text value)
   pub reads_back : document (data_text value) ≡ Some value
 
--- the page of a report, and of what discovery announced, with this text
-pub record IsPageOf (asked : AskedValue) (recording : RecordingValue) (report : ReportValue) (plain page : List ℕ) : Type 0 where
+-- the page of a report, and of what discovery announced, of the recording of this origin, with this text
+pub record IsPageOf (origin : OriginValue) (asked : AskedValue) (recording : RecordingValue) (report : ReportValue) (plain page : List ℕ) : Type 0 where
   pub directory : DirectoryValue
   pub is_map : IsMapOf (acts_together (intake_as Read recording.datagrams).announcing) directory
-  pub is_page : IsPageWith plain (page_json asked recording report directory) page
+  pub is_page : IsPageWith plain (page_json origin asked recording report directory) page
 
--- of what is asked of a recording, beside the same other one, there is one page with each text
+-- of what is asked of a recording of one origin, beside the same other one, there is one page with each text
 abbrev pub HasOnePage : Type 0
 HasOnePage =
-    (asked : AskedValue) (theirs : Option RecordingValue) (recording : RecordingValue) (one other : ReportValue) (plain page last : List ℕ)
-    → IsFullReport asked theirs recording one → IsFullReport asked theirs recording other → IsPageOf asked recording one plain page → IsPageOf asked recording other plain last
+    (origin : OriginValue) (asked : AskedValue) (theirs : Option RecordingValue) (recording : RecordingValue) (one other : ReportValue) (plain page last : List ℕ)
+    → IsFullReport asked theirs recording one → IsFullReport asked theirs recording other → IsPageOf origin asked recording one plain page → IsPageOf origin asked recording other plain last
     → page ≡ last

@@ -4,9 +4,9 @@ ghost use Rattle.json.specs.Tree.{json_tokens};
 ghost use Rattle.rtps_audit.specs.Index.{IsIndexBy};
 ghost use Rattle.rtps_audit.specs.Intake.{Intake};
 ghost use Rattle.rtps_audit.specs.Placed.{placed_in};
+ghost use Rattle.rtps_evidence.specs.Times.{frame_of as frame_of_lem};
 ghost use Rattle.rtps_lines.specs.JsonText.{clock_times, timed_members, tokens_of};
-ghost use Rattle.rtps_lines.specs.Lines.{second_in};
-ghost use Rattle.rtps_page.specs.ChartTimes.{answered_in, datagrams_shown as datagrams_shown_lem, is_among, said_in, time_json};
+ghost use Rattle.rtps_page.specs.ChartTimes.{answered_in, datagrams_shown as datagrams_shown_lem, frame_items, is_among, said_in, time_of_json};
 ghost use Rattle.rtps_page.specs.Page.{times_member};
 
 use crate::chart_writers::writers_of;
@@ -89,10 +89,32 @@ fn datagrams_shown(alloc: Global, index: &Index<'_>, pairs: &[Pair]) -> Result<V
     Ok(numbers)
 }
 
-/// Appends a datagram and its second, where it has a time.
+/// The frame of a datagram, if there is one and frames are told.
+fn frame_of(clock: Clock<'_>, datagram: u64) -> Option<u64>
+    ensures { result ≡ frame_of_lem (clock_times clock.entry).frames datagram }
+{
+    if clock.framed {
+        clock.times.frame(datagram)
+    } else {
+        None
+    }
+}
+
+/// Appends a frame, if there is one.
+fn push_frame(writer: &mut Writer, frame: Option<u64>) -> Result<(), AllocError>
+    ensures tokens { OnOk result (writer.new.tokens ≡ writer.old.tokens ++ flat_map json_tokens (frame_items frame)) }
+    ensures before { writer.new.before ≡ writer.old.before }
+{
+    match frame {
+        Some(frame) => writer.u64(frame),
+        None => Ok(()),
+    }
+}
+
+/// Appends a datagram, its second and its frame, where it has a time.
 fn push_time(writer: &mut Writer, clock: Clock<'_>, datagram: u64) -> Result<(), AllocError>
     ensures tokens { OnOk result (writer.new.tokens
-        ≡ writer.old.tokens ++ flat_map json_tokens (time_json datagram (second_in (clock_times clock.entry) datagram))) }
+        ≡ writer.old.tokens ++ flat_map json_tokens (time_of_json (clock_times clock.entry) datagram)) }
     ensures before { writer.new.before ≡ writer.old.before }
 {
     let Some(second) = clock.times.second(datagram) else {
@@ -101,6 +123,7 @@ fn push_time(writer: &mut Writer, clock: Clock<'_>, datagram: u64) -> Result<(),
     writer.begin_array()?;
     writer.u64(datagram)?;
     push_seconds(writer, second, clock.alloc)?;
+    push_frame(writer, frame_of(clock, datagram))?;
     writer.end_array()
 }
 
@@ -110,7 +133,7 @@ fn push_each_time(
     datagrams: &[u64],
 ) -> Result<(), AllocError>
     ensures tokens { OnOk result (writer.new.tokens ≡ writer.old.tokens
-        ++ flat_map (λ datagram. flat_map json_tokens (time_json datagram (second_in (clock_times clock.entry) datagram))) datagrams.now) }
+        ++ flat_map (λ datagram. flat_map json_tokens (time_of_json (clock_times clock.entry) datagram)) datagrams.now) }
     ensures before { writer.new.before ≡ writer.old.before }
 {
     for datagram in datagrams {

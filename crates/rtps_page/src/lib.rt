@@ -8,11 +8,14 @@ mod chart_room;
 mod chart_times;
 mod chart_writers;
 mod entry_counts;
+mod joining;
 pub mod laws;
+mod origin;
 mod page;
 mod page_data;
 mod page_directory;
 mod page_parts;
 mod safe_text;
 
+pub use origin::Origin;
 pub use page::page_text;

@@ -4,10 +4,12 @@ ghost use Rattle.rtps_fragments.specs.RecordedSamples.{intake_as};
 ghost use Rattle.rtps_fragments.specs.declared.fragments.Fragments.TheVariants.{Read};
 ghost use Rattle.rtps_report.specs.Asked.{asked_value};
 ghost use Rattle.rtps_report.specs.FullReport.{report_value};
+ghost use Rattle.rtps_page.specs.Origin.{origin_value};
 ghost use Rattle.rtps_page.specs.Page.{IsPageOf};
 ghost use Rattle.rtps_page.specs.SafeText.{in_html, in_json, safe_text};
 ghost use Rattle.rtps_page.specs.declared.page_parts.TheConstants.{HEAD as HEAD_TEXT, MIDDLE as MIDDLE_TEXT, TAIL as TAIL_TEXT};
 
+use crate::origin::Origin;
 use crate::page_data::{Shown, data_of};
 use crate::page_parts::{HEAD, MIDDLE, TAIL};
 use crate::safe_text::{Place, push_safe};
@@ -15,14 +17,26 @@ use rtps_ids::Memory;
 use rtps_report::FullReport;
 use std::alloc::{AllocError, Global};
 
-/// What `page` writes of a report; `plain` is what `check` prints of it. `Memory` is answered where the page, or what is kept for it,
+/// What `page` writes of a report, which is of the recording of this origin; `plain` is what `check` prints of it. `Memory` is answered where the page, or what is kept for it,
 /// cannot grow.
-pub fn page_text(alloc: Global, report: &FullReport<'_>, plain: &str) -> Result<String, Memory>
+pub fn page_text(
+    alloc: Global,
+    report: &FullReport<'_>,
+    plain: &str,
+    origin: Origin<'_>,
+) -> Result<String, Memory>
     requires { IsIndexBy (intake_as Read report.now.recording.now.datagrams) report.now.index }
-    ensures { IfOk result (λ page. IsPageOf (asked_value report.now.asked.now) report.now.recording.now (report_value report.now) plain.now (string_bytes page)) }
+    ensures { IfOk result (λ page. IsPageOf (origin_value origin) (asked_value report.now.asked.now) report.now.recording.now (report_value report.now) plain.now (string_bytes page)) }
 {
     let directory = report.index.directory();
-    let data = data_of(alloc, &Shown { report, directory })?;
+    let data = data_of(
+        alloc,
+        &Shown {
+            report,
+            directory,
+            origin,
+        },
+    )?;
     let page = joined(alloc, plain, &data)?;
     Ok(unsafe { String::from_utf8_unchecked(page) })
 }

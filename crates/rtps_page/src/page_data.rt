@@ -12,6 +12,8 @@ use crate::chart_answers::push_all_answers;
 use crate::chart_room::pairs_with_charts;
 use crate::chart_times::push_times;
 use crate::chart_writers::push_writers;
+use crate::joining::push_all_joined;
+use crate::origin::{Origin, push_recording};
 use crate::page_directory::push_directory;
 use json::Writer;
 use rtps_audit::Index;
@@ -21,11 +23,12 @@ use rtps_lines::{Clock, push_check_members, push_count, push_texts};
 use rtps_report::{Asked, FullReport};
 use std::alloc::{AllocError, Global};
 
-/// What a page shows: the report, and what discovery announced.
+/// What a page shows: the report, what discovery announced, and which recording it is of.
 #[derive(Clone, Copy)]
 pub(crate) struct Shown<'r, 'a> {
     pub(crate) report: &'r FullReport<'a>,
     pub(crate) directory: &'r Directory<'a>,
+    pub(crate) origin: Origin<'r>,
 }
 
 fn push_flag(writer: &mut Writer, name: &str, flag: bool) -> Result<(), AllocError>
@@ -102,8 +105,10 @@ fn push_members(
         framed: true,
     };
     push_check_members(alloc, writer, report)?;
+    push_recording(writer, shown.origin, clock.times)?;
     push_options(writer, report.asked)?;
     push_directory(writer, &mut text, shown.directory)?;
+    push_all_joined(writer, clock, &report.explained.rows)?;
     push_charts(writer, clock, &report.index, pairs)?;
     Ok(())
 }

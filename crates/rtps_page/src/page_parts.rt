@@ -6,7 +6,7 @@ pub(crate) const HEAD: &str = "\
 <html lang=\"en\">\n\
 <head>\n\
 <meta charset=\"utf-8\">\n\
-<meta http-equiv=\"Content-Security-Policy\" content=\"default-src 'none'; style-src 'sha256-Abe3C/WIz3ss57X61ogih5ojFMyspfGHl4Ypeg/rUdA='; script-src 'sha256-hpmW3mDyoQhB9f0WRZW6RarG+nvTxqFH2yl+nJ5/Zek=' 'sha256-DKRaOc6boPeID2Q1eigw1AR+4ov/GucHsnZYowMUgh0=' 'sha256-gK9uXRMqayxEKG6mFjKwZcia0MvlKZKvzSq2+HcE4mY=' 'sha256-ZqZ9gTJKunDDzP570w15rKAm0wAfAWUIpGKPZXF65ws=' 'sha256-JPTwWB7I1w9tp3wwiQ14dc5dSDaOeIVez/qpxdlW2Ow=' 'sha256-9qXE01LSu2pyhSK/gx7hU21EubElYvQnl3lcwip1TZk=' 'sha256-qYVlcvDsrJla7cbqzS5xi5/MVZWOWKHBgZKG7flkdto=' 'sha256-bVfDlhd3UBLgvAho3xioCAA/Cq2WySbTS1H1TgIHA1o=' 'sha256-psDdiwMCniFLJoIYOjP3OeSKWuH/t8VTyIN0miyPSjg=' 'sha256-ncKhZ8LJHPHpxsbShdWaihXHet0HRxgWttYRDNL5HT4=' 'sha256-L5++YkTFEJl3kdO/H0jWJMkHnWI15lupByHpRLDl5VA='; base-uri 'none'; form-action 'none'\">\n\
+<meta http-equiv=\"Content-Security-Policy\" content=\"default-src 'none'; style-src 'sha256-0H2cmGc1O9PDNtmP+zYMvMQN+iKV75f2advRxNvJ/bw='; script-src 'sha256-hpmW3mDyoQhB9f0WRZW6RarG+nvTxqFH2yl+nJ5/Zek=' 'sha256-Vt2ps2WP+rieCsB70BV2OBsqUS0AI8cp2d9wvXog9RA=' 'sha256-YCqWE7m6727STVt6+xf8mHOMpHhybRxUFbBqkDrm57E=' 'sha256-/5wxXKH2ehqdl6c93p/yZVbTa5TCEF07mY4w7cGAMf8=' 'sha256-Y0hwpdARHBLcAbojrMfPitr43deUAljk9Ch6RAu9K1w=' 'sha256-Fvj5UUctYjHTySJUsB6o+6Bk01Tfc/apGUpw1p0sTYY=' 'sha256-L/u27wn/Pk8O6WtK37Ce0RrO4fWUdMQ1eo5LiWFLnAc=' 'sha256-4tWXah2sY4CWPb6cCTzh2gIFnsUakd8rNiOPj8UTYuc=' 'sha256-0I3mV6U631dfGFiRLLnjV8b8RM5KqJxkChga9c6eak8=' 'sha256-o4XRL8aUxU93JEPeOMEitUmPrvzYuAlitCKcKRiRePg=' 'sha256-LkKM7w0jClpO1HpYYDW21GdB9nzQrd7o1c9O4NfMl6c=' 'sha256-1FP6QRXw84dRn5MOgF1RiIoZaHoiLPjSV2lQyzUeo9E=' 'sha256-uvj8D2CsPVn8abqL+tKLZ9PrBdOnwiCB8dfcyJYwoS0='; base-uri 'none'; form-action 'none'\">\n\
 <meta name=\"viewport\" content=\"width=device-width, initial-scale=1\">\n\
 <meta name=\"color-scheme\" content=\"light dark\">\n\
 <meta name=\"referrer\" content=\"no-referrer\">\n\
@@ -17,6 +17,7 @@ pub(crate) const HEAD: &str = "\
 --ink: #1a1d21;\n\
 --faint: #55606b;\n\
 --line: #cbd2da;\n\
+--grid: #e3e7ec;\n\
 --link: #0a54a8;\n\
 --focus: #0a54a8;\n\
 --unfounded: #a11528;\n\
@@ -25,11 +26,12 @@ pub(crate) const HEAD: &str = "\
 --missed: #9a3b00;\n\
 --complete: #17652f;\n\
 --data: #0a54a8;\n\
+--samples: #a9c8ec;\n\
 --band: #d9dde2;\n\
 --band-edge: #6b7681;\n\
 --announced: #55606b;\n\
 --acknowledged: #17652f;\n\
---mark: #a11528;\n\
+--mark: #b3122a;\n\
 }\n\
 @media screen and (prefers-color-scheme: dark) {\n\
 :root:not(.printed) {\n\
@@ -38,6 +40,7 @@ pub(crate) const HEAD: &str = "\
 --ink: #e7eaed;\n\
 --faint: #a9b2bb;\n\
 --line: #3b434b;\n\
+--grid: #2a3036;\n\
 --link: #85b9ff;\n\
 --focus: #ffd166;\n\
 --unfounded: #ff8f9a;\n\
@@ -46,6 +49,7 @@ pub(crate) const HEAD: &str = "\
 --missed: #ff9d6b;\n\
 --complete: #74d08f;\n\
 --data: #85b9ff;\n\
+--samples: #2f5580;\n\
 --band: #343b43;\n\
 --band-edge: #8b95a0;\n\
 --announced: #a9b2bb;\n\
@@ -58,12 +62,13 @@ html {\n\
 color: var(--ink);\n\
 background: var(--sheet);\n\
 font: 16px/1.45 system-ui, -apple-system, 'Segoe UI', 'DejaVu Sans', sans-serif;\n\
+scroll-padding-top: 52px;\n\
 }\n\
 body { max-width: 1240px; margin: 0 auto; padding: 16px; overflow-wrap: break-word; }\n\
-h1 { font-size: 1.75rem; line-height: 1.2; margin: 4px 0 8px; }\n\
-h2 { font-size: 1.25rem; margin: 28px 0 8px; }\n\
-h3 { font-size: 1.05rem; margin: 0 0 8px; }\n\
-h4 { font-size: 0.95rem; margin: 14px 0 4px; }\n\
+h1 { font-size: 1.6rem; line-height: 1.2; margin: 2px 0 4px; overflow-wrap: anywhere; }\n\
+h2 { font-size: 1.25rem; margin: 26px 0 6px; }\n\
+h3 { font-size: 1.05rem; margin: 0 0 6px; }\n\
+h4 { font-size: 0.95rem; margin: 12px 0 4px; }\n\
 p { margin: 0 0 6px; }\n\
 ul { margin: 0; padding-left: 1.2em; }\n\
 a { color: var(--link); }\n\
@@ -75,10 +80,32 @@ section:focus { outline: none; }\n\
 [hidden] { display: none !important; }\n\
 .hidden { position: absolute; width: 1px; height: 1px; overflow: hidden; clip-path: inset(50%); white-space: nowrap; }\n\
 .skip { position: absolute; left: -999px; }\n\
-.skip:focus { left: 16px; top: 4px; background: var(--sheet); padding: 4px 8px; z-index: 2; }\n\
-#asked, #line { color: var(--faint); font-size: 0.9rem; }\n\
-#explained { color: var(--faint); max-width: 90ch; font-size: 0.9rem; }\n\
-#received { font-weight: 600; }\n\
+.skip:focus { left: 16px; top: 4px; background: var(--sheet); padding: 4px 8px; z-index: 3; }\n\
+#program, #when { color: var(--faint); font-size: 0.9rem; }\n\
+#program { margin: 0; }\n\
+#when b { color: var(--ink); }\n\
+.outcome { border: 1px solid var(--line); border-radius: 6px; padding: 10px 14px; margin: 10px 0 8px; background: var(--panel); }\n\
+#outcome { display: inline; margin: 0; }\n\
+.more-said { font-weight: 600; }\n\
+#received { display: inline; margin: 0 0 0 8px; font-weight: 600; }\n\
+#because { margin-top: 6px; columns: 2 420px; column-gap: 28px; }\n\
+#hosts { list-style: none; padding: 0; font-size: 0.92rem; display: flex; flex-wrap: wrap; gap: 2px 24px; overflow-wrap: anywhere; }\n\
+#bar {\n\
+position: sticky;\n\
+top: 0;\n\
+z-index: 2;\n\
+display: flex;\n\
+gap: 4px 18px;\n\
+padding: 8px 0;\n\
+margin-top: 10px;\n\
+background: var(--sheet);\n\
+border-bottom: 1px solid var(--line);\n\
+font-size: 0.92rem;\n\
+overflow-x: auto;\n\
+white-space: nowrap;\n\
+}\n\
+#bar a { text-decoration: none; font-weight: 600; padding: 2px; }\n\
+#bar a:hover { text-decoration: underline; }\n\
 .badge {\n\
 display: inline-block;\n\
 padding: 0 8px;\n\
@@ -95,56 +122,106 @@ white-space: nowrap;\n\
 .badge.missed { border: 1.5px dashed var(--missed); color: var(--missed); }\n\
 .badge.lost { border: 1.5px dashed var(--missed); color: var(--missed); }\n\
 .badge.complete, .badge.clean { border-color: var(--complete); color: var(--complete); }\n\
-#verdicts { display: flex; flex-wrap: wrap; gap: 8px; margin: 10px 0 0; }\n\
+.badge.outcome { font-size: 1.15rem; padding: 1px 12px; margin: 0; border: 0; }\n\
+.badge.outcome.bad { background: var(--mark); color: var(--sheet); text-decoration: none; }\n\
+.badge.outcome.good { background: var(--complete); color: var(--sheet); }\n\
+#verdicts { display: flex; flex-wrap: wrap; gap: 8px; margin: 8px 0 0; }\n\
 #verdicts .badge { cursor: pointer; font-family: inherit; font-size: 0.95rem; padding: 3px 12px; }\n\
 #verdicts .badge.lost, #verdicts .badge.clean { background: none; }\n\
 #verdicts .badge[aria-pressed='true'] { outline: 3px double var(--ink); outline-offset: 2px; }\n\
 #verdicts .badge[aria-pressed='true']::before { content: '✓ '; }\n\
 .dds, .type, .hint, .qos { color: var(--faint); font-size: 0.85rem; font-weight: 400; }\n\
+.hint { max-width: 110ch; }\n\
 .type .name { font-weight: 400; }\n\
-.name, .dds, .hint, .which, .node { overflow-wrap: anywhere; }\n\
+.name, .dds, .hint, .node, .host { overflow-wrap: anywhere; }\n\
+.which { overflow-wrap: anywhere; }\n\
 .guid { color: var(--faint); font-weight: 400; }\n\
-.pairs td .guid { display: block; }\n\
 .short { font-weight: 600; }\n\
-.node, .host { font-size: 0.9rem; font-weight: 400; }\n\
+.node { font-size: 0.9rem; }\n\
+.host { font-size: 0.85rem; font-weight: 400; color: var(--faint); }\n\
+.strips { margin-top: 6px; border-top: 1px solid var(--line); }\n\
+.strip {\n\
+display: grid;\n\
+grid-template-columns: 210px minmax(0, 1fr) 190px;\n\
+gap: 10px;\n\
+align-items: center;\n\
+border-bottom: 1px solid var(--line);\n\
+color: inherit;\n\
+text-decoration: none;\n\
+font-size: 0.9rem;\n\
+}\n\
+a.strip:hover { background: var(--panel); }\n\
+a.strip:focus-visible { outline-offset: -3px; }\n\
+.strip-name { overflow: hidden; text-overflow: ellipsis; white-space: nowrap; padding-left: 4px; }\n\
+.strip.bad .strip-name { font-weight: 600; }\n\
+.strip-words { color: var(--faint); font-size: 0.85rem; }\n\
+.lost-words { color: var(--mark); }\n\
+.strip-picture { display: block; width: 100%; height: 32px; }\n\
+.strip-axis { display: block; width: 100%; height: 18px; overflow: visible; }\n\
+.strip-axis text { fill: var(--faint); font-size: 12px; }\n\
+.axis-line { border-bottom: 0; color: var(--faint); font-size: 0.85rem; min-height: 20px; align-items: start; }\n\
+.grid { stroke: var(--grid); fill: none; }\n\
+.samples { fill: var(--samples); }\n\
+.mark { fill: var(--mark); }\n\
+.mark.unsent { fill: var(--sheet); stroke: var(--mark); stroke-width: 1.5; }\n\
+.mark.not_arrived { fill: none; stroke: var(--mark); stroke-width: 2.25; }\n\
+.mark.joins { fill: var(--complete); }\n\
+.mark.leaves { fill: var(--sheet); stroke: var(--ink); stroke-width: 1.5; }\n\
+.mark.silent { fill: var(--ink); }\n\
 .wide { overflow-x: auto; }\n\
 table { border-collapse: collapse; width: 100%; font-size: 0.92rem; }\n\
-th, td { text-align: left; vertical-align: top; padding: 6px 10px 6px 0; border-bottom: 1px solid var(--line); }\n\
+th, td { text-align: left; vertical-align: top; padding: 5px 10px 5px 0; border-bottom: 1px solid var(--line); }\n\
 th { font-weight: 600; }\n\
 thead th { white-space: nowrap; border-bottom: 2px solid var(--ink); vertical-align: bottom; }\n\
 td p:last-child { margin-bottom: 0; }\n\
-.topics { table-layout: fixed; min-width: 640px; }\n\
-.topics th:nth-child(1) { width: 24%; }\n\
-.topics th:nth-child(2) { width: 40%; }\n\
+.event { border-left: 4px solid var(--mark); padding-left: 12px; margin: 10px 0 18px; }\n\
+.event:focus { outline: none; }\n\
+.topics { table-layout: fixed; }\n\
+.topics th:nth-child(1) { width: 22%; }\n\
+.topics th:nth-child(2) { width: 44%; }\n\
 .topics .which { padding: 0; list-style: none; font-size: 0.88rem; }\n\
-.advice::first-letter, .notes li::first-letter { text-transform: uppercase; }\n\
+.advice::first-letter, .notes b::first-letter, .todo::first-letter, #because li::first-letter { text-transform: uppercase; }\n\
 .topics .advice { font-weight: 600; }\n\
-.pairs thead th { white-space: normal; min-width: 70px; }\n\
-.pairs thead th.writer, .pairs thead th.reader { min-width: 110px; }\n\
+.todo { display: block; }\n\
+.pairs thead th { white-space: normal; min-width: 64px; }\n\
+.pairs thead th.verdict { min-width: 250px; }\n\
+.pairs thead th.writer, .pairs thead th.reader { min-width: 130px; }\n\
 .pairs thead button { all: unset; cursor: pointer; text-decoration: underline dotted; text-underline-offset: 3px; }\n\
 .pairs thead button:focus-visible { outline: 3px solid var(--focus); outline-offset: 2px; }\n\
 .pairs th[aria-sort='ascending'] button::after { content: ' ▲'; }\n\
 .pairs th[aria-sort='descending'] button::after { content: ' ▼'; }\n\
-.count { text-align: right; font-variant-numeric: tabular-nums; }\n\
+.count, .sum { text-align: right; font-variant-numeric: tabular-nums; }\n\
 .pairs tr.pair { cursor: pointer; }\n\
 .pairs tr.pair:hover { background: var(--panel); }\n\
-.pairs tr.pair > th { min-width: 150px; padding-left: 8px; }\n\
+.pairs tr.pair > th { padding-left: 20px; }\n\
 .pairs tr.pair > th a { text-decoration: none; color: inherit; display: block; }\n\
-.pairs tr.pair > th .number { text-decoration: underline; text-underline-offset: 3px; }\n\
+.pair-name { color: var(--link); text-decoration: underline; text-underline-offset: 3px; }\n\
 .pairs tr.chosen > * { border-bottom-color: transparent; background: var(--panel); }\n\
 .in-datagram { color: var(--faint); font-weight: 400; font-size: 0.85rem; }\n\
-.bad { text-decoration: underline; text-decoration-thickness: 2px; text-underline-offset: 3px; }\n\
-tr.group > th { padding-top: 16px; padding-left: 0; border-bottom: 1px solid var(--faint); }\n\
-tr.group .name { font-size: 1rem; }\n\
-tr.group .type { margin-left: 14px; }\n\
-tr.group .size { margin-left: 14px; color: var(--faint); font-weight: 400; font-size: 0.85rem; }\n\
+.bad > .sum, b.bad { text-decoration: underline; text-decoration-thickness: 2px; text-underline-offset: 3px; }\n\
+tr.group > * { border-bottom: 1px solid var(--faint); padding-top: 10px; }\n\
+tr.group .type { margin-left: 12px; }\n\
+tr.group .size, .clean-topics .size { margin-left: 12px; color: var(--faint); font-weight: 400; font-size: 0.85rem; }\n\
+tr.folded > td { padding-left: 20px; }\n\
+button.fold { all: unset; cursor: pointer; font-weight: 600; font-size: 0.98rem; overflow-wrap: anywhere; }\n\
+tr.folded button.fold { font-weight: 400; font-size: 0.9rem; color: var(--link); }\n\
+button.fold:focus-visible { outline: 3px solid var(--focus); outline-offset: 2px; }\n\
+button.fold::before { content: '▸ '; }\n\
+button.fold[aria-expanded='true']::before { content: '▾ '; }\n\
+.words { margin-top: 10px; }\n\
 .talk th { font-weight: 400; }\n\
 .talk thead th { font-weight: 600; }\n\
-.talk-part { margin-bottom: 20px; }\n\
-.endpoints tr.group .guid { margin-left: 8px; }\n\
-.endpoints tbody tr:not(.group) th { padding-left: 8px; white-space: nowrap; font-weight: 400; }\n\
+.talk-part { margin-bottom: 14px; }\n\
+.endpoints th { white-space: nowrap; font-weight: 400; }\n\
+.endpoints thead th { font-weight: 600; }\n\
+details > summary { cursor: pointer; }\n\
+.participant { border-bottom: 1px solid var(--line); }\n\
+.participant > summary { padding: 4px 0; }\n\
+.participant > summary > * { margin-right: 10px; }\n\
+.participant .life { color: var(--faint); font-size: 0.88rem; font-variant-numeric: tabular-nums; }\n\
+.participant[open] { padding-bottom: 12px; }\n\
 .tools { display: flex; flex-wrap: wrap; gap: 8px; align-items: center; margin: 8px 0; }\n\
-.tools input { flex: 1 1 220px; max-width: 420px; }\n\
+.tools input { flex: 1 1 200px; max-width: 420px; }\n\
 input, select, button { font: inherit; color: inherit; }\n\
 input, select { background: var(--sheet); border: 1px solid var(--faint); border-radius: 4px; padding: 4px 8px; min-height: 34px; }\n\
 .tools button, .controls button, .more {\n\
@@ -168,11 +245,13 @@ position: sticky;\n\
 left: 0;\n\
 max-width: calc(min(1240px, 100vw) - 32px);\n\
 }\n\
-.lead { font-weight: 600; }\n\
+.lead { font-weight: 600; overflow-wrap: anywhere; }\n\
 .detail-words .advice { border: 1px solid var(--faint); border-radius: 4px; padding: 8px 10px; background: var(--sheet); }\n\
+.rests-on { font-size: 0.92rem; }\n\
 .ends-list { display: grid; grid-template-columns: max-content 1fr; gap: 2px 12px; margin: 0 0 8px; }\n\
 .ends-list dt { color: var(--faint); }\n\
-.ends-list dd { margin: 0; }\n\
+.ends-list dd { margin: 0; overflow-wrap: anywhere; }\n\
+.names, .ranges { margin: 8px 0; font-size: 0.92rem; }\n\
 .chart { margin: 0; }\n\
 .chart canvas {\n\
 display: block;\n\
@@ -185,32 +264,37 @@ touch-action: pan-y;\n\
 }\n\
 .chart figcaption { color: var(--faint); font-size: 0.85rem; }\n\
 .controls { display: flex; flex-wrap: wrap; gap: 6px; margin: 8px 0; }\n\
-.controls button { padding: 1px 8px; min-height: 28px; font-size: 0.88rem; }\n\
-.readout { min-height: 1.45em; font-size: 0.92rem; }\n\
+.controls button { padding: 1px 8px; min-height: 28px; font-size: 0.88rem; background: var(--sheet); }\n\
+.readout { min-height: 1.45em; font-size: 0.92rem; margin-top: 6px; }\n\
 .legend { display: flex; flex-wrap: wrap; gap: 2px 16px; padding: 0; margin: 0 0 6px; list-style: none; font-size: 0.88rem; }\n\
-.legend svg { margin-right: 6px; vertical-align: -2px; }\n\
+.legend svg { margin-right: 6px; vertical-align: -3px; }\n\
+.strips ~ .legend svg, #picture .legend svg { vertical-align: -7px; }\n\
 .legend .sent { fill: var(--data); }\n\
 .legend .again { fill: none; stroke: var(--data); stroke-width: 1.5; }\n\
 .legend .band { fill: var(--band); stroke: var(--band-edge); }\n\
-.legend path { fill: none; }\n\
-.legend .announced { stroke: var(--announced); stroke-width: 1.25; }\n\
-.legend .acknowledged { stroke: var(--acknowledged); stroke-width: 3.5; }\n\
-.legend .answer { stroke: var(--acknowledged); stroke-width: 1.25; }\n\
-.legend .mark { stroke: var(--mark); stroke-width: 1.5; stroke-dasharray: 5 3; }\n\
+.legend .announced { fill: none; stroke: var(--announced); stroke-width: 1.25; }\n\
+.legend .acknowledged { fill: none; stroke: var(--acknowledged); stroke-width: 3.5; }\n\
+.legend .answer { fill: none; stroke: var(--acknowledged); stroke-width: 1.25; }\n\
+.legend .verdict-line { fill: none; stroke: var(--mark); stroke-width: 1.5; stroke-dasharray: 5 3; }\n\
+.legend .cross { fill: none; stroke: var(--mark); stroke-width: 2; }\n\
+.legend .came { fill: var(--acknowledged); }\n\
 .notes li { margin-bottom: 6px; }\n\
-.counts { display: grid; grid-template-columns: repeat(auto-fill, minmax(480px, 1fr)); gap: 0 28px; margin: 0; font-size: 0.92rem; }\n\
-.counts > div { display: grid; grid-template-columns: 96px 84px 1fr; gap: 10px; padding: 4px 0; border-bottom: 1px solid var(--line); }\n\
+.counts { display: grid; grid-template-columns: repeat(auto-fill, minmax(480px, 1fr)); gap: 0 28px; margin: 0; font-size: 0.88rem; }\n\
+.counts > div { display: grid; grid-template-columns: 96px 84px 1fr; gap: 10px; padding: 3px 0; border-bottom: 1px solid var(--line); }\n\
 .counts dt { font-weight: 600; }\n\
 .counts dd { margin: 0; }\n\
 .endpoints .unpaired .in-pairs { color: var(--faint); }\n\
-footer { margin-top: 32px; padding-top: 4px; border-top: 1px solid var(--line); color: var(--faint); font-size: 0.88rem; }\n\
+footer { margin-top: 28px; padding-top: 4px; border-top: 1px solid var(--line); color: var(--faint); font-size: 0.88rem; }\n\
 footer h2 { font-size: 1rem; margin: 8px 0 4px; }\n\
 @media (max-width: 980px) {\n\
 .detail-body { grid-template-columns: minmax(0, 1fr); }\n\
+.strip { grid-template-columns: 150px minmax(0, 1fr) 120px; }\n\
 }\n\
 @media screen and (max-width: 760px) {\n\
 body { padding: 12px; }\n\
-h1 { font-size: 1.4rem; }\n\
+h1 { font-size: 1.3rem; }\n\
+.strip { grid-template-columns: minmax(0, 1fr) auto; gap: 0 8px; padding: 3px 0; }\n\
+.strip > svg { grid-row: 2; grid-column: 1 / -1; }\n\
 .topics thead { position: absolute; clip-path: inset(50%); }\n\
 .topics, .topics tbody, .topics tr, .topics th, .topics td {\n\
 display: block;\n\
@@ -220,34 +304,35 @@ border: 0;\n\
 padding: 2px 0;\n\
 }\n\
 .topics tr { border-bottom: 1px solid var(--line); padding: 8px 0; }\n\
-.pairs .count { display: none; }\n\
-.pairs thead th.writer, .pairs thead th.reader, .pairs tr.pair > th, .pairs thead th { min-width: 0; }\n\
-.pairs tr.pair > th { padding-left: 0; }\n\
+.event { padding-left: 8px; }\n\
+.pairs .count, .pairs .sum { display: none; }\n\
+.pairs thead th.verdict, .pairs thead th.writer, .pairs thead th.reader, .pairs tr.pair > th, .pairs thead th { min-width: 0; }\n\
+.pairs tr.pair > th { padding-left: 4px; }\n\
 .pairs td, .pairs th { padding-right: 6px; }\n\
+.badge { white-space: normal; }\n\
 tr.group .type, tr.group .size { display: block; margin-left: 0; }\n\
 .endpoints thead { position: absolute; clip-path: inset(50%); }\n\
 .endpoints, .endpoints tbody, .endpoints tr, .endpoints th, .endpoints td { display: block; border: 0; padding: 1px 0; }\n\
 .endpoints tr { border-bottom: 1px solid var(--line); padding: 6px 0; }\n\
-.endpoints tbody tr:not(.group) th { padding-left: 0; }\n\
 .counts { grid-template-columns: 1fr; }\n\
 .detail-body { padding: 10px 8px; max-width: calc(100vw - 24px); }\n\
 }\n\
 @media print {\n\
 html { font-size: 11px; }\n\
 body { max-width: none; padding: 0; }\n\
-.skip, .tools, .controls, .readout, figcaption { display: none; }\n\
+.skip, .tools, .controls, .readout, figcaption, #bar, #verdicts, .more { display: none; }\n\
 .wide { overflow: visible; }\n\
 .scripted #text { display: block; break-before: page; }\n\
 #text pre { white-space: pre-wrap; overflow-wrap: anywhere; }\n\
 .pairs thead button { text-decoration: none; }\n\
 .pairs { font-size: 0.85rem; }\n\
-.topics, .pairs thead th, .pairs thead th.writer, .pairs thead th.reader, .pairs tr.pair > th { min-width: 0; }\n\
+.topics, .pairs thead th, .pairs thead th.verdict, .pairs thead th.writer, .pairs thead th.reader, .pairs tr.pair > th { min-width: 0; }\n\
 .pairs th, .pairs td { padding-right: 6px; }\n\
 thead { display: table-header-group; }\n\
-tr.pair, .topics tr, .chart, .advice { break-inside: avoid; }\n\
+tr.pair, .topics tr, .chart, .advice, .strip, .outcome { break-inside: avoid; }\n\
 h2, tr.group { break-after: avoid; }\n\
-.detail-body { grid-template-columns: 1fr; max-width: none; }\n\
-.badge { print-color-adjust: exact; }\n\
+.detail-body { grid-template-columns: 1fr; max-width: none; position: static; }\n\
+.badge, .strip { print-color-adjust: exact; }\n\
 a { color: inherit; }\n\
 }\n\
 @media (prefers-reduced-motion: reduce) {\n\
@@ -260,33 +345,45 @@ document.documentElement.classList.add('scripted');\n\
 </head>\n\
 <body>\n\
 <div id=\"page\" hidden>\n\
-<a class=\"skip\" href=\"#pairs\">To the pairs</a>\n\
+<a class=\"skip\" href=\"#happened\">To what happened</a>\n\
 <header>\n\
-<p id=\"asked\"></p>\n\
-<h1 id=\"outcome\"></h1>\n\
+<p id=\"program\"></p>\n\
+<h1 id=\"name\"></h1>\n\
+<p id=\"when\"></p>\n\
+<div class=\"outcome\">\n\
+<p id=\"outcome\"></p>\n\
 <p id=\"received\"></p>\n\
-<p id=\"explained\">A pair is a reliable writer and a reliable reader of one topic that match. It is complete if the reader acknowledged every\n\
-number that is asked about and that the writer announced.</p>\n\
-<p id=\"line\"></p>\n\
-<div id=\"verdicts\" role=\"group\" aria-label=\"Show only pairs with these verdicts\"></div>\n\
+<ul id=\"because\"></ul>\n\
+</div>\n\
+<ul id=\"hosts\"></ul>\n\
 </header>\n\
+<nav id=\"bar\" aria-label=\"Sections\"></nav>\n\
 <main>\n\
-<section id=\"topics\" aria-labelledby=\"topics-head\">\n\
-<h2 id=\"topics-head\">What to look at</h2>\n\
+<section id=\"picture\" aria-labelledby=\"picture-head\" tabindex=\"-1\" data-name=\"Picture\">\n\
+<h2 id=\"picture-head\">The recording in one picture</h2>\n\
 </section>\n\
-<section id=\"talk\" aria-labelledby=\"talk-head\">\n\
-<h2 id=\"talk-head\">Who does not talk</h2>\n\
+<section id=\"happened\" aria-labelledby=\"happened-head\" tabindex=\"-1\">\n\
+<h2 id=\"happened-head\">What happened</h2>\n\
 </section>\n\
-<section id=\"notes\" aria-labelledby=\"notes-head\">\n\
+<section id=\"talk\" aria-labelledby=\"talk-head\" tabindex=\"-1\" data-name=\"Discovery\">\n\
+<h2 id=\"talk-head\">Discovery that is not complete</h2>\n\
+</section>\n\
+<section id=\"pairs\" aria-labelledby=\"pairs-head\" tabindex=\"-1\" data-name=\"Topics\">\n\
+<h2 id=\"pairs-head\">Topics and their pairs</h2>\n\
+<p class=\"hint\">A pair is a reliable writer and a reliable reader of one topic that match. It is complete if the reader acknowledged every\n\
+number that is asked about and that the writer announced; open if it did not; unfounded if it acknowledged what the recording never\n\
+sent to it; and a conflict if two payloads have one number. A pair opens by a click.</p>\n\
+</section>\n\
+<section id=\"best-effort\" aria-labelledby=\"best-effort-head\" tabindex=\"-1\" data-name=\"Best effort\">\n\
+<h2 id=\"best-effort-head\">Pairs of best effort</h2>\n\
+</section>\n\
+<section id=\"notes\" aria-labelledby=\"notes-head\" tabindex=\"-1\" data-name=\"Notes\">\n\
 <h2 id=\"notes-head\">What weakens this report</h2>\n\
-</section>\n\
-<section id=\"pairs\" aria-labelledby=\"pairs-head\" tabindex=\"-1\">\n\
-<h2 id=\"pairs-head\">Pairs</h2>\n\
 </section>\n\
 <section id=\"participants\" aria-labelledby=\"participants-head\" tabindex=\"-1\">\n\
 <h2 id=\"participants-head\">Participants</h2>\n\
 </section>\n\
-<section id=\"counts\" aria-labelledby=\"counts-head\">\n\
+<section id=\"counts\" aria-labelledby=\"counts-head\" tabindex=\"-1\" data-name=\"Counts\">\n\
 <h2 id=\"counts-head\">Counts of the recording</h2>\n\
 </section>\n\
 </main>\n\
@@ -321,6 +418,10 @@ pub(crate) const TAIL: &str = "\
 <script>'use strict';\n\
 const KINDS = ['unfounded', 'conflict', 'open', 'lost', 'clean'];\n\
 const KIND_WORDS = Object.fromEntries(KINDS.map((kind) => [kind, kind === 'lost' ? `complete, ${kind}` : kind]));\n\
+const OUTCOMES = ['received', 'arrived', 'likely', 'missed', 'unsent', 'unanswered', 'unconfirmed'];\n\
+const LOST = ['missed', 'unsent', 'unanswered'];\n\
+const LOST_WORDS = { missed: 'Missed', unsent: 'Unsent', unanswered: 'Unanswered', not_arrived: 'Not arrived' };\n\
+const PLUMBING = ['ros_discovery_info', 'rt/parameter_events'];\n\
 const STRING_OR_LARGE = /\"(?:[^\"\\\\]|\\\\.)*\"|\\d{16,}/g;\n\
 const isLarge = (n) => n > Number.MAX_SAFE_INTEGER;\n\
 function isRounded({ number, announced, acknowledged, from }) {\n\
@@ -339,12 +440,22 @@ const [x, y] = [BigInt(a), BigInt(b)];\n\
 return x < y ? -1 : Number(x > y);\n\
 }\n\
 const isAbove = (a, b) => compareNumbers(a, b) > 0;\n\
-const sumOf = (rows, numberOf) => rows.reduce((sum, row) => sum + BigInt(numberOf(row)), 0n);\n\
+function added(a, b) {\n\
+if (typeof a === 'number' && typeof b === 'number' && a + b <= Number.MAX_SAFE_INTEGER) return a + b;\n\
+return BigInt(a) + BigInt(b);\n\
+}\n\
+const differenceOf = (a, b) => (typeof a === 'number' && typeof b === 'number' ? a - b : BigInt(a) - BigInt(b));\n\
+const sumOf = (rows, numberOf) => rows.reduce((sum, row) => added(sum, numberOf(row)), 0);\n\
 const counted = (n) => String(n).replace(/\\B(?=(\\d{3})+$)/g, ',');\n\
 const plural = (n, noun, nouns = `${noun}s`) => `${counted(n)} ${String(n) === '1' ? noun : nouns}`;\n\
 const partOf = (n, all, noun) => (n === all ? plural(all, noun) : `${counted(n)} of ${plural(all, noun)}`);\n\
-const askedAbout = ({ payloads, gone, untold }) => BigInt(payloads) + BigInt(gone) + BigInt(untold);\n\
+const askedAbout = ({ payloads, gone, untold }) => added(added(payloads, gone), untold);\n\
 const arrivedOf = ({ outcomes }) => outcomes.arrived || 0;\n\
+const isHeld = ({ outcomes: { arrived = null } }) => arrived !== null;\n\
+function lostOf(row) {\n\
+const names = isHeld(row) ? ['likely', 'missed', 'unsent', 'unanswered', 'unconfirmed'] : LOST;\n\
+return names.reduce((sum, name) => added(sum, row.outcomes[name]), 0);\n\
+}\n\
 const prefixOf = (guid) => guid.slice(0, 24);\n\
 const entityOf = (guid) => guid.slice(24);\n\
 function kindOf({ verdict, clean }) {\n\
@@ -355,6 +466,9 @@ function entryOf(map, key, made) {\n\
 if (!map.has(key)) map.set(key, made());\n\
 return map.get(key);\n\
 }\n\
+function worse(a, b) {\n\
+return Number(a.clean) - Number(b.clean) || compareNumbers(b.lost, a.lost) || a.rank - b.rank || Number(a.isPlumbing) - Number(b.isPlumbing);\n\
+}\n\
 class Report {\n\
 constructor(data) {\n\
 this.data = data;\n\
@@ -363,11 +477,29 @@ this.groups = groupsOf(this.rows);\n\
 this.acts = new Map(data.writers.map(({ guid, acts }) => [guid, acts]));\n\
 this.endpointOf = new Map(data.endpoints.map((endpoint) => [endpoint.guid, endpoint]));\n\
 this.participants = participantsOf(data);\n\
-this.seconds = new Map(data.times || []);\n\
+this.times = new Map((data.times || []).map(([datagram, ...rest]) => [datagram, rest]));\n\
+this.isTimed = data.times !== undefined;\n\
+this.hasSilent = data.participants.some(({ silent }) => silent);\n\
 this.bases = null;\n\
+this.numbered = new Map();\n\
 }\n\
 secondOf(datagram) {\n\
-return this.seconds.get(datagram);\n\
+return this.times.get(datagram)?.[0];\n\
+}\n\
+frameOf(datagram) {\n\
+return this.times.get(datagram)?.[1];\n\
+}\n\
+axis() {\n\
+this.range ||= this.isTimed ? { word: 's', low: 0, high: this.seconds() } : { word: 'datagram', low: 0, high: this.data.datagrams };\n\
+return this.range;\n\
+}\n\
+seconds() {\n\
+const { begin = null, end = null } = this.data.recording || {};\n\
+const last = this.data.participants.reduce((most, { last_time: time }) => Math.max(most, time || 0), 0);\n\
+return Math.max(last, begin !== null && end !== null ? (end - begin) / 1000 : 0);\n\
+}\n\
+onAxis({ datagram, time = null }) {\n\
+return this.isTimed ? time : datagram;\n\
 }\n\
 counts() {\n\
 return Object.entries(this.data).filter(([, value]) => typeof value === 'number');\n\
@@ -379,33 +511,49 @@ return this.bases.get(writer + reader);\n\
 actsOf({ writer }) {\n\
 return this.acts.get(writer);\n\
 }\n\
+sendingsOf({ writer, reader }) {\n\
+const byNumber = entryOf(this.numbered, writer, () => dataByNumber(this.acts.get(writer) || []));\n\
+const to = namesOf(reader);\n\
+return (number) => (byNumber.get(number) || []).find((entry) => to.includes(entry[4]));\n\
+}\n\
 participantOf(guid) {\n\
 return this.participants.get(prefixOf(guid));\n\
 }\n\
+}\n\
+const namesOf = (reader) => [undefined, reader, prefixOf(reader), entityOf(reader)];\n\
+function dataByNumber(acts) {\n\
+const found = new Map();\n\
+for (const entry of acts) if (entry[2] === 'data') entryOf(found, entry[3], () => []).push(entry);\n\
+return found;\n\
 }\n\
 function groupsOf(rows) {\n\
 const topics = new Map();\n\
 for (const [at, row] of rows.entries()) {\n\
 const { topic, type } = row;\n\
-row.at = at;\n\
-row.kind = kindOf(row);\n\
-row.rank = KINDS.indexOf(row.kind);\n\
 row.group = entryOf(entryOf(topics, topic, () => new Map()), type, () => ({ topic, type, rows: [] }));\n\
+const kind = kindOf(row);\n\
+row.numbers ||= {};\n\
+Object.assign(row, { at, kind, rank: KINDS.indexOf(kind), lost: lostOf(row), isPlumbing: PLUMBING.includes(topic) });\n\
 row.group.rows.push(row);\n\
 }\n\
-return [...topics.values()].flatMap((types) => [...types.values()]);\n\
+const groups = [...topics.values()].flatMap((types) => [...types.values()]);\n\
+groups.forEach(judgeGroup);\n\
+return groups;\n\
+}\n\
+function judgeGroup(group, at) {\n\
+const { rows } = group;\n\
+const bad = rows.filter(({ clean }) => !clean).length;\n\
+Object.assign(group, {\n\
+at, bad, clean: bad === 0, lost: sumOf(rows, ({ lost }) => lost), rank: rows.reduce((least, { rank }) => Math.min(least, rank), KINDS.length),\n\
+isPlumbing: rows[0].isPlumbing,\n\
+});\n\
 }\n\
 function participantsOf(data) {\n\
 const announced = new Map([...data.endpoints, ...data.participants].map(({ guid }) => [prefixOf(guid), null]));\n\
 for (const participant of data.participants) announced.set(prefixOf(participant.guid), participant);\n\
 const participants = new Map([...announced.keys()].sort().map((prefix, at) => (\n\
-[prefix, { at: at + 1, name: `P${at + 1}`, prefix, announced: announced.get(prefix), endpoints: [], nodes: [] }])));\n\
-for (const endpoint of data.endpoints) {\n\
-const { endpoints, nodes } = participants.get(prefixOf(endpoint.guid));\n\
-const node = nodeOf(endpoint);\n\
-endpoints.push(endpoint);\n\
-if (node && !nodes.includes(node)) nodes.push(node);\n\
-}\n\
+[prefix, { at: at + 1, name: `P${at + 1}`, prefix, announced: announced.get(prefix), endpoints: [], nodes: announced.get(prefix)?.nodes || [] }])));\n\
+for (const endpoint of data.endpoints) participants.get(prefixOf(endpoint.guid)).endpoints.push(endpoint);\n\
 return participants;\n\
 }\n\
 </script>\n\
@@ -421,9 +569,10 @@ function rosType(type) {\n\
 const [, before, name] = /^(.*?)::dds_::(.*)_$/.exec(type) || [];\n\
 return name === undefined ? null : `${before.replaceAll('::', '/')}/${name}`;\n\
 }\n\
-function nodeOf({ side, topic }) {\n\
-const [, name] = (side === 'reader' && /^rq\\/(.*)\\/get_parametersRequest$/.exec(topic)) || [];\n\
-return name === undefined ? null : `/${name}`;\n\
+const shownTopic = (topic) => rosTopic(topic) || topic;\n\
+function memo(made) {\n\
+let value;\n\
+return () => (value ??= made());\n\
 }\n\
 function make(tag, attributes, ...children) {\n\
 const element = document.createElement(tag);\n\
@@ -431,7 +580,7 @@ for (const [name, value] of Object.entries(attributes || {})) element.setAttribu
 return fill(element, ...children);\n\
 }\n\
 function fill(element, ...children) {\n\
-element.replaceChildren(...children.flat().filter((child) => child !== null && child !== false));\n\
+element.replaceChildren(...children.flat().filter((child) => child !== null && child !== false && child !== undefined));\n\
 return element;\n\
 }\n\
 function makeButton(attributes, label, act) {\n\
@@ -439,28 +588,61 @@ const button = make('button', { type: 'button', ...attributes }, label);\n\
 button.addEventListener('click', () => act(button));\n\
 return button;\n\
 }\n\
+function makeFold(attributes, line, made) {\n\
+const fold = make('details', attributes, make('summary', null, ...line));\n\
+fold.addEventListener('toggle', () => {\n\
+if (fold.open && fold.children.length === 1) fold.append(...made());\n\
+});\n\
+return fold;\n\
+}\n\
+function openFold(fold) {\n\
+fold.open = true;\n\
+fold.dispatchEvent(new Event('toggle'));\n\
+}\n\
 function bothNames(tag, ros, dds) {\n\
 return ros ? [make(tag, { class: 'name' }, ros), ' ', make('span', { class: 'dds' }, dds)] : [make(tag, { class: 'name' }, dds)];\n\
 }\n\
 const topicName = (topic) => bothNames('b', rosTopic(topic), topic);\n\
 const typeName = (type) => bothNames('span', rosType(type), type);\n\
+const oneName = (tag, text) => make(tag, { class: 'name' }, text);\n\
 function guidText(guid) {\n\
 return make('code', { class: 'guid' }, guid.slice(0, 12), make('wbr'), guid.slice(12, 24), make('wbr'), guid.slice(24));\n\
 }\n\
-function endpointName(report, guid) {\n\
+function titleOf({ nodes, announced }) {\n\
+return (nodes.length === 1 && nodes[0]) || announced?.process || announced?.name || (nodes.length > 1 && nodesText({ nodes })) || '';\n\
+}\n\
+function whereOf({ announced }) {\n\
+const { pid = null, host = null, address = null } = announced || {};\n\
+const process = [pid !== null && `pid ${pid}`, host !== null && `on ${host}`].filter(Boolean).join(' ');\n\
+return [process, address].filter(Boolean).join(', ');\n\
+}\n\
+function endpointName(report, guid, node) {\n\
 const participant = report.participantOf(guid);\n\
 if (!participant) return [guidText(guid)];\n\
+const [title, where] = [node || titleOf(participant), whereOf(participant)];\n\
 return [make('a', { href: `#participant-${participant.at}`, class: 'short' }, participant.name),\n\
-participant.nodes.length > 0 && make('span', { class: 'node' }, ` ${nodesText(participant)}`), ' ', guidText(guid)];\n\
+title && make('span', { class: 'node' }, ` ${title}`), where && make('span', { class: 'host' }, ` ${title ? `(${where})` : `at ${where}`}`)];\n\
 }\n\
-function nodesText({ nodes }) {\n\
-return nodes.length < 3 ? nodes.join(', ') : `${nodes[0]}, ${nodes[1]} and ${nodes.length - 2} more`;\n\
+function endpointBriefly(report, guid, node) {\n\
+const participant = report.participantOf(guid);\n\
+if (!participant) return [guidText(guid)];\n\
+const { host = null, address = null } = participant.announced || {};\n\
+const [title, where] = [node || titleOf(participant), host !== null ? `on ${host}` : address !== null && `at ${address}`];\n\
+return [make('a', { href: `#participant-${participant.at}`, class: 'short' }, participant.name),\n\
+title && make('span', { class: 'node' }, ` ${title}`), where && make('span', { class: 'host' }, ` ${where}`)];\n\
+}\n\
+function endText(report, guid, node) {\n\
+const participant = report.participantOf(guid);\n\
+return participant ? `${participant.name} ${node || titleOf(participant)}`.trim() : guid;\n\
+}\n\
+function nodesText({ nodes }, most = 2) {\n\
+return nodes.length <= most ? nodes.join(', ') : `${nodes.slice(0, most).join(', ')} and ${nodes.length - most} more`;\n\
 }\n\
 const NAMED_TOPICS = 4;\n\
 function topicsText({ endpoints }) {\n\
 const part = (side, verb) => {\n\
 const ends = endpoints.filter((endpoint) => endpoint.side === side && !/^r[qr]\\//.test(endpoint.topic));\n\
-const topics = [...new Set(ends.map(({ topic }) => rosTopic(topic) || topic))].sort();\n\
+const topics = [...new Set(ends.map(({ topic }) => shownTopic(topic)))].sort();\n\
 const more = topics.length > NAMED_TOPICS ? ` and ${topics.length - NAMED_TOPICS} more` : '';\n\
 return topics.length > 0 && `${verb} ${topics.slice(0, NAMED_TOPICS).join(', ')}${more}`;\n\
 };\n\
@@ -482,6 +664,17 @@ return button.hidden ? elements : [button];\n\
 };\n\
 section.append(button);\n\
 more(first);\n\
+return (count) => count > shown && more(count - shown);\n\
+}\n\
+const SVG = 'http://www.w3.org/2000/svg';\n\
+function drawn(tag, attributes, ...children) {\n\
+const element = document.createElementNS(SVG, tag);\n\
+for (const [name, value] of Object.entries(attributes)) element.setAttribute(name, value);\n\
+element.append(...children);\n\
+return element;\n\
+}\n\
+function legendItem(text, ...shapes) {\n\
+return make('li', null, drawn('svg', { viewBox: '0 0 24 14', width: '24', height: '14', 'aria-hidden': 'true' }, ...shapes), text);\n\
 }\n\
 </script>\n\
 <script>'use strict';\n\
@@ -509,7 +702,6 @@ if (announced === null) return from === 1 ? 'The writer announced no number.' : 
 return `The reader acknowledged each sample from ${from} to ${number}.`;\n\
 }\n\
 const listed = (numbers, count) => `${numbers.join(', ')}${isAbove(count, numbers.length) ? ` and ${counted(count - BigInt(numbers.length))} more` : ''}`;\n\
-const LOST_WORDS = { missed: 'Missed', unsent: 'Unsent', unanswered: 'Unanswered', not_arrived: 'Not arrived' };\n\
 const LOST_TOLD = 10;\n\
 const lostSentences = ({ numbers }) => Object.keys(LOST_WORDS).filter((kind) => numbers[kind]).map((kind) => `${LOST_WORDS[kind]} ${rangesText(numbers[kind])}.`);\n\
 function rangesText({ ranges, more }) {\n\
@@ -574,7 +766,6 @@ if (!last) return 'The writer did not ask for an answer since the reader’s las
 return `The writer asked ${plural(count, 'time')} for an answer since the reader’s last one, last in ${placeText(last)}.`;\n\
 }\n\
 const payloadText = ({ payload, octets }) => (payload === 'absent' ? 'no payload' : `${payload === 'key' ? 'a key' : 'a sample'} of ${plural(octets, 'octet')}`);\n\
-const lastLine = () => document.querySelector('#text pre').textContent.trimEnd().split('\\n').pop();\n\
 function receivedSentence({ rows, data }) {\n\
 if (rows.length === 0) return '';\n\
 const good = rows.filter(({ clean }) => clean).length;\n\
@@ -585,66 +776,28 @@ return `${counted(good)} of ${plural(rows.length, 'pair')} ${rows.length === 1 ?
 }\n\
 </script>\n\
 <script>'use strict';\n\
-const TALK_LINES = [20, 200];\n\
-function showTalk(report, section) {\n\
-const { unmatched, one_way: oneWay, unobserved, best_effort: bestEffort, arrived = [] } = report.data;\n\
-const lacking = arrived.filter(({ not_arrived: named }) => named.length > 0).sort(byText('topic'));\n\
-section.hidden = [unmatched, oneWay, unobserved, bestEffort].every((items) => items.length === 0);\n\
-const ends = ({ topic, writer, reader }) => [topicName(topic), endpointName(report, writer), endpointName(report, reader)];\n\
-talkTable(section, 'unmatched', 'Endpoints that do not match', ['Topic', 'Writer', 'Reader', 'What does not fit'], unmatched,\n\
-(one) => [...ends(one), unfitLines(one)]);\n\
-talkTable(section, 'one-way', 'Participants that talk one way', ['Participant that never answers', 'Who names it', 'Datagrams'], oneWay,\n\
-({ from, to, named }) => [endpointName(report, to), endpointName(report, from), [counted(named)]]);\n\
-talkTable(section, 'unobserved', 'Pairs that are left out', ['Topic', 'Writer', 'Reader', 'Why'], unobserved,\n\
-(one) => [...ends(one), [one.because]]);\n\
-talkTable(section, 'best-effort', 'Pairs of best effort', ['Topic', 'Pairs', 'Numbers in this recording'], bestEffort,\n\
-({ topic, pairs, numbers, recorded }) => [topicName(topic), [counted(pairs)], [`${counted(recorded)} of ${counted(numbers)}`]]);\n\
-talkTable(section, 'not-arrived', lackingHead(lacking), ['Topic', 'Writer', 'Reader', 'Numbers at the reader’s host'], lacking,\n\
-(one) => [...ends(one), [`arrived ${counted(one.arrived)} of ${counted(one.numbers)}, not ${listed(one.not_arrived, lackingOf(one))}`]]);\n\
-}\n\
-const lackingOf = ({ numbers, arrived }) => BigInt(numbers) - BigInt(arrived);\n\
-const lackingHead = (pairs) => `${plural(sumOf(pairs, lackingOf), 'number')} of ${plural(pairs.length, 'best-effort pair')} did not arrive`;\n\
-function unfitLines({ because, offered, requested }) {\n\
-return because.map((policy, at) => {\n\
-const [offer, request] = [offered[at], requested[at]].map((text) => (policy === 'type' && rosType(text)) || text);\n\
-return make('div', null, `${policy.replaceAll('_', ' ')}: offers ${offer}; asks for ${request}`);\n\
-});\n\
-}\n\
-function talkTable(section, name, head, heads, items, cellsOf) {\n\
-if (items.length === 0) return;\n\
-const body = make('tbody', null);\n\
-const table = make('table', { class: `talk ${name}` }, make('caption', { class: 'hidden' }, head), tableHead(...heads), body);\n\
-const part = make('div', { class: 'talk-part' }, make('h3', null, head), make('div', { class: 'wide' }, table));\n\
-section.append(part);\n\
-inParts(part, 'line', items, TALK_LINES, (some) => {\n\
-const rows = some.map((item) => make('tr', { tabindex: '-1' },\n\
-...cellsOf(item).map((cell, at) => make(at === 0 ? 'th' : 'td', at === 0 ? { scope: 'row' } : null, ...cell))));\n\
-body.append(...rows);\n\
-return rows;\n\
-});\n\
-}\n\
-</script>\n\
-<script>'use strict';\n\
-const TOPIC_LINES = [8, 200];\n\
-const NAMED_PAIRS = 3;\n\
-function showOverview(report) {\n\
-const outcome = lastLine();\n\
+const NAMED_HOSTS = 12;\n\
+const NAMED_NODES = 16;\n\
+function showHead(report) {\n\
+const { data } = report;\n\
 const at = (id) => document.getElementById(id);\n\
-document.title = `${outcome}: rtps-audit`;\n\
-fill(at('asked'), 'rtps-audit, a report of ', askedText(report.data));\n\
-fill(at('outcome'), outcome);\n\
+const { name = null, version = null } = data.recording || {};\n\
+document.title = `${lastLine()}: rtps-audit`;\n\
+fill(at('program'), `rtps-audit${version === null ? '' : ` ${version}`}, a report of `, askedText(data));\n\
+fill(at('name'), name === null ? 'A recording' : name === '-' ? 'Standard input (-)' : name);\n\
+fill(at('when'), ...whenParts(report));\n\
+showOutcome(report, at('outcome'));\n\
 fill(at('received'), receivedSentence(report));\n\
-at('arrived').hidden = !report.data.arrived;\n\
-fill(at('line'), make('a', { href: '#counts' }, 'Counts'), `: ${report.counts().map(([name, n]) => `${name} ${counted(n)}`).join(', ')}`);\n\
-showTopics(report, at('topics'));\n\
-showTalk(report, at('talk'));\n\
-showNotes(report.data.notes, at('notes'));\n\
-showCounts(report, at('counts'));\n\
+fill(at('because'), ...data.because.map((reason) => make('li', null, reason)));\n\
+at('because').hidden = data.because.length === 0;\n\
+showHosts(report, at('hosts'));\n\
+at('arrived').hidden = !data.arrived;\n\
 }\n\
 function askedText({ options, arrived }) {\n\
 const words = [\n\
 options.from !== 1 && `--from ${options.from}`,\n\
 ...options.topics.map((pattern) => `--topic '${pattern}'`),\n\
+...(options.nodes || []).map((pattern) => `--node '${pattern}'`),\n\
 options.expect !== null && `--expect ${options.expect}`,\n\
 options.tail !== 0 && `--tail ${options.tail}`,\n\
 options.certain && '--certain',\n\
@@ -653,50 +806,70 @@ arrived && '--arrived OTHER',\n\
 const numbers = options.from === 1 ? 'all numbers' : `the numbers from ${options.from} on`;\n\
 return words.length === 0 ? [`${numbers}, without options`] : [`${numbers}, with `, make('code', null, words.join(' '))];\n\
 }\n\
-function topicLines(rows) {\n\
-const lines = new Map();\n\
-for (const row of rows) {\n\
-if (row.advice !== null) entryOf(entryOf(lines, row.group, () => new Map()), row.kind + row.advice, () => []).push(row);\n\
+const padded = (n, size = 2) => String(n).padStart(size, '0');\n\
+function momentText(milliseconds, minutes) {\n\
+const moment = new Date(milliseconds + minutes * 60000);\n\
+return `${padded(moment.getUTCFullYear(), 4)}-${padded(moment.getUTCMonth() + 1)}-${padded(moment.getUTCDate())} ${padded(moment.getUTCHours())}:`\n\
++ `${padded(moment.getUTCMinutes())}:${padded(moment.getUTCSeconds())}.${padded(moment.getUTCMilliseconds(), 3)}`;\n\
 }\n\
-return [...lines.values()].flatMap((found) => [...found.values()])\n\
-.sort(([a, ...more], [b, ...others]) => a.rank - b.rank || others.length - more.length || a.at - b.at);\n\
+function spanText(begin, end, minutesAt) {\n\
+const [from, to] = [begin, end].map((moment) => momentText(moment, minutesAt(moment)));\n\
+return `${from} to ${to.slice(0, 10) === from.slice(0, 10) ? to.slice(11) : to}`;\n\
 }\n\
-function showTopics(report, section) {\n\
-const lines = topicLines(report.rows);\n\
-const body = make('tbody', null);\n\
-section.hidden = lines.length === 0;\n\
-section.append(make('div', { class: 'wide' }, make('table', { class: 'topics' },\n\
-make('caption', { class: 'hidden' }, 'Topics with something to look at'), tableHead('Topic', 'What happened', 'What to do'), body)));\n\
-inParts(section, 'line', lines, TOPIC_LINES, (some) => {\n\
-const shown = some.map((rows) => topicLine(report, rows));\n\
-body.append(...shown);\n\
-return shown;\n\
+const minutesHere = (moment) => -new Date(moment).getTimezoneOffset();\n\
+const offsetText = (minutes) => `UTC${minutes < 0 ? '−' : '+'}${padded(Math.floor(Math.abs(minutes) / 60))}:${padded(Math.abs(minutes) % 60)}`;\n\
+function lengthText(milliseconds) {\n\
+const [minutes, left] = [Math.floor(milliseconds / 60000), milliseconds % 60000];\n\
+return `${minutes > 0 ? `${counted(minutes)} min ` : ''}${(left / 1000).toFixed(3)} s`;\n\
+}\n\
+function whenParts(report) {\n\
+const { begin = null, end = null } = report.data.recording || {};\n\
+const size = `${plural(report.data.datagrams, 'datagram')}`;\n\
+if (begin === null || end === null) return [report.isTimed ? `${report.seconds().toFixed(3)} s, ${size}` : size];\n\
+const here = minutesHere(begin);\n\
+const universal = `${spanText(begin, end, () => 0)} UTC`;\n\
+return [make('b', null, lengthText(end - begin)), `, ${size}, `,\n\
+here === 0 ? universal : `${spanText(begin, end, minutesHere)} ${offsetText(here)} (${universal})`];\n\
+}\n\
+const lastLine = memo(() => {\n\
+const text = document.querySelector('#text pre').textContent.trimEnd();\n\
+return text.slice(text.lastIndexOf('\\n') + 1);\n\
 });\n\
+function showOutcome({ data }, place) {\n\
+const [word, ...rest] = lastLine().split(': ');\n\
+const isClean = data.status === 'clean';\n\
+fill(place, badge(isClean ? 'outcome good' : 'outcome bad', [make('span', { 'aria-hidden': 'true' }, isClean ? '✓ ' : '✗ '), make('span', { class: 'word' }, word)]),\n\
+data.because.length === 0 && rest.length > 0 && make('span', { class: 'more-said' }, ` ${rest.join(': ')}`));\n\
 }\n\
-function topicLine(report, rows) {\n\
-const [first] = rows;\n\
-const { topic, type, rows: all } = first.group;\n\
-const links = rows.slice(0, NAMED_PAIRS).map((row) => make('li', null, pairLink(report, row)));\n\
-const sentence = verdictSentence(first);\n\
-return make('tr', { class: first.kind, tabindex: '-1' },\n\
-make('th', { scope: 'row' }, make('div', null, ...topicName(topic)), make('div', { class: 'type' }, ...typeName(type))),\n\
-make('td', null, make('p', null, badge(first.kind, KIND_WORDS[first.kind]), ` ${counted(rows.length)} of ${plural(all.length, 'pair')}`),\n\
-make('p', null, rows.length === 1 ? sentence : `Pair ${first.at + 1}: ${sentence}`),\n\
-make('ul', { class: 'which' }, ...links, rows.length > NAMED_PAIRS && make('li', null, `and ${counted(rows.length - NAMED_PAIRS)} more`))),\n\
-make('td', { class: 'advice' }, first.advice));\n\
+function hostsOf(report) {\n\
+const hosts = new Map();\n\
+for (const participant of report.participants.values()) {\n\
+const { host = null, address = null } = participant.announced || {};\n\
+const found = entryOf(hosts, host ?? address ?? '', () => ({ host, addresses: new Set(), nodes: new Set(), participants: 0 }));\n\
+if (address !== null) found.addresses.add(address);\n\
+participant.nodes.forEach((node) => found.nodes.add(node));\n\
+found.participants += 1;\n\
 }\n\
-function pairLink(report, row) {\n\
-const [writer, reader] = [row.writer, row.reader].map((guid) => {\n\
-const participant = report.participantOf(guid);\n\
-return participant ? `${participant.name} ${nodesText(participant)}`.trim() : guid;\n\
-});\n\
-return make('a', { href: `#pair-${row.at + 1}` }, `pair ${row.at + 1}`, make('span', { class: 'ends' }, `: ${writer} to ${reader}`));\n\
+return [...hosts.values()];\n\
 }\n\
-function showNotes(notes, section) {\n\
+function showHosts(report, place) {\n\
+const hosts = hostsOf(report);\n\
+place.hidden = hosts.length === 0;\n\
+fill(place, ...hosts.slice(0, NAMED_HOSTS).map((host) => make('li', null, ...hostParts(host))),\n\
+hosts.length > NAMED_HOSTS && make('li', null, `and ${plural(hosts.length - NAMED_HOSTS, 'more host')}`));\n\
+}\n\
+function hostParts({ host, addresses, nodes, participants }) {\n\
+const names = [...addresses].join(', ');\n\
+const name = host === null ? names || 'an address that is not announced' : host;\n\
+return [make('b', null, name), host !== null && names && ` (${names})`, `: ${plural(participants, 'participant')}`,\n\
+nodes.size > 0 && `, ${nodes.size === 1 ? 'node' : 'nodes'} ${nodesText({ nodes: [...nodes] }, NAMED_NODES)}`];\n\
+}\n\
+function showNotes({ data: { notes } }) {\n\
+const section = document.getElementById('notes');\n\
 section.hidden = notes.length === 0;\n\
 section.append(make('ul', { class: 'notes' }, ...notes.map((note) => {\n\
 const [what, ...todo] = note.split(' -> ');\n\
-return make('li', null, make('b', null, what), ...todo.map((words) => ` -> ${words}`));\n\
+return make('li', null, make('b', null, what), ...todo.map((words) => make('span', { class: 'todo' }, words)));\n\
 })));\n\
 }\n\
 const MEANINGS = {\n\
@@ -711,10 +884,300 @@ pieces: 'ignored frames that are pieces of packets that never came whole',\n\
 cut: 'ignored frames whose captured octets end too early',\n\
 other: 'ignored frames that carry no UDP over IP',\n\
 links: 'ignored frames of links that are not read',\n\
+wrong_way: 'pairs of which the two recordings are the wrong way round',\n\
 };\n\
-function showCounts(report, section) {\n\
-section.append(make('dl', { class: 'counts' }, ...report.counts().map(([name, n]) => make('div', null,\n\
-make('dt', null, name), make('dd', { class: 'count' }, counted(n)), make('dd', null, MEANINGS[name] || '')))));\n\
+function showCounts(report) {\n\
+document.getElementById('counts').append(make('dl', { class: 'counts' }, ...report.counts().map(([name, n]) => make('div', null,\n\
+make('dt', null, name.replaceAll('_', ' ')), make('dd', { class: 'count' }, counted(n)), make('dd', null, MEANINGS[name] || '')))));\n\
+}\n\
+</script>\n\
+<script>'use strict';\n\
+const MOST_STRIPS = 20;\n\
+const STRIP_HEIGHT = 32;\n\
+const COLUMN = 2;\n\
+const MOST_MARKS = 2000;\n\
+const MOST_LOOKED_UP = 20000;\n\
+const BAND_GAP = 8;\n\
+const MARK_FORMS = {\n\
+joins: (x) => `M${x + 1} 23l4 8h-8z`,\n\
+leaves: (x) => `M${x + 1} 31l4-8h-8z`,\n\
+silent: (x) => `M${x - 2.5} 24h7v7h-7z`,\n\
+missed: (x) => `M${x - 0.5} 1h3v20h-3z`,\n\
+unsent: (x) => `M${x - 1.5} 2h5v18h-5z`,\n\
+unanswered: (x) => `M${x - 0.5} 11h3v10h-3z`,\n\
+not_arrived: (x) => `M${x - 3} 5l8 13m0-13l-8 13`,\n\
+};\n\
+const MARK_WORDS = {\n\
+missed: 'missed', unsent: 'unsent', unanswered: 'unanswered', not_arrived: 'not arrived', joins: 'a reader joins', leaves: 'a reader leaves',\n\
+silent: 'a participant falls silent',\n\
+};\n\
+const pictured = (report) => [...report.groups].sort((a, b) => worse(a, b) || a.at - b.at);\n\
+class Picture {\n\
+constructor(report, section) {\n\
+Object.assign(this, { report, section, axis: report.axis(), groups: pictured(report).slice(0, MOST_STRIPS), width: 0 });\n\
+section.hidden = report.groups.length === 0;\n\
+if (section.hidden) return;\n\
+this.strips = this.groups.map((group) => ({ group, ...stripPoints(report, group), place: drawn('svg', { class: 'strip-picture', 'aria-hidden': 'true' }) }));\n\
+this.scale = drawn('svg', { class: 'strip-axis', 'aria-hidden': 'true' });\n\
+this.build();\n\
+new ResizeObserver(() => this.draw()).observe(this.scale);\n\
+}\n\
+build() {\n\
+const { report, groups, strips } = this;\n\
+const more = report.groups.length - groups.length;\n\
+const kinds = Object.keys(MARK_WORDS).filter((kind) => strips.some(({ points }) => points[kind].length > 0));\n\
+this.section.append(\n\
+make('p', { class: 'hint' }, `Each strip is a topic with reliable pairs, the worst first${more > 0 ? `; ${plural(more, 'more topic')} of less weight ${more === 1 ? 'has' : 'have'} none` : ''}. `\n\
++ `To the right runs the recording, in ${this.axis.word === 's' ? 'seconds' : 'datagrams'}. A lost number stands where it was first sent. A strip leads to its pairs.`),\n\
+pictureLegend(kinds),\n\
+make('div', { class: 'strips' }, ...strips.map((strip) => this.strip(strip)),\n\
+make('div', { class: 'strip axis-line' }, make('span', { class: 'strip-name' }, this.axis.word === 's' ? 'seconds' : 'datagrams'), this.scale, make('span', { class: 'strip-words' }))));\n\
+}\n\
+strip({ group, place, points }) {\n\
+const said = stripWords(group, points);\n\
+return make('a', { class: `strip${group.clean ? '' : ' bad'}`, href: `#topic-${group.at + 1}` },\n\
+make('span', { class: 'strip-name' }, shownTopic(group.topic)), place,\n\
+make('span', { class: 'strip-words' }, ...said));\n\
+}\n\
+draw() {\n\
+const width = this.scale.clientWidth;\n\
+if (width === 0 || width === this.width) return;\n\
+this.width = width;\n\
+const marks = ticks(this.axis.low, this.axis.high, Math.max(2, width / 110), this.axis.word === 's' ? 0.001 : 1);\n\
+const grid = marks.map((x) => `M${Math.round(this.pixel(x)) + 0.5} 0V${STRIP_HEIGHT}`).join('');\n\
+for (const strip of this.strips) this.drawStrip(strip, grid);\n\
+fitTo(this.scale, width, 18);\n\
+this.scale.replaceChildren(...marks.map((x) => this.tick(x)));\n\
+}\n\
+pixel(x) {\n\
+const { low, high } = this.axis;\n\
+return 6 + (x - low) / Math.max(high - low, 0.001) * (this.width - 12);\n\
+}\n\
+tick(x) {\n\
+const at = this.pixel(x);\n\
+const anchor = at < 20 ? 'start' : at > this.width - 24 ? 'end' : 'middle';\n\
+return drawn('text', { x: anchor === 'start' ? 0 : Math.min(at, this.width), y: 13, 'text-anchor': anchor }, this.axis.word === 's' ? shortSecond(x) : shortNumber(x));\n\
+}\n\
+drawStrip({ place, points, samples, spans }, grid) {\n\
+fitTo(place, this.width, STRIP_HEIGHT);\n\
+const columns = (values) => [...new Set(values.map((x) => Math.floor(this.pixel(x) / COLUMN) * COLUMN))].sort((a, b) => a - b);\n\
+const band = [...bandRuns(columns(samples)), ...spans.map(([from, to]) => [this.pixel(from), this.pixel(to)])];\n\
+place.replaceChildren(\n\
+drawn('path', { class: 'grid', d: grid }),\n\
+drawn('path', { class: 'samples', d: band.map(([from, to]) => `M${from} 8h${Math.max(COLUMN, to - from)}v8H${from}z`).join('') }),\n\
+...Object.entries(MARK_FORMS).map(([kind, form]) => drawn('path', { class: `mark ${kind}`, d: columns(points[kind]).slice(0, MOST_MARKS).map(form).join('') })));\n\
+}\n\
+}\n\
+function fitTo(picture, width, height) {\n\
+for (const [name, value] of Object.entries({ viewBox: `0 0 ${width} ${height}`, preserveAspectRatio: 'none' })) picture.setAttribute(name, value);\n\
+}\n\
+function bandRuns(columns) {\n\
+const runs = [];\n\
+for (const x of columns) {\n\
+const last = runs[runs.length - 1];\n\
+if (last && x - last[1] <= BAND_GAP) last[1] = x + COLUMN;\n\
+else runs.push([x, x + COLUMN]);\n\
+}\n\
+return runs;\n\
+}\n\
+function stripWords(group, points) {\n\
+const kinds = LOST_KINDS.map((kind) => [kind, lostCount(group, kind)]).filter(([, count]) => isAbove(count, 0));\n\
+const words = kinds.map(([kind, count]) => make('b', { class: 'lost-words' }, `${counted(count)} ${MARK_WORDS[kind]}`)).flatMap((word, at) => (at > 0 ? [', ', word] : [word]));\n\
+const placeless = points.placeless > 0 && `, ${counted(points.placeless)} never sent here`;\n\
+return words.length > 0 ? [...words, placeless] : [group.clean ? 'clean' : 'not clean'];\n\
+}\n\
+const LOST_KINDS = ['missed', 'unsent', 'unanswered', 'not_arrived'];\n\
+function lostCount({ rows }, kind) {\n\
+const held = rows.filter(isHeld);\n\
+if (kind === 'not_arrived') return sumOf(held, lostOf);\n\
+return sumOf(held.length === 0 ? rows : rows.filter((row) => !isHeld(row)), ({ outcomes }) => outcomes[kind]);\n\
+}\n\
+function stripPoints(report, group) {\n\
+const points = Object.fromEntries(Object.keys(MARK_FORMS).map((kind) => [kind, []]));\n\
+const left = { numbers: MOST_LOOKED_UP };\n\
+points.placeless = 0;\n\
+for (const row of group.rows) {\n\
+if (Object.keys(row.numbers).length > 0) addLost(report, row, points, left);\n\
+addReader(report, row, points);\n\
+}\n\
+return { points, samples: samplesOf(report, group), spans: spansOf(report, group) };\n\
+}\n\
+function addLost(report, row, points, left) {\n\
+const sendings = report.sendingsOf(row);\n\
+for (const kind of LOST_KINDS.filter((kind) => row.numbers[kind] && (kind === 'not_arrived' || !isHeld(row)))) {\n\
+for (const { first, last, sent } of row.numbers[kind].ranges) {\n\
+for (const x of rangePoints(report, { first, last, sent }, sendings, left)) {\n\
+if (x === null) points.placeless += 1;\n\
+else points[kind].push(x);\n\
+}\n\
+}\n\
+}\n\
+}\n\
+function rangePoints(report, { first, last, sent }, sendings, left) {\n\
+const place = sent ? report.onAxis(sent) : null;\n\
+const found = [place];\n\
+for (let number = first + 1; number <= last && left.numbers > 0; number += 1) {\n\
+const entry = sendings(number);\n\
+left.numbers -= 1;\n\
+if (entry) found.push(report.isTimed ? report.secondOf(entry[0]) ?? place : entry[0]);\n\
+}\n\
+return found;\n\
+}\n\
+function addReader(report, row, points) {\n\
+const joined = report.data.joined?.[row.at];\n\
+const add = (kind, x) => x !== null && x !== undefined && points[kind].push(x);\n\
+if (joined) add('joins', report.onAxis({ datagram: joined[0], time: joined[2] }));\n\
+if (row.until !== null) add('leaves', report.onAxis({ datagram: row.until, time: row.until_time }));\n\
+for (const guid of report.hasSilent ? [row.reader, row.writer] : []) {\n\
+const announced = report.participantOf(guid)?.announced;\n\
+if (announced?.silent) add('silent', report.onAxis({ datagram: announced.last, time: announced.last_time }));\n\
+}\n\
+}\n\
+function samplesOf(report, { rows }) {\n\
+const writers = [...new Set(rows.map(({ writer }) => writer))].filter((writer) => report.acts.has(writer));\n\
+return writers.flatMap((writer) => report.acts.get(writer).filter(([, , what]) => what === 'data').map(([datagram]) => (\n\
+report.isTimed ? report.secondOf(datagram) : datagram))).filter((x) => x !== undefined);\n\
+}\n\
+function spansOf(report, { rows }) {\n\
+const spans = new Map();\n\
+for (const row of rows.filter(({ writer }) => !report.acts.has(writer))) {\n\
+const places = [row.announced, row.told, row.claimed, row.acknowledged].filter(Boolean).map((place) => report.onAxis(place)).filter((x) => x !== null);\n\
+const span = entryOf(spans, row.writer, () => [Infinity, -Infinity]);\n\
+[span[0], span[1]] = [Math.min(span[0], ...places), Math.max(span[1], ...places)];\n\
+}\n\
+return [...spans.values()].filter(([from, to]) => from <= to);\n\
+}\n\
+function pictureLegend(kinds) {\n\
+const sign = (shape) => drawn('svg', { viewBox: '0 0 24 32', width: '18', height: '24', 'aria-hidden': 'true' }, shape);\n\
+return make('ul', { class: 'legend' }, make('li', null, sign(drawn('path', { class: 'samples', d: 'M1 8h22v8H1z' })), 'samples'),\n\
+...kinds.map((kind) => make('li', null, sign(drawn('path', { class: `mark ${kind}`, d: MARK_FORMS[kind](11) })), MARK_WORDS[kind])));\n\
+}\n\
+</script>\n\
+<script>'use strict';\n\
+const EVENT_LINES = [8, 200];\n\
+const EVENTS_SHOWN = [6, 50];\n\
+const NAMED_PAIRS = 3;\n\
+function topicLines(rows) {\n\
+const lines = new Map();\n\
+for (const row of rows) {\n\
+if (row.advice !== null) entryOf(entryOf(lines, row.group, () => new Map()), row.kind + row.advice, () => []).push(row);\n\
+}\n\
+return [...lines.values()].flatMap((found) => [...found.values()])\n\
+.sort((one, other) => worse(lineWeight(one), lineWeight(other)) || other.length - one.length || one[0].at - other[0].at);\n\
+}\n\
+const lineWeight = (rows) => ({ ...rows[0], clean: rows[0].clean, lost: sumOf(rows, ({ lost }) => lost) });\n\
+function eventsOf({ data, rows }) {\n\
+const events = (data.events || []).map(({ text, pairs }) => ({ text, rows: pairs.map((at) => rows[at]) }));\n\
+const told = new Set(events.flatMap((event) => event.rows));\n\
+const others = rows.filter((row) => row.advice !== null && !told.has(row));\n\
+const head = events.length > 0 && others.length > 0 ? 'Other pairs to look at' : null;\n\
+return others.length > 0 ? [...events, { text: head, rows: others }] : events;\n\
+}\n\
+function showHappened(report, section) {\n\
+const events = eventsOf(report);\n\
+section.hidden = events.length === 0;\n\
+if (section.hidden) return;\n\
+const list = make('div', { class: 'events' });\n\
+section.append(list);\n\
+inParts(section, 'event', events, EVENTS_SHOWN, (some) => {\n\
+const shown = some.map((event) => eventPart(report, event));\n\
+list.append(...shown);\n\
+return shown;\n\
+});\n\
+}\n\
+function eventPart(report, { text, rows }) {\n\
+const body = make('tbody', null);\n\
+const head = text === null ? null : `${text[0].toUpperCase()}${text.slice(1)}`;\n\
+const part = make('div', { class: 'event', tabindex: '-1' }, head !== null && make('h3', null, head),\n\
+make('table', { class: 'topics' }, make('caption', { class: 'hidden' }, head ?? 'Topics with something to look at'), tableHead('Topic', 'What happened', 'What to do'), body));\n\
+inParts(part, 'line', topicLines(rows), EVENT_LINES, (some) => {\n\
+const shown = some.map((line) => topicLine(report, line));\n\
+body.append(...shown);\n\
+return shown;\n\
+});\n\
+return part;\n\
+}\n\
+function topicLine(report, rows) {\n\
+const [first] = rows;\n\
+const { topic, rows: all } = first.group;\n\
+const links = rows.slice(0, NAMED_PAIRS).map((row) => make('li', null, pairLink(report, row)));\n\
+return make('tr', { class: first.kind, tabindex: '-1' },\n\
+make('th', { scope: 'row' }, oneName('b', shownTopic(topic)), make('div', { class: 'type' }, oneName('span', rosType(first.type) || first.type))),\n\
+make('td', null, make('p', null, badge(first.kind, KIND_WORDS[first.kind]), ` ${counted(rows.length)} of ${plural(all.length, 'pair')}`, ...lineCounts(rows)),\n\
+make('p', null, rows.length > 1 && `Pair ${first.at + 1}: `, verdictSentence(first)),\n\
+make('ul', { class: 'which' }, ...links, rows.length > NAMED_PAIRS && make('li', null, `and ${counted(rows.length - NAMED_PAIRS)} more`))),\n\
+make('td', { class: 'advice' }, first.advice));\n\
+}\n\
+function lineCounts(rows) {\n\
+const held = rows.some(isHeld);\n\
+const counts = held ? [['not arrived', sumOf(rows.filter(isHeld), lostOf)]] : LOST.map((kind) => [kind, sumOf(rows, ({ outcomes }) => outcomes[kind])]);\n\
+return counts.filter(([, count]) => isAbove(count, 0)).flatMap(([kind, count]) => [' ', badge('missed', `${kind} ${counted(count)}`)]);\n\
+}\n\
+function pairLink(report, row) {\n\
+return make('a', { href: `#pair-${row.at + 1}` }, `pair ${row.at + 1}`,\n\
+make('span', { class: 'ends' }, `: ${endText(report, row.writer, row.writer_node)} to ${endText(report, row.reader, row.reader_node)}`));\n\
+}\n\
+</script>\n\
+<script>'use strict';\n\
+const TALK_LINES = [10, 200];\n\
+function showTalk(report) {\n\
+const section = document.getElementById('talk');\n\
+const { unmatched, talking, one_way: oneWay, unobserved } = report.data;\n\
+section.hidden = [unmatched, talking, oneWay, unobserved].every((items) => items.length === 0);\n\
+const ends = endsOf(report);\n\
+talkTable(section, 'unmatched', 'Endpoints that do not match', ['Topic', 'Writer', 'Reader', 'What does not fit'], unmatched,\n\
+(one) => [...ends(one), unfitLines(one)]);\n\
+talkTable(section, 'talking', 'Endpoints that would not match by the standard, and talk', ['Topic', 'Writer', 'Reader', 'What does not fit'], talking,\n\
+(one) => [...ends(one), [one.because.map(spaced).join(', ')]]);\n\
+talkTable(section, 'one-way', 'Participants that talk one way', ['Participant that never answers', 'Who names it', 'Datagrams'], oneWay,\n\
+({ from, to, named }) => [endpointName(report, to), endpointName(report, from), [counted(named)]]);\n\
+showLeftOut(section, unobserved, ends);\n\
+}\n\
+const endsOf = (report) => ({ topic, writer, reader }) => (\n\
+[[oneName('b', shownTopic(topic))], endpointName(report, writer), endpointName(report, reader)]);\n\
+function showLeftOut(section, unobserved, ends) {\n\
+if (unobserved.length === 0) return;\n\
+const reasons = new Map();\n\
+for (const { because } of unobserved) reasons.set(because, (reasons.get(because) || 0) + 1);\n\
+const why = [...reasons].map(([because, count]) => `${counted(count)} ${because}`).join(', ');\n\
+section.append(makeFold({ class: 'talk-fold' }, [make('b', null, `${plural(unobserved.length, 'pair')} ${unobserved.length === 1 ? 'is' : 'are'} left out`), `: ${why}`], () => {\n\
+const part = make('div', null);\n\
+talkTable(part, 'unobserved', null, ['Topic', 'Writer', 'Reader', 'Why'], unobserved, (one) => [...ends(one), [one.because]]);\n\
+return [part];\n\
+}));\n\
+}\n\
+function showBestEffort(report) {\n\
+const section = document.getElementById('best-effort');\n\
+const { best_effort: bestEffort, arrived = [] } = report.data;\n\
+const lacking = arrived.filter(({ not_arrived: named }) => named.length > 0).sort(byText('topic'));\n\
+const ends = endsOf(report);\n\
+section.hidden = bestEffort.length === 0 && lacking.length === 0;\n\
+talkTable(section, 'best-effort', null, ['Topic', 'Pairs', 'Numbers in this recording'], bestEffort,\n\
+({ topic, pairs, numbers, recorded }) => [[oneName('b', shownTopic(topic))], [counted(pairs)], [`${counted(recorded)} of ${counted(numbers)}`]]);\n\
+talkTable(section, 'not-arrived', lackingHead(lacking), ['Topic', 'Writer', 'Reader', 'Numbers at the reader’s host'], lacking,\n\
+(one) => [...ends(one), [`arrived ${counted(one.arrived)} of ${counted(one.numbers)}, not ${listed(one.not_arrived, lackingOf(one))}`]]);\n\
+}\n\
+const lackingOf = ({ numbers, arrived }) => BigInt(numbers) - BigInt(arrived);\n\
+const lackingHead = (pairs) => `${plural(sumOf(pairs, lackingOf), 'number')} of ${plural(pairs.length, 'best-effort pair')} did not arrive`;\n\
+const spaced = (policy) => policy.replaceAll('_', ' ');\n\
+function unfitLines({ because, offered, requested }) {\n\
+return because.map((policy, at) => {\n\
+const [offer, request] = [offered[at], requested[at]].map((text) => (policy === 'type' && rosType(text)) || text);\n\
+return make('div', null, `${spaced(policy)}: offers ${offer}; asks for ${request}`);\n\
+});\n\
+}\n\
+function talkTable(section, name, head, heads, items, cellsOf) {\n\
+if (items.length === 0) return;\n\
+const body = make('tbody', null);\n\
+const table = make('table', { class: `talk ${name}` }, make('caption', { class: 'hidden' }, head ?? section.querySelector('h2')?.textContent ?? 'Pairs'), tableHead(...heads), body);\n\
+const part = make('div', { class: 'talk-part' }, head !== null && make('h3', null, head), make('div', { class: 'wide' }, table));\n\
+section.append(part);\n\
+inParts(part, 'line', items, TALK_LINES, (some) => {\n\
+const rows = some.map((item) => make('tr', { tabindex: '-1' },\n\
+...cellsOf(item).map((cell, at) => make(at === 0 ? 'th' : 'td', at === 0 ? { scope: 'row' } : null, ...cell))));\n\
+body.append(...rows);\n\
+return rows;\n\
+});\n\
 }\n\
 </script>\n\
 <script>'use strict';\n\
@@ -724,40 +1187,79 @@ const REACH = 12;\n\
 const MANY_DOTS = 3000;\n\
 const MANY_ANSWERS = 150;\n\
 const POINT = 'Point at a dot to read it.';\n\
+const MOST_LOST = 5000;\n\
 function marksOf(report, row, axis) {\n\
 const acts = report.actsOf(row).map((entry) => entryParts(entry, axis));\n\
 const to = namesOf(row.reader);\n\
 const heard = acts.filter(({ named }) => to.includes(named));\n\
 const answers = report.basesOf(row).map(([datagram, at, base]) => ({ x: axis.at(datagram), y: Number(base) - 1, at }));\n\
+const dots = dotsOf(heard.filter(({ what }) => what === 'data'));\n\
+const announced = stepsOf(acts.filter(({ what }) => what === 'announced').map(({ x, numbers: [last] }) => ({ x, y: Number(last) })));\n\
+const told = stepsOf(acts.filter(({ what }) => what !== 'gone').map(({ x, numbers: [last] }) => ({ x, y: Number(last) })));\n\
 return {\n\
-dots: dotsOf(heard.filter(({ what }) => what === 'data')),\n\
+dots,\n\
 bands: bandsOf(heard.filter(({ what }) => what === 'gone')),\n\
-announced: stepsOf(acts.filter(({ what }) => what === 'announced').map(({ x, numbers: [last] }) => ({ x, y: Number(last) }))),\n\
+announced,\n\
 answers,\n\
 acknowledged: stepsOf(answers),\n\
+lost: lostMarks(row, dots, told, axis),\n\
+arrived: arrivedDots(row, dots),\n\
 numbers: markedNumbers(row),\n\
 datagrams: row.verdict === 'unfounded' ? [{ x: axis.at(row.datagram), label: `datagram ${row.datagram}` }] : [],\n\
 };\n\
 }\n\
+function lostMarks({ numbers }, dots, told, axis) {\n\
+const sent = firstOf(dots);\n\
+return Object.keys(LOST_WORDS).filter((kind) => numbers[kind]).flatMap((kind) => (\n\
+eachNumber(numbers[kind].ranges, MOST_LOST).map((number) => {\n\
+const dot = sent.get(number);\n\
+const x = dot ? dot.x : (told.find(({ y }) => y >= number) || { x: axis.low }).x;\n\
+return { x, y: number, kind, isSent: dot !== undefined };\n\
+})));\n\
+}\n\
+function firstOf(dots) {\n\
+const found = new Map();\n\
+for (const dot of dots) if (!found.has(dot.y)) found.set(dot.y, dot);\n\
+return found;\n\
+}\n\
+function eachNumber(ranges, most) {\n\
+const numbers = [];\n\
+for (const { first, last } of ranges) {\n\
+for (let number = Number(first); number <= Number(last) && numbers.length < most; number += 1) numbers.push(number);\n\
+}\n\
+return numbers;\n\
+}\n\
+function arrivedDots(row, dots) {\n\
+if (!isHeld(row) || row.numbers.not_arrived?.more > 0) return [];\n\
+const lacking = row.numbers.not_arrived?.ranges || [];\n\
+const isLacking = (y) => lacking.some(({ first, last }) => y >= first && y <= last);\n\
+return [...firstOf(dots).values()].filter(({ y }) => y >= row.from && !isLacking(y)).map(({ x, y }) => ({ x, y }));\n\
+}\n\
 function axisOf(report, row) {\n\
 const drawn = [...report.actsOf(row), ...report.basesOf(row)].map(([datagram]) => datagram);\n\
 const seconds = drawn.map((datagram) => report.secondOf(datagram));\n\
-if (drawn.length === 0 || seconds.includes(undefined)) {\n\
+const isTimed = drawn.length > 0 && !seconds.includes(undefined);\n\
+const ends = isTimed ? endsOfAll(seconds) : endsOfAll(drawn);\n\
+if (!isTimed) {\n\
+const high = Math.max(2, report.data.datagrams + 1);\n\
 return {\n\
-word: 'datagram', name: 'Datagrams', at: (datagram) => datagram, low: 0, high: Math.max(2, report.data.datagrams + 1), window: 4, step: 1, text: shortNumber,\n\
+word: 'datagram', name: 'Datagrams', at: (datagram) => datagram, low: 0, high, own: within(ends, 1, [0, high]), window: 4, step: 1, text: shortNumber,\n\
 };\n\
 }\n\
-const [first, last] = [seconds.reduce((a, b) => Math.min(a, b)), seconds.reduce((a, b) => Math.max(a, b))];\n\
-const room = Math.max(0.01, (last - first) * 0.02);\n\
+const last = Math.max(ends[1], report.seconds());\n\
+const room = Math.max(0.01, last * 0.01);\n\
+const [low, high] = [Math.min(0, ends[0]) - room, last + room];\n\
 return {\n\
-word: 's', name: 'Seconds', at: (datagram) => report.secondOf(datagram), low: first - room, high: last + room, window: 0.02, step: 0.001, text: shortSecond,\n\
+word: 's', name: 'Seconds', at: (datagram) => report.secondOf(datagram), low, high, own: within(ends, Math.max(0.01, (ends[1] - ends[0]) * 0.02), [low, high]),\n\
+window: 0.02, step: 0.001, text: shortSecond,\n\
 };\n\
 }\n\
+const endsOfAll = (values) => [values.reduce((a, b) => Math.min(a, b), Infinity), values.reduce((a, b) => Math.max(a, b), -Infinity)];\n\
+const within = ([first, last], room, [low, high]) => (first > last ? [low, high] : [Math.max(low, first - room), Math.min(high, last + room)]);\n\
 function entryParts([datagram, at, what, ...rest], axis) {\n\
 const count = what === 'gone' ? 2 : 1;\n\
 return { x: axis.at(datagram), datagram, at, what, numbers: rest.slice(0, count), named: rest[count] };\n\
 }\n\
-const namesOf = (reader) => [undefined, reader, prefixOf(reader), entityOf(reader)];\n\
 function markedNumbers({ verdict, number, first_missed: missed }) {\n\
 const found = [{ y: Number(number), label: `${verdict} ${number}` }];\n\
 return missed && missed.number !== number ? [...found, { y: Number(missed.number), label: `missed ${missed.number}` }] : found;\n\
@@ -804,33 +1306,39 @@ constructor(report, row) {\n\
 this.axis = axisOf(report, row);\n\
 this.marks = marksOf(report, row, this.axis);\n\
 this.all = this.extent();\n\
-Object.assign(this, { view: this.all, at: null, drag: null, width: 0, still: document.createElement('canvas') });\n\
+Object.assign(this, { report, row, view: this.all, at: null, drag: null, width: 0, still: document.createElement('canvas') });\n\
 this.canvas = make('canvas', {\n\
-tabindex: '0', role: 'application', 'aria-label': this.description(row), 'aria-describedby': 'chart-help',\n\
+tabindex: '0', role: 'application', 'aria-label': this.description(row), 'aria-describedby': `chart-help-${row.at + 1}`,\n\
 });\n\
 this.readout = make('p', { class: 'readout', role: 'status' }, POINT);\n\
-this.element = make('figure', { class: 'chart' }, this.canvas, this.controls(), this.readout, legend(),\n\
-make('figcaption', { id: 'chart-help' }, `${this.axis.name} to the right, numbers upwards. Drag to zoom, double-click to show all. Keys: left and `\n\
-+ 'right go from dot to dot, + and − zoom, Shift and an arrow move, 0 shows all.'));\n\
+this.element = make('figure', { class: 'chart' }, this.canvas, this.readout, this.controls(), legend(this.marks),\n\
+make('figcaption', { id: `chart-help-${row.at + 1}` }, `${this.axis.name} to the right, numbers upwards. Drag to zoom, double-click to show all. Keys: left and `\n\
++ 'right go from dot to dot, + and − zoom, Shift and an arrow move, 0 shows all, 1 the pair’s own span.'));\n\
 this.listen();\n\
 }\n\
 extent() {\n\
-const { dots, bands, announced, acknowledged, numbers } = this.marks;\n\
+const { dots, bands, announced, acknowledged, numbers, lost } = this.marks;\n\
 let top = 1;\n\
-for (const { y, high } of [...announced, ...acknowledged, ...numbers, ...bands]) top = Math.max(top, y ?? high);\n\
+for (const { y, high } of [...announced, ...acknowledged, ...numbers, ...bands, ...lost]) top = Math.max(top, y ?? high);\n\
 for (const { y } of dots) top = Math.max(top, y);\n\
 return { x0: this.axis.low, x1: this.axis.high, y0: 0, y1: top * 1.06 + 1 };\n\
 }\n\
+ownSpan() {\n\
+const [x0, x1] = this.axis.own;\n\
+const { answers, dots, announced } = this.marks;\n\
+const low = [...dots, ...answers, ...announced].reduce((least, { y }) => Math.min(least, y), this.all.y1);\n\
+return this.within([x0, x1, Math.max(0, low - 2), this.all.y1]);\n\
+}\n\
 description(row) {\n\
-const { dots, answers } = this.marks;\n\
+const { dots, answers, lost } = this.marks;\n\
 const again = dots.filter((dot) => dot.again).length;\n\
 return `Chart of ${this.axis.name.toLowerCase()} and numbers: ${plural(dots.length, 'DATA', 'DATA')} to this reader, ${counted(again)} of them sent again, `\n\
-+ `${plural(answers.length, 'answer')} of the reader, and a line at ${row.verdict} ${row.number}.`;\n\
++ `${plural(answers.length, 'answer')} of the reader, ${plural(lost.length, 'mark')} of lost numbers, and a line at ${row.verdict} ${row.number}.`;\n\
 }\n\
 controls() {\n\
 const acts = [\n\
 ['Zoom in', () => this.zoom(0.5)], ['Zoom out', () => this.zoom(2)], ['Earlier', () => this.pan(-0.5, 0)], ['Later', () => this.pan(0.5, 0)],\n\
-['Lower', () => this.pan(0, -0.5)], ['Higher', () => this.pan(0, 0.5)], ['Show all', () => this.show(this.all)],\n\
+['Lower', () => this.pan(0, -0.5)], ['Higher', () => this.pan(0, 0.5)], ['Own span', () => this.show(this.ownSpan())], ['Show all', () => this.show(this.all)],\n\
 ];\n\
 return make('div', { class: 'controls', role: 'group', 'aria-label': 'Chart' }, ...acts.map(([label, act]) => makeButton(null, label, act)));\n\
 }\n\
@@ -897,8 +1405,9 @@ this.readout.textContent = dot ? this.dotText(dot) : POINT;\n\
 this.paint();\n\
 }\n\
 dotText({ number, datagram, at, again, x }) {\n\
-const place = placeText({ datagram, at, time: this.axis.word === 's' ? x : null });\n\
-return `DATA of number ${number} in ${place}${again ? ', sent again' : ''}.`;\n\
+const place = placeText({ datagram, at, frame: this.report.frameOf(datagram), time: this.axis.word === 's' ? x : null });\n\
+const kinds = this.marks.lost.filter((mark) => mark.y === Number(number)).map(({ kind }) => LOST_WORDS[kind].toLowerCase());\n\
+return `DATA of number ${number} in ${place}${again ? ', sent again' : ''}${kinds.length > 0 ? `; ${number} is ${kinds.join(' and ')}` : ''}.`;\n\
 }\n\
 pointed({ offsetX, offsetY }) {\n\
 if (!this.drag) {\n\
@@ -934,7 +1443,7 @@ key(event) {\n\
 const acts = event.shiftKey\n\
 ? { ArrowLeft: () => this.pan(-0.2, 0), ArrowRight: () => this.pan(0.2, 0), ArrowUp: () => this.pan(0, 0.2), ArrowDown: () => this.pan(0, -0.2) }\n\
 : { ArrowLeft: () => this.step(-1), ArrowRight: () => this.step(1) };\n\
-Object.assign(acts, { '+': () => this.zoom(0.5), '=': () => this.zoom(0.5), '-': () => this.zoom(2), 0: () => this.show(this.all) });\n\
+Object.assign(acts, { '+': () => this.zoom(0.5), '=': () => this.zoom(0.5), '-': () => this.zoom(2), 0: () => this.show(this.all), 1: () => this.show(this.ownSpan()) });\n\
 if (event.ctrlKey || event.metaKey || event.altKey || !Object.hasOwn(acts, event.key)) return;\n\
 event.preventDefault();\n\
 acts[event.key]();\n\
@@ -964,6 +1473,8 @@ this.drawSteps(this.marks.acknowledged, '--acknowledged', 3.5);\n\
 this.drawAnswers();\n\
 this.drawMarks();\n\
 this.drawDots();\n\
+this.drawLost();\n\
+this.drawArrived();\n\
 this.paint();\n\
 }\n\
 paint() {\n\
@@ -1075,6 +1586,29 @@ if (dot.again) pen.stroke();\n\
 else pen.fill();\n\
 }\n\
 }\n\
+drawLost() {\n\
+const lost = this.marks.lost.filter((mark) => this.isInSight(mark));\n\
+const pen = this.penOf('--mark', 2.25);\n\
+const arm = lost.length > 400 ? 3 : 4.5;\n\
+const drawn = new Set();\n\
+for (const mark of lost) {\n\
+const [x, y] = [Math.round(this.pixelX(mark.x)), Math.round(this.pixelY(mark.y))];\n\
+if (drawn.has(x * CHART_HEIGHT + y)) continue;\n\
+drawn.add(x * CHART_HEIGHT + y);\n\
+this.line(x - arm, y - arm, x + arm, y + arm);\n\
+this.line(x - arm, y + arm, x + arm, y - arm);\n\
+if (!mark.isSent) pen.strokeRect(x - arm - 2, y - arm - 2, 2 * arm + 4, 2 * arm + 4);\n\
+}\n\
+}\n\
+drawArrived() {\n\
+const pen = this.penOf('--acknowledged', 1);\n\
+const columns = new Set(this.marks.arrived.filter((dot) => this.isInSight(dot)).map(({ x }) => Math.round(this.pixelX(x))));\n\
+for (const x of columns) {\n\
+pen.beginPath();\n\
+pen.arc(x, CHART_HEIGHT - EDGES.bottom - 5, 2.2, 0, 7);\n\
+pen.fill();\n\
+}\n\
+}\n\
 drawMarks() {\n\
 const { width } = this;\n\
 const pen = this.penOf('--mark', 1.5);\n\
@@ -1102,47 +1636,55 @@ pen.fillText(text, x, y);\n\
 pen.restore();\n\
 }\n\
 }\n\
-const SVG = 'http://www.w3.org/2000/svg';\n\
-function drawn(tag, attributes, ...children) {\n\
-const element = document.createElementNS(SVG, tag);\n\
-for (const [name, value] of Object.entries(attributes)) element.setAttribute(name, value);\n\
-element.append(...children);\n\
-return element;\n\
-}\n\
-function legend() {\n\
-const item = (text, ...shapes) => make('li', null,\n\
-drawn('svg', { viewBox: '0 0 24 14', width: '24', height: '14', 'aria-hidden': 'true' }, ...shapes), text);\n\
+function legend({ lost, arrived }) {\n\
 return make('ul', { class: 'legend' },\n\
-item('DATA to this reader', drawn('circle', { class: 'sent', cx: 12, cy: 7, r: 4 })),\n\
-item('sent again', drawn('circle', { class: 'again', cx: 12, cy: 7, r: 4.5 })),\n\
-item('told gone', drawn('rect', { class: 'band', x: 2, y: 1, width: 20, height: 12 })),\n\
-item('announced by HEARTBEATs', drawn('path', { class: 'announced', d: 'M1 12H11V3H23' })),\n\
-item('acknowledged, a stroke for each answer',\n\
+legendItem('DATA to this reader', drawn('circle', { class: 'sent', cx: 12, cy: 7, r: 4 })),\n\
+legendItem('sent again', drawn('circle', { class: 'again', cx: 12, cy: 7, r: 4.5 })),\n\
+lost.length > 0 && legendItem('lost: missed, unsent, unanswered or not arrived', drawn('path', { class: 'cross', d: 'M8 3l8 8m0-8l-8 8' })),\n\
+lost.some(({ isSent }) => !isSent) && legendItem('lost, and never sent here', drawn('path', { class: 'cross', d: 'M9 4l6 6m0-6l-6 6M6 1h12v12H6z' })),\n\
+arrived.length > 0 && legendItem('received, or in the other recording', drawn('circle', { class: 'came', cx: 12, cy: 10, r: 2.5 })),\n\
+legendItem('told gone', drawn('rect', { class: 'band', x: 2, y: 1, width: 20, height: 12 })),\n\
+legendItem('announced by HEARTBEATs', drawn('path', { class: 'announced', d: 'M1 12H11V3H23' })),\n\
+legendItem('acknowledged, a stroke for each answer',\n\
 drawn('path', { class: 'acknowledged', d: 'M1 7H23' }), drawn('path', { class: 'answer', d: 'M8 1V13M17 1V13' })),\n\
-item('what the verdict is about', drawn('path', { class: 'mark', d: 'M1 7H23' })));\n\
+legendItem('what the verdict is about', drawn('path', { class: 'verdict-line', d: 'M1 7H23' })));\n\
 }\n\
 </script>\n\
 <script>'use strict';\n\
+const MOST_PRINTED = 40;\n\
 let chartInSight = null;\n\
+let charts = [];\n\
 function pairDetail(report, row) {\n\
 return make('div', { class: 'detail-body' },\n\
 make('div', { class: 'detail-words' },\n\
-make('h3', null, `Pair ${row.at + 1}: `, ...topicName(row.topic)),\n\
+make('h3', null, `Pair ${row.at + 1}: `, shownTopic(row.topic)),\n\
+make('dl', { class: 'ends-list' }, ...endParts(report, 'Writer', row.writer, row.writer_node), ...endParts(report, 'Reader', row.reader, row.reader_node)),\n\
 make('p', { class: 'lead' }, verdictSentence(row)),\n\
+...manyRanges(row),\n\
 row.advice !== null && make('p', { class: 'advice' }, row.advice),\n\
 make('h4', null, 'What it rests on'),\n\
-make('ul', null, ...evidenceSentences(row).map((sentence) => make('li', null, sentence))),\n\
-make('h4', null, 'Who they are'),\n\
-make('dl', { class: 'ends-list' }, ...endParts(report, 'Writer', row.writer), ...endParts(report, 'Reader', row.reader),\n\
-make('dt', null, 'Type'), make('dd', null, ...typeName(row.type))),\n\
+make('ul', { class: 'rests-on' }, ...evidenceSentences(row).map((sentence) => make('li', null, sentence))),\n\
+makeFold({ class: 'names' }, ['GUIDs and names of DDS'], () => [nameList(row)]),\n\
 placeHelp(row)),\n\
-make('div', null, chartOf(report, row)));\n\
+make('div', { class: 'detail-chart' }, chartOf(report, row)));\n\
 }\n\
-function endParts(report, side, guid) {\n\
+function endParts(report, side, guid, node) {\n\
 const [endpoint, participant] = [report.endpointOf.get(guid), report.participantOf(guid)];\n\
-return [make('dt', null, side), make('dd', null, ...endpointName(report, guid),\n\
-endpoint && make('div', { class: 'qos' }, `${endpoint.reliability}, ${endpoint.durability}`),\n\
-participant && make('div', { class: 'qos' }, `${participant.name} ${topicsText(participant)}`))];\n\
+return [make('dt', null, side), make('dd', null, ...endpointName(report, guid, node),\n\
+endpoint && make('span', { class: 'qos' }, `, ${endpoint.reliability}, ${endpoint.durability}`),\n\
+participant && make('div', { class: 'qos' }, topicsText(participant)))];\n\
+}\n\
+function nameList({ topic, type, writer, reader }) {\n\
+const name = (text) => make('code', { class: 'name' }, text);\n\
+return make('dl', { class: 'ends-list' }, ...[['Topic', name(topic)], ['Type', name(type)], ['Writer', guidText(writer)], ['Reader', guidText(reader)]]\n\
+.flatMap(([word, text]) => [make('dt', null, word), make('dd', null, text)]));\n\
+}\n\
+function manyRanges({ numbers }) {\n\
+return Object.keys(LOST_WORDS).filter((kind) => numbers[kind]?.ranges.length > LOST_TOLD).map((kind) => {\n\
+const { ranges, more } = numbers[kind];\n\
+return makeFold({ class: 'ranges' }, [`All ranges of ${LOST_WORDS[kind].toLowerCase()} numbers`], () => [\n\
+make('p', null, `${ranges.map(rangeText).join(', ')}${more > 0 ? `, and ${counted(more)} more ranges` : ''}.`)]);\n\
+});\n\
 }\n\
 function placeHelp(row) {\n\
 const place = row.claimed || row.acknowledged || row.announced;\n\
@@ -1152,59 +1694,79 @@ return make('p', { class: 'hint' }, `An octet is counted from 0 in the UDP paylo
 }\n\
 function chartOf(report, row) {\n\
 chartInSight = report.basesOf(row) ? new Chart(report, row) : null;\n\
+if (chartInSight) charts.push(chartInSight);\n\
 if (chartInSight) return chartInSight.element;\n\
 return make('p', { class: 'no-chart' }, 'The chart of this pair was left out: a page has room for 200,000 acts and answers, and other pairs '\n\
 + 'came first. A recording of fewer participants brings it: cut one by tshark, so that all traffic of some participants stays (the guide, '\n\
 + 'section 7, “Larger recordings”, says how).');\n\
 }\n\
-const redrawChart = () => chartInSight && chartInSight.draw();\n\
+function forgetCharts() {\n\
+[chartInSight, charts] = [null, []];\n\
+}\n\
+const redrawChart = () => charts.forEach((chart) => chart.draw());\n\
 </script>\n\
 <script>'use strict';\n\
 const FIRST_ROWS = 100;\n\
 const MORE_ROWS = 500;\n\
 const byText = (member) => (a, b) => (a[member] < b[member] ? -1 : Number(a[member] > b[member]));\n\
 const byCount = (numberOf) => (a, b) => compareNumbers(numberOf(a), numberOf(b));\n\
-const worse = (a, b) => a.rank - b.rank;\n\
-function placeColumn(name, head, member) {\n\
+function placeColumn(name, head, member, meaning) {\n\
 const numberOf = (row) => (row[name] ? row[name][member] : 0);\n\
-return { name, head, class: 'count', compare: byCount(numberOf), cell: (report, row) => (row[name] ? String(numberOf(row)) : '–') };\n\
+return { name, head, meaning, class: 'count', compare: byCount(numberOf), cell: (report, row) => (row[name] ? String(numberOf(row)) : '–'), total: () => null };\n\
 }\n\
-function countColumn(name, head, isBad, numberOf) {\n\
+function countColumn(name, meaning, isBad, numberOf) {\n\
+const marked = (count, isMarked) => (isMarked && isAbove(count, 0) ? make('b', { class: 'bad' }, counted(count)) : counted(count));\n\
 const cell = (report, row) => {\n\
 const count = numberOf(row);\n\
-if (count === null) return '–';\n\
-return isBad(row) && isAbove(count, 0) ? make('b', { class: 'bad' }, counted(count)) : counted(count);\n\
+return count === null ? '–' : marked(count, isBad(row));\n\
 };\n\
-return { name, head, class: 'count', compare: byCount((row) => numberOf(row) || 0), cell };\n\
+const sums = new Map();\n\
+const sum = (group) => entryOf(sums, group, () => sumOf(group.rows, (row) => numberOf(row) || 0));\n\
+return {\n\
+name, head: name[0].toUpperCase() + name.slice(1), meaning, class: 'count', compare: byCount((row) => numberOf(row) || 0), cell, isAmount: true, sum,\n\
+total: (group) => marked(sum(group), group.rows.some(isBad)),\n\
+};\n\
 }\n\
-const OUTCOMES = ['received', 'arrived', 'likely', 'missed', 'unsent', 'unanswered', 'unconfirmed'];\n\
-const LOST = ['missed', 'unsent', 'unanswered'];\n\
-const isLost = (name, { outcomes: { arrived = null } }) => LOST.includes(name) || (name === 'likely' && arrived !== null);\n\
-const COLUMNS = [\n\
-{ name: 'verdict', head: 'Verdict', compare: (a, b) => worse(a, b) || compareNumbers(a.number, b.number), cell: verdictCell },\n\
-{ name: 'writer', head: 'Writer', compare: byText('writer'), cell: (report, row) => endpointName(report, row.writer) },\n\
-{ name: 'reader', head: 'Reader', compare: byText('reader'), cell: (report, row) => endpointName(report, row.reader) },\n\
-placeColumn('announced', 'Last announced', 'number'),\n\
-placeColumn('acknowledged', 'Acknowledged below', 'below'),\n\
-...OUTCOMES.map((name) => countColumn(name, name[0].toUpperCase() + name.slice(1), (row) => isLost(name, row), ({ outcomes }) => outcomes[name])),\n\
+const isLost = (name, row) => LOST.includes(name) || (name === 'likely' && isHeld(row));\n\
+const OUTCOME_MEANINGS = {\n\
+missed: 'the reader asked for the number, and nothing shows that it came',\n\
+unsent: 'the reader acknowledged a number that the recording never sends to it',\n\
+unanswered: 'the writer asked about it, and dropped it before the reader answered',\n\
+likely: 'sent and acknowledged, but not so that it is certain',\n\
+unconfirmed: 'sent, and not acknowledged by the end',\n\
+received: 'for certain: it was sent before the answer that acknowledges it',\n\
+arrived: 'the recording at the reader’s host has it',\n\
+};\n\
+const outcomeColumn = (name) => countColumn(name, OUTCOME_MEANINGS[name], (row) => isLost(name, row), ({ outcomes }) => outcomes[name]);\n\
+const columnsOf = ({ data: { options } }) => [\n\
+{ name: 'verdict', head: 'Topic and pairs', compare: (a, b) => worse(a, b) || compareNumbers(a.number, b.number), cell: verdictCell },\n\
+{ name: 'writer', head: 'Writer', compare: byText('writer'), cell: (report, row) => endpointBriefly(report, row.writer, row.writer_node) },\n\
+{ name: 'reader', head: 'Reader', compare: byText('reader'), cell: (report, row) => endpointBriefly(report, row.reader, row.reader_node) },\n\
+...['missed', 'unsent', 'unanswered', 'likely', 'unconfirmed', 'received', 'arrived'].map(outcomeColumn),\n\
+countColumn('before', 'numbers of before the reader joined', () => false, ({ from }) => differenceOf(from, options.from)),\n\
+placeColumn('announced', 'Last announced', 'number', 'the last number that the writer announced'),\n\
+placeColumn('acknowledged', 'Acknowledged below', 'below', 'the reader acknowledged all numbers below this one'),\n\
 ];\n\
 const WORST_FIRST = { name: 'worst', head: 'Worst first', compare: worse };\n\
 const BY_TOPIC = { name: 'topic', head: 'Topic', compare: (a, b) => byText('topic')(a, b) || worse(a, b) };\n\
 const BY_TYPE = { name: 'type', head: 'Type', compare: (a, b) => byText('type')(a, b) || worse(a, b) };\n\
 function verdictCell(report, row) {\n\
-const bad = OUTCOMES.filter((name) => isLost(name, row) && row.outcomes[name] > 0);\n\
+const bad = OUTCOMES.filter((name) => isLost(name, row) && isAbove(row.outcomes[name], 0));\n\
 return make('a', { href: `#pair-${row.at + 1}`, 'aria-expanded': 'false' },\n\
-badge(row.verdict, row.verdict), ' ', make('span', { class: 'number' }, String(row.number)),\n\
+make('span', { class: 'pair-name' }, `Pair ${row.at + 1} `), badge(row.verdict, row.verdict), ' ', make('span', { class: 'number' }, String(row.number)),\n\
 row.datagram !== undefined && make('span', { class: 'in-datagram' }, ` in datagram ${row.datagram}`),\n\
 bad.flatMap((name) => [' ', badge('missed', `${name} ${counted(row.outcomes[name])}`)]),\n\
-row.clean && [' ', badge('clean', 'clean')],\n\
-make('span', { class: 'hidden' }, `, pair ${row.at + 1}`));\n\
+row.clean && [' ', badge('clean', 'clean')]);\n\
 }\n\
+const [FOLDED, BAD, ALL] = ['folded', 'bad', 'all'];\n\
 class Pairs {\n\
 constructor(report) {\n\
-Object.assign(this, { report, words: [], kinds: new Set(), order: WORST_FIRST, isDown: false, most: FIRST_ROWS, chosen: null });\n\
-this.columns = COLUMNS.filter(({ name }) => name !== 'arrived' || report.data.arrived);\n\
+Object.assign(this, { report, words: [], kinds: new Set(), order: WORST_FIRST, isDown: false, most: FIRST_ROWS, chosen: null, isPaper: false });\n\
+this.columns = columnsOf(report).filter(({ name, isAmount, sum }) => (\n\
+name === 'arrived' ? report.data.arrived : !isAmount || name === 'received' || report.groups.some((group) => isAbove(sum(group), 0))));\n\
 this.orders = [WORST_FIRST, BY_TOPIC, BY_TYPE, ...this.columns];\n\
+this.openness = new Map(report.groups.map((group) => [group, group.clean ? FOLDED : BAD]));\n\
+this.areCleanShown = report.groups.every(({ clean }) => clean);\n\
 this.sort();\n\
 this.build();\n\
 this.render();\n\
@@ -1214,20 +1776,28 @@ const direction = this.isDown ? -1 : 1;\n\
 this.sorted = [...this.report.rows].sort((a, b) => direction * this.order.compare(a, b) || a.at - b.at);\n\
 }\n\
 hasWord(word) {\n\
-const has = (...texts) => texts.some((text) => text !== null && text.toLowerCase().includes(word));\n\
+const has = (...texts) => texts.some((text) => typeof text === 'string' && text.toLowerCase().includes(word));\n\
 const { groups, data } = this.report;\n\
 const found = new Set(groups.filter(({ topic, type }) => has(topic, type, rosTopic(topic), rosType(type))));\n\
 for (const { guid } of data.endpoints) {\n\
-const { name, nodes } = this.report.participantOf(guid);\n\
-if (has(guid, name, ...nodes)) found.add(guid);\n\
+const participant = this.report.participantOf(guid);\n\
+const { address, host, process, name } = participant.announced || {};\n\
+if (has(guid, participant.name, ...participant.nodes, address, host, process, name)) found.add(guid);\n\
 }\n\
-return ({ group, writer, reader, verdict, kind, number }) => (\n\
-found.has(group) || found.has(writer) || found.has(reader) || has(verdict, kind, String(number)));\n\
+return ({ group, writer, reader, verdict, kind, number, writer_node: sender, reader_node: receiver }) => (\n\
+found.has(group) || found.has(writer) || found.has(reader) || has(verdict, kind, sender, receiver, String(number)));\n\
 }\n\
 matching() {\n\
 const tests = this.words.map((word) => this.hasWord(word));\n\
 if (this.kinds.size > 0) tests.push(({ kind }) => this.kinds.has(kind));\n\
 return tests.reduce((rows, test) => rows.filter(test), this.sorted);\n\
+}\n\
+isAllOpen() {\n\
+return this.isPaper || this.words.length > 0 || this.kinds.size > 0;\n\
+}\n\
+isShown(row) {\n\
+const openness = this.openness.get(row.group);\n\
+return openness === ALL || (openness === BAD && !row.clean);\n\
 }\n\
 setFilter(text) {\n\
 this.words = text.toLowerCase().split(/\\s+/).filter(Boolean);\n\
@@ -1244,7 +1814,7 @@ if (!this.kinds.delete(kind)) this.kinds.add(kind);\n\
 this.renderFirst();\n\
 }\n\
 build() {\n\
-this.filter = make('input', { type: 'search', id: 'filter', autocomplete: 'off', spellcheck: 'false', placeholder: 'topic, node, verdict, GUID' });\n\
+this.filter = make('input', { type: 'search', id: 'filter', autocomplete: 'off', spellcheck: 'false', placeholder: 'topic, node, host, verdict, GUID' });\n\
 this.filter.addEventListener('input', () => this.setFilter(this.filter.value));\n\
 this.select = make('select', { id: 'order' }, ...this.orders.map(({ name, head }) => make('option', { value: name }, head)));\n\
 this.select.addEventListener('change', () => this.setOrder(this.orders.find(({ name }) => name === this.select.value)));\n\
@@ -1254,70 +1824,123 @@ this.table = make('table', { class: 'pairs' }, make('caption', { class: 'hidden'
 this.table.addEventListener('click', (event) => this.clicked(event));\n\
 const tools = make('div', { class: 'tools' },\n\
 make('label', { for: 'filter' }, 'Filter'), this.filter,\n\
-make('label', { for: 'order' }, 'Order'), this.select, makeButton(null, 'Reverse', () => this.setOrder(this.order)));\n\
+make('label', { for: 'order' }, 'Order'), this.select, makeButton(null, 'Reverse', () => this.setOrder(this.order)),\n\
+makeButton({ class: 'open-all' }, 'Open all', () => this.openAll(ALL)), makeButton(null, 'Fold', () => this.openAll(null)));\n\
 const wide = make('div', { class: 'wide' }, this.table);\n\
-tools.hidden = wide.hidden = this.report.rows.length === 0;\n\
-document.getElementById('pairs').append(tools, this.status, wide, this.more);\n\
-this.buildVerdicts();\n\
+const words = this.explanation();\n\
+tools.hidden = wide.hidden = words.hidden = this.report.rows.length === 0;\n\
+document.getElementById('pairs').append(this.kindButtons(), tools, this.status, wide, this.more, words);\n\
 }\n\
 heads() {\n\
 return make('thead', null, make('tr', null, ...this.columns.map((column) => make('th',\n\
 { scope: 'col', class: `${column.name} ${column.class || ''}` }, makeButton(null, column.head, () => this.setOrder(column))))));\n\
 }\n\
-buildVerdicts() {\n\
+explanation() {\n\
+const said = this.columns.filter(({ meaning }) => meaning).flatMap(({ head, meaning }, at) => [at > 0 && '; ', make('b', null, head), ` ${meaning}`]);\n\
+return make('p', { class: 'hint words' }, ...said, '.');\n\
+}\n\
+kindButtons() {\n\
 const countOf = (kind) => this.report.rows.filter((row) => row.kind === kind).length;\n\
 this.buttons = KINDS.filter(countOf).map((kind) => makeButton({ class: `badge ${kind}`, 'aria-pressed': 'false' },\n\
 `${counted(countOf(kind))} ${KIND_WORDS[kind]}`, (button) => {\n\
 this.toggleKind(kind);\n\
 button.setAttribute('aria-pressed', String(this.kinds.has(kind)));\n\
 }));\n\
-document.getElementById('verdicts').append(...this.buttons);\n\
+return make('div', { id: 'verdicts', role: 'group', 'aria-label': 'Show only pairs with these verdicts' }, ...this.buttons);\n\
 }\n\
 renderFirst() {\n\
 this.most = FIRST_ROWS;\n\
 this.render();\n\
 }\n\
+openAll(openness) {\n\
+for (const group of this.report.groups) this.openness.set(group, openness ?? (group.clean ? FOLDED : BAD));\n\
+this.areCleanShown = openness === ALL || this.report.groups.every(({ clean }) => clean);\n\
+this.renderFirst();\n\
+}\n\
+openGroup(group, openness) {\n\
+this.openness.set(group, openness);\n\
+this.areCleanShown ||= group.clean;\n\
+this.render();\n\
+}\n\
 showMore() {\n\
-const first = this.most;\n\
+const first = this.table.querySelectorAll('tr.pair').length;\n\
 this.most += MORE_ROWS;\n\
 this.render();\n\
-if (this.more.hidden) this.table.querySelectorAll('tr.pair > th a')[first].focus();\n\
+if (this.more.hidden) (this.table.querySelectorAll('tr.pair > th a')[first] || this.table.querySelector('tbody button'))?.focus();\n\
 }\n\
-showAll(isAll) {\n\
-[this.most, this.before] = isAll ? [Infinity, this.most] : [this.before, null];\n\
+showAll(isPaper) {\n\
+if (isPaper === this.isPaper) return;\n\
+[this.most, this.before] = isPaper ? [Infinity, this.most] : [this.before, null];\n\
+this.isPaper = isPaper;\n\
 this.render();\n\
 }\n\
 render() {\n\
 const rows = this.matching();\n\
-const shown = rows.slice(0, this.most);\n\
+const open = this.isAllOpen() ? rows : rows.filter((row) => this.isShown(row));\n\
+const shown = open.slice(0, this.most);\n\
 this.table.querySelectorAll('tbody').forEach((body) => body.remove());\n\
-this.table.append(...this.bodies(rows, shown));\n\
+const hasMore = this.showBodies(rows, shown) || shown.length < open.length;\n\
 this.table.querySelectorAll('thead th').forEach((head, at) => {\n\
 if (this.columns[at] === this.order) head.setAttribute('aria-sort', this.isDown ? 'descending' : 'ascending');\n\
 else head.removeAttribute('aria-sort');\n\
 });\n\
 this.select.value = this.order.name;\n\
-this.status.textContent = this.statusText(rows.length, shown.length);\n\
-this.more.hidden = shown.length === rows.length;\n\
+this.status.textContent = this.statusText(rows.length, open.length, shown.length);\n\
+this.more.hidden = !hasMore;\n\
 this.showChosen();\n\
 }\n\
-statusText(found, shown) {\n\
+statusText(found, open, shown) {\n\
 const all = this.report.rows.length;\n\
-if (all === 0) return document.querySelector('#text pre').textContent.split('\\n\\n')[0].replace(/\\s+/g, ' ');\n\
-return shown < found ? `${partOf(found, all, 'pair')}; the first ${counted(shown)} are shown.` : `${partOf(found, all, 'pair')}.`;\n\
+if (all === 0) return document.querySelector('#text pre').textContent.split('\\n\\n')[0].replace(/\\s+/g, ' ').replaceAll(' -> ', ': ');\n\
+const folded = found - open;\n\
+const some = shown < open ? `; the first ${counted(shown)} are shown` : '';\n\
+return `${partOf(found, all, 'pair')}${some}${folded > 0 ? `; ${counted(folded)} ${folded === 1 ? 'is' : 'are'} folded` : ''}.`;\n\
 }\n\
-bodies(rows, shown) {\n\
+showBodies(rows, shown) {\n\
 const sizes = new Map();\n\
 for (const { group } of rows) sizes.set(group, (sizes.get(group) || 0) + 1);\n\
-const bodies = new Map();\n\
-for (const row of shown) {\n\
-entryOf(bodies, row.group, () => make('tbody', null, this.groupRow(row.group, sizes.get(row.group)))).append(this.row(row));\n\
+const groups = [...sizes.keys()];\n\
+const isSeen = (group) => this.isAllOpen() || this.areCleanShown || !group.clean;\n\
+const seen = groups.filter(isSeen).slice(0, this.most);\n\
+const bodies = new Map(seen.map((group) => [group, make('tbody', null, this.groupRow(group, sizes.get(group)))]));\n\
+for (const row of shown) bodies.get(row.group)?.append(this.row(row));\n\
+for (const [group, body] of bodies) this.addFolded(group, body);\n\
+this.table.append(...bodies.values());\n\
+this.addCleanTopics(groups.filter((group) => !isSeen(group)));\n\
+return seen.length < groups.filter(isSeen).length;\n\
 }\n\
-return bodies.values();\n\
+addCleanTopics(groups) {\n\
+if (groups.length === 0) return;\n\
+const names = groups.slice(0, NAMED_TOPICS).map(({ topic }) => shownTopic(topic)).join(', ');\n\
+const button = makeButton({ class: 'fold', 'aria-expanded': 'false' }, `${plural(groups.length, 'clean topic')}`, () => {\n\
+this.areCleanShown = true;\n\
+this.render();\n\
+this.table.querySelector(`#topic-${groups[0].at + 1} button`)?.focus();\n\
+});\n\
+this.table.append(make('tbody', { class: 'clean-topics' }, make('tr', null, make('td', { colspan: this.columns.length }, button,\n\
+make('span', { class: 'size' }, `${names}${groups.length > NAMED_TOPICS ? ` and ${groups.length - NAMED_TOPICS} more` : ''}`)))));\n\
 }\n\
-groupRow({ topic, type, rows }, size) {\n\
-return make('tr', { class: 'group' }, make('th', { scope: 'rowgroup', colspan: this.columns.length }, ...topicName(topic),\n\
-make('span', { class: 'type' }, ...typeName(type)), make('span', { class: 'size' }, partOf(size, rows.length, 'pair'))));\n\
+groupRow(group, size) {\n\
+const { at, topic, type, rows, bad } = group;\n\
+const isOpen = this.isAllOpen() || this.openness.get(group) !== FOLDED;\n\
+const fold = makeButton({ class: 'fold', 'aria-expanded': String(isOpen) }, shownTopic(topic), () => {\n\
+this.openGroup(group, isOpen ? FOLDED : group.clean ? ALL : BAD);\n\
+document.querySelector(`#topic-${at + 1} button`)?.focus();\n\
+});\n\
+const clean = bad === rows.length ? 'none clean' : bad === 0 ? 'clean' : `${counted(rows.length - bad)} clean`;\n\
+const head = make('th', { scope: 'rowgroup', colspan: 3 }, fold, make('span', { class: 'type' }, oneName('span', rosType(type) || type)),\n\
+make('span', { class: 'size' }, `${partOf(size, rows.length, 'pair')}, ${clean}`));\n\
+return make('tr', { class: 'group', id: `topic-${at + 1}` }, head,\n\
+...this.columns.slice(3).map((column) => make('td', { class: `sum ${column.name}` }, column.total(group))));\n\
+}\n\
+addFolded(group, body) {\n\
+const count = group.rows.length - group.bad;\n\
+if (this.isAllOpen() || this.openness.get(group) !== BAD || count === 0) return;\n\
+body.append(make('tr', { class: 'folded' }, make('td', { colspan: this.columns.length },\n\
+makeButton({ class: 'fold', 'aria-expanded': 'false' }, `${plural(count, 'clean pair')}`, () => {\n\
+this.openGroup(group, ALL);\n\
+document.querySelector(`#topic-${group.at + 1} button`)?.focus();\n\
+}))));\n\
 }\n\
 row(row) {\n\
 const cells = this.columns.map((column, at) => make(at === 0 ? 'th' : 'td',\n\
@@ -1336,19 +1959,30 @@ history.replaceState(null, '', this.chosen === null ? '#' : `#${line.id}`);\n\
 }\n\
 goTo(at) {\n\
 if (at === this.chosen || !this.report.rows[at]) return;\n\
-const { writer, reader } = this.report.rows[at];\n\
+const row = this.report.rows[at];\n\
 this.chosen = at;\n\
-if (!document.getElementById(`pair-${at + 1}`)) {\n\
-this.filter.value = `${writer} ${reader}`;\n\
-this.kinds.clear();\n\
-this.buttons.forEach((button) => button.setAttribute('aria-pressed', 'false'));\n\
-this.setFilter(this.filter.value);\n\
-} else {\n\
-this.showChosen();\n\
-}\n\
+const isThere = () => document.getElementById(`pair-${at + 1}`) !== null;\n\
+if (!isThere() && !this.isAllOpen()) this.openGroup(row.group, row.clean || this.openness.get(row.group) === ALL ? ALL : BAD);\n\
+if (!isThere()) this.filterBy(`${row.writer} ${row.reader}`);\n\
+else this.showChosen();\n\
 const line = document.getElementById(`pair-${at + 1}`);\n\
 line.scrollIntoView();\n\
 line.querySelector('a').focus({ preventScroll: true });\n\
+}\n\
+goToTopic(at) {\n\
+const group = this.report.groups[at];\n\
+if (!group) return;\n\
+const lineOf = () => document.getElementById(`topic-${at + 1}`);\n\
+if (this.openness.get(group) === FOLDED || !lineOf()) this.openGroup(group, group.clean ? ALL : BAD);\n\
+if (!lineOf()) this.filterBy(group.topic);\n\
+lineOf().scrollIntoView();\n\
+lineOf().querySelector('button').focus({ preventScroll: true });\n\
+}\n\
+filterBy(words) {\n\
+this.filter.value = words;\n\
+this.kinds.clear();\n\
+this.buttons.forEach((button) => button.setAttribute('aria-pressed', 'false'));\n\
+this.setFilter(words);\n\
 }\n\
 showChosen() {\n\
 this.table.querySelectorAll('tr.detail').forEach((row) => row.remove());\n\
@@ -1356,48 +1990,82 @@ this.table.querySelectorAll('tr.chosen').forEach((row) => {\n\
 row.classList.remove('chosen');\n\
 row.querySelector('th a').setAttribute('aria-expanded', 'false');\n\
 });\n\
-const line = this.chosen === null ? null : document.getElementById(`pair-${this.chosen + 1}`);\n\
+forgetCharts();\n\
+const bad = this.isPaper ? this.report.rows.filter(({ clean, at }) => !clean && at !== this.chosen).slice(0, MOST_PRINTED) : [];\n\
+for (const { at } of bad) this.showDetail(at);\n\
+if (this.chosen !== null) this.showDetail(this.chosen);\n\
+redrawChart();\n\
+}\n\
+showDetail(at) {\n\
+const line = document.getElementById(`pair-${at + 1}`);\n\
 if (!line) return;\n\
 line.classList.add('chosen');\n\
 line.querySelector('th a').setAttribute('aria-expanded', 'true');\n\
 line.after(make('tr', { class: 'detail' },\n\
-make('td', { colspan: this.columns.length }, pairDetail(this.report, this.report.rows[this.chosen]))));\n\
-redrawChart();\n\
+make('td', { colspan: this.columns.length }, pairDetail(this.report, this.report.rows[at]))));\n\
 }\n\
 }\n\
 </script>\n\
 <script>'use strict';\n\
 const PARTICIPANT_LINES = [20, 200];\n\
-function showParticipants(report) {\n\
+class Participants {\n\
+constructor(report) {\n\
 const section = document.getElementById('participants');\n\
-const participants = [...report.participants.values()];\n\
-const pairsOf = new Map();\n\
-for (const row of report.rows) for (const guid of [row.writer, row.reader]) entryOf(pairsOf, guid, () => []).push(row);\n\
-section.append(make('p', null, participants.length === 0\n\
+this.list = [...report.participants.values()];\n\
+this.showAtLeast = () => {};\n\
+const { length } = this.list;\n\
+section.append(make('p', { class: 'hint' }, length === 0\n\
 ? 'None is announced.'\n\
-: `${plural(participants.length, 'participant')}, mostly one process each, with ${plural(report.data.endpoints.length, 'endpoint')}. `\n\
-+ 'Pairs of best effort are not judged.'));\n\
-if (participants.length === 0) return;\n\
-const table = make('table', { class: 'endpoints' }, make('caption', { class: 'hidden' }, 'Endpoints by participant'),\n\
-tableHead('Endpoint', 'Topic', 'QoS', 'Pairs of this report'));\n\
-section.append(make('div', { class: 'wide' }, table));\n\
-inParts(section, 'participant', participants, PARTICIPANT_LINES, (some) => {\n\
-const bodies = some.map((participant) => participantBody(report, participant, pairsOf));\n\
-table.append(...bodies);\n\
-return bodies.map((body) => body.querySelector('tr'));\n\
+: `${plural(length, 'participant')}, mostly one process each, with ${plural(report.data.endpoints.length, 'endpoint')}. Each opens to its endpoints.`));\n\
+if (length === 0) return;\n\
+const place = make('div', { class: 'participants' });\n\
+section.append(place);\n\
+const pairsOf = memo(() => pairsByEnd(report));\n\
+this.showAtLeast = inParts(section, 'participant', this.list, PARTICIPANT_LINES, (some) => {\n\
+const folds = some.map((participant) => participantFold(report, participant, pairsOf));\n\
+place.append(...folds);\n\
+return folds.map((fold) => fold.querySelector('summary'));\n\
 });\n\
 }\n\
+goTo(at) {\n\
+if (at > this.list.length) return;\n\
+this.showAtLeast(at);\n\
+const fold = document.getElementById(`participant-${at}`);\n\
+openFold(fold);\n\
+fold.scrollIntoView();\n\
+fold.querySelector('summary').focus({ preventScroll: true });\n\
+}\n\
+}\n\
+function pairsByEnd({ rows }) {\n\
+const pairsOf = new Map();\n\
+for (const row of rows) for (const guid of [row.writer, row.reader]) entryOf(pairsOf, guid, () => []).push(row);\n\
+return pairsOf;\n\
+}\n\
+function participantFold(report, participant, pairsOf) {\n\
+return makeFold({ class: 'participant', id: `participant-${participant.at}` }, participantLine(participant), () => participantBody(report, participant, pairsOf()));\n\
+}\n\
+function participantLine(participant) {\n\
+const { name, nodes, announced, endpoints } = participant;\n\
+const [title, where] = [titleOf(participant), whereOf(participant)];\n\
+return [make('b', { class: 'name' }, name), title && make('span', { class: 'node' }, nodes.length > 1 ? nodesText({ nodes }, NAMED_NODES) : title),\n\
+make('span', { class: 'host' }, where || (announced === null ? 'its own announcement is not in the recording' : 'no address')),\n\
+make('span', { class: 'life' }, [plural(endpoints.length, 'endpoint'), ...lifeText(announced)].join(', '))];\n\
+}\n\
+function lifeText(announced) {\n\
+if (announced === null || announced.first === null) return [];\n\
+const { first, last, left, silent, first_time: from = null, last_time: to = null } = announced;\n\
+const life = from !== null && to !== null ? `${from.toFixed(3)} s to ${to.toFixed(3)} s` : `datagram ${first} to ${last}`;\n\
+return [life, ...(left !== null ? ['left'] : []), ...(silent ? ['silent since'] : [])];\n\
+}\n\
 function participantBody(report, participant, pairsOf) {\n\
-const { name, nodes, prefix, announced, endpoints } = participant;\n\
-const head = make('tr', { class: 'group', id: `participant-${participant.at}`, tabindex: '-1' },\n\
-make('th', { scope: 'rowgroup', colspan: 4 }, make('b', { class: 'name' }, name),\n\
-make('span', { class: 'node' }, nodes.length > 0 && ` ${nodes.length === 1 ? 'node' : 'nodes'} ${nodes.join(', ')}`), ' ',\n\
-make('code', { class: 'guid' }, prefix),\n\
-announced !== null && announced.address !== null && make('span', { class: 'host' }, ` at ${announced.address}`),\n\
-announced === null && make('span', { class: 'hint' }, ' (its own announcement is not in the recording)')));\n\
+const { prefix, announced, endpoints } = participant;\n\
 const ordered = [...endpoints].sort((a, b) => byText('side')(b, a) || byText('topic')(a, b));\n\
 const lines = ordered.map((endpoint) => endpointRow(report, endpoint, pairsOf.get(endpoint.guid) || []));\n\
-return make('tbody', null, head, ...lines, endpoints.length === 0 && make('tr', null, make('td', { colspan: 4 }, 'It announced no endpoint.')));\n\
+const { name = null, enclave = null, domain = null } = announced || {};\n\
+const words = [name !== null && `name ${name}`, enclave !== null && `enclave ${enclave}`, domain !== null && `domain ${domain}`].filter(Boolean).join(', ');\n\
+return [make('p', { class: 'hint' }, 'GUID prefix ', make('code', { class: 'guid' }, prefix), words && `, ${words}`),\n\
+endpoints.length === 0 ? make('p', null, 'It announced no endpoint.') : make('div', { class: 'wide' }, make('table', { class: 'endpoints' },\n\
+make('caption', { class: 'hidden' }, `Endpoints of ${participant.name}`), tableHead('Endpoint', 'Topic', 'QoS', 'Pairs of this report'), make('tbody', null, ...lines)))];\n\
 }\n\
 function endpointRow(report, endpoint, rows) {\n\
 const links = rows.slice(0, NAMED_PAIRS).flatMap((row, at) => [at > 0 && ', ', pairLink(report, row)]);\n\
@@ -1412,23 +2080,40 @@ make('td', { class: 'in-pairs' }, pairs));\n\
 <script>'use strict';\n\
 function start() {\n\
 const report = new Report(valueOf(document.getElementById('data').textContent));\n\
-showOverview(report);\n\
-const pairs = new Pairs(report);\n\
-showParticipants(report);\n\
+showHead(report);\n\
 document.getElementById('page').hidden = false;\n\
-window.addEventListener('hashchange', () => goToAddress(pairs));\n\
-goToAddress(pairs);\n\
-listenForPaper(pairs);\n\
+const picture = new Picture(report, document.getElementById('picture'));\n\
+showHappened(report, document.getElementById('happened'));\n\
+showTalk(report);\n\
+showBestEffort(report);\n\
+showNotes(report);\n\
+showCounts(report);\n\
+const pairs = new Pairs(report);\n\
+const participants = new Participants(report);\n\
+showBar();\n\
+const go = () => goToAddress(pairs, participants);\n\
+window.addEventListener('hashchange', go);\n\
+document.addEventListener('click', ({ target }) => target.closest('a')?.hash === location.hash && location.hash !== '' && go());\n\
+go();\n\
+listenForPaper(pairs, picture);\n\
 }\n\
-function goToAddress(pairs) {\n\
-const [, at] = /^#pair-(\\d+)$/.exec(location.hash) || [];\n\
-if (at !== undefined) pairs.goTo(Number(at) - 1);\n\
+function showBar() {\n\
+const sections = [...document.querySelectorAll('main > section')].filter((section) => !section.hidden);\n\
+fill(document.getElementById('bar'), ...sections.map((section) => make('a', { href: `#${section.id}` }, section.dataset.name || section.querySelector('h2').textContent)));\n\
 }\n\
-function listenForPaper(pairs) {\n\
+function goToAddress(pairs, participants) {\n\
+const [, what, at] = /^#(pair|topic|participant)-(\\d+)$/.exec(location.hash) || [];\n\
+if (what === 'pair') pairs.goTo(Number(at) - 1);\n\
+if (what === 'topic') pairs.goToTopic(Number(at) - 1);\n\
+if (what === 'participant') participants.goTo(Number(at));\n\
+}\n\
+function listenForPaper(pairs, picture) {\n\
 matchMedia('(prefers-color-scheme: dark)').addEventListener('change', redrawChart);\n\
 const onPaper = (isOnPaper) => () => {\n\
 document.documentElement.classList.toggle('printed', isOnPaper);\n\
 pairs.showAll(isOnPaper);\n\
+picture.draw();\n\
+redrawChart();\n\
 };\n\
 window.addEventListener('beforeprint', onPaper(true));\n\
 window.addEventListener('afterprint', onPaper(false));\n\

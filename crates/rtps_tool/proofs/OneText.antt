@@ -13,7 +13,7 @@ use Rattle.rtps_text.specs.ReportText.{IsAuditedAs, IsJsonTextAs}
 use Rattle.rtps_text.specs.ListText.{IsListedWith}
 use Rattle.rtps_text.specs.ShowText.{IsShownWith}
 use Rattle.rtps_text.specs.WhyText.{IsWhyAs}
-use Rattle.rtps_tool.specs.Commands.{CommandValue, IsPageForm, IsTextOf}
+use Rattle.rtps_tool.specs.Commands.{CommandValue, IsPageForm, IsTextOf, origin_of}
 use Rattle.rtps_tool.specs.Commands.CommandValue.{Report, Show, Listing, Audit, Json}
 use Rattle.rtps_tool.specs.declared.runs.Form.TheVariants.{Check, CheckJson, Why, Page}
 
@@ -28,24 +28,24 @@ pub record OneTextEach : Type 0 where
   pub check_json : (asked : AskedValue) (other : Option RecordingValue) → HasOneText (IsCheckedJsonAs asked other)
   pub page : HasOnePage
 
-one_page : OneTextEach → (asked : AskedValue) (theirs : Option RecordingValue) → HasOneText (IsTold IsPageForm asked theirs)
-one_page each asked theirs recording one other ending last is also =
+one_page : OneTextEach → (name : List ℕ) (asked : AskedValue) (theirs : Option RecordingValue) → HasOneText (IsTold (IsPageForm name) asked theirs)
+one_page each name asked theirs recording one other ending last is also =
     let plain = is.is_text.0 in
     let shown = also.is_text.0 in
     let told : IsTold IsCheckText asked theirs recording plain ending = record { report = is.report; is_report = is.is_report; is_text = is.is_text.1; ends = is.ends } in
     let again : IsTold IsCheckText asked theirs recording shown last = record { report = also.report; is_report = also.is_report; is_text = also.is_text.1; ends = also.ends } in
     let same = each.check asked theirs recording plain shown ending last told again in
-    let page : IsPageOf asked recording also.report plain other = subst (λ text. IsPageOf asked recording also.report text other) (sym same.0) also.is_text.2 in
-    (each.page asked theirs recording is.report also.report plain one other is.is_report also.is_report is.is_text.2 page, same.1)
+    let page : IsPageOf (origin_of name) asked recording also.report plain other = subst (λ text. IsPageOf (origin_of name) asked recording also.report text other) (sym same.0) also.is_text.2 in
+    (each.page (origin_of name) asked theirs recording is.report also.report plain one other is.is_report also.is_report is.is_text.2 page, same.1)
 
 pub one_text_of : OneTextEach → (command : CommandValue) (other : Option RecordingValue) → HasOneText (IsTextOf command other)
-one_text_of each (Report Check asked) other = λ recording one two ending last is also. each.check asked other recording one two ending last
+one_text_of each (Report Check name asked) other = λ recording one two ending last is also. each.check asked other recording one two ending last
     (record { report = is.report; is_report = is.is_report; is_text = is.is_text; ends = is.ends }) (record { report = also.report; is_report = also.is_report; is_text = also.is_text; ends = also.ends })
-one_text_of each (Report CheckJson asked) other = λ recording one two ending last is also. each.check_json asked other recording one two ending last
+one_text_of each (Report CheckJson name asked) other = λ recording one two ending last is also. each.check_json asked other recording one two ending last
     (record { report = is.report; is_report = is.is_report; is_text = is.is_text; ends = is.ends }) (record { report = also.report; is_report = also.is_report; is_text = also.is_text; ends = also.ends })
-one_text_of each (Report Why asked) other = λ recording one two ending last is also. each.why asked other recording one two ending last
+one_text_of each (Report Why name asked) other = λ recording one two ending last is also. each.why asked other recording one two ending last
     (record { report = is.report; is_report = is.is_report; is_text = is.is_text; ends = is.ends }) (record { report = also.report; is_report = also.is_report; is_text = also.is_text; ends = also.ends })
-one_text_of each (Report Page asked) other = λ recording one two ending last is also. one_page each asked other recording one two ending last
+one_text_of each (Report Page name asked) other = λ recording one two ending last is also. one_page each name asked other recording one two ending last
     (record { report = is.report; is_report = is.is_report; is_text = is.is_text; ends = is.ends }) (record { report = also.report; is_report = also.is_report; is_text = also.is_text; ends = also.ends })
 one_text_of each (Show choice) other = each.shown choice
 one_text_of each (Listing choice) other = each.listed choice

@@ -1,6 +1,7 @@
 -- What a run does by what the words chose.
 -- own: each subcommand is one run.
 use Rattle.std.specs.Prelude.{ℕ, ◌≡◌, List, Option, Some, None, Result}
+use Rattle.std.specs.String.{string_bytes}
 use Rattle.clap.specs.Words.{Text}
 use Rattle.rtps_text.specs.SampleText.{sample}
 use Rattle.rtps_report.specs.declared.audited.AskedAudit.{AskedAudit}
@@ -23,7 +24,7 @@ audit_command Json asked = JsonCommand asked
 
 -- the options of its run; `sample` reads nothing, and has none
 abbrev pub options_of : Choice → Option OptionsValue
-options_of (Report file arrived limits form demands) = Some (record { command = ReportCommand form (asked_by demands); limits = limits; captures = Any })
+options_of (Report file arrived limits form demands) = Some (record { command = ReportCommand form (string_bytes file) (asked_by demands); limits = limits; captures = Any })
 options_of (Show file limits captures fragments) = Some (record { command = ShowCommand fragments; limits = limits; captures = captures })
 options_of (ListChoice file limits captures fragments) = Some (record { command = ListCommand fragments; limits = limits; captures = captures })
 options_of (Audit file limits captures form asked) = Some (record { command = audit_command form asked; limits = limits; captures = captures })

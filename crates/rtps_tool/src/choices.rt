@@ -47,12 +47,13 @@ impl Choice {
     {
         match self {
             Choice::Report {
+                file,
                 limits,
                 form,
                 demands,
                 ..
             } => Some(Options {
-                command: Command::Report(*form, demands.asked()),
+                command: Command::Report(*form, file.as_str(), demands.asked()),
                 limits: *limits,
                 captures: Captures::Any,
             }),

@@ -128,7 +128,7 @@ impl From<clap::Error> for WordFault {
 pub(crate) const GREATEST: u64 = 9_223_372_036_854_775_807;
 
 /// The version of the program.
-const VERSION: &str = "0.2.0";
+pub(crate) const VERSION: &str = "0.2.0";
 
 const FILE_HELP: &str =
     "A capture, or a text with one datagram a line in hexadecimal digits; - is standard input";

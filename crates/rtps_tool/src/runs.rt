@@ -14,13 +14,14 @@ ghost use Rattle.rtps_tool.specs.Commands.{IsFormOf, IsPageForm, IsTextOf, comma
 ghost use Rattle.rtps_tool.specs.Limits.{usual as usual_lem};
 ghost use Rattle.rtps_tool.specs.Runs.{FailsReading, IsOtherFault, ReadsRecording, Runs, RunsBeside, RunsWithin, Writes};
 
+use crate::command::VERSION;
 use crate::faults::{BesideFault, RunFault};
 use crate::follow::Follow;
 use crate::streams::{read_input, write_text};
 use rtps_capture::Captures;
 use rtps_check::{check_json, check_text};
 use rtps_ids::{Memory, SeqNum};
-use rtps_page::page_text;
+use rtps_page::{Origin, page_text};
 use rtps_report::{
     Asked, AskedAudit, Ending, Fragments, FullReport, Recording, Samples, Subject, Unwatched,
     Watch, report_on,
@@ -67,8 +68,8 @@ pub enum Form {
 /// What is printed of a recording.
 #[derive(Clone, Copy)]
 pub enum Command<'a> {
-    /// The report that is asked for, in a form.
-    Report(Form, Asked<'a>),
+    /// The report that is asked for of the recording of this name, in a form.
+    Report(Form, &'a str, Asked<'a>),
     /// Each datagram and its submessages.
     Show(Fragments),
     /// Participants, endpoints whose announcements agree, and matches.
@@ -174,13 +175,14 @@ fn text_of<'a, P: Watch + Follow>(
     ensures { IfOk result (λ answer. IsTextOf (command_value options.now.command) (arrived_value arrived.entry) recording.now (string_bytes answer.0) answer.1) }
 {
     match &options.command {
-        Command::Report(form, asked) => {
+        Command::Report(form, name, asked) => {
             let subject = Subject {
                 recording,
                 asked,
                 arrived,
             };
-            told(alloc, *form, subject, watch)
+            let told_as = ToldAs { form: *form, name };
+            told(alloc, told_as, subject, watch)
         }
         Command::Show(fragments) => show_text(alloc, recording, *fragments),
         Command::List(fragments) => list_text(alloc, recording, *fragments),
@@ -189,43 +191,58 @@ fn text_of<'a, P: Watch + Follow>(
     }
 }
 
+/// How a report is told: in which form, and of which name its recording is.
+#[derive(Clone, Copy)]
+struct ToldAs<'a> {
+    form: Form,
+    name: &'a str,
+}
+
 /// The report that is asked for, in a form, and how the run ends. It tells how far it is, and when the text is written.
 fn told<P: Watch + Follow>(
     alloc: Global,
-    form: Form,
+    told_as: ToldAs<'_>,
     subject: Subject<'_>,
     watch: &mut P,
 ) -> Result<(String, Ending), Memory>
-    ensures { IfOk result (λ answer. IsTold (IsFormOf form) (asked_value subject.entry.asked.now) (arrived_value subject.entry.arrived) subject.entry.recording.now (string_bytes answer.0) answer.1) }
+    ensures { IfOk result (λ answer. IsTold (IsFormOf told_as.form told_as.name.now) (asked_value subject.entry.asked.now) (arrived_value subject.entry.arrived) subject.entry.recording.now (string_bytes answer.0) answer.1) }
 {
     let mut samples = Samples::none(alloc);
     let report = report_on(alloc, subject, &mut samples, watch)?;
     watch.writing();
-    let text = form_text(alloc, form, &report)?;
+    let text = form_text(alloc, told_as, &report)?;
     Ok((text, report.ending))
 }
 
 /// A report in a form.
-fn form_text(alloc: Global, form: Form, report: &FullReport<'_>) -> Result<String, Memory>
+fn form_text(
+    alloc: Global,
+    told_as: ToldAs<'_>,
+    report: &FullReport<'_>,
+) -> Result<String, Memory>
     requires { IsIndexBy (intake_as Read report.now.recording.now.datagrams) report.now.index }
-    ensures { IfOk result (λ text. IsFormOf form (asked_value report.now.asked.now) report.now.recording.now (report_value report.now) (string_bytes text)) }
+    ensures { IfOk result (λ text. IsFormOf told_as.form told_as.name.now (asked_value report.now.asked.now) report.now.recording.now (report_value report.now) (string_bytes text)) }
 {
-    let text = match form {
+    let text = match told_as.form {
         Form::Check => check_text(alloc, report)?,
         Form::CheckJson => check_json(alloc, report)?,
         Form::Why => why_text(alloc, report)?,
-        Form::Page => return page_of(alloc, report),
+        Form::Page => return page_of(alloc, told_as.name, report),
     };
     Ok(text)
 }
 
-/// A report as a page, which shows the text of `check` where scripts do not run.
-fn page_of(alloc: Global, report: &FullReport<'_>) -> Result<String, Memory>
+/// A report as a page, which says the name of its recording, and shows the text of `check` where scripts do not run.
+fn page_of(alloc: Global, name: &str, report: &FullReport<'_>) -> Result<String, Memory>
     requires { IsIndexBy (intake_as Read report.now.recording.now.datagrams) report.now.index }
-    ensures { IfOk result (λ text. IsPageForm (asked_value report.now.asked.now) report.now.recording.now (report_value report.now) (string_bytes text)) }
+    ensures { IfOk result (λ text. IsPageForm name.now (asked_value report.now.asked.now) report.now.recording.now (report_value report.now) (string_bytes text)) }
 {
     let plain = check_text(alloc, report)?;
-    page_text(alloc, report, &plain)
+    let origin = Origin {
+        name,
+        version: VERSION,
+    };
+    page_text(alloc, report, &plain, origin)
 }
 
 /// [`run`] that shows, within the usual limits.

@@ -1,8 +1,7 @@
 use Rattle.std.proofs.Common.{◌≡◌, ◌++◌, ◌∷◌, [], ◌∙◌, ℕ, List, true, ap, append-nil, codes, cond, flat_map, sym}
 use Rattle.rtps_evidence.specs.Times.{are_there}
 use Rattle.rtps_lines.specs.JsonText.{clock_times}
-use Rattle.rtps_lines.specs.Lines.{second_in}
-use Rattle.rtps_page.specs.ChartTimes.{datagrams_shown, time_json, times_json}
+use Rattle.rtps_page.specs.ChartTimes.{datagrams_shown, time_of_json, times_json}
 use Rattle.rtps_page.proofs.EntryLemmas.{array_tokens}
 use Rattle.rtps_page.proofs.TimeLemmas.{times_tokens}
 use Rattle.rtps_page.proofs.Written.{Token, array_of, begin_array, end_array, four_parts, json_tokens, key, on_ok_weaker, placed_in, times_member, tokens_of}
@@ -17,7 +16,7 @@ returns-clause-tokens c = λ intake is.
     let shown = datagrams_shown acts c.args.pairs.now in
     let values = times_json times shown in
     let said : List Token = flat_map json_tokens values in
-    let flat : List ℕ → List Token = λ datagrams. flat_map (λ datagram. flat_map json_tokens (time_json datagram (second_in times datagram))) datagrams in
+    let flat : List ℕ → List Token = λ datagrams. flat_map (λ datagram. flat_map json_tokens (time_of_json times datagram)) datagrams in
     let there : are_there times.of_datagrams ≡ true = sym c.are_there.ensures ∙ c.if-not-are_there.false in
     let rising = c.in_ok-datagrams.datagrams.items in
     let written = c.in_ok-push_each_time.ensures.tokens

@@ -8,16 +8,17 @@ use Rattle.rtps_page.specs.declared.page_parts.TheConstants.{HEAD, MIDDLE, TAIL}
 use Rattle.rtps_page.proofs.PageLemmas.{page_within}
 use Rattle.rtps_page.proofs.ReadLemmas.{reads_back}
 use Rattle.rtps_page.proofs.SafeLemmas.{text_is_safe, text_is_shown}
-use Rattle.rtps_page.proofs.Written.{asked_value, json_tokens, report_value}
+use Rattle.rtps_page.proofs.Written.{asked_value, json_tokens, origin_value, report_value}
 use Rattle.rtps_page.proofs.page.page_text.Goals as goal
 
 pub returns : goal.returns
 returns c =
     let report = c.args.report.now in
     let asked = asked_value report.asked.now in
+    let origin = origin_value c.args.origin in
     let plain = c.args.plain.now in
     let directory = c.directory-directory.result.now in
-    let json = page_json asked report.recording.now (report_value report) directory in
+    let json = page_json origin asked report.recording.now (report_value report) directory in
     let object = c.deref.ensures.value ∙ c.in_ok-data.ensures.is_text in
     record {
       directory = directory;
@@ -27,6 +28,6 @@ returns c =
             ∙ ap (λ (l : List ℕ). HEAD.now ++ (safe_text in_html plain ++ (MIDDLE.now ++ (safe_text in_json l ++ TAIL.now)))) object;
         text_is_shown = text_is_shown plain;
         data_is_safe = text_is_safe in_json (print (json_tokens json)) (record { of_ampersand = refl; of_less = refl; of_greater = refl });
-        reads_back = reads_back json (page_within asked report.recording.now (report_value report) directory) c.in_ok-data.ensures.reads_back;
+        reads_back = reads_back json (page_within origin asked report.recording.now (report_value report) directory) c.in_ok-data.ensures.reads_back;
       };
     }

@@ -4,19 +4,20 @@ use Rattle.std.specs.String.{string_bytes}
 use Rattle.rtps_page.specs.Page.{IsPageOf}
 use Rattle.rtps_report.specs.Asked.{asked_value}
 use Rattle.rtps_report.specs.FullReport.{report_value}
-use Rattle.rtps_tool.specs.Commands.{IsPageForm}
+use Rattle.rtps_tool.specs.Commands.{IsPageForm, origin_of}
 use Rattle.rtps_tool.proofs.runs.page_of.Goals as goal
 
 pub returns : goal.returns
 returns c =
     let report = c.args.report.now in
+    let name = c.args.name.now in
     let asked = asked_value report.asked.now in
     let recording = report.recording.now in
     let told = report_value report in
-    IfOk-weaker c.page_text.result (λ text. IsPageOf asked recording told c.deref.result.now (string_bytes text)) (λ text. IsPageForm asked recording told (string_bytes text))
+    IfOk-weaker c.page_text.result (λ text. IsPageOf (origin_of name) asked recording told c.deref.result.now (string_bytes text)) (λ text. IsPageForm name asked recording told (string_bytes text))
     (λ text is. (
       string_bytes c.in_ok-plain.plain,
       c.in_ok-plain.ensures,
-      subst (λ (plain : List ℕ). IsPageOf asked recording told plain (string_bytes text)) c.deref.ensures is,
+      subst (λ (plain : List ℕ). IsPageOf (origin_of name) asked recording told plain (string_bytes text)) c.deref.ensures is,
     ))
     c.page_text.ensures

@@ -17,13 +17,14 @@ form_text-requires g c =
 
 pub returns : goal.returns
 returns g c =
+    let told_as = c.args.told_as in
     let report = c.in_ok-report.report in
     let is = c.in_ok-report.ensures in
     let text = string_bytes c.in_ok-text.text in
-    let by_asked = subst (λ (asked : AskedValue). IsFormOf c.args.form asked report.recording.now (report_value report) text) is.asks c.in_ok-text.ensures in
+    let by_asked = subst (λ (asked : AskedValue). IsFormOf told_as.form told_as.name.now asked report.recording.now (report_value report) text) is.asks c.in_ok-text.ensures in
     record {
       report = report_value report;
       is_report = is.is_report;
-      is_text = subst (λ (recording : RecordingValue). IsFormOf c.args.form (asked_value c.args.subject.asked.now) recording (report_value report) text) is.records by_asked;
+      is_text = subst (λ (recording : RecordingValue). IsFormOf told_as.form told_as.name.now (asked_value c.args.subject.asked.now) recording (report_value report) text) is.records by_asked;
       ends = refl;
     }

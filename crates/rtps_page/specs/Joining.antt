@@ -1,0 +1,28 @@
+-- Where the readers of rows join. DDSI-RTPS 2.5, 8.5.4 "The Simple Endpoint Discovery Protocol".
+-- own: a row tells from which number on it is, and not where its reader joined; a page shows that on its axis. A reader that claimed
+-- something before it was announced was there before the recording, and joins nowhere.
+use Rattle.std.specs.Prelude.{if◌then◌else◌, List, [], ◌∷◌, codes, map, Option, None, Some}
+use Rattle.json.specs.Json.{Json, null}
+use Rattle.rtps_evidence.specs.Times.{TimesValue}
+use Rattle.rtps_lines.specs.JsonText.{Member, array_of, count_json, second_json}
+use Rattle.rtps_lines.specs.Lines.{second_in}
+use Rattle.rtps_report.specs.Vocabulary.{ExplanationValue, InSpan, Location}
+
+-- where the reader of a row joins in this recording; None where it does not
+abbrev pub joined_in : Option InSpan → Option Location
+joined_in None = None
+joined_in (Some in_span) = if in_span.is_joined_here then in_span.joined else None
+
+-- a place as an array: its datagram, its octet, and its second, or null where it has none; null where there is no place
+abbrev pub joined_json : TimesValue → Option Location → Json
+joined_json times None = null
+joined_json times (Some place) =
+    array_of (count_json place.datagram ∷ count_json place.at ∷ second_json (second_in times place.datagram) ∷ [])
+
+-- that of a row
+abbrev pub joining_json : TimesValue → ExplanationValue → Json
+joining_json times row = joined_json times (joined_in row.evidence.in_span)
+
+-- those of all rows, in their order
+abbrev pub joined_member : TimesValue → List ExplanationValue → Member
+joined_member times rows = (codes "joined", array_of (map (joining_json times) rows))

@@ -1,0 +1,62 @@
+ghost use Rattle.std.specs.Prelude.{◌≡◌, ◌++◌, ◌∷◌, OnOk};
+ghost use Rattle.json.specs.Token.{key};
+ghost use Rattle.json.specs.Tree.{json_tokens};
+ghost use Rattle.rtps_lines.specs.JsonText.{tokens_of, tokens_of_member};
+ghost use Rattle.rtps_page.specs.Origin.{moment_json, origin_value, recording_member, recording_members};
+
+use json::Writer;
+use rtps_evidence::Times;
+use rtps_lines::push_text;
+use std::alloc::AllocError;
+
+/// How many nanoseconds a millisecond has.
+const MILLISECOND: u64 = 1_000_000;
+
+/// What a page is told of its making, which no report has.
+#[derive(Clone, Copy)]
+pub struct Origin<'a> {
+    /// The name of the recording, as it was given.
+    pub name: &'a str,
+    /// The version of the program.
+    pub version: &'a str,
+}
+
+fn push_moment(writer: &mut Writer, name: &str, moment: Option<u64>) -> Result<(), AllocError>
+    ensures tokens { OnOk result (writer.new.tokens ≡ writer.old.tokens ++ key name.now ∷ json_tokens (moment_json moment)) }
+    ensures before { writer.new.before ≡ writer.old.before }
+{
+    writer.key(name)?;
+    match moment {
+        Some(nanoseconds) => writer.u64(nanoseconds / MILLISECOND),
+        None => writer.null(),
+    }
+}
+
+fn push_recording_members(
+    writer: &mut Writer,
+    origin: Origin<'_>,
+    times: &Times,
+) -> Result<(), AllocError>
+    ensures tokens { OnOk result (writer.new.tokens ≡ writer.old.tokens ++ tokens_of (recording_members (origin_value origin) times.now)) }
+    ensures before { writer.new.before ≡ writer.old.before }
+{
+    push_text(writer, "name", origin.name)?;
+    push_text(writer, "version", origin.version)?;
+    push_moment(writer, "begin", times.of_first_frame())?;
+    push_moment(writer, "end", times.of_last_frame())
+}
+
+/// Appends which recording the page is of.
+pub(crate) fn push_recording(
+    writer: &mut Writer,
+    origin: Origin<'_>,
+    times: &Times,
+) -> Result<(), AllocError>
+    ensures tokens { OnOk result (writer.new.tokens ≡ writer.old.tokens ++ tokens_of_member (recording_member (origin_value origin) times.now)) }
+    ensures before { writer.new.before ≡ writer.old.before }
+{
+    writer.key("recording")?;
+    writer.begin_object()?;
+    push_recording_members(writer, origin, times)?;
+    writer.end_object()
+}
