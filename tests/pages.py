@@ -46,7 +46,7 @@ HELD = sorted(name.removesuffix('.arrived.rec') for name in os.listdir(os.path.j
 MADE_HELD = 'lost_on_the_way', 'lost_of_many'
 BOTH_SIDES = *HELD, *MADE_HELD
 # The most octets of a page of an example and of one of 90,000 pairs.
-EXAMPLE_SIZE, MANY_SIZE = 100_000, 95_000_000
+EXAMPLE_SIZE, MANY_SIZE = 125_000, 95_000_000
 PROBE = file_of('tests', 'page_probe.js').decode()
 # So many pairs of a page are chosen one after another.
 MOST_CHOSEN = 30
@@ -556,7 +556,7 @@ class PageTests(Counts):
         lines = tab.evaluate('''[...document.querySelectorAll('table.topics tbody tr')].map((row) => ({
             isInSight: row.getBoundingClientRect().bottom <= 1500, cells: [...row.cells].map((cell) => cell.innerText) }))''')
         self.holds('robot: each topic is in sight', [True] * 3, [line['isInSight'] for line in lines])
-        wanted = (('/tf', 'acknowledged sample 12'), ('/odom', 'acknowledged each sample from 1 to 60'), ('/scan', 'samples 24 to 40'))
+        wanted = (('/odom', 'acknowledged each sample from 1 to 60'), ('/tf', 'acknowledged sample 12'), ('/scan', 'samples 24 to 40'))
         for line, words in zip(lines, wanted):
             self.holds(f'robot: the line of {words[0]}', [], [word for word, cell in zip(words, line['cells']) if word not in cell])
         self.leave('robot', tab)
@@ -811,7 +811,7 @@ class PageTests(Counts):
         tab.close()
         tab = self.open('a_reader_of_which_the_other_recording_has_no_act')
         self.open_all(tab)
-        self.holds('both sides: a row that is not held', ['–', '1'], tab.evaluate("textsOf(document, 'td.arrived')"))
+        self.holds('both sides: a row that is not held', ['–', '1'], tab.evaluate("textsOf(document, 'tr.pair td.arrived')"))
         for ids in ['pair-2', 'pair-1'], ['pair-1', 'pair-2']:
             tab.click('.pairs thead th.arrived button')
             self.holds('both sides: by what arrived', ids, self.ids(tab))

@@ -57,8 +57,8 @@ function participantLine(participant) {
 function lifeText(announced) {
   if (announced === null || announced.first === null) return [];
   const { first, last, left, silent, first_time: from = null, last_time: to = null } = announced;
-  const life = from !== null && to !== null ? `${from.toFixed(3)} s to ${to.toFixed(3)} s` : `datagram ${first} to ${last}`;
-  return [life, ...(left !== null ? ['left'] : []), ...(silent ? ['silent since'] : [])];
+  const moment = (datagram, time) => (time === null ? `datagram ${datagram}` : `${time.toFixed(3)} s`);
+  return [`${moment(first, from)} to ${moment(last, to)}`, ...(left !== null ? ['left'] : []), ...(silent ? ['silent since'] : [])];
 }
 
 function participantBody(report, participant, pairsOf) {

@@ -21,7 +21,7 @@ function showTalk(report) {
 
 // The parts of what has a topic, a writer and a reader.
 const endsOf = (report) => ({ topic, writer, reader }) => (
-  [[oneName('b', shownTopic(topic))], endpointName(report, writer), endpointName(report, reader)]);
+  [[oneName('b', shownTopic(topic))], endpointBriefly(report, writer), endpointBriefly(report, reader)]);
 
 // Pairs that are left out, behind one line: how many, and why.
 function showLeftOut(section, unobserved, ends) {

@@ -6,7 +6,7 @@ pub(crate) const HEAD: &str = "\
 <html lang=\"en\">\n\
 <head>\n\
 <meta charset=\"utf-8\">\n\
-<meta http-equiv=\"Content-Security-Policy\" content=\"default-src 'none'; style-src 'sha256-0H2cmGc1O9PDNtmP+zYMvMQN+iKV75f2advRxNvJ/bw='; script-src 'sha256-hpmW3mDyoQhB9f0WRZW6RarG+nvTxqFH2yl+nJ5/Zek=' 'sha256-Vt2ps2WP+rieCsB70BV2OBsqUS0AI8cp2d9wvXog9RA=' 'sha256-YCqWE7m6727STVt6+xf8mHOMpHhybRxUFbBqkDrm57E=' 'sha256-/5wxXKH2ehqdl6c93p/yZVbTa5TCEF07mY4w7cGAMf8=' 'sha256-Y0hwpdARHBLcAbojrMfPitr43deUAljk9Ch6RAu9K1w=' 'sha256-Fvj5UUctYjHTySJUsB6o+6Bk01Tfc/apGUpw1p0sTYY=' 'sha256-L/u27wn/Pk8O6WtK37Ce0RrO4fWUdMQ1eo5LiWFLnAc=' 'sha256-4tWXah2sY4CWPb6cCTzh2gIFnsUakd8rNiOPj8UTYuc=' 'sha256-0I3mV6U631dfGFiRLLnjV8b8RM5KqJxkChga9c6eak8=' 'sha256-o4XRL8aUxU93JEPeOMEitUmPrvzYuAlitCKcKRiRePg=' 'sha256-LkKM7w0jClpO1HpYYDW21GdB9nzQrd7o1c9O4NfMl6c=' 'sha256-1FP6QRXw84dRn5MOgF1RiIoZaHoiLPjSV2lQyzUeo9E=' 'sha256-uvj8D2CsPVn8abqL+tKLZ9PrBdOnwiCB8dfcyJYwoS0='; base-uri 'none'; form-action 'none'\">\n\
+<meta http-equiv=\"Content-Security-Policy\" content=\"default-src 'none'; style-src 'sha256-x5mCFzLBw6mDDnANZYsShwXqLgmZYiMkz7r19lxqiTQ='; script-src 'sha256-hpmW3mDyoQhB9f0WRZW6RarG+nvTxqFH2yl+nJ5/Zek=' 'sha256-Vt2ps2WP+rieCsB70BV2OBsqUS0AI8cp2d9wvXog9RA=' 'sha256-YCqWE7m6727STVt6+xf8mHOMpHhybRxUFbBqkDrm57E=' 'sha256-/5wxXKH2ehqdl6c93p/yZVbTa5TCEF07mY4w7cGAMf8=' 'sha256-Y0hwpdARHBLcAbojrMfPitr43deUAljk9Ch6RAu9K1w=' 'sha256-Fvj5UUctYjHTySJUsB6o+6Bk01Tfc/apGUpw1p0sTYY=' 'sha256-L/u27wn/Pk8O6WtK37Ce0RrO4fWUdMQ1eo5LiWFLnAc=' 'sha256-Ae+JMN5dbwBqygf1JAXc4k64fFnqFp9oYemvem1ozkI=' 'sha256-0I3mV6U631dfGFiRLLnjV8b8RM5KqJxkChga9c6eak8=' 'sha256-o4XRL8aUxU93JEPeOMEitUmPrvzYuAlitCKcKRiRePg=' 'sha256-LkKM7w0jClpO1HpYYDW21GdB9nzQrd7o1c9O4NfMl6c=' 'sha256-Ng/qG/jczhEehaLvFM9UoDXYY2suV6XApjDWWpgKjqI=' 'sha256-uvj8D2CsPVn8abqL+tKLZ9PrBdOnwiCB8dfcyJYwoS0='; base-uri 'none'; form-action 'none'\">\n\
 <meta name=\"viewport\" content=\"width=device-width, initial-scale=1\">\n\
 <meta name=\"color-scheme\" content=\"light dark\">\n\
 <meta name=\"referrer\" content=\"no-referrer\">\n\
@@ -209,7 +209,7 @@ button.fold:focus-visible { outline: 3px solid var(--focus); outline-offset: 2px
 button.fold::before { content: '▸ '; }\n\
 button.fold[aria-expanded='true']::before { content: '▾ '; }\n\
 .words { margin-top: 10px; }\n\
-.talk th { font-weight: 400; }\n\
+.talk th { font-weight: 400; min-width: 150px; }\n\
 .talk thead th { font-weight: 600; }\n\
 .talk-part { margin-bottom: 14px; }\n\
 .endpoints th { white-space: nowrap; font-weight: 400; }\n\
@@ -1134,7 +1134,7 @@ talkTable(section, 'one-way', 'Participants that talk one way', ['Participant th
 showLeftOut(section, unobserved, ends);\n\
 }\n\
 const endsOf = (report) => ({ topic, writer, reader }) => (\n\
-[[oneName('b', shownTopic(topic))], endpointName(report, writer), endpointName(report, reader)]);\n\
+[[oneName('b', shownTopic(topic))], endpointBriefly(report, writer), endpointBriefly(report, reader)]);\n\
 function showLeftOut(section, unobserved, ends) {\n\
 if (unobserved.length === 0) return;\n\
 const reasons = new Map();\n\
@@ -2054,8 +2054,8 @@ make('span', { class: 'life' }, [plural(endpoints.length, 'endpoint'), ...lifeTe
 function lifeText(announced) {\n\
 if (announced === null || announced.first === null) return [];\n\
 const { first, last, left, silent, first_time: from = null, last_time: to = null } = announced;\n\
-const life = from !== null && to !== null ? `${from.toFixed(3)} s to ${to.toFixed(3)} s` : `datagram ${first} to ${last}`;\n\
-return [life, ...(left !== null ? ['left'] : []), ...(silent ? ['silent since'] : [])];\n\
+const moment = (datagram, time) => (time === null ? `datagram ${datagram}` : `${time.toFixed(3)} s`);\n\
+return [`${moment(first, from)} to ${moment(last, to)}`, ...(left !== null ? ['left'] : []), ...(silent ? ['silent since'] : [])];\n\
 }\n\
 function participantBody(report, participant, pairsOf) {\n\
 const { prefix, announced, endpoints } = participant;\n\
