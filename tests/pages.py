@@ -798,7 +798,7 @@ class PageTests(Counts):
         wanted = {
             'a_reader_that_acknowledged_nothing_and_all_arrived': 'The reader never acknowledged sample 1, but all numbers are received or arrived.',
             'lost_on_the_way': 'The reader may lack samples 3 to 1500: they are announced, and the reader never acknowledged them. '
-                               'Not arrived 3-6, 8-1499.',
+                               'Unsent 4-6, 8-1499. Not arrived 3-6, 8-1499.',
         }
         for name, sentence in wanted.items():
             tab = self.open(name, '#pair-1')
@@ -887,9 +887,10 @@ class PageTests(Counts):
         tab.click('#pair-2 a')
         self.holds('another one closes', 0, self.found(tab, 'tr.detail'))
         tab.click('table.topics a')
-        self.holds('a topic leads to its pair', '#pair-3', tab.evaluate('location.hash'))
+        self.holds('a topic leads to its pair', '#pair-1', tab.evaluate('location.hash'))
         tab.click('#pair-3 td.writer a')
-        self.holds('a pair leads to its participant', '#participant-2', tab.evaluate('location.hash'))
+        self.holds('a pair leads to its participant', ['#participant-2', 'participant-2'],
+                   [tab.evaluate('location.hash'), tab.evaluate("document.querySelector('.participant[open]').id")])
         self.leave('robot', tab)
 
     def keyboard(self):
@@ -936,7 +937,7 @@ class PageTests(Counts):
             for at, row in enumerate(self.rows(name)):
                 self.choose(tab, at)
                 heard = [act for act in acts[row['writer']] if is_heard(act, row['reader'])]
-                answers, seconds = bases[row['writer'], row['reader']], dict(values.get('times', []))
+                answers, seconds = bases[row['writer'], row['reader']], {datagram: second for datagram, second, *_ in values.get('times', [])}
                 drawn = {entry[0] for entry in acts[row['writer']] + answers}
                 place = seconds.get if drawn <= set(seconds) else int
                 self.chart(f'{name}: pair {at + 1}', heard, [answers, place], tab.evaluate('chartInSight.marks'))
