@@ -115,7 +115,7 @@ def times_in(times, writers, answers):
 
 def recording_values(times, name):
     """which recording it is, and when it begins and ends, in milliseconds"""
-    begin, end = (None if time is None else time // 1000000 for time in (times.start, times.last))
+    begin, end = (None if time is None else time // 1000000 for time in (times.of(1), times.last))
     return {'name': name, 'version': VERSION, 'begin': begin, 'end': end}
 
 

@@ -11,7 +11,7 @@ use Rattle.rtps_discovery.specs.Directory.{DirectoryValue, settled_in}
 use Rattle.rtps_receiver.specs.Speech.{is_spoken_by}
 use Rattle.rtps_audit.specs.Placed.{PlacedValue, answers_among}
 use Rattle.rtps_report.specs.Asked.{AskedValue}
-use Rattle.rtps_evidence.specs.Times.{TimesValue, frame_of}
+use Rattle.rtps_evidence.specs.Times.{TimesValue, frame_of, time_of}
 use Rattle.rtps_evidence.specs.declared.times.Seconds.{Seconds}
 use Rattle.rtps_lines.specs.JsonText.{items_of, members_of, second_json}
 use Rattle.rtps_lines.specs.Lines.{second_in}
@@ -99,7 +99,7 @@ moment_within None = omega arith
 moment_within (Some nanoseconds) = omega arith
 
 recording_within : (origin : OriginValue) (times : TimesValue) → depth (object_of (recording_members origin times)) ≤ 1
-recording_within origin times = omega (arith, moment_within times.start, moment_within times.end)
+recording_within origin times = omega (arith, moment_within (time_of times.of_datagrams 1), moment_within times.end)
 
 second_within : (second : Option Seconds) → depth (second_json second) ≤ 0
 second_within None = omega arith

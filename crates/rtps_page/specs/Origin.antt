@@ -1,10 +1,11 @@
 -- Which recording a page is of. RFC 8259 "The JavaScript Object Notation (JSON) Data Interchange Format".
 -- own: a page is kept beside others, so it says the name of the recording as it was given, which version of the program made it, and when
--- the recording begins and ends. No report has these: the name and the version stand on the command line and in the program. Moments are
--- whole milliseconds since 1970 began, which a number of JavaScript holds.
+-- the recording begins and ends: with its first datagram, and with the greatest time of a frame. No report has these: the name and the
+-- version stand on the command line and in the program. Moments are whole milliseconds since 1970 began, which a number of JavaScript
+-- holds.
 use Rattle.std.specs.Prelude.{ℕ, List, [], ◌∷◌, codes, Option, None, Some}
 use Rattle.json.specs.Json.{Json, null, string}
-use Rattle.rtps_evidence.specs.Times.{TimesValue, milliseconds_of}
+use Rattle.rtps_evidence.specs.Times.{TimesValue, milliseconds_of, time_of}
 use Rattle.rtps_lines.specs.JsonText.{Member, count_json, object_of}
 use Rattle.rtps_page.specs.declared.origin.Origin.{Origin}
 
@@ -25,7 +26,7 @@ moment_json (Some nanoseconds) = count_json (milliseconds_of nanoseconds)
 -- which recording it is, and when it begins and ends
 abbrev pub recording_members : OriginValue → TimesValue → List Member
 recording_members origin times = (codes "name", string origin.name) ∷ (codes "version", string origin.version)
-    ∷ (codes "begin", moment_json times.start) ∷ (codes "end", moment_json times.end) ∷ []
+    ∷ (codes "begin", moment_json (time_of times.of_datagrams 1)) ∷ (codes "end", moment_json times.end) ∷ []
 
 -- the same, as a member
 abbrev pub recording_member : OriginValue → TimesValue → Member

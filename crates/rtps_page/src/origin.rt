@@ -42,7 +42,7 @@ fn push_recording_members(
 {
     push_text(writer, "name", origin.name)?;
     push_text(writer, "version", origin.version)?;
-    push_moment(writer, "begin", times.of_first_frame())?;
+    push_moment(writer, "begin", times.of_datagram(1))?;
     push_moment(writer, "end", times.of_last_frame())
 }
 
