@@ -113,7 +113,7 @@ function showHosts(report, place) {
 
 function hostParts({ host, addresses, nodes, participants }) {
   const names = [...addresses].join(', ');
-  const name = host === null ? names || 'an address that is not announced' : host;
+  const name = host === null ? names || 'no host and no address announced' : host;
   return [make('b', null, name), host !== null && names && ` (${names})`, `: ${plural(participants, 'participant')}`,
     nodes.size > 0 && `, ${nodes.size === 1 ? 'node' : 'nodes'} ${nodesText({ nodes: [...nodes] }, NAMED_NODES)}`];
 }

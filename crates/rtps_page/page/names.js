@@ -95,7 +95,7 @@ function endpointName(report, guid, node) {
   if (!participant) return [guidText(guid)];
   const [title, where] = [node || titleOf(participant), whereOf(participant)];
   return [make('a', { href: `#participant-${participant.at}`, class: 'short' }, participant.name),
-    title && make('span', { class: 'node' }, ` ${title}`), where && make('span', { class: 'host' }, ` ${title ? `(${where})` : `at ${where}`}`)];
+    title && make('span', { class: 'node' }, ` ${title}`), where && make('span', { class: 'host' }, ` ${title || where !== participant.announced?.address ? `(${where})` : `at ${where}`}`)];
 }
 
 // The same with its host alone, or else its address, where there is little room.

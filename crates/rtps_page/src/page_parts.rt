@@ -6,7 +6,7 @@ pub(crate) const HEAD: &str = "\
 <html lang=\"en\">\n\
 <head>\n\
 <meta charset=\"utf-8\">\n\
-<meta http-equiv=\"Content-Security-Policy\" content=\"default-src 'none'; style-src 'sha256-x5mCFzLBw6mDDnANZYsShwXqLgmZYiMkz7r19lxqiTQ='; script-src 'sha256-hpmW3mDyoQhB9f0WRZW6RarG+nvTxqFH2yl+nJ5/Zek=' 'sha256-Vt2ps2WP+rieCsB70BV2OBsqUS0AI8cp2d9wvXog9RA=' 'sha256-YCqWE7m6727STVt6+xf8mHOMpHhybRxUFbBqkDrm57E=' 'sha256-/5wxXKH2ehqdl6c93p/yZVbTa5TCEF07mY4w7cGAMf8=' 'sha256-Y0hwpdARHBLcAbojrMfPitr43deUAljk9Ch6RAu9K1w=' 'sha256-Fvj5UUctYjHTySJUsB6o+6Bk01Tfc/apGUpw1p0sTYY=' 'sha256-L/u27wn/Pk8O6WtK37Ce0RrO4fWUdMQ1eo5LiWFLnAc=' 'sha256-Ae+JMN5dbwBqygf1JAXc4k64fFnqFp9oYemvem1ozkI=' 'sha256-0I3mV6U631dfGFiRLLnjV8b8RM5KqJxkChga9c6eak8=' 'sha256-o4XRL8aUxU93JEPeOMEitUmPrvzYuAlitCKcKRiRePg=' 'sha256-LkKM7w0jClpO1HpYYDW21GdB9nzQrd7o1c9O4NfMl6c=' 'sha256-Ng/qG/jczhEehaLvFM9UoDXYY2suV6XApjDWWpgKjqI=' 'sha256-uvj8D2CsPVn8abqL+tKLZ9PrBdOnwiCB8dfcyJYwoS0='; base-uri 'none'; form-action 'none'\">\n\
+<meta http-equiv=\"Content-Security-Policy\" content=\"default-src 'none'; style-src 'sha256-x5mCFzLBw6mDDnANZYsShwXqLgmZYiMkz7r19lxqiTQ='; script-src 'sha256-hpmW3mDyoQhB9f0WRZW6RarG+nvTxqFH2yl+nJ5/Zek=' 'sha256-Vt2ps2WP+rieCsB70BV2OBsqUS0AI8cp2d9wvXog9RA=' 'sha256-ITctgU4SinAQQYsXVflAZKVj6OUeisokZHBS2nZUUoI=' 'sha256-/5wxXKH2ehqdl6c93p/yZVbTa5TCEF07mY4w7cGAMf8=' 'sha256-k364WrA0Djjk2DTS0JWCEjxlKYWCcF1boSLToYSsl0w=' 'sha256-Fvj5UUctYjHTySJUsB6o+6Bk01Tfc/apGUpw1p0sTYY=' 'sha256-L/u27wn/Pk8O6WtK37Ce0RrO4fWUdMQ1eo5LiWFLnAc=' 'sha256-Ae+JMN5dbwBqygf1JAXc4k64fFnqFp9oYemvem1ozkI=' 'sha256-0I3mV6U631dfGFiRLLnjV8b8RM5KqJxkChga9c6eak8=' 'sha256-o4XRL8aUxU93JEPeOMEitUmPrvzYuAlitCKcKRiRePg=' 'sha256-LkKM7w0jClpO1HpYYDW21GdB9nzQrd7o1c9O4NfMl6c=' 'sha256-Ng/qG/jczhEehaLvFM9UoDXYY2suV6XApjDWWpgKjqI=' 'sha256-uvj8D2CsPVn8abqL+tKLZ9PrBdOnwiCB8dfcyJYwoS0='; base-uri 'none'; form-action 'none'\">\n\
 <meta name=\"viewport\" content=\"width=device-width, initial-scale=1\">\n\
 <meta name=\"color-scheme\" content=\"light dark\">\n\
 <meta name=\"referrer\" content=\"no-referrer\">\n\
@@ -621,7 +621,7 @@ const participant = report.participantOf(guid);\n\
 if (!participant) return [guidText(guid)];\n\
 const [title, where] = [node || titleOf(participant), whereOf(participant)];\n\
 return [make('a', { href: `#participant-${participant.at}`, class: 'short' }, participant.name),\n\
-title && make('span', { class: 'node' }, ` ${title}`), where && make('span', { class: 'host' }, ` ${title ? `(${where})` : `at ${where}`}`)];\n\
+title && make('span', { class: 'node' }, ` ${title}`), where && make('span', { class: 'host' }, ` ${title || where !== participant.announced?.address ? `(${where})` : `at ${where}`}`)];\n\
 }\n\
 function endpointBriefly(report, guid, node) {\n\
 const participant = report.participantOf(guid);\n\
@@ -860,7 +860,7 @@ hosts.length > NAMED_HOSTS && make('li', null, `and ${plural(hosts.length - NAME
 }\n\
 function hostParts({ host, addresses, nodes, participants }) {\n\
 const names = [...addresses].join(', ');\n\
-const name = host === null ? names || 'an address that is not announced' : host;\n\
+const name = host === null ? names || 'no host and no address announced' : host;\n\
 return [make('b', null, name), host !== null && names && ` (${names})`, `: ${plural(participants, 'participant')}`,\n\
 nodes.size > 0 && `, ${nodes.size === 1 ? 'node' : 'nodes'} ${nodesText({ nodes: [...nodes] }, NAMED_NODES)}`];\n\
 }\n\
