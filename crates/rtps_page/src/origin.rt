@@ -37,7 +37,7 @@ fn push_recording_members(
     origin: Origin<'_>,
     times: &Times,
 ) -> Result<(), AllocError>
-    ensures tokens { OnOk result (writer.new.tokens ≡ writer.old.tokens ++ tokens_of (recording_members (origin_value origin) times.now)) }
+    ensures tokens { OnOk result (writer.new.tokens ≡ writer.old.tokens ++ tokens_of (recording_members (origin_value origin.entry) times.now)) }
     ensures before { writer.new.before ≡ writer.old.before }
 {
     push_text(writer, "name", origin.name)?;
@@ -52,7 +52,7 @@ pub(crate) fn push_recording(
     origin: Origin<'_>,
     times: &Times,
 ) -> Result<(), AllocError>
-    ensures tokens { OnOk result (writer.new.tokens ≡ writer.old.tokens ++ tokens_of_member (recording_member (origin_value origin) times.now)) }
+    ensures tokens { OnOk result (writer.new.tokens ≡ writer.old.tokens ++ tokens_of_member (recording_member (origin_value origin.entry) times.now)) }
     ensures before { writer.new.before ≡ writer.old.before }
 {
     writer.key("recording")?;

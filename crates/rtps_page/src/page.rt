@@ -26,7 +26,7 @@ pub fn page_text(
     origin: Origin<'_>,
 ) -> Result<String, Memory>
     requires { IsIndexBy (intake_as Read report.now.recording.now.datagrams) report.now.index }
-    ensures { IfOk result (λ page. IsPageOf (origin_value origin) (asked_value report.now.asked.now) report.now.recording.now (report_value report.now) plain.now (string_bytes page)) }
+    ensures { IfOk result (λ page. IsPageOf (origin_value origin.entry) (asked_value report.now.asked.now) report.now.recording.now (report_value report.now) plain.now (string_bytes page)) }
 {
     let directory = report.index.directory();
     let data = data_of(

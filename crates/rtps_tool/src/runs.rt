@@ -205,7 +205,7 @@ fn told<P: Watch + Follow>(
     subject: Subject<'_>,
     watch: &mut P,
 ) -> Result<(String, Ending), Memory>
-    ensures { IfOk result (λ answer. IsTold (IsFormOf told_as.form told_as.name.now) (asked_value subject.entry.asked.now) (arrived_value subject.entry.arrived) subject.entry.recording.now (string_bytes answer.0) answer.1) }
+    ensures { IfOk result (λ answer. IsTold (IsFormOf told_as.entry.form told_as.entry.name.now) (asked_value subject.entry.asked.now) (arrived_value subject.entry.arrived) subject.entry.recording.now (string_bytes answer.0) answer.1) }
 {
     let mut samples = Samples::none(alloc);
     let report = report_on(alloc, subject, &mut samples, watch)?;
@@ -221,7 +221,7 @@ fn form_text(
     report: &FullReport<'_>,
 ) -> Result<String, Memory>
     requires { IsIndexBy (intake_as Read report.now.recording.now.datagrams) report.now.index }
-    ensures { IfOk result (λ text. IsFormOf told_as.form told_as.name.now (asked_value report.now.asked.now) report.now.recording.now (report_value report.now) (string_bytes text)) }
+    ensures { IfOk result (λ text. IsFormOf told_as.entry.form told_as.entry.name.now (asked_value report.now.asked.now) report.now.recording.now (report_value report.now) (string_bytes text)) }
 {
     let text = match told_as.form {
         Form::Check => check_text(alloc, report)?,
