@@ -1,6 +1,6 @@
 use Rattle.std.proofs.Common.{◌++◌, ◌∷◌, ◌∙◌, List, ℕ, ap, codes, string_bytes}
 use Rattle.std.proofs.lemmas.Result.{on_ok_weaker}
-use Rattle.rtps_report.specs.Ends.{EndValue}
+use Rattle.rtps_report.specs.Ends.{EndValue, end_value}
 use Rattle.rtps_report.specs.Talk.{talk_value}
 use Rattle.rtps_lines.specs.EndText.{paired_text}
 use Rattle.rtps_lines.specs.Lines.{verdict_text}
@@ -14,5 +14,5 @@ returns c =
     let line : EndValue → EndValue → List ℕ = λ writer reader.
     old ++ (codes "pair " ++ (paired_text row.pair.writer writer ++ (codes " " ++ (paired_text row.pair.reader reader ++ (codes " " ++ (verdict_text row.evidence.verdict ++ codes "\n")))))) in
     on_ok_weaker c.writeln.result
-    (λ last. last ∙ ap (λ (writer : EndValue). line writer _) c.end.ensures ∙ ap (line (talk.ends row.pair.writer)) c.end-2.ensures)
+    (λ last. last ∙ ap (λ (writer : EndValue). line writer (end_value c.end-2.result)) c.end.ensures ∙ ap (line (talk.ends row.pair.writer)) c.end-2.ensures)
     c.writeln.ensures.bytes
