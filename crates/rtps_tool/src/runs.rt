@@ -215,11 +215,7 @@ fn told<P: Watch + Follow>(
 }
 
 /// A report in a form.
-fn form_text(
-    alloc: Global,
-    told_as: ToldAs<'_>,
-    report: &FullReport<'_>,
-) -> Result<String, Memory>
+fn form_text(alloc: Global, told_as: ToldAs<'_>, report: &FullReport<'_>) -> Result<String, Memory>
     requires { IsIndexBy (intake_as Read report.now.recording.now.datagrams) report.now.index }
     ensures { IfOk result (λ text. IsFormOf told_as.entry.form told_as.entry.name.now (asked_value report.now.asked.now) report.now.recording.now (report_value report.now) (string_bytes text)) }
 {
