@@ -109,11 +109,39 @@ def address_in(payload):
     return next((one for size in (4, 16) for one in found if one is not None and len(one) == size), None)
 
 
-def domain_in(payload):
-    """the domain; None where it is not announced"""
+# What DDSI-RTPS 2.5, 9.6.2 makes of a domain: the first port of all, and how many ports a domain has.
+FIRST_PORT, PORTS = 7400, 250
+
+# The kind of a locator from which on a stack may mean shared memory.
+SHARED_MEMORY = 16
+
+
+def locators_in(payload, *pids):
+    """the kinds and ports of the locators of these parameters, in their order; None of one that cannot be read"""
+    order, pairs = fields_of(payload)
+    found = [value for pid, value in pairs if pid in pids]
+    return [(number(value[:4], order, True), number(value[4:8], order)) if len(value) >= 24 else None for value in found]
+
+
+def port_above_the_first(payload, pid):
+    """by how much the port of the first locator of a parameter is above the first port of all; None where there is none, or it is below"""
+    locator = next(iter(locators_in(payload, pid)), None)
+    return None if locator is None or locator[1] < FIRST_PORT else locator[1] - FIRST_PORT
+
+
+def domain_by_ports(payload, vendor):
+    """the domain that ports tell: that of the first metatraffic multicast locator, or of Fast DDS that of the first unicast one"""
+    multicast, unicast = (port_above_the_first(payload, pid) for pid in (0x0033, 0x0032))
+    if multicast is not None and multicast % PORTS == 0:
+        return multicast // PORTS
+    return unicast // PORTS if unicast is not None and vendor == b'\1\x0f' else None
+
+
+def domain_in(payload, vendor):
+    """the domain that is announced, or the one that ports tell; None where there is none"""
     order, pairs = fields_of(payload)
     values = [value for pid, value in pairs if pid == 0x000f]
-    return number(values[0][:4], order) if values and len(values[0]) >= 4 else None
+    return number(values[0][:4], order) if values and len(values[0]) >= 4 else domain_by_ports(payload, vendor)
 
 
 def lease_in(payload):

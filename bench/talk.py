@@ -8,7 +8,7 @@ from functools import cached_property
 
 from ends import End
 from life import Span
-from policies import address_in, domain_in, lease_in, policies_in, reasons, values_of
+from policies import address_in, domain_in, lease_in, locators_in, policies_in, reasons, values_of
 from reference import told_to
 from times import LEASE, NO_TIMES, is_silent
 from who import Who
@@ -20,14 +20,16 @@ PARTICIPANT = b'\x00\x00\x01\xc1'
 
 
 class Announced:
-    """by GUID the policies of endpoints, and of participants the place, the domain, the address and the lease. The first announcement
-    without a fault counts"""
+    """by GUID the policies of endpoints, and of participants the place, the domain, the address and the lease; and the kinds of the unicast locators
+    of participants. The first announcement without a fault counts"""
 
     def __init__(self, announcements):
-        self.policies, self.participants = {}, {}
+        self.policies, self.participants, self.kinds = {}, {}, {}
         for place, side, said, payload in announcements:
             if side == 'participant':
-                self.participants.setdefault(said[0], (place, domain_in(payload), address_in(payload), lease_in(payload)))
+                # a GUID begins with the vendor
+                self.participants.setdefault(said[0], (place, domain_in(payload, said[0][:2]), address_in(payload), lease_in(payload)))
+                self.kinds.setdefault(said[0], [one[0] for one in locators_in(payload, 0x0031, 0x0032) if one is not None])
             else:
                 self.policies.setdefault(said[0], policies_in(payload))
 
@@ -56,6 +58,10 @@ class Announced:
         """whether participants are announced, all with one address"""
         addresses = {address for _, _, address, _ in self.participants.values()}
         return len(addresses) == 1 and None not in addresses
+
+    def locator_kinds(self):
+        """each participant with each kind of its unicast locators"""
+        return [(guid, kind) for guid, kinds in sorted(self.kinds.items()) for kind in kinds]
 
     def values(self, endpoint):
         """the value of each policy of an endpoint"""
@@ -108,7 +114,7 @@ class Talk:
     None"""
 
     def __init__(self, recording, prefixes, settled, matched, life, asked, times=NO_TIMES):
-        self.recording, self.life, self.asked, self.times = recording, life, asked, times
+        self.recording, self.settled, self.life, self.asked, self.times = recording, settled, life, asked, times
         self.announced, self.namings, self.answers = Announced(life.announced), named_by(recording), answering(recording)
         self.datagrams_by, self.who = datagrams_by(prefixes), Who(recording)
         unfit = list(self.find_unfit(settled))
