@@ -5,14 +5,13 @@
 - A participant speaks and is never announced, or its endpoints speak before it is. It speaks where its prefix is in a header, or is the source of an
   act. Of its endpoints count those of users, which are not built in, and those that announce endpoints. So the recording began in the middle.
 - No participant is announced.
-- All participants that are announced have one address. Where one of vendor 010f announces a locator of a kind from 16 on, the ends may use shared
-  memory.
+- All participants that are announced have one address. Where one of them, of Fast DDS, announces a locator of a kind from 16 on, the ends may use
+  shared memory.
 - Two participants are of two domains: the first one that has a domain, in their order, and the first behind it that has another.
 - Participants talk one way; or endpoints do not match; or pairs are left out; or there are pairs of best effort alone.
 - A topic that is asked for has writers and no reader, or readers and no writer: of endpoints that announced themselves in one way. Where nodes are
   asked for, an end of the topic is of one of them.
 """
-from policies import SHARED_MEMORY
 from talk import PARTICIPANT
 from told import topic_text
 from wording import grouped
@@ -68,8 +67,7 @@ def began_late(talk):
 def one_host(talk):
     if not talk.announced.one_address():
         return None
-    in_memory = any(guid[:2] == b'\1\x0f' and kind >= SHARED_MEMORY for guid, kind in talk.announced.locator_kinds())
-    return IN_MEMORY if in_memory else ONE_HOST
+    return IN_MEMORY if any(talk.announced.sharing.values()) else ONE_HOST
 
 
 def two_domains(talk):

@@ -129,19 +129,35 @@ def port_above_the_first(payload, pid):
     return None if locator is None or locator[1] < FIRST_PORT else locator[1] - FIRST_PORT
 
 
-def domain_by_ports(payload, vendor):
+# The vendor of Fast DDS.
+FAST = b'\1\x0f'
+
+
+def vendor_in(payload):
+    """the vendor: the first two octets of the first such parameter; None where there is none of as many"""
+    values = [value for pid, value in fields_of(payload)[1] if pid == 0x0016]
+    return values[0][:2] if values and len(values[0]) >= 2 else None
+
+
+def may_share_memory(payload):
+    """whether Fast DDS announces a locator that may mean shared memory"""
+    locators = locators_in(payload, 0x0031, 0x0032)
+    return vendor_in(payload) == FAST and any(one is not None and one[0] >= SHARED_MEMORY for one in locators)
+
+
+def domain_by_ports(payload):
     """the domain that ports tell: that of the first metatraffic multicast locator, or of Fast DDS that of the first unicast one"""
     multicast, unicast = (port_above_the_first(payload, pid) for pid in (0x0033, 0x0032))
     if multicast is not None and multicast % PORTS == 0:
         return multicast // PORTS
-    return unicast // PORTS if unicast is not None and vendor == b'\1\x0f' else None
+    return unicast // PORTS if unicast is not None and vendor_in(payload) == FAST else None
 
 
-def domain_in(payload, vendor):
+def domain_in(payload):
     """the domain that is announced, or the one that ports tell; None where there is none"""
     order, pairs = fields_of(payload)
     values = [value for pid, value in pairs if pid == 0x000f]
-    return number(values[0][:4], order) if values and len(values[0]) >= 4 else domain_by_ports(payload, vendor)
+    return number(values[0][:4], order) if values and len(values[0]) >= 4 else domain_by_ports(payload)
 
 
 def lease_in(payload):

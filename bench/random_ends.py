@@ -65,11 +65,27 @@ def some_lease(rng, order):
     return parameter(order, 2, (u(order, 4, seconds) + u(order, 4, fraction))[:rng.choice([8] * 12 + [7])])
 
 
+PORTS = 7400, 7400, 7400, 7401, 7410, 7649, 7650, 7650, 7660, 7899, 7900, 7399, 0, 65150, 2 ** 32 - 1, 7400 + 250 * 17179800
+
+
+def some_ports(rng, order):
+    """a vendor, and locators by whose ports a domain is told"""
+    found = []
+    for _ in range(rng.choice([0, 1, 1, 1, 2])):
+        found.append(parameter(order, 0x16, rng.choice([b'\1\x0f\0\0'] * 5 + [b'\1\x10\0\0', b'\1\x0f', b'\1', b'\x0f\1\0\0'])))
+    for _ in range(rng.choice([0, 1, 1, 1, 2, 3])):
+        kind, size = rng.choice([1] * 6 + [2, 15, 16, 17, -1]), rng.choice([24] * 20 + [23, 28])
+        value = u(order, 4, kind) + u(order, 4, rng.choice(PORTS)) + bytes(20)
+        found.append(parameter(order, rng.choice([0x31, 0x32, 0x32, 0x33, 0x33]), value[:size]))
+    return found
+
+
 def some_host(rng, order):
     """parameters of a participant: a domain, a lease and addresses, and mostly its process"""
-    found = [parameter(order, 0x0f, u(order, 4, rng.choice([0, 0, 0, 1])))] if rng.random() < 0.7 else []
+    found = [parameter(order, 0x0f, u(order, 4, rng.choice([0, 0, 0, 1])))] if rng.random() < 0.55 else []
     found += [some_lease(rng, order) for _ in range(rng.choice([0, 1, 1, 2]))]
     found += some_process(rng, order) if rng.random() < 0.7 else []
+    found += some_ports(rng, order) if rng.random() < 0.5 else []
     return found + [some_locator(rng, order) for _ in range(rng.choice([0, 1, 1, 1, 2]))]
 
 

@@ -3,6 +3,7 @@ their endpoints, whom they name, which nodes they tell of, and what they say of 
 """
 from random_ends import PREFIXES, announced, some_nodes, some_participant, some_services
 from random_events import some_shared
+from random_nothing import some_nothing
 from random_recordings import (TOPICS, A, B, Told, leaving, parameter, put, sn, some_announced, some_input, some_life, some_outage,
                                some_ranges, some_resends, some_two_ways, text_of_datagrams, u)
 
@@ -139,7 +140,7 @@ def some_recorded(rng):
     """a recording text of one of several kinds"""
     kind = rng.random()
     if kind < 0.8:
-        kinds = (0.22, some_system), (0.4, some_shared), (0.45, some_outage), (0.5, some_ranges), (0.61, some_resends), (0.8, some_life)
+        kinds = (0.09, some_nothing), (0.25, some_system), (0.4, some_shared), (0.45, some_outage), (0.5, some_ranges), (0.61, some_resends), (0.8, some_life)
         return text_of_datagrams(next(some for most, some in kinds if kind < most)(rng))
     return some_input(rng)
 

@@ -8,7 +8,7 @@ from functools import cached_property
 
 from ends import End
 from life import Span
-from policies import address_in, domain_in, lease_in, locators_in, policies_in, reasons, values_of
+from policies import address_in, domain_in, lease_in, may_share_memory, policies_in, reasons, values_of
 from reference import told_to
 from times import LEASE, NO_TIMES, is_silent
 from who import Who
@@ -20,16 +20,15 @@ PARTICIPANT = b'\x00\x00\x01\xc1'
 
 
 class Announced:
-    """by GUID the policies of endpoints, and of participants the place, the domain, the address and the lease; and the kinds of the unicast locators
-    of participants. The first announcement without a fault counts"""
+    """by GUID the policies of endpoints, and of participants the place, the domain, the address and the lease; and those that may share memory. The
+    first announcement without a fault counts"""
 
     def __init__(self, announcements):
-        self.policies, self.participants, self.kinds = {}, {}, {}
+        self.policies, self.participants, self.sharing = {}, {}, {}
         for place, side, said, payload in announcements:
             if side == 'participant':
-                # a GUID begins with the vendor
-                self.participants.setdefault(said[0], (place, domain_in(payload, said[0][:2]), address_in(payload), lease_in(payload)))
-                self.kinds.setdefault(said[0], [one[0] for one in locators_in(payload, 0x0031, 0x0032) if one is not None])
+                self.participants.setdefault(said[0], (place, domain_in(payload), address_in(payload), lease_in(payload)))
+                self.sharing.setdefault(said[0], may_share_memory(payload))
             else:
                 self.policies.setdefault(said[0], policies_in(payload))
 
@@ -58,10 +57,6 @@ class Announced:
         """whether participants are announced, all with one address"""
         addresses = {address for _, _, address, _ in self.participants.values()}
         return len(addresses) == 1 and None not in addresses
-
-    def locator_kinds(self):
-        """each participant with each kind of its unicast locators"""
-        return [(guid, kind) for guid, kinds in sorted(self.kinds.items()) for kind in kinds]
 
     def values(self, endpoint):
         """the value of each policy of an endpoint"""
