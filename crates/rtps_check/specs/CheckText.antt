@@ -17,6 +17,7 @@ use Rattle.rtps_report.specs.declared.totals.Totals.{Totals}
 use Rattle.rtps_parts.specs.Parts.{amount, share, words_for, grouped}
 use Rattle.rtps_report.specs.Asked.{AskedValue}
 use Rattle.rtps_report.specs.ByTopic.{AreByTopic, topics_of}
+use Rattle.rtps_report.specs.Events.{EventValue, event_value, events_of, rows_with}
 use Rattle.rtps_report.specs.FullReport.{IsTold, ReportValue, facts_with, lost_of}
 use Rattle.rtps_report.specs.NoteFacts.{note_facts, scope_of}
 use Rattle.rtps_report.specs.Recording.{RecordingValue}
@@ -34,6 +35,7 @@ use Rattle.rtps_report.specs.declared.note_facts.NoteFacts.{NoteFacts}
 use Rattle.rtps_report.specs.declared.order.Order.{Order}
 use Rattle.rtps_lines.specs.Causes.{causes_of, findings_in, last_line}
 use Rattle.rtps_lines.specs.Notes.{NotedValue, joined_names, notes, number_words, talking_names, topic_name}
+use Rattle.rtps_lines.specs.EventText.{event_text}
 use Rattle.rtps_lines.specs.NumberRanges.{lost_lines}
 use Rattle.rtps_lines.specs.TailNames.{longest_tail}
 use Rattle.rtps_parts.specs.RosNames.{topic_text, type_text}
@@ -85,12 +87,13 @@ no_pair_remedy talk left_out =
 abbrev pub no_pair_lines : TalkValue → List LeftOutValue → List ℕ
 no_pair_lines talk left_out = concat (codes "there is no pair to judge\n  -> " ∷ no_pair_remedy talk left_out ∷ codes "\n" ∷ [])
 
--- what is told beside the rows: when datagrams came, which numbers of each row are lost, what weakens the report, what is told of the other recording, if there is one, the
+-- what is told beside the rows: when datagrams came, which numbers of each row are lost, the events that rows belong to, what weakens the report, what is told of the other recording, if there is one, the
 -- names of pairs that talk though they do not match, the pairs that it cannot speak of, by topic, who does not talk, whether each number has
 -- to be certain, and how the run ends
 pub record Beside : Type 0 where
   pub times : TimesValue
   pub lost : List LostValue
+  pub events : List EventValue
   pub facts : NoteFacts
   pub side : Option SideFacts
   pub talking : List ℕ
@@ -261,6 +264,18 @@ headed head (octet ∷ lines) = 10 ∷ (head ++ octet ∷ lines)
 abbrev pub section : RowTold → List ExplanationValue → List ℕ
 section told rows = headed (topic_head rows) (flat_map (noted_lines told) rows)
 
+-- the line of an event behind an empty one
+abbrev pub event_head : RowTold → EventValue → List ℕ
+event_head told event = codes "\n" ++ (event_text told.times told.talk event ++ codes "\n")
+
+-- the lines of an event with these rows, which stand by topic
+abbrev pub event_lines : RowTold → EventValue → List ExplanationValue → List ℕ
+event_lines told event rows = event_head told event ++ flat_map (section told) (topics_of rows)
+
+-- the lines of an event: its rows are all that belong to it of these, which stand by topic
+abbrev pub event_block : RowTold → List ExplanationValue → EventValue → List ℕ
+event_block told rows event = event_lines told event (rows_with told.talk told.scope.tail rows event.key)
+
 -- ---- the pairs that lack only a tail
 
 -- that so many pairs lack only a tail, and what lets them pass
@@ -286,9 +301,9 @@ tail_block told rows = tails_of (filter (lacks_tail_alone told) rows)
 
 -- ---- the whole text
 
--- the lines by topic: the table, the pairs that someone has to look at, and those that lack only a tail
-abbrev pub topics_text : RowTold → Totals → List ExplanationValue → List ℕ
-topics_text told totals rows = topic_table told.scope totals (topics_of rows) ++ (flat_map (section told) (topics_of rows) ++ tail_block told rows)
+-- the table of topics, the pairs that someone has to look at, by events, and those that lack only a tail
+abbrev pub topics_text : RowTold → List EventValue → Totals → List ExplanationValue → List ℕ
+topics_text told events totals rows = topic_table told.scope totals (topics_of rows) ++ (flat_map (event_block told rows) events ++ tail_block told rows)
 
 -- of what the notes tell
 abbrev pub noted_beside : Scope → Beside → List ExplanationValue → NotedValue
@@ -325,7 +340,7 @@ pub record IsTextBy (scope : Scope) (beside : Beside) (rows : List ExplanationVa
   pub lossy : List HeldValue
   pub lossy_by_topic : LossyByTopic (filter is_lossy beside.talk.held) lossy
   pub is_text : let totals = totals_of scope rows in text ≡ first_lines totals beside
-      ++ (topics_text (told_beside scope beside) totals rows
+      ++ (topics_text (told_beside scope beside) beside.events totals rows
       ++ (unmatched_lines beside.talk.hosts unmatched
       ++ (one_way_block beside.talk ++ (lossy_lines beside.talk.hosts lossy ++ ending_text scope beside totals rows))))
 
@@ -335,6 +350,7 @@ beside_value told =
     record {
       times = told.lost.times.now;
       lost = map lost_value told.lost.rows.now;
+      events = map event_value told.events.now;
       facts = told.facts;
       side = told.side;
       talking = told.talking.now;
@@ -350,6 +366,7 @@ beside_of asked recording report talking left_out =
     record {
       times = recording.times;
       lost = lost_of report;
+      events = events_of asked report;
       facts = note_facts asked recording report;
       side = side_facts report;
       talking = talking;

@@ -7,8 +7,9 @@ ghost use Rattle.rtps_report.specs.Talk.{left_out_value, talk_value};
 ghost use Rattle.rtps_check.specs.CheckText.{IsCheckJson, IsCheckText, IsTextBy, arrived_text, beside_value, clean_line as clean_line_lem, clean_lines, ending_text, first_lines, no_pair_remedy as no_pair_remedy_lem, notes_block, told_beside, told_notes as told_notes_lem, topics_text};
 
 use crate::arrived_block::push_arrived_block;
+use crate::event_blocks::push_events;
 use crate::one_way_block::push_one_way_block;
-use crate::sections::{RowTelling, push_sections};
+use crate::sections::RowTelling;
 use crate::tails::{clean_tails_among, late_among, push_tail_block};
 use crate::topic_table::push_topic_table;
 use crate::unmatched_block::{left_by_topic, push_unmatched_block, unmatched_by_topic};
@@ -20,8 +21,8 @@ use rtps_lines::{
 };
 use rtps_parts::{Part, Words, render, words_for};
 use rtps_report::{
-    Ending, FullReport, LeftOut, NoteFacts, Scope, SideFacts, Talk, Totals, by_topic,
-    facts_of_side, notes_on, scope_of, topics_of, totals_of,
+    Ending, Event, FullReport, LeftOut, NoteFacts, Scope, SideFacts, Talk, Totals, by_topic,
+    events_of, facts_of_side, notes_on, scope_of, topics_of, totals_of,
 };
 use std::alloc::{AllocError, Global};
 
@@ -34,6 +35,8 @@ struct Told<'r, 'a> {
     /// What is told of the other recording; None where there is none.
     side: Option<SideFacts>,
     rows: &'r [Explanation<'a>],
+    /// The events that these rows belong to.
+    events: &'r [Event],
     /// The names of the pairs that talk though they do not match.
     talking: &'r str,
     left_out: &'r [LeftOut<'a>],
@@ -145,7 +148,7 @@ fn push_topics(
     told: &Told<'_, '_>,
     totals: &Totals,
 ) -> Result<(), AllocError>
-    ensures { OnOk result (string_bytes text.new ≡ string_bytes text.old ++ topics_text (told_beside told.now.scope (beside_value told.now)) totals.now (map explanation_value told.now.rows.now)) }
+    ensures { OnOk result (string_bytes text.new ≡ string_bytes text.old ++ topics_text (told_beside told.now.scope (beside_value told.now)) (beside_value told.now).events totals.now (map explanation_value told.now.rows.now)) }
 {
     let telling = RowTelling {
         scope: told.scope,
@@ -154,7 +157,7 @@ fn push_topics(
     };
     let topics = topics_of(alloc, told.rows)?;
     push_topic_table(alloc, text, &topics, (totals, told.scope))?;
-    push_sections(alloc, text, &topics, telling)?;
+    push_events(alloc, text, told.events, told.rows, telling)?;
     push_tail_block(alloc, text, told.rows, telling)
 }
 
@@ -217,6 +220,7 @@ pub fn check_text(alloc: Global, report: &FullReport<'_>) -> Result<String, Allo
     ensures { IfOk result (λ text. IsCheckText (asked_value report.now.asked.now) report.now.recording.now (report_value report.now) (string_bytes text)) }
 {
     let rows = by_topic(alloc, &report.explained.rows)?;
+    let events = events_of(alloc, report)?;
     let talking = unmatched_by_topic(alloc, &report.talk.talking)?;
     let names = talking_names(alloc, talking)?;
     let left_out = left_by_topic(alloc, &report.talk.left_out)?;
@@ -229,6 +233,7 @@ pub fn check_text(alloc: Global, report: &FullReport<'_>) -> Result<String, Allo
         facts: notes_on(report),
         side: facts_of_side(report),
         rows: &rows,
+        events: &events,
         talking: &names,
         left_out: &left_out,
         talk: &report.talk,

@@ -3,6 +3,7 @@
 
 mod arrived_block;
 mod checked_text;
+mod event_blocks;
 pub mod laws;
 mod not_arrived;
 mod one_way_block;

@@ -15,7 +15,7 @@ pub(crate) fn hosted_by(talk: &Talk<'_>, guid: Guid) -> HostedGuid
     ensures guid { result.0 ≡ guid }
     ensures address { result.1 ≡ ((talk_value talk.now).hosts guid.prefix).address }
 {
-    HostedGuid(guid, talk.address_of(guid.prefix))
+    HostedGuid(guid, talk.end(guid).address)
 }
 
 /// Two each that do not match, by topic, octet by octet. Those of one topic stay in their order.

@@ -3,6 +3,7 @@
 use Rattle.std.specs.Prelude.{◌++◌, ℕ, Bool, false, if◌then◌else◌, is_some, List, [], ◌∷◌, codes, map, Some}
 use Rattle.json.specs.Json.{string}
 use Rattle.rtps_report.specs.BestEfforts.{numbers_told}
+use Rattle.rtps_report.specs.Events.{events_of}
 use Rattle.rtps_report.specs.FullReport.{AskedValue, RecordingValue, ReportValue, lost_of, rows_of}
 use Rattle.rtps_report.specs.NoteFacts.{note_facts, scope_of}
 use Rattle.rtps_report.specs.SideFacts.{side_facts}
@@ -10,6 +11,7 @@ use Rattle.rtps_report.specs.Totals.{totals_of}
 use Rattle.rtps_report.specs.declared.findings.Ending.{Ending}
 use Rattle.rtps_report.specs.declared.findings.Ending.TheVariants.{Clean}
 use Rattle.rtps_lines.specs.Causes.{causes_of, findings_in, last_line}
+use Rattle.rtps_lines.specs.EventMembers.{events_member}
 use Rattle.rtps_lines.specs.JsonText.{Member, TellingValue, array_of, count_json, rows_members}
 use Rattle.rtps_lines.specs.Notes.{NotedValue, notes}
 use Rattle.rtps_lines.specs.TalkMembers.{talk_members}
@@ -31,9 +33,14 @@ wrong_way_members has_other wrong = if has_other then (codes "wrong_way", count_
 abbrev pub notes_members : List (List ℕ) → List Member
 notes_members notes = (codes "notes", array_of (map string notes)) ∷ []
 
+-- the events of this report
+abbrev pub report_events : AskedValue → RecordingValue → ReportValue → Member
+report_events asked recording report = events_member recording.times report.talk (events_of asked report)
+
 -- the ones that stand last
-abbrev pub last_members : Bool → ℕ → List (List ℕ) → List Member
-last_members has_other wrong notes = wrong_way_members has_other wrong ++ notes_members notes
+abbrev pub last_members : AskedValue → RecordingValue → ReportValue → List (List ℕ) → List Member
+last_members asked recording report notes =
+    wrong_way_members (is_some report.arrived) report.order.wrong ++ report_events asked recording report ∷ notes_members notes
 
 -- why the run of this report does not end clean
 abbrev pub report_causes : AskedValue → RecordingValue → ReportValue → List (List ℕ)
@@ -63,4 +70,4 @@ abbrev pub check_members : AskedValue → RecordingValue → ReportValue → Lis
 check_members asked recording report =
     status_members report.ending (report_causes asked recording report)
     ++ (rows_members (Some (check_telling asked recording report)) (rows_of report) report.explained.counts recording
-    ++ (talk_members recording.times report ++ last_members (is_some report.arrived) report.order.wrong (report_notes asked recording report)))
+    ++ (talk_members recording.times report ++ last_members asked recording report (report_notes asked recording report)))

@@ -1,5 +1,7 @@
 pub mod Causes
 pub mod CheckMembers
+pub mod EventMembers
+pub mod EventText
 pub mod JsonText
 pub mod Lines
 pub mod Notes

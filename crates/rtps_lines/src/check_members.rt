@@ -2,16 +2,17 @@ ghost use Rattle.std.specs.Prelude.{◌≡◌, ◌++◌, IfOk, OnOk, map};
 ghost use Rattle.std.specs.String.{string_bytes};
 ghost use Rattle.rtps_report.specs.Asked.{asked_value};
 ghost use Rattle.rtps_report.specs.FullReport.{report_value};
-ghost use Rattle.rtps_lines.specs.CheckMembers.{check_members, check_telling, last_members, report_causes, report_last, report_notes, status_members, status_text, wrong_way_members};
-ghost use Rattle.rtps_lines.specs.JsonText.{telling_value, tokens_of};
+ghost use Rattle.rtps_lines.specs.CheckMembers.{check_members, check_telling, last_members, report_causes, report_events, report_last, report_notes, status_members, status_text, wrong_way_members};
+ghost use Rattle.rtps_lines.specs.JsonText.{telling_value, tokens_of, tokens_of_member};
 
 use crate::causes::{Judged, causes_of, push_last};
-use crate::json_members::{push_text, push_texts, push_total};
+use crate::event_members::push_events;
+use crate::json_members::{Clock, push_text, push_texts, push_total};
 use crate::json_object::{Telling, ToldRows, push_report_members};
 use crate::notes::{NotedRows, notes_of};
 use crate::talk_members::{has_other, push_talk_members};
 use json::Writer;
-use rtps_report::{Ending, FullReport, facts_of_side, notes_on, scope_of, totals_of};
+use rtps_report::{Ending, FullReport, events_of, facts_of_side, notes_on, scope_of, totals_of};
 use std::alloc::{AllocError, Global};
 
 fn status_name(ending: &Ending) -> &'static str
@@ -106,18 +107,38 @@ fn push_wrong_way(writer: &mut Writer, has_other: bool, wrong: u128) -> Result<(
     }
 }
 
-/// Appends the members that stand last.
-fn push_last_members(
+/// Appends the events of a report.
+fn push_report_events(
+    alloc: Global,
     writer: &mut Writer,
-    has_other: bool,
-    wrong: u128,
-    notes: &[String],
+    report: &FullReport<'_>,
 ) -> Result<(), AllocError>
-    ensures tokens { OnOk result (writer.new.tokens
-        ≡ writer.old.tokens ++ tokens_of (last_members has_other wrong (map string_bytes notes.now))) }
+    ensures tokens { OnOk result (writer.new.tokens ≡ writer.old.tokens
+        ++ tokens_of_member (report_events (asked_value report.now.asked.now) report.now.recording.now (report_value report.now))) }
     ensures before { writer.new.before ≡ writer.old.before }
 {
-    push_wrong_way(writer, has_other, wrong)?;
+    let events = events_of(alloc, report)?;
+    let clock = Clock {
+        times: report.recording.times(),
+        alloc,
+        framed: true,
+    };
+    push_events(writer, &events, &report.talk, clock)
+}
+
+/// Appends the members that stand last.
+fn push_last_members(
+    alloc: Global,
+    writer: &mut Writer,
+    report: &FullReport<'_>,
+    notes: &[String],
+) -> Result<(), AllocError>
+    ensures tokens { OnOk result (writer.new.tokens ≡ writer.old.tokens
+        ++ tokens_of (last_members (asked_value report.now.asked.now) report.now.recording.now (report_value report.now) (map string_bytes notes.now))) }
+    ensures before { writer.new.before ≡ writer.old.before }
+{
+    push_wrong_way(writer, has_other(report), report.order.wrong)?;
+    push_report_events(alloc, writer, report)?;
     push_texts(writer, "notes", notes)
 }
 
@@ -141,5 +162,5 @@ pub fn push_check_members(
     };
     push_report_members(alloc, writer, &rows)?;
     push_talk_members(alloc, writer, report)?;
-    push_last_members(writer, has_other(report), report.order.wrong, &notes)
+    push_last_members(alloc, writer, report, &notes)
 }

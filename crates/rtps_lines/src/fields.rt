@@ -87,7 +87,7 @@ impl fmt::Display for SecondText<'_> {
 
 /// When the last datagram of a participant came that ended; nothing where it has no time, or where there is none.
 #[derive(Drop)]
-struct EndedText<'t>(&'t Times, Option<u64>);
+pub(crate) struct EndedText<'t>(pub(crate) &'t Times, pub(crate) Option<u64>);
 
 impl fmt::Display for EndedText<'_> {
     ghost output = { λ text. Some (ended_text text.0.now text.1) };

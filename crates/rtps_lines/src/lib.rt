@@ -4,6 +4,8 @@
 
 mod causes;
 mod check_members;
+mod event_members;
+mod event_text;
 mod evidence_lines;
 mod fields;
 mod json_members;
@@ -21,6 +23,7 @@ mod way_notes;
 
 pub use causes::{Judged, causes_of, push_last, unmatched_words};
 pub use check_members::{push_check_members, push_report_last};
+pub use event_text::push_event_text;
 pub use evidence_lines::{
     AcknowledgedLine, AnnouncedLine, AskedLine, ClaimedLine, QuestionsLine, ToldLine, VerdictText,
     WaitText, push_sent,

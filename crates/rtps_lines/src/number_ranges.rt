@@ -49,7 +49,7 @@ impl fmt::Display for Bracketed {
 }
 
 /// The second of a place, if there is one.
-fn place_second(times: &Times, place: Option<Location>) -> Option<Seconds>
+pub(crate) fn place_second(times: &Times, place: Option<Location>) -> Option<Seconds>
     ensures { result ≡ place_second_lem times.now place }
 {
     match place {

@@ -11,6 +11,7 @@ use Rattle.rtps_report.specs.declared.audited.AskedAudit.{AskedAudit}
 pub record AskedValue : Type 0 where
   pub from : ℕ
   pub topics : List (List ℕ)
+  pub nodes : List (List ℕ)
   pub expect : Option ℕ
   pub tail : ℕ
   pub certain : Bool
@@ -18,7 +19,14 @@ pub record AskedValue : Type 0 where
 -- what the code asks, as a value
 abbrev pub asked_value : Asked → AskedValue
 asked_value asked =
-    record { from = asked.from; topics = map string_bytes asked.topics.now; expect = asked.expect; tail = asked.tail; certain = asked.certain }
+    record {
+      from = asked.from;
+      topics = map string_bytes asked.topics.now;
+      nodes = map string_bytes asked.nodes.now;
+      expect = asked.expect;
+      tail = asked.tail;
+      certain = asked.certain;
+    }
 
 -- samples that come in fragments are read
 abbrev pub are_read : Fragments → Bool

@@ -21,13 +21,13 @@ use Rattle.rtps_fragments.specs.declared.fragments.Fragments.TheVariants as frag
 use Rattle.rtps_report.specs.FullReport.{AreRowsOf, AskedValue, IsFullReport, RecordingValue, ReportValue, lost_of, rows_of}
 use Rattle.rtps_report.specs.Reported.{IsAuditExplained, IsReportAs}
 use Rattle.rtps_report.specs.declared.audited.AskedAudit.{AskedAudit}
-use Rattle.rtps_report.specs.Rows.{fits_one}
-use Rattle.rtps_report.specs.Talk.{TalkValue, is_counted, is_left_out, is_unfit, traffic_of, unfit_in}
+use Rattle.rtps_report.specs.Talk.{TalkValue, choice_of, is_counted, is_left_out, is_unfit, traffic_of, unfit_in}
 use Rattle.rtps_policies.specs.Silence.{Traffic}
 use Rattle.rtps_discovery.specs.Matching.{matches_among}
 use Rattle.rtps_discovery.specs.Directory.{settled_in}
 use Rattle.rtps_discovery.specs.declared.matching.Match.{Match}
 use Rattle.rtps_discovery.specs.declared.matching.Pair.{Pair}
+use Rattle.rtps_ids.specs.declared.identity.Guid.{Guid}
 use Rattle.rtps_ids.specs.declared.identity.GuidPrefix.{GuidPrefix}
 use Rattle.rtps_report.specs.RowFacts.{left_in, row_from}
 
@@ -101,7 +101,9 @@ StaysWithoutFragments IsText =
 
 -- the same is told of who does not talk
 pub record TellSame (one other : TalkValue) : Type 0 where
-  pub hosts : (prefix : GuidPrefix) → one.hosts prefix ≡ other.hosts prefix
+  pub ends : (guid : Guid) → one.ends guid ≡ other.ends guid
+  pub node : (guid : Guid) → one.node guid ≡ other.node guid
+  pub nodes : (prefix : GuidPrefix) → one.nodes prefix ≡ other.nodes prefix
   pub silence : (pair : Pair) → one.silence pair ≡ other.silence pair
   pub unmatched : one.unmatched ≡ other.unmatched
   pub talking : one.talking ≡ other.talking
@@ -144,18 +146,20 @@ pub record IsOneOf (first second third fourth : Type 0) : Type 0 where
 abbrev pub IsRowOf : ReportValue → Pair → Type 0
 IsRowOf report pair = Contains (map (λ row. row.pair) (rows_of report)) pair
 
--- discovery finds the match in a recording, and its topic is asked for
+-- discovery finds the match in a recording, and it is asked for
 pub record IsFoundIn (asked : AskedValue) (recording : RecordingValue) (directory : DirectoryValue) (found : Match) : Type 0 where
   pub is_map : IsMapOf (traffic_of recording.datagrams).announcing directory
   pub among : Contains (matches_among (settled_in directory.endpoints)) found
-  pub topic : fits_one asked.topics (topic_of (settled_at directory.endpoints found.pair.writer)) ≡ true
+  pub chosen : choice_of asked recording.datagrams directory.endpoints (topic_of (settled_at directory.endpoints found.pair.writer)) found.pair ≡ true
 
--- Each match that discovery finds among topics that are asked for is exactly one of these: a row, two that do not match
+-- Each match that discovery finds and that is asked for is exactly one of these: a row, two that do not match
 -- by all policies and do not talk, two that are left out, or two of best effort that are counted.
 abbrev pub EachMatchIsTold : Type 0
 EachMatchIsTold =
     (asked : AskedValue) (other : Option RecordingValue) (recording : RecordingValue) (report : ReportValue) (directory : DirectoryValue) (found : Match)
     → IsFullReport asked other recording report → IsFoundIn asked recording directory found
-    → let traffic = traffic_of recording.datagrams in let unfit = unfit_in asked traffic directory.endpoints in
-    IsOneOf (IsRowOf report found.pair) (is_unfit report.talk.unmatched found.pair ≡ true) (is_left_out asked traffic unfit directory.endpoints found ≡ true)
-    (is_counted asked traffic unfit directory.endpoints found ≡ true)
+    → let traffic = traffic_of recording.datagrams in
+    let chosen = choice_of asked recording.datagrams directory.endpoints in
+    let unfit = unfit_in chosen traffic directory.endpoints in
+    IsOneOf (IsRowOf report found.pair) (is_unfit report.talk.unmatched found.pair ≡ true) (is_left_out chosen traffic unfit directory.endpoints found ≡ true)
+    (is_counted chosen traffic unfit directory.endpoints found ≡ true)

@@ -4,6 +4,7 @@ pub mod Asked
 pub mod BestEfforts
 pub mod ByTopic
 pub mod DatagramSpan
+pub mod Events
 pub mod Findings
 pub mod FullReport
 pub mod Laws
@@ -20,6 +21,7 @@ pub mod Rows
 pub mod SideFacts
 pub mod Silences
 pub mod Stays
+pub mod Ends
 pub mod Talk
 pub mod Totals
 pub mod Twice

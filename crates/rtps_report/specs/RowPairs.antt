@@ -9,14 +9,14 @@ use Rattle.rtps_discovery.specs.Listings.{pair_cmp}
 use Rattle.rtps_discovery.specs.Matching.{matches_among, reliable_pairs}
 use Rattle.rtps_policies.specs.Silence.{Traffic}
 use Rattle.rtps_report.specs.Asked.{AskedValue}
-use Rattle.rtps_report.specs.Rows.{fits_one, is_named_by}
-use Rattle.rtps_report.specs.Talk.{is_named, is_unfit, talks, unfit_in}
+use Rattle.rtps_report.specs.Rows.{Choice, is_named_by}
+use Rattle.rtps_report.specs.Talk.{choice_in, is_named, is_unfit, talks, unfit_in}
 use Rattle.rtps_report.specs.Vocabulary.{Intake, Pair, settled_at, topic_of}
 use Rattle.rtps_report.specs.declared.talk.Talk.{Talk}
 
--- the topic of a pair is asked for
-abbrev pub is_topic_asked : List (List ℕ) → Entries → Pair → Bool
-is_topic_asked topics entries pair = fits_one topics (topic_of (settled_at entries pair.writer))
+-- a pair is asked for
+abbrev pub is_pair_asked : Choice → Entries → Pair → Bool
+is_pair_asked chosen entries pair = chosen (topic_of (settled_at entries pair.writer)) pair
 
 -- two that do not match have a row if they talk; others, if they are a reliable match of which the recording can speak
 abbrev pub IsJudged : Bool → Intake → Traffic → Entries → Pair → Type 0
@@ -25,8 +25,8 @@ IsJudged false intake traffic entries pair = Contains (reliable_pairs (matches_a
 
 -- a pair has a row
 pub record IsRowPair (asked : AskedValue) (intake : Intake) (traffic : Traffic) (entries : Entries) (pair : Pair) : Type 0 where
-  pub topic : is_topic_asked asked.topics entries pair ≡ true
-  pub judged : IsJudged (is_unfit (unfit_in asked traffic entries) pair) intake traffic entries pair
+  pub chosen : is_pair_asked (choice_in asked intake entries) entries pair ≡ true
+  pub judged : IsJudged (is_unfit (unfit_in (choice_in asked intake entries) traffic entries) pair) intake traffic entries pair
 
 -- all of them, by writer and then by reader, each once
 pub record AreRowPairs (asked : AskedValue) (intake : Intake) (traffic : Traffic) (entries : Entries) (pairs : List Pair) : Type 0 where
@@ -34,5 +34,5 @@ pub record AreRowPairs (asked : AskedValue) (intake : Intake) (traffic : Traffic
   pub each : (pair : Pair) → Contains pairs pair ↔ IsRowPair asked intake traffic entries pair
 
 -- a reliable match has a row, by what is kept
-abbrev pub is_match_told : Talk → List (List ℕ) → Entries → Pair → Bool
-is_match_told talk topics entries pair = not (contains pair_cmp talk.unfit pair) && (is_named_by talk.namings pair && is_topic_asked topics entries pair)
+abbrev pub is_match_told : Talk → Choice → Entries → Pair → Bool
+is_match_told talk chosen entries pair = not (contains pair_cmp talk.unfit pair) && (is_named_by talk.namings pair && is_pair_asked chosen entries pair)

@@ -1,12 +1,15 @@
 -- Which rows of a report are kept. DDSI-RTPS 2.5, 8.3.8.8 "InfoDestination", for whom an act names. own: where a reader's participant
 -- never names the writer's, their datagrams took another way, and a recording can say nothing of the two.
-use Rattle.std.specs.Prelude.{ℕ, ◌≡◌, Bool, ◌==◌, ◌&&◌, ◌||◌, nat_lt, List, length}
+use Rattle.std.specs.Prelude.{ℕ, ◌≡◌, Bool, false, ◌==◌, ◌&&◌, ◌||◌, nat_lt, List, Option, Some, None, length}
 use Rattle.std.specs.List.{list_any}
 use Rattle.rtps_report.specs.Vocabulary.{ActValue, Pair}
 use Rattle.rtps_parts.specs.RosNames.{ros_topic}
 use Rattle.rtps_policies.specs.Namings.{named_by, names}
 use Rattle.rtps_policies.specs.declared.naming.Naming.{Naming}
 use Rattle.rtps_policies.specs.declared.naming.Namings.{Namings}
+use Rattle.rtps_ids.specs.declared.identity.Guid.{Guid}
+use Rattle.rtps_who.specs.Samples.{NodeValue, full_name}
+use Rattle.rtps_report.specs.Asked.{AskedValue}
 use Rattle.rtps_report.specs.Patterns.{fits}
 
 -- those participants are counted that name one another in these acts
@@ -28,3 +31,20 @@ fits_topic pattern topic = fits pattern topic || fits pattern (ros_topic topic)
 -- a topic fits one of the patterns, or there is none
 abbrev pub fits_one : List (List ℕ) → List ℕ → Bool
 fits_one patterns topic = (length patterns == 0) || list_any (λ pattern. fits_topic pattern topic) patterns
+
+-- an end has a node whose name fits one of these patterns
+abbrev pub has_node : List (List ℕ) → Option NodeValue → Bool
+has_node patterns None = false
+has_node patterns (Some node) = list_any (λ pattern. fits pattern (full_name node)) patterns
+
+-- one of two nodes is asked for, or any is
+abbrev pub is_node_asked : List (List ℕ) → (writer reader : Option NodeValue) → Bool
+is_node_asked patterns writer reader = (length patterns == 0) || (has_node patterns writer || has_node patterns reader)
+
+-- which pairs of which topics are asked for
+abbrev pub Choice : Type 0
+Choice = List ℕ → Pair → Bool
+
+-- a pair is asked for: its topic is, and one of its nodes, where these are the nodes of endpoints
+abbrev pub chosen_by : AskedValue → (Guid → Option NodeValue) → Choice
+chosen_by asked nodes topic pair = fits_one asked.topics topic && is_node_asked asked.nodes (nodes pair.writer) (nodes pair.reader)

@@ -4,6 +4,7 @@
 use Rattle.std.specs.Prelude.{ℕ, ◌≡◌, ◌&&◌, Bool, true, not, nat_lt, List, [], ◌∷◌, Option, filter, map}
 use Rattle.std.specs.BTreeSet.{BTreeSet, contains}
 use Rattle.std.specs.List.{list_any}
+use Rattle.rtps_ids.specs.declared.identity.Guid.{Guid}
 use Rattle.rtps_ids.specs.declared.identity.GuidPrefix.{GuidPrefix}
 use Rattle.rtps_discovery.specs.Directory.{DirectoryValue, Entries, IsMapOf, settled_at, settled_in}
 use Rattle.rtps_discovery.specs.Listings.{pair_cmp}
@@ -21,21 +22,23 @@ use Rattle.rtps_evidence.specs.Recorded.{IsArrivedBy, IsRecordedBy}
 use Rattle.rtps_fragments.specs.Announcements.{announcements_in}
 use Rattle.rtps_fragments.specs.RecordedSamples.{intake_as}
 use Rattle.rtps_fragments.specs.declared.fragments.Fragments.TheVariants.{Read}
-use Rattle.rtps_policies.specs.Announcing.{host_of, hosts_in}
 use Rattle.rtps_policies.specs.Namings.{AreNamingsOf, named_in}
 use Rattle.rtps_policies.specs.OneWays.{AreOneWayIn}
 use Rattle.rtps_policies.specs.Silence.{Traffic, silence_by, silence_of}
 use Rattle.rtps_policies.specs.Unmatched.{UnmatchedValue, pair_of, unmatched_among, unmatched_value}
-use Rattle.rtps_policies.specs.declared.host.Host.{Host}
 use Rattle.rtps_policies.specs.declared.naming.Namings.{Namings}
 use Rattle.rtps_policies.specs.declared.one_way.OneWay.{OneWay}
 use Rattle.rtps_policies.specs.declared.silence.Silence.{Silence}
+use Rattle.rtps_who.specs.Naming.{node_of, nodes_of_participant}
+use Rattle.rtps_who.specs.Recorded.{node_in, nodes_in}
+use Rattle.rtps_who.specs.Samples.{NodeValue}
 use Rattle.rtps_report.specs.ActsRead.{datagrams_read}
 use Rattle.rtps_report.specs.Asked.{AskedValue}
 use Rattle.rtps_report.specs.BestEfforts.{AreSumsOf, BestEffortValue, CountedValue, HeldValue, arrived_among, best_effort_value, held_among, held_value, total_of}
+use Rattle.rtps_report.specs.Ends.{EndValue, end_kept, end_of, recorded_in}
 use Rattle.rtps_report.specs.Participants.{participant_told}
 use Rattle.rtps_report.specs.Recording.{RecordingValue}
-use Rattle.rtps_report.specs.Rows.{fits_one, is_named_by}
+use Rattle.rtps_report.specs.Rows.{Choice, chosen_by, is_named_by}
 use Rattle.rtps_report.specs.Ways.{ways_of_counted}
 use Rattle.rtps_report.specs.declared.participant.Participant.{Participant}
 use Rattle.rtps_report.specs.declared.talk.Heard.{Heard}
@@ -52,11 +55,13 @@ pub record LeftOutValue : Type 0 where
 abbrev pub left_out_value : LeftOut → LeftOutValue
 left_out_value one = record { topic = one.topic.now; pair = one.pair }
 
--- who does not talk: the host of each participant, why pairs are silent, which writers and readers do not match, which of them talk all the
+-- who does not talk: by what each end is known, the node of each endpoint, the nodes of each participant, why pairs are silent, which writers and readers do not match, which of them talk all the
 -- same, which matches are left out, who talks one way, the pairs of best effort by topic, those of them that are held against another
 -- recording, what arrived of these by topic, by how many pairs of best effort the two recordings are which way round, and the participants
 pub record TalkValue : Type 0 where
-  pub hosts : GuidPrefix → Host
+  pub ends : Guid → EndValue
+  pub node : Guid → Option NodeValue
+  pub nodes : GuidPrefix → List NodeValue
   pub silence : Pair → Silence
   pub unmatched : List UnmatchedValue
   pub talking : List UnmatchedValue
@@ -74,7 +79,9 @@ pub record TalkValue : Type 0 where
 abbrev pub talk_value : Talk → TalkValue
 talk_value talk =
     record {
-      hosts = hosts_in talk.announced;
+      ends = end_kept talk.who talk.announced;
+      node = node_in talk.who;
+      nodes = nodes_in talk.who;
       silence = silence_by talk.announced talk.namings;
       unmatched = map unmatched_value talk.unmatched.items;
       talking = map unmatched_value talk.talking.items;
@@ -107,13 +114,13 @@ is_unfit unmatched pair = list_any (λ one. is_pair (pair_of one) pair) unmatche
 abbrev pub AreUnfit : List UnmatchedValue → BTreeSet Pair → Type 0
 AreUnfit unmatched pairs = (pair : Pair) → contains pair_cmp pairs pair ≡ is_unfit unmatched pair
 
--- the topic is asked for
-abbrev pub is_asked : AskedValue → UnmatchedValue → Bool
-is_asked asked one = fits_one asked.topics one.writer.endpoint.topic
+-- the two are asked for
+abbrev pub is_asked : Choice → UnmatchedValue → Bool
+is_asked chosen one = chosen one.writer.endpoint.topic (pair_of one)
 
--- those of topics that are asked for, whether they talk or not
-abbrev pub unfit_in : AskedValue → Traffic → Entries → List UnmatchedValue
-unfit_in asked traffic entries = filter (is_asked asked) (unmatched_among traffic.announcing (settled_in entries))
+-- those that are asked for, whether they talk or not
+abbrev pub unfit_in : Choice → Traffic → Entries → List UnmatchedValue
+unfit_in chosen traffic entries = filter (is_asked chosen) (unmatched_among traffic.announcing (settled_in entries))
 
 -- ---- pairs of best effort
 
@@ -121,28 +128,28 @@ unfit_in asked traffic entries = filter (is_asked asked) (unmatched_among traffi
 abbrev pub is_named : Traffic → Pair → Bool
 is_named traffic pair = nat_lt 0 (named_in traffic.datagrams (record { source = pair.reader.prefix; dest = pair.writer.prefix }))
 
--- a match is counted: not both are reliable, all policies fit, its topic is asked for, and the recording can speak of it
-abbrev pub is_counted : AskedValue → Traffic → List UnmatchedValue → Entries → Match → Bool
-is_counted asked traffic unfit entries found =
+-- a match is counted: not both are reliable, all policies fit, it is asked for, and the recording can speak of it
+abbrev pub is_counted : Choice → Traffic → List UnmatchedValue → Entries → Match → Bool
+is_counted chosen traffic unfit entries found =
     not found.reliable && (not (is_unfit unfit found.pair)
-    && (fits_one asked.topics (topic_of (settled_at entries found.pair.writer)) && is_named traffic found.pair))
+    && (chosen (topic_of (settled_at entries found.pair.writer)) found.pair && is_named traffic found.pair))
 
 -- the same by what is kept
-abbrev pub is_counted_by : BTreeSet Pair → Namings → AskedValue → List ℕ → Match → Bool
-is_counted_by unfit namings asked topic found =
+abbrev pub is_counted_by : BTreeSet Pair → Namings → Choice → List ℕ → Match → Bool
+is_counted_by unfit namings chosen topic found =
     not found.reliable && (not (contains pair_cmp unfit found.pair)
-    && (fits_one asked.topics topic && is_named_by namings found.pair))
+    && (chosen topic found.pair && is_named_by namings found.pair))
 
 -- the same, with the topic of the match looked up
-abbrev pub is_counted_of : BTreeSet Pair → Namings → AskedValue → Entries → Match → Bool
-is_counted_of unfit namings asked entries found = is_counted_by unfit namings asked (topic_of (settled_at entries found.pair.writer)) found
+abbrev pub is_counted_of : BTreeSet Pair → Namings → Choice → Entries → Match → Bool
+is_counted_of unfit namings chosen entries found = is_counted_by unfit namings chosen (topic_of (settled_at entries found.pair.writer)) found
 
 -- ---- matches that are left out
 
--- all policies of a match fit, its topic is asked for, and the recording cannot speak of it
-abbrev pub is_left_out : AskedValue → Traffic → List UnmatchedValue → Entries → Match → Bool
-is_left_out asked traffic unfit entries found =
-    not (is_unfit unfit found.pair) && (fits_one asked.topics (topic_of (settled_at entries found.pair.writer)) && not (is_named traffic found.pair))
+-- all policies of a match fit, it is asked for, and the recording cannot speak of it
+abbrev pub is_left_out : Choice → Traffic → List UnmatchedValue → Entries → Match → Bool
+is_left_out chosen traffic unfit entries found =
+    not (is_unfit unfit found.pair) && (chosen (topic_of (settled_at entries found.pair.writer)) found.pair && not (is_named traffic found.pair))
 
 -- it with its topic
 abbrev pub left_out_of : Entries → Match → LeftOutValue
@@ -165,11 +172,15 @@ AreCounted asked other intake entries (found ∷ matches) (one ∷ counted) =
     (one.topic ≡ topic_of (settled_at entries found.pair.writer)) × IsPairCounted asked other intake found.pair one
     × AreCounted asked other intake entries matches counted
 
+-- which pairs are asked for, by the nodes that a recording tells
+abbrev pub choice_in : AskedValue → Intake → Entries → Choice
+choice_in asked intake entries = chosen_by asked (node_of (recorded_in intake entries))
+
 -- the sums of those that are counted, those of them that are held, the sums of these by what arrived, and which way round the two recordings
 -- are
 pub record AreBestEffortIn (asked : AskedValue) (other : Option OtherRecording) (intake : Intake) (traffic : Traffic) (entries : Entries) (talk : TalkValue) : Type 0 where
   pub counted : List CountedValue
-  pub are_counted : AreCounted asked other intake entries (filter (is_counted asked traffic (unfit_in asked traffic entries) entries) (matches_among (settled_in entries))) counted
+  pub are_counted : AreCounted asked other intake entries (filter (is_counted (choice_in asked intake entries) traffic (unfit_in (choice_in asked intake entries) traffic entries) entries) (matches_among (settled_in entries))) counted
   pub are_sums : AreSumsOf counted talk.best_effort
   pub is_total : talk.best_effort_total ≡ total_of counted
   pub are_held : talk.held ≡ held_among counted
@@ -183,16 +194,22 @@ pub record AreBestEffortIn (asked : AskedValue) (other : Option OtherRecording) 
 abbrev pub traffic_of : List (List ℕ) → Traffic
 traffic_of recording = record { announcing = acts_together (intake_as Read recording).announcing; datagrams = datagrams_read recording }
 
+-- which pairs of a recording are asked for
+abbrev pub choice_of : AskedValue → List (List ℕ) → Entries → Choice
+choice_of asked recording entries = choice_in asked (intake_as Read recording) entries
+
 -- who does not talk in a recording, of which the datagrams came then, of the topics that are asked for. There may be another recording
 pub record IsTalkOf (asked : AskedValue) (other : Option OtherRecording) (recording : List (List ℕ)) (times : TimesValue) (talk : TalkValue) : Type 0 where
   pub directory : DirectoryValue
   pub is_map : IsMapOf (traffic_of recording).announcing directory
-  pub hosts : (prefix : GuidPrefix) → talk.hosts prefix ≡ host_of (traffic_of recording).announcing prefix
+  pub ends : (guid : Guid) → talk.ends guid ≡ end_of (recorded_in (intake_as Read recording) directory.endpoints) guid
+  pub node : (guid : Guid) → talk.node guid ≡ node_of (recorded_in (intake_as Read recording) directory.endpoints) guid
+  pub nodes : (prefix : GuidPrefix) → talk.nodes prefix ≡ nodes_of_participant (recorded_in (intake_as Read recording) directory.endpoints) prefix
   pub silence : (pair : Pair) → talk.silence pair ≡ silence_of (traffic_of recording) pair
-  pub unmatched : talk.unmatched ≡ filter (λ one. not (talks (intake_as Read recording) (pair_of one))) (unfit_in asked (traffic_of recording) directory.endpoints)
-  pub talking : talk.talking ≡ filter (λ one. talks (intake_as Read recording) (pair_of one)) (unfit_in asked (traffic_of recording) directory.endpoints)
+  pub unmatched : talk.unmatched ≡ filter (λ one. not (talks (intake_as Read recording) (pair_of one))) (unfit_in (choice_of asked recording directory.endpoints) (traffic_of recording) directory.endpoints)
+  pub talking : talk.talking ≡ filter (λ one. talks (intake_as Read recording) (pair_of one)) (unfit_in (choice_of asked recording directory.endpoints) (traffic_of recording) directory.endpoints)
   pub left_out : talk.left_out
-      ≡ map (left_out_of directory.endpoints) (filter (is_left_out asked (traffic_of recording) (unfit_in asked (traffic_of recording) directory.endpoints) directory.endpoints)
+      ≡ map (left_out_of directory.endpoints) (filter (is_left_out (choice_of asked recording directory.endpoints) (traffic_of recording) (unfit_in (choice_of asked recording directory.endpoints) (traffic_of recording) directory.endpoints) directory.endpoints)
       (matches_among (settled_in directory.endpoints)))
   pub one_way : AreOneWayIn (traffic_of recording) talk.one_way
   pub best_effort : AreBestEffortIn asked other (intake_as Read recording) (traffic_of recording) directory.endpoints talk
@@ -213,15 +230,16 @@ pub record IsHeardIn (intake : Intake) (other : Option OtherRecording) (heard : 
 
 -- what is kept of those that do not match, and of who names whom
 pub record IsKeptOf (asked : AskedValue) (intake : Intake) (traffic : Traffic) (entries : Entries) (talk : Talk) : Type 0 where
-  pub unfit : AreUnfit (unfit_in asked traffic entries) talk.unfit
+  pub unfit : AreUnfit (unfit_in (choice_in asked intake entries) traffic entries) talk.unfit
   pub namings : AreNamingsOf traffic.datagrams talk.namings
-  pub talking : map unmatched_value talk.talking.items ≡ filter (λ one. talks intake (pair_of one)) (unfit_in asked traffic entries)
+  pub talking : map unmatched_value talk.talking.items ≡ filter (λ one. talks intake (pair_of one)) (unfit_in (choice_in asked intake entries) traffic entries)
+  pub nodes : (guid : Guid) → node_in talk.who guid ≡ node_of (recorded_in intake entries) guid
 
--- all policies of a match fit, its topic is asked for, and the recording cannot speak of it, by what is kept
-abbrev pub is_left_out_by : BTreeSet Pair → Namings → AskedValue → List ℕ → Match → Bool
-is_left_out_by unfit namings asked topic found =
-    not (contains pair_cmp unfit found.pair) && (fits_one asked.topics topic && not (is_named_by namings found.pair))
+-- all policies of a match fit, it is asked for, and the recording cannot speak of it, by what is kept
+abbrev pub is_left_out_by : BTreeSet Pair → Namings → Choice → List ℕ → Match → Bool
+is_left_out_by unfit namings chosen topic found =
+    not (contains pair_cmp unfit found.pair) && (chosen topic found.pair && not (is_named_by namings found.pair))
 
 -- the same, with the topic of the match looked up
-abbrev pub is_left_out_of : BTreeSet Pair → Namings → AskedValue → Entries → Match → Bool
-is_left_out_of unfit namings asked entries found = is_left_out_by unfit namings asked (topic_of (settled_at entries found.pair.writer)) found
+abbrev pub is_left_out_of : BTreeSet Pair → Namings → Choice → Entries → Match → Bool
+is_left_out_of unfit namings chosen entries found = is_left_out_by unfit namings chosen (topic_of (settled_at entries found.pair.writer)) found

@@ -11,6 +11,8 @@ pub struct Asked<'a> {
     /// Patterns, in which `*` stands for any octets: the name of the topic of a row fits one of them, or the name that ROS 2 gives
     /// it. All topics where there is none.
     pub topics: &'a [String],
+    /// Patterns of the same form: the node of the writer or of the reader of a row fits one of them. All pairs where there is none.
+    pub nodes: &'a [String],
     /// How many rows it has to have, or more; None where any number will do.
     pub expect: Option<u64>,
     /// The most numbers that the tail of a clean row may have, of a reader that did not leave.

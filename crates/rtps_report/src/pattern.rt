@@ -1,5 +1,8 @@
-ghost use Rattle.std.specs.Prelude.{◌≡◌, ◌≤◌, ◌++◌, ◌∷◌, MatchOption, length, true};
+ghost use Rattle.std.specs.Prelude.{◌≡◌, ◌≤◌, ◌++◌, ◌∷◌, MatchOption, codes, length, true};
 ghost use Rattle.rtps_report.specs.Patterns.{fits as fits_lem, is_plain, parts_fit as parts_fit_lem, star};
+ghost use Rattle.rtps_who.specs.Samples.{full_name, node_value};
+
+use rtps_who::Node;
 
 /// The octet that stands for any octets.
 const STAR: u8 = b'*';
@@ -73,4 +76,41 @@ pub(crate) fn fits_followed(pattern: &[u8], name: &[u8], word: &[u8]) -> bool
         }
     }
     parts_fit(pattern, pattern.len(), name, word)
+}
+
+/// Whether a namespace fits the part of a pattern up to this place, and a slash and a name fit the part from there on, as
+/// [`parts_fit`] says.
+fn slashed_fit(pattern: &[u8], place: usize, namespace: &[u8], name: &[u8]) -> bool
+    requires { place ≤ length pattern.now }
+    ensures { result ≡ parts_fit_lem pattern.now place namespace.now (codes "/" ++ name.now) }
+{
+    let (front, behind) = pattern.split_at(place);
+    let shared = match behind.first() {
+        Some(octet) if *octet == STAR => &pattern[..place + 1],
+        _ => front,
+    };
+    fits(shared, namespace) && fits_followed(behind, b"/", name)
+}
+
+/// Whether a namespace, a slash and a name fit a pattern, as [`fits`] says of one text.
+fn fits_slashed(pattern: &[u8], namespace: &[u8], name: &[u8]) -> bool
+    ensures { result ≡ fits_lem pattern.now (namespace.now ++ (codes "/" ++ name.now)) }
+{
+    for place in 0..pattern.len() {
+        if slashed_fit(pattern, place, namespace, name) {
+            return true;
+        }
+    }
+    slashed_fit(pattern, pattern.len(), namespace, name)
+}
+
+/// Whether the full name of a node fits a pattern, as [`fits`] says of a text.
+pub(crate) fn fits_node(pattern: &[u8], node: &Node<'_>) -> bool
+    ensures { result ≡ fits_lem pattern.now (full_name (node_value node.now)) }
+{
+    if node.namespace.ends_with(b"/") {
+        fits_followed(pattern, node.namespace, node.name)
+    } else {
+        fits_slashed(pattern, node.namespace, node.name)
+    }
 }

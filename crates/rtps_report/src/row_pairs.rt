@@ -3,13 +3,15 @@ ghost use Rattle.rtps_discovery.specs.Directory.{settled_in};
 ghost use Rattle.rtps_discovery.specs.Matching.{matches_among, reliable_pairs};
 ghost use Rattle.rtps_policies.specs.Unmatched.{pair_of as pair_of_lem, unmatched_value};
 ghost use Rattle.rtps_report.specs.Asked.{asked_value};
-ghost use Rattle.rtps_report.specs.RowPairs.{AreRowPairs, is_match_told as is_match_told_lem, is_topic_asked as is_topic_asked_lem};
+ghost use Rattle.rtps_who.specs.Recorded.{node_in};
+ghost use Rattle.rtps_report.specs.Rows.{chosen_by};
+ghost use Rattle.rtps_report.specs.RowPairs.{AreRowPairs, is_match_told as is_match_told_lem, is_pair_asked};
 ghost use Rattle.rtps_report.specs.Talk.{IsKeptOf};
 ghost use Rattle.rtps_report.specs.Vocabulary.{Intake};
 ghost use Rattle.rtps_policies.specs.Silence.{Traffic};
 
 use crate::asked::Asked;
-use crate::rows::{are_observed, fits_one};
+use crate::rows::{are_observed, is_chosen};
 use crate::talk::{Talk, pair_of};
 use crate::topics::topic_of;
 use rtps_audit::Row;
@@ -26,20 +28,19 @@ pub(crate) struct Wanted<'t, 's, 'q, 'd, 'a> {
 }
 
 impl Wanted<'_, '_, '_, '_, '_> {
-    /// Whether the topic of a pair is asked for.
-    fn is_topic_asked(&self, pair: Pair) -> bool
-        ensures { result ≡ is_topic_asked_lem (asked_value self.now.asked.now).topics self.now.directory.now.endpoints pair }
+    /// Whether a pair is asked for.
+    fn is_asked(&self, pair: Pair) -> bool
+        ensures { result ≡ is_pair_asked (chosen_by (asked_value self.now.asked.now) (node_in self.now.talk.now.who)) self.now.directory.now.endpoints pair }
     {
-        fits_one(self.asked.topics, topic_of(self.directory, pair.writer))
+        let topic = topic_of(self.directory, pair.writer);
+        is_chosen(self.asked, &self.talk.who, topic, pair)
     }
 
     /// Whether a reliable match has a row: the two match by all policies, and the recording can speak of them.
     fn is_match_told(&self, pair: Pair) -> bool
-        ensures { result ≡ is_match_told_lem self.now.talk.now (asked_value self.now.asked.now).topics self.now.directory.now.endpoints pair }
+        ensures { result ≡ is_match_told_lem self.now.talk.now (chosen_by (asked_value self.now.asked.now) (node_in self.now.talk.now.who)) self.now.directory.now.endpoints pair }
     {
-        !self.talk.is_unfit(pair)
-            && are_observed(&self.talk.namings, pair)
-            && self.is_topic_asked(pair)
+        !self.talk.is_unfit(pair) && are_observed(&self.talk.namings, pair) && self.is_asked(pair)
     }
 }
 
@@ -50,7 +51,7 @@ fn push_matches(
     wanted: Wanted<'_, '_, '_, '_, '_>,
 ) -> Result<(), Memory>
     ensures { OnOk result (pairs.new.items ≡ pairs.old.items
-        ++ filter (is_match_told_lem wanted.entry.talk.now (asked_value wanted.entry.asked.now).topics wanted.entry.directory.now.endpoints) (map (λ row. row.pair) matched.now)) }
+        ++ filter (is_match_told_lem wanted.entry.talk.now (chosen_by (asked_value wanted.entry.asked.now) (node_in wanted.entry.talk.now.who)) wanted.entry.directory.now.endpoints) (map (λ row. row.pair) matched.now)) }
 {
     for row in matched {
         if wanted.is_match_told(row.pair) {
@@ -63,11 +64,11 @@ fn push_matches(
 /// Adds the pairs that talk though they do not match.
 fn push_talking(pairs: &mut Vec<Pair>, wanted: Wanted<'_, '_, '_, '_, '_>) -> Result<(), Memory>
     ensures { OnOk result (pairs.new.items ≡ pairs.old.items
-        ++ filter (is_topic_asked_lem (asked_value wanted.entry.asked.now).topics wanted.entry.directory.now.endpoints) (map pair_of_lem (map unmatched_value wanted.entry.talk.now.talking.items))) }
+        ++ filter (is_pair_asked (chosen_by (asked_value wanted.entry.asked.now) (node_in wanted.entry.talk.now.who)) wanted.entry.directory.now.endpoints) (map pair_of_lem (map unmatched_value wanted.entry.talk.now.talking.items))) }
 {
     for one in &wanted.talk.talking {
         let pair = pair_of(one);
-        if wanted.is_topic_asked(pair) {
+        if wanted.is_asked(pair) {
             pairs.push(pair)?;
         }
     }

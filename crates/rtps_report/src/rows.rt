@@ -1,12 +1,18 @@
 ghost use Rattle.std.specs.Prelude.{◌≡◌, List, map};
 ghost use Rattle.std.specs.String.{string_bytes};
 ghost use Rattle.rtps_receiver.specs.Values.{ActValue};
-ghost use Rattle.rtps_report.specs.Rows.{AreNamedIn, fits_one as fits_one_lem, fits_topic as fits_topic_lem, is_named_by, is_observed};
+ghost use Rattle.std.specs.Option.{option_map};
+ghost use Rattle.rtps_who.specs.Recorded.{node_in};
+ghost use Rattle.rtps_who.specs.Samples.{node_value};
+ghost use Rattle.rtps_report.specs.Asked.{asked_value};
+ghost use Rattle.rtps_report.specs.Rows.{chosen_by, AreNamedIn, fits_one as fits_one_lem, fits_topic as fits_topic_lem, has_node as has_node_lem, is_named_by, is_observed};
 
-use crate::pattern::{fits, fits_followed};
+use crate::asked::Asked;
+use crate::pattern::{fits, fits_followed, fits_node};
 use rtps_discovery::Pair;
 use rtps_parts::ros_topic;
 use rtps_policies::{Naming, Namings};
+use rtps_who::{Node, Who};
 
 /// Whether the recording can speak of a pair: an act of the reader's participant names the writer's as its destination.
 pub(crate) fn are_observed(namings: &Namings, pair: Pair) -> bool
@@ -28,11 +34,34 @@ fn fits_topic(pattern: &[u8], topic: &[u8]) -> bool
     fits(pattern, topic) || fits_followed(pattern, name.name, name.word.as_bytes())
 }
 
-pub(crate) fn fits_one(patterns: &[String], topic: &[u8]) -> bool
+fn fits_one(patterns: &[String], topic: &[u8]) -> bool
     ensures { result ≡ fits_one_lem (map string_bytes patterns.now) topic.now }
 {
     patterns.is_empty()
         || patterns
             .iter()
             .any(|pattern| fits_topic(pattern.as_bytes(), topic))
+}
+
+/// Whether an end has a node whose name fits one of these patterns.
+fn has_node(patterns: &[String], node: Option<Node<'_>>) -> bool
+    ensures { result ≡ has_node_lem (map string_bytes patterns.now) (option_map node_value node.entry) }
+{
+    match node {
+        Some(node) => patterns
+            .iter()
+            .any(|pattern| fits_node(pattern.as_bytes(), &node)),
+        None => false,
+    }
+}
+
+/// Whether a pair of this topic is asked for: its topic is, and the node of its writer or of its reader.
+pub(crate) fn is_chosen(asked: &Asked<'_>, who: &Who<'_>, topic: &[u8], pair: Pair) -> bool
+    ensures { result ≡ chosen_by (asked_value asked.now) (node_in who.now) topic.now pair }
+{
+    let nodes = asked.nodes;
+    fits_one(asked.topics, topic)
+        && (nodes.is_empty()
+            || has_node(nodes, who.node(pair.writer))
+            || has_node(nodes, who.node(pair.reader)))
 }

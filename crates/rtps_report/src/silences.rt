@@ -50,6 +50,13 @@ fn silence_among(participants: &[Participant], guid: Guid) -> Option<u64>
 }
 
 impl Talk<'_> {
+    /// Since which datagram a participant is silent; None where it is not.
+    pub(crate) fn silent_since(&self, guid: Guid) -> Option<u64>
+        ensures { result ≡ silence_among_lem (talk_value self.now).participants guid }
+    {
+        silence_among(&self.participants, guid)
+    }
+
     /// Since when the participants of a pair are silent.
     pub fn silences(&self, pair: Pair) -> Silences
         ensures { result ≡ silences_of (talk_value self.now) pair }

@@ -9,23 +9,29 @@ ghost use Rattle.rtps_evidence.specs.Spans.{left_in as left_in_lem};
 ghost use Rattle.rtps_fragments.specs.Announcements.{announcements_in};
 ghost use Rattle.rtps_fragments.specs.RecordedSamples.{intake_as};
 ghost use Rattle.rtps_fragments.specs.declared.fragments.Fragments.TheVariants.{Read};
-ghost use Rattle.rtps_policies.specs.Announcing.{IsAnnouncedBy, hosts_in};
+ghost use Rattle.rtps_policies.specs.Announcing.{IsAnnouncedBy};
 ghost use Rattle.rtps_policies.specs.Silence.{Traffic as TrafficOf, silence_by};
 ghost use Rattle.rtps_policies.specs.Unmatched.{pair_of as pair_of_lem, unmatched_value};
 ghost use Rattle.rtps_receiver.specs.Values.{ActValue};
 ghost use Rattle.rtps_report.specs.Asked.{asked_value};
 ghost use Rattle.rtps_report.specs.BestEfforts.{counted_value};
+ghost use Rattle.rtps_report.specs.Ends.{end_value};
 ghost use Rattle.rtps_report.specs.Participants.{participant_told};
+ghost use Rattle.rtps_report.specs.Rows.{chosen_by};
+ghost use Rattle.rtps_who.specs.Recorded.{node_in};
+ghost use Rattle.rtps_who.specs.Samples.{node_value};
+ghost use Rattle.std.specs.Option.{option_map};
 ghost use Rattle.rtps_report.specs.Talk.{AreCounted, AreUnfit, IsHeardIn, IsKeptOf, IsTalkOf, is_counted_by, is_counted_of, is_left_out_by, is_left_out_of, left_out_of as left_out_of_lem, left_out_value, talk_value, talks as talks_lem, traffic_of, unfit_in as unfit_in_lem};
 
 use crate::asked::Asked;
 use crate::best_effort::{
     BestEffort, Counted, HeldPair, arrived_among, held_among, sums_of, total_of,
 };
+use crate::end::{End, who_of};
 use crate::naming_walk::namings_of;
 use crate::participant::{Participant, is_silent, joined_of};
 use crate::presence::Presences;
-use crate::rows::{are_observed, fits_one};
+use crate::rows::{are_observed, is_chosen};
 use crate::topics::topic_of;
 use crate::ways::{Ways, ways_of_counted};
 use rtps_audit::{Index, Placed};
@@ -35,9 +41,10 @@ use rtps_evidence::{
 };
 use rtps_ids::{Guid, GuidPrefix, Memory};
 use rtps_policies::{
-    Address, Announced, Namings, OneWay, Silence, Unmatched, one_way_namings, reason_of_silence,
+    Announced, Namings, OneWay, Silence, Unmatched, one_way_namings, reason_of_silence,
     unmatched_pairs,
 };
+use rtps_who::{Node, Who};
 use std::alloc::Global;
 use std::collections::BTreeSet;
 
@@ -45,6 +52,7 @@ use std::collections::BTreeSet;
 #[derive(Drop)]
 pub struct Talk<'a> {
     pub(crate) announced: Announced<'a>,
+    pub(crate) who: Who<'a>,
     pub(crate) namings: Namings,
     /// All that do not match, of the topics that are asked for.
     pub(crate) unfit: BTreeSet<Pair>,
@@ -92,12 +100,30 @@ pub(crate) struct Heard<'r, 'a, 'o, 'b> {
     pub(crate) announcements: &'r [Placed<'a>],
 }
 
-impl Talk<'_> {
-    /// The address of a participant; None where it announces none.
-    pub fn address_of(&self, prefix: GuidPrefix) -> Option<Address>
-        ensures { result ≡ (hosts_in self.now.announced prefix).address }
+impl<'a> Talk<'a> {
+    /// By what people know a writer, a reader or a participant.
+    pub fn end(&self, guid: Guid) -> End<'a>
+        ensures { end_value result ≡ (talk_value self.now).ends guid }
     {
-        self.announced.host_of(prefix).address
+        End {
+            node: self.who.node_of_end(guid),
+            process: self.who.process(guid.prefix),
+            address: self.announced.host_of(guid.prefix).address,
+        }
+    }
+
+    /// The node of an endpoint.
+    pub fn node(&self, endpoint: Guid) -> Option<Node<'a>>
+        ensures { option_map node_value result ≡ (talk_value self.now).node endpoint }
+    {
+        self.who.node(endpoint)
+    }
+
+    /// The nodes of a participant.
+    pub fn nodes(&self, alloc: Global, prefix: GuidPrefix) -> Result<Vec<Node<'a>>, Memory>
+        ensures { IfOk result (λ nodes. map node_value nodes.items ≡ (talk_value self.now).nodes prefix) }
+    {
+        self.who.nodes(alloc, prefix)
     }
 
     /// Why the recording says nothing of a pair that matches, and whose reader's participant never names the writer's.
@@ -194,10 +220,10 @@ fn parted_unfit<'a>(
 
 /// Whether a match of this topic is left out.
 fn is_left_out(talk: &Talk<'_>, asked: &Asked<'_>, found: Match, topic: &[u8]) -> bool
-    ensures { result ≡ is_left_out_by talk.now.unfit talk.now.namings (asked_value asked.now) topic.now found }
+    ensures { result ≡ is_left_out_by talk.now.unfit talk.now.namings (chosen_by (asked_value asked.now) (node_in talk.now.who)) topic.now found }
 {
     !talk.is_unfit(found.pair)
-        && fits_one(asked.topics, topic)
+        && is_chosen(asked, &talk.who, topic, found.pair)
         && !are_observed(&talk.namings, found.pair)
 }
 
@@ -209,7 +235,7 @@ fn left_out_of<'a>(
     matched: &[Match],
 ) -> Result<Vec<LeftOut<'a>>, Memory>
     ensures { IfOk result (λ left. map left_out_value left.items ≡ map (left_out_of_lem heard.now.directory.now.endpoints)
-        (filter (is_left_out_of talk.now.unfit talk.now.namings (asked_value heard.now.asked.now) heard.now.directory.now.endpoints) matched.now)) }
+        (filter (is_left_out_of talk.now.unfit talk.now.namings (chosen_by (asked_value heard.now.asked.now) (node_in talk.now.who)) heard.now.directory.now.endpoints) matched.now)) }
 {
     let mut left = Vec::new(alloc);
     for found in matched {
@@ -226,11 +252,11 @@ fn left_out_of<'a>(
 
 /// Whether a match of this topic is counted as one of best effort.
 fn is_counted(talk: &Talk<'_>, asked: &Asked<'_>, found: Match, topic: &[u8]) -> bool
-    ensures { result ≡ is_counted_by talk.now.unfit talk.now.namings (asked_value asked.now) topic.now found }
+    ensures { result ≡ is_counted_by talk.now.unfit talk.now.namings (chosen_by (asked_value asked.now) (node_in talk.now.who)) topic.now found }
 {
     !found.reliable
         && !talk.is_unfit(found.pair)
-        && fits_one(asked.topics, topic)
+        && is_chosen(asked, &talk.who, topic, found.pair)
         && are_observed(&talk.namings, found.pair)
 }
 
@@ -243,7 +269,7 @@ fn counted_of<'a>(
 ) -> Result<Vec<Counted<'a>>, Memory>
     ensures { IfOk result (λ counted. (intake : Intake) (other : Option OtherRecording) → IsIndexBy intake heard.now.index.now
         → IsOtherSide other heard.now.other → AreCounted (asked_value heard.now.asked.now) other intake heard.now.directory.now.endpoints
-        (filter (is_counted_of talk.now.unfit talk.now.namings (asked_value heard.now.asked.now) heard.now.directory.now.endpoints) matched.now)
+        (filter (is_counted_of talk.now.unfit talk.now.namings (chosen_by (asked_value heard.now.asked.now) (node_in talk.now.who)) heard.now.directory.now.endpoints) matched.now)
         (map counted_value counted.items)) }
 {
     let sides = Sides {
@@ -310,17 +336,18 @@ fn participants_of(
     Ok(participants)
 }
 
-/// Those that do not match, of the topics that are asked for.
+/// Those that do not match and are asked for.
 fn unfit_in<'a>(
     announced: &Announced<'a>,
+    who: &Who<'_>,
     heard: &Heard<'_, 'a, '_, '_>,
 ) -> Result<Vec<Unmatched<'a>>, Memory>
     ensures { IfOk result (λ unfit. (traffic : TrafficOf) → IsAnnouncedBy traffic.announcing announced.now
-        → map unmatched_value unfit.items ≡ unfit_in_lem (asked_value heard.now.asked.now) traffic heard.now.directory.now.endpoints) }
+        → map unmatched_value unfit.items ≡ unfit_in_lem (chosen_by (asked_value heard.now.asked.now) (node_in who.now)) traffic heard.now.directory.now.endpoints) }
 {
-    let topics = heard.asked.topics;
+    let asked = heard.asked;
     let mut unfit = unmatched_pairs(announced, heard.directory)?;
-    unfit.retain(|one| fits_one(topics, one.writer.endpoint.topic));
+    unfit.retain(|one| is_chosen(asked, who, one.writer.endpoint.topic, pair_of(one)));
     Ok(unfit)
 }
 
@@ -338,7 +365,8 @@ pub(crate) fn talk_in<'a>(alloc: Global, heard: &Heard<'_, 'a, '_, '_>) -> Resul
     let namings = namings_of(alloc, heard.datagrams)?;
     let announced = announced_in(alloc, heard.announcements)?;
     let participants = participants_of(alloc, &announced, heard)?;
-    let unfit = unfit_in(&announced, heard)?;
+    let who = who_of(alloc, heard.announcements, heard.index, heard.directory)?;
+    let unfit = unfit_in(&announced, &who, heard)?;
     let mut talk = Talk {
         unfit: unfit_of(alloc, &unfit)?,
         unmatched: Vec::new(alloc),
@@ -352,6 +380,7 @@ pub(crate) fn talk_in<'a>(alloc: Global, heard: &Heard<'_, 'a, '_, '_>) -> Resul
         held_total: total_of(&[]),
         ways: Ways::none(),
         announced,
+        who,
         namings,
         participants,
     };

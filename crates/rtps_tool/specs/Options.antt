@@ -21,4 +21,11 @@ options_value options = record { command = command_value options.command; limits
 -- what is asked of a report
 abbrev pub asked_by : Demands → AskedValue
 asked_by demands =
-    record { from = demands.from; topics = map string_bytes demands.topics.items; expect = demands.expect; tail = demands.tail; certain = demands.certain }
+    record {
+      from = demands.from;
+      topics = map string_bytes demands.topics.items;
+      nodes = map string_bytes demands.nodes.items;
+      expect = demands.expect;
+      tail = demands.tail;
+      certain = demands.certain;
+    }

@@ -65,6 +65,10 @@ from_rule = number_rule (codes "N") (codes "from")
 abbrev pub pattern_rule : Rule
 pattern_rule = record (new_rule (codes "PATTERN")) { long = Some (codes "topic"); action = Some Append }
 
+-- patterns of nodes, in the same way
+abbrev pub node_rule : Rule
+node_rule = record (new_rule (codes "NODE")) { long = Some (codes "node"); action = Some Append }
+
 -- how many rows there have to be, which may be none
 abbrev pub expect_rule : Rule
 expect_rule = record (new_rule (codes "PAIRS")) { long = Some (codes "expect"); action = Some Set; parser = Some (Unsigned 0 (2 ^ 63 - 1)) }
@@ -81,7 +85,9 @@ arrived_rule = record (new_rule (codes "OTHER")) { long = Some (codes "arrived")
 abbrev pub report_app : Text → App
 report_app name =
     with_rule
-    (with_rule (with_rule (with_rule (with_rule (with_rule (limited_app name) from_rule) pattern_rule) expect_rule) tail_rule) (flag_rule (codes "certain")))
+    (with_rule
+    (with_rule (with_rule (with_rule (with_rule (with_rule (limited_app name) from_rule) pattern_rule) node_rule) expect_rule) tail_rule)
+    (flag_rule (codes "certain")))
     arrived_rule
 
 -- the subcommand `check`, which has a flag that asks for JSON
@@ -220,6 +226,7 @@ IsTailGiven text tail = (expect : Option ℕ) × IsExpectGiven text expect × (t
 pub record AreDemandsGiven (rows : List Row) (demands : Demands) : Type 0 where
   pub from : IsNumberGiven (first_of (codes "N") rows) demands.from
   pub topics : map string_bytes demands.topics.items ≡ unwrap_or (all_of (codes "PATTERN") rows) []
+  pub nodes : map string_bytes demands.nodes.items ≡ unwrap_or (all_of (codes "NODE") rows) []
   pub expect : IsExpectGiven (first_of (codes "PAIRS") rows) demands.expect
   pub tail : IsTailGiven (first_of (codes "TAIL") rows) demands.tail
   pub certain : IsFlagGiven (one_of (codes "certain") rows) demands.certain
@@ -356,6 +363,8 @@ pub record WordsAreWanted : Type 0 where
   pub fragments_to_list : faults_of_words (codes "list" ∷ codes "--fragments" ∷ codes "a.rec" ∷ []) ≡ []
   pub fragments_are_asked : flag_of_words (codes "fragments") (codes "list" ∷ codes "--fragments" ∷ codes "a.rec" ∷ []) ≡ Some (codes "true")
   pub no_fragments_are_asked : flag_of_words (codes "fragments") (codes "audit" ∷ codes "--any" ∷ codes "a.pcapng" ∷ []) ≡ Some (codes "false")
+  pub node_of_audit : faults_of_words (codes "audit" ∷ codes "--node" ∷ codes "/talker" ∷ codes "a.rec" ∷ []) ≡ UnknownArgument ∷ []
+  pub nodes : rows_of_words (codes "NODE") (codes "check" ∷ codes "--node" ∷ codes "/talker" ∷ codes "a.rec" ∷ codes "--node" ∷ codes "/ns/*" ∷ []) ≡ Some (codes "/talker" ∷ codes "/ns/*" ∷ [])
   pub topic_of_audit : faults_of_words (codes "audit" ∷ codes "--topic" ∷ codes "rt/*" ∷ codes "a.rec" ∷ []) ≡ UnknownArgument ∷ []
   pub topics : rows_of_words (codes "PATTERN") (codes "why" ∷ codes "--topic" ∷ codes "rt/*" ∷ codes "a.rec" ∷ codes "--topic" ∷ codes "" ∷ []) ≡ Some (codes "rt/*" ∷ codes "" ∷ [])
   pub topic_of_show : faults_of_words (codes "show" ∷ codes "--topic" ∷ codes "rt/*" ∷ codes "a.rec" ∷ []) ≡ UnknownArgument ∷ []

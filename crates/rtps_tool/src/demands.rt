@@ -2,7 +2,7 @@ ghost use Rattle.std.specs.Prelude.{◌≡◌, [], IfOk, Some, codes, false, map
 ghost use Rattle.std.specs.String.{string_bytes};
 ghost use Rattle.clap.specs.Words.{all_of, app_of, first_of, found_of, rows_of, rule_of, with_rule};
 ghost use Rattle.clap.specs.declared.builder.command.Command.TheViews.{out-Command};
-ghost use Rattle.rtps_tool.specs.Words.{AreDemandsGiven, IsExpectGiven, IsTailGiven, expect_rule, flag_rule, pattern_rule, tail_rule};
+ghost use Rattle.rtps_tool.specs.Words.{AreDemandsGiven, IsExpectGiven, IsTailGiven, expect_rule, flag_rule, node_rule, pattern_rule, tail_rule};
 
 use crate::command::{GREATEST, flag, is_given, number_of};
 use clap::builder::ValueParser;
@@ -18,6 +18,8 @@ pub struct Demands {
     pub from: SeqNum,
     /// Patterns, one of which each topic fits by its name, of DDS or of ROS 2; all topics where there is none.
     pub topics: Vec<String>,
+    /// Patterns, one of which the name of the node of one end fits; all nodes where there is none.
+    pub nodes: Vec<String>,
     /// How many rows there have to be, or more.
     pub expect: Option<u64>,
     /// The most numbers that the tail of a clean row may have.
@@ -37,6 +39,7 @@ impl Demands {
         Asked {
             from: self.from,
             topics: &self.topics,
+            nodes: &self.nodes,
             expect: self.expect,
             tail: self.tail,
             certain: self.certain,
@@ -46,6 +49,10 @@ impl Demands {
 
 const TOPIC_HELP: &str =
     "Only topics whose name, of DDS or of ROS 2, is PATTERN, in which * stands for any octets; \
+    given again, any of them";
+
+const NODE_HELP: &str =
+    "Only pairs of which the node of the writer or of the reader is NODE, in which * stands for any octets; \
     given again, any of them";
 
 const EXPECT_HELP: &str =
@@ -66,6 +73,17 @@ fn pattern_option<'a>(alloc: Global) -> Arg<'a>
         .long("topic")
         .action(ArgAction::Append)
         .help(TOPIC_HELP)
+}
+
+/// The option that chooses rows by the nodes of their ends.
+fn node_option<'a>(alloc: Global) -> Arg<'a>
+    ensures rule { rule_of result ≡ node_rule }
+    ensures local { result.global ≡ false }
+{
+    Arg::new(alloc, "NODE")
+        .long("node")
+        .action(ArgAction::Append)
+        .help(NODE_HELP)
 }
 
 /// The option that says how many rows there have to be.
@@ -108,11 +126,12 @@ pub(crate) fn with_standard<'a>(
 /// A subcommand with the options that choose rows.
 pub(crate) fn with_rows<'a>(alloc: Global, command: Command<'a>) -> Result<Command<'a>, AllocError>
     requires { (out-Command command).has_globals ≡ false }
-    ensures app { IfOk result (λ made. app_of made ≡ with_rule (with_rule (app_of command.entry) pattern_rule) expect_rule) }
+    ensures app { IfOk result (λ made. app_of made ≡ with_rule (with_rule (with_rule (app_of command.entry) pattern_rule) node_rule) expect_rule) }
     ensures local { IfOk result (λ made. (out-Command made).has_globals ≡ false) }
 {
     let one = command.arg(pattern_option(alloc))?;
-    one.arg(expect_option(alloc))
+    let two = one.arg(node_option(alloc))?;
+    two.arg(expect_option(alloc))
 }
 
 /// The texts as texts of their own.
@@ -126,12 +145,12 @@ fn owned(alloc: Global, texts: &[&str]) -> Result<Vec<String>, AllocError>
     Ok(made)
 }
 
-/// The patterns that are given.
-fn topics_of(alloc: Global, found: &ArgMatches) -> Result<Vec<String>, AllocError>
-    ensures { IfOk result (λ topics. map string_bytes topics.items
-        ≡ unwrap_or (all_of (codes "PATTERN") (rows_of (found_of found.now))) []) }
+/// The patterns of an option that are given.
+fn texts_of(alloc: Global, found: &ArgMatches, called: &str) -> Result<Vec<String>, AllocError>
+    ensures { IfOk result (λ texts. map string_bytes texts.items
+        ≡ unwrap_or (all_of called.now (rows_of (found_of found.now))) []) }
 {
-    match found.get_strs("PATTERN") {
+    match found.get_strs(called) {
         Some(patterns) => owned(alloc, patterns),
         None => Ok(Vec::new(alloc)),
     }
@@ -173,7 +192,8 @@ pub(crate) fn demands_of(alloc: Global, found: &ArgMatches) -> Result<Demands, A
 {
     Ok(Demands {
         from: number_of(found),
-        topics: topics_of(alloc, found)?,
+        topics: texts_of(alloc, found, "PATTERN")?,
+        nodes: texts_of(alloc, found, "NODE")?,
         expect: expect_of(found),
         tail: tail_of(found),
         certain: is_given(found, "certain"),

@@ -1,15 +1,14 @@
 -- What acts announce of processes, of the writers that tell of nodes, and of parameter services. DDSI-RTPS 2.5, 8.5 "Discovery Module".
 -- own: of a participant the first announcement without a fault counts; a writer is one that tells of nodes, and a service is there, where some
 -- announcement without a fault says so.
-use Rattle.std.specs.Prelude.{ℕ, ◌≡◌, ◌&&◌, ◌||◌, Bool, if◌then◌else◌, List, [], Option, Some, None, codes, flat_map, fold, nat_eq}
+use Rattle.std.specs.Prelude.{ℕ, ◌≡◌, ◌&&◌, ◌||◌, Bool, if◌then◌else◌, List, [], Option, Some, None, codes, flat_map, fold, nat_eq, unwrap_or}
 use Rattle.std.specs.BTreeMap.{is_at}
 use Rattle.std.specs.BTreeSet.{BTreeSet, contains}
-use Rattle.std.specs.Cmp.Lexicographic.{pointwise, slice_cmp}
+use Rattle.std.specs.Cmp.Lexicographic.{pointwise}
 use Rattle.std.specs.List.{filter_map, list_any}
 use Rattle.std.specs.Map.{lookup}
 use Rattle.std.specs.Option.{option_map, option_to_list}
-use Rattle.std.specs.Ordering.{is_eq, nat_cmp}
-use Rattle.std.specs.declared.cmp.Ordering.{Ordering}
+use Rattle.std.specs.Ordering.{is_eq}
 use Rattle.rtps_ids.specs.declared.identity.Guid.{Guid}
 use Rattle.rtps_ids.specs.declared.identity.GuidPrefix.{GuidPrefix}
 use Rattle.rtps_receiver.specs.Values.{ActValue}
@@ -20,14 +19,12 @@ use Rattle.rtps_discovery.specs.Matching.{is_writer}
 use Rattle.rtps_discovery.specs.Notice.{announcement_of, endpoint_in, participant_in}
 use Rattle.rtps_policies.specs.Announcing.{first_of}
 use Rattle.rtps_who.specs.Fields.{fields_in}
+pub use Rattle.rtps_who.specs.Prefixes.{is_of, prefix_cmp}
 use Rattle.rtps_who.specs.Processes.{ProcessValue, process_in, process_value, unknown_process}
-use Rattle.rtps_who.specs.Services.{names_of, service_of, service_value, with_name}
+use Rattle.rtps_who.specs.Samples.{NodeValue}
+use Rattle.rtps_who.specs.Services.{names_of, node_by, service_of, service_value, with_name}
 use Rattle.rtps_who.specs.declared.introductions.Introductions.{Introductions}
 use Rattle.rtps_who.specs.declared.service.Service.{Service}
-
--- the order of prefixes
-abbrev pub prefix_cmp : GuidPrefix → GuidPrefix → Ordering
-prefix_cmp a b = slice_cmp nat_cmp a.0 b.0
 
 -- ---- processes
 
@@ -66,7 +63,7 @@ is_teller_among acts guid = list_any (is_teller guid) (filter_map endpoint_told 
 
 -- the name that an endpoint of a service gives its participant, if that is this one
 abbrev pub names_by : GuidPrefix → EndpointValue → List (List ℕ)
-names_by prefix endpoint = if is_at (prefix_cmp endpoint.guid.prefix) prefix then option_to_list (service_of endpoint) else []
+names_by prefix endpoint = if is_of prefix endpoint.guid then option_to_list (service_of endpoint) else []
 
 -- the names that services give a participant
 abbrev pub service_names : List ActValue → GuidPrefix → List (List ℕ)
@@ -93,3 +90,13 @@ pub record KeepsEndpoint (old new : Introductions) (endpoint : EndpointValue) : 
   pub processes : new.processes.entries ≡ old.processes.entries
   pub tellers : KeepsTeller old.tellers new.tellers endpoint
   pub services : KeepsService old.services.entries new.services.entries endpoint
+
+-- ---- what is kept
+
+-- the process of a participant, as it is kept
+abbrev pub process_kept : Introductions → Guid → ProcessValue
+process_kept introductions guid = unwrap_or (option_map process_value (first_of guid introductions.processes.entries)) unknown_process
+
+-- the node that its services name
+abbrev pub services_kept : Introductions → GuidPrefix → Option NodeValue
+services_kept introductions prefix = node_by (option_map service_value (lookup (is_at (prefix_cmp prefix)) introductions.services.entries))

@@ -7,6 +7,8 @@ pub mod Fields
 pub mod Digits
 pub mod Processes
 pub mod Samples
+pub mod Prefixes
+pub mod Listings
 pub mod Services
 pub mod Introducing
 pub mod Telling

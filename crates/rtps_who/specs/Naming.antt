@@ -1,15 +1,17 @@
 -- By which name people know an end of a pair. own: its node, else the program of its process, else the name of its participant.
-use Rattle.std.specs.Prelude.{ℕ, List, Option, Some, None, option_and_then, unwrap_or}
+use Rattle.std.specs.Prelude.{ℕ, List, Option, Some, None, if◌then◌else◌, unwrap_or}
 use Rattle.std.specs.Option.{option_or, option_to_list}
 use Rattle.rtps_ids.specs.declared.identity.Guid.{Guid}
 use Rattle.rtps_ids.specs.declared.identity.GuidPrefix.{GuidPrefix}
+use Rattle.rtps_receiver.specs.Speech.{is_entity}
 use Rattle.rtps_receiver.specs.Values.{ActValue}
 use Rattle.rtps_policies.specs.Announcing.{participant_of}
+use Rattle.rtps_policies.specs.declared.layout.entity.TheConstants.{PARTICIPANT}
 use Rattle.rtps_who.specs.Introducing.{process_among, service_names}
 use Rattle.rtps_who.specs.Processes.{ProcessValue, unknown_process}
-use Rattle.rtps_who.specs.Samples.{NodeValue, SampleValue, node_having, node_value, nodes_among, only_in}
+use Rattle.rtps_who.specs.Samples.{NodeValue, SampleValue, node_value, nodes_among}
 use Rattle.rtps_who.specs.Services.{names_of, node_by}
-use Rattle.rtps_who.specs.Telling.{nodes_by}
+use Rattle.rtps_who.specs.Telling.{listed_by, nodes_by}
 use Rattle.rtps_who.specs.declared.title.Title.{Title}
 use Rattle.rtps_who.specs.declared.title.Title.TheVariants as title
 
@@ -26,7 +28,7 @@ process_of recorded prefix = unwrap_or (process_among recorded.announcing (parti
 
 -- the node of a participant that has one alone, by what its sample tells and by what its services are called
 abbrev pub only_by : Option SampleValue → Option NodeValue → Option NodeValue
-only_by (Some sample) by_service = only_in sample
+only_by (Some sample) by_service = sample.only
 only_by None by_service = by_service
 
 -- the nodes of a participant
@@ -46,14 +48,18 @@ only_node recorded prefix = only_by (nodes_by recorded.announcing recorded.acts 
 abbrev pub nodes_of_participant : Recorded → GuidPrefix → List NodeValue
 nodes_of_participant recorded prefix = all_by (nodes_by recorded.announcing recorded.acts prefix) (named_by_services recorded prefix)
 
--- the node that has an endpoint in its lists
+-- the node that had an endpoint in its lists last
 abbrev pub listing_node : Recorded → Guid → Option NodeValue
-listing_node recorded guid = option_and_then (node_having guid) (nodes_by recorded.announcing recorded.acts guid.prefix)
+listing_node recorded guid = listed_by recorded.announcing recorded.acts guid
 
--- the node of an endpoint: the one that has it in its lists, or else the one that its participant has alone. own: a participant of one node has
--- that node as a whole, so endpoints that no list has are of it, too
+-- the node of an endpoint: the one that had it in its lists last, or else the one that its participant has alone. own: a participant of one
+-- node has that node as a whole, so endpoints that no list ever had are of it, too
 abbrev pub node_of : Recorded → Guid → Option NodeValue
 node_of recorded guid = option_or (listing_node recorded guid) (only_node recorded guid.prefix)
+
+-- the node of an end, an endpoint or a participant: of a participant the one that it has alone
+abbrev pub node_of_end : Recorded → Guid → Option NodeValue
+node_of_end recorded guid = if is_entity guid.entity PARTICIPANT then only_node recorded guid.prefix else node_of recorded guid
 
 -- ---- titles
 

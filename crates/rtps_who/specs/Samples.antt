@@ -3,11 +3,10 @@
 -- own: a sample is
 --     gid of the participant, u32 nodes, and each node: text namespace, text name, u32 readers, a gid each, u32 writers, a gid each,
 -- and at most 3 octets of padding. A gid is a GUID, with 8 zeros behind it in the wider form. One that is of another form is as if absent.
-use Rattle.std.specs.Prelude.{ℕ, ◌≡◌, ◌&&◌, ◌||◌, Bool, true, if◌then◌else◌, List, [], ◌++◌, Option, Some, None, codes, drop, find, length, map, nat_eq, nat_le, take}
+use Rattle.std.specs.Prelude.{ℕ, ◌≡◌, ◌&&◌, Bool, true, if◌then◌else◌, List, [], ◌++◌, Option, Some, None, codes, drop, find, length, map, nat_eq, nat_le, take}
 use Rattle.std.specs.Cmp.Lexicographic.{pointwise}
-use Rattle.std.specs.List.{ends_with, list_any}
+use Rattle.std.specs.List.{ends_with}
 use Rattle.std.specs.Option.{option_map}
-use Rattle.std.specs.Str.{bytes_eq}
 use Rattle.rtps_ids.specs.declared.identity.Guid.{Guid}
 use Rattle.rtps_ids.specs.declared.order.Order.{Order}
 use Rattle.rtps_ids.specs.declared.order.Order.TheVariants.{Big, Little}
@@ -48,10 +47,6 @@ front_gids order width octets = do
   count ← u32_of order octets
   all_in (front_gid width) count (drop COUNT_SIZE octets)
 
--- the GUID is the other
-abbrev pub is_guid : Guid → Guid → Bool
-is_guid other guid = bytes_eq guid.prefix.0 other.prefix.0 && bytes_eq guid.entity.0 other.entity.0
-
 -- the gids of a list of the code
 abbrev pub gids_value : Gids → List Guid
 gids_value gids = items_in (front_gid gids.width) gids.count gids.octets.now
@@ -86,24 +81,30 @@ front_entry order width octets = do
   writers ← front_gids order width readers.1
   Some (record { node = record { namespace = namespace.0; name = name.0 }; readers = readers.0; writers = writers.0 }, writers.1)
 
--- the node has the endpoint
-abbrev pub has_endpoint : Guid → EntryValue → Bool
-has_endpoint guid entry = list_any (is_guid guid) entry.readers || list_any (is_guid guid) entry.writers
-
 -- its name with its namespace: a slash between the two, unless the namespace ends with one
 abbrev pub full_name : NodeValue → List ℕ
 full_name node = node.namespace ++ ((if ends_with nat_eq node.namespace (codes "/") then [] else codes "/") ++ node.name)
 
 -- ---- samples
 
--- the nodes that a sample tells, and how many they are
+-- the nodes that a sample tells, how many they are, and the one that is alone
 pub record SampleValue : Type 0 where
   pub count : ℕ
   pub entries : List EntryValue
+  pub only : Option NodeValue
+
+-- the node of entries, where there is one alone
+abbrev pub only_among : ℕ → List EntryValue → Option NodeValue
+only_among count entries = if nat_eq count 1 then option_map (λ entry. entry.node) (find (λ entry. true) entries) else None
 
 -- what a sample of the code stands for
 abbrev pub sample_value : Sample → SampleValue
-sample_value sample = record { count = sample.count; entries = items_in (front_entry sample.order sample.width) sample.count sample.octets.now }
+sample_value sample =
+    record {
+      count = sample.count;
+      entries = items_in (front_entry sample.order sample.width) sample.count sample.octets.now;
+      only = option_map node_value sample.only;
+    }
 
 -- the order of a value whose representation has this id
 abbrev pub order_of_id : List ℕ → Option Order
@@ -122,7 +123,7 @@ abbrev pub nodes_in : Order → Width → List ℕ → Option SampleValue
 nodes_in order width octets = do
   count ← u32_of order octets
   all ← all_in (front_entry order width) count (drop COUNT_SIZE octets)
-  if nat_le (length all.1) gid.PADDING then Some (record { count = count; entries = all.0 }) else None
+  if nat_le (length all.1) gid.PADDING then Some (record { count = count; entries = all.0; only = only_among count all.0 }) else None
 
 -- the nodes that a body tells
 abbrev pub nodes_of : Order → List ℕ → Option SampleValue
@@ -134,17 +135,9 @@ sample_of payload = do
   order ← order_in payload
   nodes_of order (drop header.SIZE payload)
 
--- the node, where there is one alone
-abbrev pub only_in : SampleValue → Option NodeValue
-only_in sample = if nat_eq sample.count 1 then option_map (λ entry. entry.node) (find (λ entry. true) sample.entries) else None
-
 -- all its nodes
 abbrev pub nodes_among : SampleValue → List NodeValue
 nodes_among sample = map (λ entry. entry.node) sample.entries
-
--- the first node that has an endpoint
-abbrev pub node_having : Guid → SampleValue → Option NodeValue
-node_having guid sample = option_map (λ entry. entry.node) (find (has_endpoint guid) sample.entries)
 
 -- a sample that can be read has as many nodes as it says
 abbrev pub SamplesHaveTheirNodes : Type 0

@@ -11,9 +11,11 @@ use Rattle.rtps_ids.specs.declared.identity.Guid.{Guid}
 use Rattle.rtps_ids.specs.declared.identity.GuidPrefix.{GuidPrefix}
 use Rattle.rtps_receiver.specs.Values.{ActBodyValue, ActValue}
 use Rattle.rtps_receiver.specs.Values.ActBodyValue.{Data, DataFrag}
+use Rattle.rtps_discovery.specs.GuidOrder.{guid_cmp}
 use Rattle.rtps_discovery.specs.Notice.{whole_payload}
 use Rattle.rtps_who.specs.Introducing.{is_teller_among, prefix_cmp}
-use Rattle.rtps_who.specs.Samples.{SampleValue, sample_of, sample_value}
+use Rattle.rtps_who.specs.Listings.{last_listed, listings_among}
+use Rattle.rtps_who.specs.Samples.{NodeValue, SampleValue, node_value, sample_of, sample_value}
 use Rattle.rtps_who.specs.declared.told_nodes.ToldNodes.{ToldNodes}
 
 -- a sample, with the entity of its writer
@@ -47,6 +49,19 @@ last_of prefix told = lookup (is_at (prefix_cmp prefix)) (reverse told)
 abbrev pub nodes_by : List ActValue → List ActValue → GuidPrefix → Option SampleValue
 nodes_by announcing acts prefix = last_of prefix (filter_map (nodes_told announcing) acts)
 
+-- the node that acts tell last to have an endpoint
+abbrev pub listed_by : List ActValue → List ActValue → Guid → Option NodeValue
+listed_by announcing acts guid = last_listed guid (listings_among (filter_map (nodes_told announcing) acts))
+
+-- the sample of a participant as it is kept
+abbrev pub sample_kept : ToldNodes → GuidPrefix → Option SampleValue
+sample_kept told prefix = option_map sample_value (lookup (is_at (prefix_cmp prefix)) told.samples.entries)
+
+-- and the node of an endpoint
+abbrev pub listing_kept : ToldNodes → Guid → Option NodeValue
+listing_kept told guid = option_map node_value (lookup (is_at (guid_cmp guid)) told.listed.entries)
+
 -- what is kept is what these acts tell last, where those announce
-abbrev pub IsToldBy : List ActValue → List ActValue → ToldNodes → Type 0
-IsToldBy announcing acts told = (prefix : GuidPrefix) → option_map sample_value (lookup (is_at (prefix_cmp prefix)) told.samples.entries) ≡ nodes_by announcing acts prefix
+pub record IsToldBy (announcing acts : List ActValue) (told : ToldNodes) : Type 0 where
+  pub samples : (prefix : GuidPrefix) → sample_kept told prefix ≡ nodes_by announcing acts prefix
+  pub listed : (guid : Guid) → listing_kept told guid ≡ listed_by announcing acts guid

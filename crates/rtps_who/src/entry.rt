@@ -1,11 +1,13 @@
-ghost use Rattle.std.specs.Prelude.{◌≡◌};
+ghost use Rattle.std.specs.Prelude.{◌≡◌, OnOk};
 ghost use Rattle.std.specs.Option.{option_map};
-ghost use Rattle.rtps_who.specs.Samples.{entry_value, front_entry as front_entry_lem, has_endpoint};
+ghost use Rattle.rtps_who.specs.Listings.{Lists, listings_by};
+ghost use Rattle.rtps_who.specs.Samples.{entry_value, front_entry as front_entry_lem};
 
 use crate::gids::{Gids, Width, front_gids};
 use crate::node::Node;
 use crate::texts::front_text;
-use rtps_ids::{Guid, Order};
+use rtps_ids::{Guid, GuidPrefix, Memory, Order};
+use std::collections::BTreeMap;
 
 /// A node, and the endpoints that it has.
 #[derive(Clone, Copy)]
@@ -15,12 +17,17 @@ pub(crate) struct Entry<'a> {
     pub(crate) writers: Gids<'a>,
 }
 
-impl Entry<'_> {
-    /// Whether an endpoint is one of its readers or writers.
-    pub(crate) fn has(&self, guid: Guid) -> bool
-        ensures { result ≡ has_endpoint guid (entry_value self.now) }
+impl<'a> Entry<'a> {
+    /// Gives the node the endpoints of a participant that it lists, its readers first. After `Memory` what is kept is of no use.
+    pub(crate) fn list(
+        &self,
+        prefix: GuidPrefix,
+        listed: &mut BTreeMap<Guid, Node<'a>>,
+    ) -> Result<(), Memory>
+        ensures { OnOk result (Lists listed.old.entries listed.new.entries (listings_by prefix (entry_value self.now))) }
     {
-        self.readers.has(guid) || self.writers.has(guid)
+        self.readers.list(prefix, self.node, listed)?;
+        self.writers.list(prefix, self.node, listed)
     }
 }
 

@@ -1,13 +1,15 @@
-ghost use Rattle.std.specs.Prelude.{◌≡◌, ◌≤◌, length, option_copied};
-ghost use Rattle.std.specs.List.{list_any};
+ghost use Rattle.std.specs.Prelude.{◌≡◌, ◌≤◌, ◌∷◌, [], OnOk, length, option_copied};
 ghost use Rattle.std.specs.Option.{option_map};
 ghost use Rattle.rtps_who.specs.Items.{rest_behind};
-ghost use Rattle.rtps_who.specs.Samples.{front_gid as front_gid_lem, front_gids as front_gids_lem, gids_value, is_filled as is_filled_lem, is_guid, size_of, width_of as width_of_lem};
+ghost use Rattle.rtps_who.specs.Listings.{Lists, listings_of};
+ghost use Rattle.rtps_who.specs.Samples.{front_gid as front_gid_lem, front_gids as front_gids_lem, gids_value, is_filled as is_filled_lem, node_value, size_of, width_of as width_of_lem};
 
 use crate::layout::gid::{GUID_SIZE, WIDE_ROOM, WIDE_SIZE, ZEROS};
 use crate::layout::sequence::COUNT_SIZE;
-use rtps_ids::{Guid, Order};
+use crate::node::Node;
+use rtps_ids::{Guid, GuidPrefix, Memory, Order};
 use rtps_params::{read_guid, read_u32};
+use std::collections::BTreeMap;
 
 /// The form of gids. Up to ROS 2 Humble they have 24 octets, from Iron on 16.
 #[derive(Clone, Copy)]
@@ -82,22 +84,40 @@ pub(crate) struct Gids<'a> {
 }
 
 impl Gids<'_> {
-    /// Whether an endpoint is among them.
-    pub(crate) fn has(&self, guid: Guid) -> bool
-        ensures { result ≡ list_any (is_guid guid) (gids_value self.now) }
+    /// Gives a node those of them that are of a participant, one after another. After `Memory` what is kept is of no use.
+    pub(crate) fn list<'n>(
+        &self,
+        prefix: GuidPrefix,
+        node: Node<'n>,
+        listed: &mut BTreeMap<Guid, Node<'n>>,
+    ) -> Result<(), Memory>
+        ensures { OnOk result (Lists listed.old.entries listed.new.entries (listings_of prefix (node_value node) (gids_value self.now))) }
     {
         let mut rest = self.octets;
         for _ in 0..self.count {
-            let Some((found, behind)) = front_gid(rest, self.width) else {
-                return false;
+            let Some((guid, behind)) = front_gid(rest, self.width) else {
+                return Ok(());
             };
-            if found == guid {
-                return true;
-            }
+            list_one(listed, prefix, node, guid)?;
             rest = behind;
         }
-        false
+        Ok(())
     }
+}
+
+/// Gives a node an endpoint, if that is of a participant.
+fn list_one<'n>(
+    listed: &mut BTreeMap<Guid, Node<'n>>,
+    prefix: GuidPrefix,
+    node: Node<'n>,
+    guid: Guid,
+) -> Result<(), Memory>
+    ensures { OnOk result (Lists listed.old.entries listed.new.entries (listings_of prefix (node_value node) (guid ∷ []))) }
+{
+    if guid.prefix == prefix {
+        listed.insert(guid, node)?;
+    }
+    Ok(())
 }
 
 /// The list of gids at the beginning of octets, and what is behind it. None if it cannot be read.

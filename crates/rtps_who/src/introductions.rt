@@ -1,11 +1,10 @@
-ghost use Rattle.std.specs.Prelude.{◌≡◌, ◌++◌, ◌∷◌, [], List, OnOk, unwrap_or};
+ghost use Rattle.std.specs.Prelude.{◌≡◌, ◌++◌, ◌∷◌, [], List, OnOk};
 ghost use Rattle.std.specs.Option.{option_map};
 ghost use Rattle.rtps_receiver.specs.Values.{ActValue, spoken_value};
 ghost use Rattle.rtps_discovery.specs.Endpoint.{endpoint_value};
-ghost use Rattle.rtps_who.specs.Introducing.{IsIntroducedBy, KeepsEndpoint, KeepsService, KeepsTeller, is_teller_among, process_among, process_told as process_told_lem, service_names, tells_nodes as tells_nodes_lem};
-ghost use Rattle.rtps_who.specs.Processes.{process_value, unknown_process};
+ghost use Rattle.rtps_who.specs.Introducing.{IsIntroducedBy, KeepsEndpoint, KeepsService, KeepsTeller, is_teller_among, process_kept, process_told as process_told_lem, services_kept, tells_nodes as tells_nodes_lem};
+ghost use Rattle.rtps_who.specs.Processes.{process_value};
 ghost use Rattle.rtps_who.specs.Samples.{node_value};
-ghost use Rattle.rtps_who.specs.Services.{names_of, node_by};
 
 use crate::node::Node;
 use crate::process::Process;
@@ -62,7 +61,7 @@ impl<'a> Introductions<'a> {
 
     /// The process of a participant. Unknown where it is not announced.
     pub(crate) fn process(&self, participant: Guid) -> Process<'a>
-        ensures { (acts : List ActValue) → IsIntroducedBy acts self.now → process_value result ≡ unwrap_or (process_among acts participant) unknown_process }
+        ensures { process_value result ≡ process_kept self.now participant }
     {
         match self.processes.get(&participant) {
             Some(process) => *process,
@@ -79,14 +78,14 @@ impl<'a> Introductions<'a> {
 
     /// The node that the parameter services of a participant name, if they name one.
     pub(crate) fn node_by_services(&self, prefix: GuidPrefix) -> Option<Node<'a>>
-        ensures { (acts : List ActValue) → IsIntroducedBy acts self.now → option_map node_value result ≡ node_by (names_of (service_names acts prefix)) }
+        ensures { option_map node_value result ≡ services_kept self.now prefix }
     {
         node_by_service(self.services.get(&prefix).copied())
     }
 }
 
 /// Whether an endpoint is a writer that tells of nodes.
-fn tells_nodes(endpoint: &Endpoint<'_>) -> bool
+pub fn tells_nodes(endpoint: &Endpoint<'_>) -> bool
     ensures { result ≡ tells_nodes_lem (endpoint_value endpoint.now) }
 {
     endpoint.side == Side::Writer

@@ -18,9 +18,9 @@ mod title;
 mod told_nodes;
 mod who;
 
-pub use introductions::Introductions;
+pub use introductions::{Introductions, tells_nodes};
 pub use node::Node;
 pub use process::Process;
 pub use title::Title;
 pub use told_nodes::ToldNodes;
-pub use who::Who;
+pub use who::{Who, title_by};

@@ -1,7 +1,8 @@
-ghost use Rattle.std.specs.Prelude.{◌≡◌, ◌≤◌, IfOk, length, map, option_copied};
+ghost use Rattle.std.specs.Prelude.{◌≡◌, ◌≤◌, IfOk, OnOk, length, map, option_copied};
 ghost use Rattle.std.specs.Option.{option_map};
-ghost use Rattle.rtps_who.specs.Items.{rest_behind};
-ghost use Rattle.rtps_who.specs.Samples.{front_entry as front_entry_lem, node_having as node_having_lem, node_value, nodes_among, nodes_in as nodes_in_lem, only_in, order_in as order_in_lem, sample_of, sample_value};
+ghost use Rattle.rtps_who.specs.Items.{items_in, rest_behind};
+ghost use Rattle.rtps_who.specs.Listings.{Lists, listings_in};
+ghost use Rattle.rtps_who.specs.Samples.{front_entry as front_entry_lem, node_value, nodes_among, nodes_in as nodes_in_lem, only_among, order_in as order_in_lem, sample_of, sample_value};
 
 use crate::entry::front_entry;
 use crate::gids::Width;
@@ -9,9 +10,10 @@ use crate::layout::gid::PADDING;
 use crate::layout::header;
 use crate::layout::sequence::COUNT_SIZE;
 use crate::node::Node;
-use rtps_ids::{Guid, Memory, Order};
+use rtps_ids::{Guid, GuidPrefix, Memory, Order};
 use rtps_params::read_u32;
 use std::alloc::Global;
+use std::collections::BTreeMap;
 
 /// A sample of `ros_discovery_info`: the nodes of a participant, and the endpoints of each. Its nodes are parts of the payload.
 #[derive(Clone, Copy)]
@@ -20,6 +22,19 @@ pub(crate) struct Sample<'a> {
     pub(crate) order: Order,
     pub(crate) width: Width,
     pub(crate) octets: &'a [u8],
+    /// Its node, where it has one alone.
+    pub(crate) only: Option<Node<'a>>,
+}
+
+/// The node, where there is one alone.
+fn only_in(octets: &[u8], order: Order, width: Width, count: u32) -> Option<Node<'_>>
+    ensures { option_map node_value result ≡ only_among count (items_in (front_entry_lem order width) count octets.now) }
+{
+    if count != 1 {
+        return None;
+    }
+    let (entry, _) = front_entry(octets, order, width)?;
+    Some(entry.node)
 }
 
 /// What is behind so many nodes, if all of them can be read.
@@ -66,6 +81,7 @@ fn nodes_in(octets: &[u8], order: Order, width: Width) -> Option<Sample<'_>>
         order,
         width,
         octets,
+        only: only_in(octets, order, width, count),
     })
 }
 
@@ -83,30 +99,23 @@ impl<'a> Sample<'a> {
         nodes_in(&body[width.size()..], order, width)
     }
 
-    /// The node, where there is one alone.
-    pub(crate) fn only(&self) -> Option<Node<'a>>
-        ensures { option_map node_value result ≡ only_in (sample_value self.now) }
-    {
-        if self.count != 1 {
-            return None;
-        }
-        let (entry, _) = front_entry(self.octets, self.order, self.width)?;
-        Some(entry.node)
-    }
-
-    /// The first node that has an endpoint.
-    pub(crate) fn node_having(&self, guid: Guid) -> Option<Node<'a>>
-        ensures { option_map node_value result ≡ node_having_lem guid (sample_value self.now) }
+    /// Gives its nodes the endpoints of a participant that they list, one node after another. After `Memory` what is kept is of no use.
+    pub(crate) fn list(
+        &self,
+        prefix: GuidPrefix,
+        listed: &mut BTreeMap<Guid, Node<'a>>,
+    ) -> Result<(), Memory>
+        ensures { OnOk result (Lists listed.old.entries listed.new.entries (listings_in prefix (sample_value self.now))) }
     {
         let mut rest = self.octets;
         for _ in 0..self.count {
-            let (entry, behind) = front_entry(rest, self.order, self.width)?;
-            if entry.has(guid) {
-                return Some(entry.node);
-            }
+            let Some((entry, behind)) = front_entry(rest, self.order, self.width) else {
+                return Ok(());
+            };
+            entry.list(prefix, listed)?;
             rest = behind;
         }
-        None
+        Ok(())
     }
 
     /// All its nodes.

@@ -4,10 +4,11 @@ ghost use Rattle.rtps_receiver.specs.Values.{ActValue, fragment_value, spoken_bo
 ghost use Rattle.rtps_wire.specs.Values.{payload_value};
 ghost use Rattle.rtps_discovery.specs.Notice.{whole_payload};
 ghost use Rattle.rtps_who.specs.Introducing.{IsIntroducedBy};
-ghost use Rattle.rtps_who.specs.Samples.{sample_value};
-ghost use Rattle.rtps_who.specs.Telling.{IsToldBy, nodes_by, nodes_told as nodes_told_lem, sent_by, sent_in as sent_in_lem};
+ghost use Rattle.rtps_who.specs.Samples.{node_value, sample_value};
+ghost use Rattle.rtps_who.specs.Telling.{IsToldBy, listing_kept, nodes_told as nodes_told_lem, sample_kept, sent_by, sent_in as sent_in_lem};
 
 use crate::introductions::Introductions;
+use crate::node::Node;
 use crate::sample::Sample;
 use rtps_ids::{EntityId, Guid, GuidPrefix, Memory};
 use rtps_receiver::{ActBody, FragmentBody, Spoken, SpokenBody};
@@ -15,11 +16,12 @@ use rtps_wire::Payload;
 use std::alloc::Global;
 use std::collections::BTreeMap;
 
-/// What the samples of `ros_discovery_info` tell of the nodes of participants: of each the last one that can be read. They are parts of
-/// the caller's datagrams.
+/// What the samples of `ros_discovery_info` tell of the nodes of participants: of each participant the last one that can be read, and of
+/// each endpoint the node that listed it last. They are parts of the caller's datagrams.
 #[derive(Drop)]
 pub struct ToldNodes<'a> {
     pub(crate) samples: BTreeMap<GuidPrefix, Sample<'a>>,
+    pub(crate) listed: BTreeMap<Guid, Node<'a>>,
 }
 
 /// The octets of a whole payload, with the entity of its writer.
@@ -74,11 +76,12 @@ impl<'a> ToldNodes<'a> {
     {
         ToldNodes {
             samples: BTreeMap::new(alloc),
+            listed: BTreeMap::new(alloc),
         }
     }
 
-    /// Keeps the nodes that an act tells in the place of those that were told of its participant before. By the introductions it is known
-    /// which writers tell of nodes. After `Memory` what is kept is of no use.
+    /// Keeps the nodes that an act tells in the place of those that were told of its participant before, and which endpoints they list. By
+    /// the introductions it is known which writers tell of nodes. After `Memory` what is kept is of no use.
     pub fn note(
         &mut self,
         introductions: &Introductions<'_>,
@@ -90,14 +93,22 @@ impl<'a> ToldNodes<'a> {
         let Some(sample) = nodes_told(introductions, act) else {
             return Ok(());
         };
+        sample.list(act.source, &mut self.listed)?;
         self.samples.insert(act.source, sample)?;
         Ok(())
     }
 
     /// The sample of a participant.
     pub(crate) fn sample(&self, prefix: GuidPrefix) -> Option<Sample<'a>>
-        ensures { (announcing acts : List ActValue) → IsToldBy announcing acts self.now → option_map sample_value result ≡ nodes_by announcing acts prefix }
+        ensures { option_map sample_value result ≡ sample_kept self.now prefix }
     {
         self.samples.get(&prefix).copied()
+    }
+
+    /// The node that listed an endpoint last.
+    pub(crate) fn listing(&self, endpoint: Guid) -> Option<Node<'a>>
+        ensures { option_map node_value result ≡ listing_kept self.now endpoint }
+    {
+        self.listed.get(&endpoint).copied()
     }
 }

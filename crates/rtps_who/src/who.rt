@@ -1,8 +1,8 @@
 ghost use Rattle.std.specs.Prelude.{◌≡◌, IfOk, map};
 ghost use Rattle.std.specs.Option.{option_map};
-ghost use Rattle.rtps_who.specs.Naming.{Recorded, listing_node as listing_node_lem, node_of as node_of_lem, nodes_of_participant, only_node as only_node_lem, participant_title as participant_title_lem, process_of as process_of_lem, title_by as title_by_lem, title_of as title_of_lem, title_value};
+ghost use Rattle.rtps_who.specs.Naming.{Recorded, node_of as node_of_lem, node_of_end as node_of_end_lem, nodes_of_participant, only_node as only_node_lem, participant_title as participant_title_lem, process_of as process_of_lem, title_by as title_by_lem, title_of as title_of_lem, title_value};
 ghost use Rattle.rtps_who.specs.Processes.{process_value};
-ghost use Rattle.rtps_who.specs.Recorded.{IsWhoIn};
+ghost use Rattle.rtps_who.specs.Recorded.{IsWhoIn, node_in, node_of_end_in, nodes_in, only_in, process_in};
 ghost use Rattle.rtps_who.specs.Samples.{node_value};
 
 use crate::introductions::Introductions;
@@ -22,7 +22,7 @@ pub struct Who<'a> {
 }
 
 /// The title by a node, or else by a process.
-fn title_by<'a>(node: Option<Node<'a>>, process: &Process<'a>) -> Title<'a>
+pub fn title_by<'a>(node: Option<Node<'a>>, process: &Process<'a>) -> Title<'a>
     ensures { title_value result ≡ title_by_lem (option_map node_value node.entry) (process_value process.now) }
 {
     if let Some(node) = node {
@@ -40,24 +40,27 @@ fn title_by<'a>(node: Option<Node<'a>>, process: &Process<'a>) -> Title<'a>
 impl<'a> Who<'a> {
     /// The process of a participant. Unknown where it is not announced.
     pub fn process(&self, prefix: GuidPrefix) -> Process<'a>
-        ensures { (recorded : Recorded) → IsWhoIn recorded self.now → process_value result ≡ process_of_lem recorded prefix }
+        ensures kept { process_value result ≡ process_in self.now prefix }
+        ensures told { (recorded : Recorded) → IsWhoIn recorded self.now → process_value result ≡ process_of_lem recorded prefix }
     {
         self.introductions.process(participant_of(prefix))
     }
 
     /// The node of a participant that has one alone.
     pub fn only_node(&self, prefix: GuidPrefix) -> Option<Node<'a>>
-        ensures { (recorded : Recorded) → IsWhoIn recorded self.now → option_map node_value result ≡ only_node_lem recorded prefix }
+        ensures kept { option_map node_value result ≡ only_in self.now prefix }
+        ensures told { (recorded : Recorded) → IsWhoIn recorded self.now → option_map node_value result ≡ only_node_lem recorded prefix }
     {
         match self.told.sample(prefix) {
-            Some(sample) => sample.only(),
+            Some(sample) => sample.only,
             None => self.introductions.node_by_services(prefix),
         }
     }
 
     /// The nodes of a participant.
     pub fn nodes(&self, alloc: Global, prefix: GuidPrefix) -> Result<Vec<Node<'a>>, Memory>
-        ensures { IfOk result (λ nodes. (recorded : Recorded) → IsWhoIn recorded self.now → map node_value nodes.items ≡ nodes_of_participant recorded prefix) }
+        ensures kept { IfOk result (λ nodes. map node_value nodes.items ≡ nodes_in self.now prefix) }
+        ensures told { IfOk result (λ nodes. (recorded : Recorded) → IsWhoIn recorded self.now → map node_value nodes.items ≡ nodes_of_participant recorded prefix) }
     {
         if let Some(sample) = self.told.sample(prefix) {
             return sample.nodes(alloc);
@@ -70,20 +73,26 @@ impl<'a> Who<'a> {
         Ok(nodes)
     }
 
-    /// The node that has an endpoint in its lists.
-    fn listing_node(&self, endpoint: Guid) -> Option<Node<'a>>
-        ensures { (recorded : Recorded) → IsWhoIn recorded self.now → option_map node_value result ≡ listing_node_lem recorded endpoint }
-    {
-        self.told.sample(endpoint.prefix)?.node_having(endpoint)
-    }
-
-    /// The node of an endpoint: the one that has it in its lists, or else the one that its participant has alone.
+    /// The node of an endpoint: the one that had it in its lists last, or else the one that its participant has alone.
     pub fn node(&self, endpoint: Guid) -> Option<Node<'a>>
-        ensures { (recorded : Recorded) → IsWhoIn recorded self.now → option_map node_value result ≡ node_of_lem recorded endpoint }
+        ensures kept { option_map node_value result ≡ node_in self.now endpoint }
+        ensures told { (recorded : Recorded) → IsWhoIn recorded self.now → option_map node_value result ≡ node_of_lem recorded endpoint }
     {
-        match self.listing_node(endpoint) {
+        match self.told.listing(endpoint) {
             Some(node) => Some(node),
             None => self.only_node(endpoint.prefix),
+        }
+    }
+
+    /// The node of an end, an endpoint or a participant: of a participant the one that it has alone.
+    pub fn node_of_end(&self, end: Guid) -> Option<Node<'a>>
+        ensures kept { option_map node_value result ≡ node_of_end_in self.now end }
+        ensures told { (recorded : Recorded) → IsWhoIn recorded self.now → option_map node_value result ≡ node_of_end_lem recorded end }
+    {
+        if end.entity == participant_of(end.prefix).entity {
+            self.only_node(end.prefix)
+        } else {
+            self.node(end)
         }
     }
 

@@ -1,0 +1,191 @@
+ghost use Rattle.std.specs.Prelude.{◌≡◌, ◌++◌, OnOk, Some};
+ghost use Rattle.std.specs.String.{string_bytes};
+ghost use Rattle.rtps_report.specs.Events.{event_value};
+ghost use Rattle.rtps_report.specs.Talk.{TalkValue as TalkValueOf, talk_value};
+ghost use Rattle.rtps_ids.specs.declared.identity.GuidPrefix.{GuidPrefix as GuidPrefixOf};
+ghost use Rattle.rtps_lines.specs.EventText.{about_text, amounts_text, asked_text, between_text, called as called_lem, event_text, is_same_second, numbers_text, sent_text, silent_text, told_as};
+
+use crate::fields::{EndedText, SecondsText};
+use crate::notes::{number_words, pair_words};
+use crate::number_ranges::place_second;
+use rtps_evidence::{Location, Seconds, Times};
+use rtps_ids::{Guid, GuidPrefix};
+use rtps_parts::{NameOctets, Part, render};
+use rtps_policies::{Address, participant_of};
+use rtps_report::{Event, Talk};
+use std::alloc::AllocError;
+use std::fmt;
+
+/// What a participant is called: its process, where that is known, or else where it is.
+#[derive(Clone, Copy, Drop)]
+struct ParticipantText<'t> {
+    pid: Option<u32>,
+    host: Option<&'t [u8]>,
+    address: Option<Address>,
+    guid: Guid,
+}
+
+impl fmt::Display for ParticipantText<'_> {
+    ghost output = { λ told. Some (told_as told) };
+
+    #[tactic(auto, unfolding(crate::specs::EventText::participant_text))]
+    fn fmt<W: fmt::Write>(&self, f: &mut fmt::Formatter<W>) -> fmt::Result {
+        match (self.pid, self.host, self.address) {
+            (Some(pid), Some(host), _) => write!(f, "process {pid} on {}", NameOctets(host)),
+            (Some(pid), None, Some(address)) => write!(f, "process {pid} at {address}"),
+            (Some(pid), None, None) => write!(f, "process {pid}"),
+            (None, _, Some(address)) => write!(f, "{address}"),
+            (None, _, None) => write!(f, "participant {}", self.guid),
+        }
+    }
+}
+
+/// What a participant is called, by what is known of it.
+fn called<'a>(talk: &Talk<'a>, prefix: GuidPrefix) -> ParticipantText<'a>
+    ensures { told_as result ≡ called_lem (talk_value talk.now) prefix }
+{
+    let guid = participant_of(prefix);
+    let end = talk.end(guid);
+    ParticipantText {
+        pid: end.process.pid,
+        host: end.process.host,
+        address: end.address,
+        guid,
+    }
+}
+
+/// When a silent participant was asked first for an answer behind its last one; nothing where it was not, or that has no time.
+#[derive(Drop)]
+struct AskedText(Option<Seconds>);
+
+impl fmt::Display for AskedText {
+    ghost output = { λ asked. Some (asked_text asked.0) };
+
+    #[tactic(auto, unfolding(crate::specs::EventText::asked_text))]
+    fn fmt<W: fmt::Write>(&self, f: &mut fmt::Formatter<W>) -> fmt::Result {
+        match self.0 {
+            Some(second) => write!(f, ", was asked from {} s on", SecondsText(second)),
+            None => Ok(()),
+        }
+    }
+}
+
+/// Whether two times are the same as they are said.
+fn is_same(one: Seconds, other: Seconds) -> bool
+    ensures { result ≡ is_same_second one other }
+{
+    one.negative == other.negative && one.milliseconds == other.milliseconds
+}
+
+/// Between which times the lost numbers of an event were sent first; nothing where one of the two is not known.
+#[derive(Drop)]
+struct SentText(Option<Seconds>, Option<Seconds>);
+
+impl fmt::Display for SentText {
+    ghost output = { λ sent. Some (sent_text sent.0 sent.1) };
+
+    #[tactic(auto, unfolding(crate::specs::EventText::sent_text))]
+    fn fmt<W: fmt::Write>(&self, f: &mut fmt::Formatter<W>) -> fmt::Result {
+        match (self.0, self.1) {
+            (Some(first), Some(last)) if is_same(first, last) => {
+                write!(f, ", first sent at {} s", SecondsText(first))
+            }
+            (Some(first), Some(last)) => write!(
+                f,
+                ", first sent between {} s and {} s",
+                SecondsText(first),
+                SecondsText(last)
+            ),
+            (Some(_), None) => Ok(()),
+            (None, _) => Ok(()),
+        }
+    }
+}
+
+/// Appends that a participant is silent: when it was heard last, and when it was asked first behind its last answer.
+fn push_silent(
+    text: &mut String,
+    event: &Event,
+    silent: ParticipantText<'_>,
+    times: &Times,
+) -> Result<(), AllocError>
+    ensures { (talk : TalkValueOf) → told_as silent.entry ≡ called_lem talk event.now.key.first
+        → OnOk result (string_bytes text.new ≡ string_bytes text.old ++ silent_text times.now talk (event_value event.now)) }
+{
+    let heard = EndedText(times, event.heard);
+    let asked = AskedText(place_second(times, event.asked));
+    write!(
+        text,
+        "{silent} was last heard{heard}{asked}, and did not leave"
+    )
+}
+
+/// Appends from whom to whom numbers are lost, and between which times they were sent first.
+fn push_between(
+    text: &mut String,
+    event: &Event,
+    parties: (ParticipantText<'_>, ParticipantText<'_>),
+    times: &Times,
+) -> Result<(), AllocError>
+    ensures { (talk : TalkValueOf) (reader : GuidPrefixOf) → told_as parties.entry.0 ≡ called_lem talk event.now.key.first → told_as parties.entry.1 ≡ called_lem talk reader
+        → OnOk result (string_bytes text.new ≡ string_bytes text.old ++ between_text times.now talk (event_value event.now) reader) }
+{
+    let (writer, reader) = parties;
+    let first = place_second(times, event.first);
+    let last = place_second(times, event.last);
+    let sent = SentText(first, last);
+    write!(text, "from {writer} to {reader}{sent}")
+}
+
+/// Appends what an event is about.
+fn push_about(
+    text: &mut String,
+    event: &Event,
+    talk: &Talk<'_>,
+    times: &Times,
+) -> Result<(), AllocError>
+    ensures { OnOk result (string_bytes text.new ≡ string_bytes text.old ++ about_text times.now (talk_value talk.now) (event_value event.now) event.now.key.second) }
+{
+    let first = called(talk, event.key.first);
+    match event.key.second {
+        None => push_silent(text, event, first, times),
+        Some(second) => push_between(text, event, (first, called(talk, second)), times),
+    }
+}
+
+/// Appends how many numbers are lost, behind a comma; nothing where none is.
+fn push_numbers(text: &mut String, numbers: u128) -> Result<(), AllocError>
+    ensures { OnOk result (string_bytes text.new ≡ string_bytes text.old ++ numbers_text numbers) }
+{
+    if numbers == 0 {
+        return Ok(());
+    }
+    render(
+        text,
+        &[Part::Text(", "), Part::Amount(numbers, number_words())],
+    )
+}
+
+/// Appends how many pairs an event has, and how many numbers they lost.
+fn push_amounts(text: &mut String, pairs: usize, numbers: u128) -> Result<(), AllocError>
+    ensures { OnOk result (string_bytes text.new ≡ string_bytes text.old ++ amounts_text pairs numbers) }
+{
+    render(
+        text,
+        &[Part::Text(": "), Part::Amount(pairs as u128, pair_words())],
+    )?;
+    push_numbers(text, numbers)
+}
+
+/// Appends an event in a sentence.
+pub fn push_event_text(
+    text: &mut String,
+    event: &Event,
+    talk: &Talk<'_>,
+    times: &Times,
+) -> Result<(), AllocError>
+    ensures { OnOk result (string_bytes text.new ≡ string_bytes text.old ++ event_text times.now (talk_value talk.now) (event_value event.now)) }
+{
+    push_about(text, event, talk, times)?;
+    push_amounts(text, event.places.len(), event.numbers)
+}

@@ -1,0 +1,235 @@
+-- Which rows belong together, and how many numbers they lost. own: what happens once, as a process that is killed or a link that fails for
+-- some seconds, leaves many rows that are not clean. Told as one event, it is seen once, and first what cost most.
+use Rattle.std.specs.Prelude.{ℕ, ◌≡◌, ◌++◌, ◌-◌, ◌&&◌, nat_lt, Bool, true, false, not, if◌then◌else◌, is_none, is_some, filter, fold, map, sum_by, List, [], ◌∷◌, Option, Some, None}
+use Rattle.std.specs.Borrow.{Bor}
+use Rattle.std.specs.BTreeMap.{BTreeMap, get}
+use Rattle.std.specs.Cmp.Lexicographic.{slice_cmp}
+use Rattle.std.specs.Option.{option_cmp}
+use Rattle.std.specs.Ordering.{nat_cmp, ordering_then}
+use Rattle.std.specs.Global.{Vec}
+use Rattle.std.specs.declared.cmp.Ordering.{Ordering}
+use Rattle.rtps_ids.specs.declared.identity.GuidPrefix.{GuidPrefix}
+use Rattle.rtps_receiver.specs.Speech.{is_prefix}
+use Rattle.rtps_discovery.specs.declared.matching.Pair.{Pair}
+use Rattle.rtps_evidence.specs.Explanation.{lost_at}
+use Rattle.rtps_evidence.specs.Kinds.{LostValue}
+use Rattle.rtps_evidence.specs.Waits.{precedes}
+use Rattle.rtps_evidence.specs.declared.sendings.SentSpan.{SentSpan}
+use Rattle.rtps_policies.specs.Announcing.{participant_of}
+use Rattle.rtps_report.specs.Asked.{AskedValue}
+use Rattle.rtps_report.specs.FullReport.{ReportValue, lost_of, rows_of}
+use Rattle.rtps_report.specs.RowFacts.{is_held_in, is_noted, outcomes_of}
+use Rattle.rtps_report.specs.Silences.{silence_among, silences_of}
+use Rattle.rtps_report.specs.Talk.{TalkValue}
+use Rattle.rtps_report.specs.Totals.{numbers_of}
+use Rattle.rtps_report.specs.Vocabulary.{EvidenceValue, Explanation, ExplanationValue, InSpan, Location, explanation_value}
+use Rattle.rtps_report.specs.declared.event_rows.EventKey.{EventKey}
+use Rattle.rtps_report.specs.declared.event_rows.EventRows.{EventRows}
+use Rattle.rtps_report.specs.declared.events.Event.{Event}
+use Rattle.rtps_report.specs.declared.silences.Silences.{Silences}
+
+-- ---- which event a row belongs to
+
+-- two participants are the same, or there is neither
+abbrev pub is_second : Option GuidPrefix → Option GuidPrefix → Bool
+is_second None None = true
+is_second None (Some other) = false
+is_second (Some one) None = false
+is_second (Some one) (Some other) = is_prefix one other
+
+-- two events are the same
+abbrev pub is_key : EventKey → EventKey → Bool
+is_key one other = is_prefix one.first other.first && is_second one.second other.second
+
+-- the event of a participant that is silent
+abbrev pub alone : GuidPrefix → EventKey
+alone silent = record { first = silent; second = None }
+
+-- the event of two participants
+abbrev pub between : GuidPrefix → GuidPrefix → EventKey
+between writer reader = record { first = writer; second = Some reader }
+
+-- the event that a row of this pair belongs to: that of its reader's participant, where it is silent; else that of its writer's, where that
+-- is; else that of both
+abbrev pub key_by : Silences → Pair → EventKey
+key_by silences pair =
+    if is_some silences.reader then alone pair.reader.prefix
+    else (if is_some silences.writer then alone pair.writer.prefix else between pair.writer.prefix pair.reader.prefix)
+
+-- that of a row that someone has to look at; None of another one
+abbrev pub noted_key : TalkValue → ℕ → ExplanationValue → Option EventKey
+noted_key talk tail row =
+    if is_noted (silences_of talk row.pair) tail row.evidence then Some (key_by (silences_of talk row.pair) row.pair) else None
+
+-- there is an event, and it is this one
+abbrev pub is_that : EventKey → Option EventKey → Bool
+is_that key None = false
+is_that key (Some other) = is_key key other
+
+-- the rows of an event, in their order
+abbrev pub rows_with : TalkValue → ℕ → List ExplanationValue → EventKey → List ExplanationValue
+rows_with talk tail rows key = filter (λ row. is_that key (noted_key talk tail row)) rows
+
+-- an event that may not be there, before others
+abbrev pub before_others : Option EventKey → List EventKey → List EventKey
+before_others None keys = keys
+before_others (Some key) keys = key ∷ filter (λ other. not (is_key key other)) keys
+
+-- which events there are, each once, by their first rows
+abbrev pub keys_of : TalkValue → ℕ → List ExplanationValue → List EventKey
+keys_of talk tail [] = []
+keys_of talk tail (row ∷ rows) = before_others (noted_key talk tail row) (keys_of talk tail rows)
+
+-- ---- what is told of an event
+
+-- how many numbers of a row are lost: of those that are asked about, the ones that are neither received nor arrived; where it is not held,
+-- the ones that are neither likely nor unconfirmed either, which are missed, unsent or unanswered
+abbrev pub numbers_lost : ℕ → EvidenceValue → ℕ
+numbers_lost from evidence =
+    let left = numbers_of from evidence - (outcomes_of evidence).received - (outcomes_of evidence).arrived in
+    if is_held_in evidence.in_span then left else left - (outcomes_of evidence).likely - (outcomes_of evidence).unconfirmed
+
+-- between which places the lost numbers of a row are sent first, those that are sent; None where none is
+abbrev pub sent_in : List LostValue → ExplanationValue → Option SentSpan
+sent_in lost row = (lost_at lost row.place).sent
+
+-- the ends of such a span
+abbrev pub first_end : Option SentSpan → Option Location
+first_end None = None
+first_end (Some span) = Some span.first
+
+abbrev pub last_end : Option SentSpan → Option Location
+last_end None = None
+last_end (Some span) = Some span.last
+
+-- where the first of these numbers is sent first, and where the last is
+abbrev pub first_sent : List LostValue → ExplanationValue → Option Location
+first_sent lost row = first_end (sent_in lost row)
+
+abbrev pub last_sent : List LostValue → ExplanationValue → Option Location
+last_sent lost row = last_end (sent_in lost row)
+
+-- where the reader of a row was asked first for an answer behind its last one
+abbrev pub waiting_in : Option InSpan → Option Location
+waiting_in None = None
+waiting_in (Some in_span) = in_span.waiting
+
+-- the same, where the participant of the reader is the silent one of an event
+abbrev pub asked_in : EventKey → ExplanationValue → Option Location
+asked_in key row = if is_none key.second && is_prefix key.first row.pair.reader.prefix then waiting_in row.evidence.in_span else None
+
+-- the earlier of two places, where there are two
+abbrev pub earlier : Option Location → Option Location → Option Location
+earlier None other = other
+earlier (Some one) None = Some one
+earlier (Some one) (Some other) = Some (if precedes other one then other else one)
+
+-- the later of them
+abbrev pub later : Option Location → Option Location → Option Location
+later None other = other
+later (Some one) None = Some one
+later (Some one) (Some other) = Some (if precedes one other then other else one)
+
+-- the first of the places of rows where a lost number is sent first, and the last
+abbrev pub first_among : List LostValue → List ExplanationValue → Option Location
+first_among lost rows = fold (λ first row. earlier first (first_sent lost row)) None rows
+
+abbrev pub last_among : List LostValue → List ExplanationValue → Option Location
+last_among lost rows = fold (λ last row. later last (last_sent lost row)) None rows
+
+-- where the silent participant of an event was asked first for an answer behind its last one, of any of these rows
+abbrev pub asked_among : EventKey → List ExplanationValue → Option Location
+asked_among key rows = fold (λ asked row. earlier asked (asked_in key row)) None rows
+
+-- the last datagram of the silent participant of an event; None of two participants
+abbrev pub heard_by : TalkValue → GuidPrefix → Option GuidPrefix → Option ℕ
+heard_by talk first None = silence_among talk.participants (participant_of first)
+heard_by talk first (Some second) = None
+
+abbrev pub heard_in : TalkValue → EventKey → Option ℕ
+heard_in talk key = heard_by talk key.first key.second
+
+-- an event: whose it is, the places of its rows, how many of their numbers are lost, where the first and the last of those that are sent are sent first, where
+-- the silent participant was asked first for an answer behind its last one, and its last datagram
+pub record EventValue : Type 0 where
+  pub key : EventKey
+  pub places : List ℕ
+  pub numbers : ℕ
+  pub first : Option Location
+  pub last : Option Location
+  pub asked : Option Location
+  pub heard : Option ℕ
+
+-- that of the code, as a value
+abbrev pub event_value : Event → EventValue
+event_value event =
+    record {
+      key = event.key;
+      places = event.places.items;
+      numbers = event.numbers;
+      first = event.first;
+      last = event.last;
+      asked = event.asked;
+      heard = event.heard;
+    }
+
+-- what is told of an event with these rows
+abbrev pub event_with : AskedValue → ReportValue → EventKey → List ExplanationValue → EventValue
+event_with asked report key rows =
+    record {
+      key = key;
+      places = map (λ row. row.place) rows;
+      numbers = sum_by (λ row. numbers_lost asked.from row.evidence) rows;
+      first = first_among (lost_of report) rows;
+      last = last_among (lost_of report) rows;
+      asked = asked_among key rows;
+      heard = heard_in report.talk key;
+    }
+
+-- an event of a report: its rows are all that belong to it
+abbrev pub event_of : AskedValue → ReportValue → EventKey → EventValue
+event_of asked report key = event_with asked report key (rows_with report.talk asked.tail (rows_of report) key)
+
+-- the events of a report, by their first rows
+abbrev pub events_in : AskedValue → ReportValue → List EventValue
+events_in asked report = map (event_of asked report) (keys_of report.talk asked.tail (rows_of report))
+
+-- an event before others that stand in their order: behind those that lost more
+abbrev pub placed : EventValue → List EventValue → List EventValue
+placed event [] = event ∷ []
+placed event (other ∷ others) = if nat_lt event.numbers other.numbers then other ∷ placed event others else event ∷ other ∷ others
+
+-- by their numbers, the most first; those with as many stay in their order
+abbrev pub worst_first : List EventValue → List EventValue
+worst_first [] = []
+worst_first (event ∷ events) = placed event (worst_first events)
+
+-- the events of a report: the one with most numbers first; those with as many stand by their first rows
+abbrev pub events_of : AskedValue → ReportValue → List EventValue
+events_of asked report = worst_first (events_in asked report)
+
+-- ---- the same of the code
+
+-- by first participants, octet by octet, and then by second ones, of which none stands first
+abbrev pub prefix_cmp : GuidPrefix → GuidPrefix → Ordering
+prefix_cmp one other = slice_cmp nat_cmp one.0 other.0
+
+abbrev pub key_cmp : EventKey → EventKey → Ordering
+key_cmp one other = ordering_then (prefix_cmp one.first other.first) (option_cmp prefix_cmp one.second other.second)
+
+-- rows that are borrowed, as values
+abbrev pub rows_value : List (Bor Explanation) → List ExplanationValue
+rows_value rows = map (λ row. explanation_value row.now) rows
+
+-- those that are kept of an event, if any are
+abbrev pub rows_in : Option (Vec (Bor Explanation)) → List ExplanationValue
+rows_in None = []
+rows_in (Some rows) = rows_value rows.items
+
+abbrev pub rows_at : BTreeMap EventKey (Vec (Bor Explanation)) → EventKey → List ExplanationValue
+rows_at kept key = rows_in (get key_cmp kept key)
+
+-- what is kept is of these rows: those of each event, and which events there are
+pub record AreEventRows (talk : TalkValue) (tail : ℕ) (rows : List ExplanationValue) (kept : EventRows) : Type 0 where
+  pub each : (key : EventKey) → rows_at kept.map key ≡ rows_with talk tail rows key
+  pub keys : kept.keys.items ≡ keys_of talk tail rows

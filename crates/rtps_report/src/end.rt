@@ -1,0 +1,91 @@
+ghost use Rattle.std.specs.Prelude.{◌≡◌, ◌++◌, ◌∷◌, [], IfOk, List, OnOk, map};
+ghost use Rattle.rtps_receiver.specs.Values.{ActValue};
+ghost use Rattle.rtps_audit.specs.Index.{IsIndexBy};
+ghost use Rattle.rtps_audit.specs.Intake.{Intake};
+ghost use Rattle.rtps_audit.specs.Placed.{placed_value};
+ghost use Rattle.rtps_who.specs.Introducing.{IsIntroducedBy};
+ghost use Rattle.rtps_who.specs.Recorded.{IsWhoIn};
+ghost use Rattle.rtps_who.specs.Telling.{IsToldBy};
+ghost use Rattle.rtps_report.specs.Ends.{acts_told};
+
+use rtps_audit::{Index, Placed};
+use rtps_discovery::Directory;
+use rtps_ids::Memory;
+use rtps_policies::Address;
+use rtps_who::{Introductions, Node, Process, ToldNodes, Who, tells_nodes};
+use std::alloc::Global;
+
+/// By what people know a writer, a reader or a participant.
+#[derive(Clone, Copy)]
+pub struct End<'a> {
+    /// Its node; of a participant the one that it has alone.
+    pub node: Option<Node<'a>>,
+    pub process: Process<'a>,
+    /// The address of its participant.
+    pub address: Option<Address>,
+}
+
+/// What acts announce of processes, of the writers that tell of nodes, and of parameter services.
+fn introductions_of<'a>(
+    alloc: Global,
+    announcements: &[Placed<'a>],
+) -> Result<Introductions<'a>, Memory>
+    ensures { IfOk result (IsIntroducedBy (map (λ placed. placed.act) (map placed_value announcements.now))) }
+{
+    let mut introductions = Introductions::new(alloc);
+    for placed in announcements {
+        introductions.note(&placed.act)?;
+    }
+    Ok(introductions)
+}
+
+/// Notes the nodes that the acts of a writer tell. After `Memory` what is kept is of no use.
+fn note_writer<'a>(
+    told: &mut ToldNodes<'a>,
+    introductions: &Introductions<'_>,
+    acts: &[Placed<'a>],
+) -> Result<(), Memory>
+    ensures { OnOk result ((announcing before : List ActValue) → IsIntroducedBy announcing introductions.now → IsToldBy announcing before told.old
+        → IsToldBy announcing (before ++ map (λ placed. placed.act) (map placed_value acts.now)) told.new) }
+{
+    for placed in acts {
+        told.note(introductions, &placed.act)?;
+    }
+    Ok(())
+}
+
+/// What the writers that tell of nodes tell, one writer after another.
+fn told_of<'a>(
+    alloc: Global,
+    introductions: &Introductions<'_>,
+    index: &Index<'a>,
+    directory: &Directory<'a>,
+) -> Result<ToldNodes<'a>, Memory>
+    ensures { IfOk result (λ told. (intake : Intake) (announcing : List ActValue) → IsIndexBy intake index.now → IsIntroducedBy announcing introductions.now
+        → IsToldBy announcing (acts_told intake directory.now.endpoints) told) }
+{
+    let mut told = ToldNodes::new(alloc);
+    for endpoint in &directory.endpoints()? {
+        if tells_nodes(endpoint) {
+            note_writer(&mut told, introductions, index.acts_of(endpoint.guid))?;
+        }
+    }
+    Ok(told)
+}
+
+/// By which names people know the ends of a recording: by its announcements, its index, and what it announces.
+pub(crate) fn who_of<'a>(
+    alloc: Global,
+    announcements: &[Placed<'a>],
+    index: &Index<'a>,
+    directory: &Directory<'a>,
+) -> Result<Who<'a>, Memory>
+    ensures { IfOk result (λ who. (intake : Intake) → IsIndexBy intake index.now → IsWhoIn (record { announcing = map (λ placed. placed.act) (map placed_value announcements.now); acts = acts_told intake directory.now.endpoints }) who) }
+{
+    let introductions = introductions_of(alloc, announcements)?;
+    let told = told_of(alloc, &introductions, index, directory)?;
+    Ok(Who {
+        introductions,
+        told,
+    })
+}

@@ -1,0 +1,129 @@
+ghost use Rattle.std.specs.Prelude.{ℕ, ◌≡◌, ◌++◌, ◌∷◌, [], if◌then◌else◌, IfOk, List, OnOk, Some, map};
+ghost use Rattle.rtps_evidence.specs.Explanation.{ExplanationValue as ExplanationValueOf, explanation_value};
+ghost use Rattle.rtps_report.specs.Events.{AreEventRows, is_key, key_by, noted_key as noted_key_lem, rows_at, rows_value};
+ghost use Rattle.rtps_report.specs.Talk.{TalkValue as TalkValueOf, talk_value};
+ghost use Rattle.rtps_report.specs.declared.event_rows.EventKey.{EventKey as EventKeyOf};
+
+use crate::row_facts::is_noted;
+use crate::silences::Silences;
+use crate::talk::Talk;
+use rtps_discovery::Pair;
+use rtps_evidence::Explanation;
+use rtps_ids::GuidPrefix;
+use std::alloc::{AllocError, Global};
+use std::collections::BTreeMap;
+
+/// The participants that the rows of an event share: one that is silent, alone; or the writer's, and then the reader's.
+#[derive(Clone, Copy, PartialEq, Eq, PartialOrd, Ord)]
+pub struct EventKey {
+    pub first: GuidPrefix,
+    pub second: Option<GuidPrefix>,
+}
+
+/// Rows that someone has to look at, by the event that they belong to.
+#[derive(Drop)]
+pub struct EventRows<'r, 'a> {
+    pub(crate) map: BTreeMap<EventKey, Vec<&'r Explanation<'a>>>,
+    /// Which events there are, by their first rows.
+    pub(crate) keys: Vec<EventKey>,
+    alloc: Global,
+}
+
+/// The event that a row of this pair belongs to, of which this participant or that one is silent.
+fn key_of(silences: Silences, pair: Pair) -> EventKey
+    ensures { result ≡ key_by silences pair }
+{
+    match (silences.reader, silences.writer) {
+        (Some(_), _) => EventKey {
+            first: pair.reader.prefix,
+            second: None,
+        },
+        (None, Some(_)) => EventKey {
+            first: pair.writer.prefix,
+            second: None,
+        },
+        (None, None) => EventKey {
+            first: pair.writer.prefix,
+            second: Some(pair.reader.prefix),
+        },
+    }
+}
+
+/// The event that a row belongs to; None of one that nobody has to look at.
+fn noted_key(talk: &Talk<'_>, tail: u64, row: &Explanation<'_>) -> Option<EventKey>
+    ensures { result ≡ noted_key_lem (talk_value talk.now) tail (explanation_value row.now) }
+{
+    let silences = talk.silences(row.pair);
+    if is_noted(tail, &row.evidence, silences) {
+        Some(key_of(silences, row.pair))
+    } else {
+        None
+    }
+}
+
+impl<'r, 'a> EventRows<'r, 'a> {
+    /// No rows.
+    fn none(alloc: Global) -> Self
+        ensures { (talk : TalkValueOf) (tail : ℕ) → AreEventRows talk tail [] result }
+    {
+        EventRows {
+            map: BTreeMap::new(alloc),
+            keys: Vec::new(alloc),
+            alloc,
+        }
+    }
+
+    /// Appends a row to those of its event. After an `Err` the rows are of no use.
+    fn append(&mut self, key: EventKey, row: &'r Explanation<'a>) -> Result<(), AllocError>
+        ensures rows { OnOk result ((other : EventKeyOf) → rows_at self.new.map other ≡ rows_at self.old.map other ++ (if is_key other key then explanation_value row.entry.now ∷ [] else [])) }
+        ensures keys { self.new.keys ≡ self.old.keys }
+    {
+        if let Some(found) = self.map.get_mut(&key) {
+            found.push(row)?;
+            return Ok(());
+        }
+        let mut rows = Vec::new(self.alloc);
+        rows.push(row)?;
+        self.map.insert(key, rows)?;
+        Ok(())
+    }
+
+    /// Appends a row to those of its event, which there may not be yet. After an `Err` the rows are of no use.
+    fn note(&mut self, key: EventKey, row: &'r Explanation<'a>) -> Result<(), AllocError>
+        ensures { OnOk result ((talk : TalkValueOf) (tail : ℕ) (rows : List ExplanationValueOf) → noted_key_lem talk tail (explanation_value row.entry.now) ≡ Some key
+            → AreEventRows talk tail rows self.old → AreEventRows talk tail (rows ++ explanation_value row.entry.now ∷ []) self.new) }
+    {
+        if self.rows(key).is_empty() {
+            self.keys.push(key)?;
+        }
+        self.append(key, row)
+    }
+
+    /// Those of these rows, in their order.
+    pub fn of(
+        alloc: Global,
+        talk: &Talk<'_>,
+        tail: u64,
+        rows: &'r [Explanation<'a>],
+    ) -> Result<Self, AllocError>
+        ensures { IfOk result (AreEventRows (talk_value talk.now) tail (map explanation_value rows.entry.now)) }
+    {
+        let mut found = EventRows::none(alloc);
+        for row in rows {
+            if let Some(key) = noted_key(talk, tail, row) {
+                found.note(key, row)?;
+            }
+        }
+        Ok(found)
+    }
+
+    /// Those of an event, in their order.
+    pub fn rows(&self, key: EventKey) -> &[&'r Explanation<'a>]
+        ensures { rows_value result.now ≡ rows_at self.now.map key }
+    {
+        match self.map.get(&key) {
+            Some(rows) => rows,
+            None => &[],
+        }
+    }
+}
