@@ -2,8 +2,8 @@
 
 - Best-effort pairs have numbers: they are counted, so the recording is not without a pair.
 - No datagram has a header of RTPS.
-- A participant speaks and is never announced, or its endpoints speak before it is. It speaks where its prefix is in a header, or is the source of an
-  act. Of its endpoints count those of users, which are not built in, and those that announce endpoints. So the recording began in the middle.
+- A participant speaks in an earlier datagram than the one in which it is announced, or is never announced. It speaks by acts whose source it is: those of
+  endpoints of users, which are not built in, and of those that announce endpoints. So the recording began in the middle.
 - No participant is announced.
 - All participants that are announced have one address. Where one of them, of Fast DDS, announces a locator of a kind from 16 on, the ends may use
   shared memory.
@@ -36,21 +36,17 @@ BUILT_IN = 0xc0     # these two bits of an entity's kind, which is its last octe
 
 
 def speaks_for_it(act):
-    """whether an act is one of an endpoint that speaks behind the announcement of its participant"""
+    """whether an act is one of an endpoint that does not speak before its participant is announced"""
     entity = act['reader'] if act['kind'] in ('acknack', 'nack_frag') else act['writer']
     return entity[3] & BUILT_IN != BUILT_IN or entity in DISCOVERY
 
 
 def unannounced(talk):
     """the participants that are never announced, or speak before they are"""
-    announced = {guid[:12]: place for guid, (place, *_) in talk.announced.participants.items() if guid[12:] == PARTICIPANT}
-    found = {prefix for prefix in talk.datagrams_by if prefix not in announced}
-    for i, acts in enumerate(talk.recording, 1):
-        for act in acts:
-            place = announced.get(act['source'])
-            if place is None or (i, act['at']) < place and speaks_for_it(act):
-                found.add(act['source'])
-    return found
+    announced = {guid[:12]: place[0] for guid, (place, *_) in talk.announced.participants.items() if guid[12:] == PARTICIPANT}
+    never = len(talk.recording) + 1
+    return {act['source'] for i, acts in enumerate(talk.recording, 1) for act in acts
+            if speaks_for_it(act) and i < announced.get(act['source'], never)}
 
 
 def began_late(talk):
