@@ -61,7 +61,6 @@ What is printed
 import json
 import os
 import random
-import subprocess
 import sys
 from importlib import import_module
 from itertools import islice
@@ -423,11 +422,11 @@ def compare(program, count, seed):
             asked.arrived = name
             want = report_module().answer(form, octets, asked)
             words = report_module().words_of(form) + asked.words()
-            got = subprocess.run(program.split() + words + ['-'], input=octets, capture_output=True)
-            if (got.stdout.decode(), got.stderr.decode().splitlines(), got.returncode) != want:
+            gave = reference.given_by(program, words, octets)
+            if gave != want:
                 differs = True
                 differing += 1
-                print(f"{' '.join(words)} differs on recording {k}, kept in {reference.kept(octets)}")
+                print(f"{' '.join(words)} differs on recording {k}, kept in {reference.kept(octets, '.rec', want, gave)}")
         if not differs:
             os.unlink(name)
     print(f'{count} recordings, {differing} differences')

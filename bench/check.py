@@ -1,8 +1,9 @@
 """The text of `rtps-audit check`, from a report: what a person and a test job ask of a recording.
 
 `check_lines` gives the lines, `because` the reasons for which the recording is not clean, and `ending` the last line. They are written from
-what is meant, and not from the program. The guide prints the table ADVICE. A report is that of `report.Report`: it has rows (`spans.Row`),
-who talks (`talk.Talk`), counts, what another recording shows (`arrived.BothSides`), where there is one, and what is asked.
+what is meant, and not from the program. ADVICE has what happened, what one sees of it, and what to do: so it stands in the guide, in another
+order. A report is that of `report.Report`: it has rows (`spans.Row`), who talks (`talk.Talk`), counts, what another recording shows
+(`arrived.BothSides`), where there is one, and what is asked.
 """
 import arrived
 import kinds
@@ -18,53 +19,53 @@ KINDS = 'received', 'arrived', 'missed', 'unsent', 'unanswered', 'likely', 'unco
 
 # name, verdict, what fits, what to do
 ADVICE = [
-    ('silent_reader', 'any', "the reader's participant is silent", "the reader's process ended without leaving, or was cut off: see what it did"),
-    ('silent_writer', 'any', "the writer's participant is silent", "the writer's process ended without leaving, or was cut off: see what it did"),
-    ('lost', 'complete, open', 'with `--arrived`: numbers that were sent are `not arrived`, and not only a tail',
+    ('silent_reader', 'a process ended', "the reader's participant is silent", "the reader's process ended without leaving, or was cut off: see what it did"),
+    ('silent_writer', 'a process ended', "the writer's participant is silent", "the writer's process ended without leaving, or was cut off: see what it did"),
+    ('lost', 'a link was down', 'with `--arrived`: numbers that were sent are `not arrived`, and not only a tail',
      "it was sent and did not reach the reader's host: look at the network; raise the history depth, so that the writer still has what is "
      'asked for again'),
-    ('missed_unsent', 'complete, open', '`missed` above 0, and no DATA or DATA_FRAG of the first one that the reader hears',
+    ('missed_unsent', 'the wrong side was recorded', '`missed` above 0, and no DATA or DATA_FRAG of the first one that the reader hears',
      "the reader asked for it and the recording has none: it was lost before this recording, or record at the writer's side"),
-    ('missed_again', 'complete, open', '`missed` above 0, the first one `sent again`',
+    ('missed_again', 'a link was down', '`missed` above 0, the first one `sent again`',
      "it was sent again, and nothing shows that it arrived: look at the network; a recording at the reader's side tells"),
-    ('missed_once', 'complete, open', '`missed` above 0, the first one not `sent again`',
+    ('missed_once', 'a link was down', '`missed` above 0, the first one not `sent again`',
      'the reader asked for it and the writer did not send it again: raise the history depth or the lifespan, and look at the network'),
-    ('unsent', 'complete', '`unsent` above 0',
+    ('unsent', 'the wrong side was recorded', '`unsent` above 0',
      "the recording has none for this reader: at the reader's side it was lost on the way; at the writer's side a content filter or a "
      'short history kept it back'),
-    ('unanswered', 'complete', '`unanswered` above 0',
+    ('unanswered', 'a link was down', '`unanswered` above 0',
      'it was asked about and gave no answer until the writer had dropped them: an outage of the network or of the reader; raise the '
      'history depth if these must not be lost'),
-    ('tail', 'open', 'only a tail',
+    ('tail', 'the recording ended early', '`open`, only a tail',
      'stop publishing some seconds before the recording ends, or allow a tail (--tail)'),
-    ('open_in_fragments', 'open', '`told nowhere`, and `fragments`, `pieces` or `cut` above 0',
+    ('open_in_fragments', 'the recording lacks something', '`open`, `told nowhere`, and `fragments`, `pieces` or `cut` above 0',
      'it may be in a fragment or frame that was not read: see below what to do for these'),
-    ('open_untold', 'open', '`told nowhere`',
+    ('open_untold', 'the wrong side was recorded', '`open`, `told nowhere`',
      "the recording does not have it: record at the writer's side, on the interface that it uses"),
-    ('left', 'open', '`acknowledged nothing`, `not asked since its last answer`, and the reader left',
+    ('left', 'a reader came late, or left', '`open`, `acknowledged nothing`, `not asked since its last answer`, and it left',
      'it was never asked, or its answers are not in the recording: see that it took anything'),
-    ('not_asked', 'open', '`not asked since its last answer`',
+    ('not_asked', 'the recording ended early', '`open`, `not asked since its last answer`',
      'the reader may have all: stop publishing, wait some seconds, and only then end the recording'),
-    ('just_asked', 'open', '`asked .. since its last answer`, first in the last second of the recording', 'record longer'),
-    ('never_answered', 'open', '`acknowledged nothing`',
+    ('just_asked', 'the recording ended early', '`open`, `asked .. since its last answer`, first in the last second of the recording', 'record longer'),
+    ('never_answered', 'a process ended', '`open`, `acknowledged nothing`, though it was asked',
      'the reader was asked and acknowledged nothing: see that it runs, and record both directions'),
-    ('silent', 'open', '`asked N times since its last answer`',
+    ('silent', 'a process ended', '`open`, `asked N times since its last answer`',
      'the reader was asked and did not answer: it ended, nothing reaches it, or its answers take another way'),
-    ('alike', 'conflict', 'two payloads of one kind with as many octets',
+    ('alike', 'two have one GUID', '`conflict`, two payloads of one kind with as many octets',
      'compare their octets: the writer makes a new payload to resend it, or two processes use one GUID'),
-    ('unlike', 'conflict', 'other payloads',
+    ('unlike', 'two have one GUID', '`conflict`, other payloads',
      'two processes use one GUID, as after a copied disk image or a restart; or the writer has a defect'),
-    ('relayed', 'unfounded', '`told` in the datagram of `claimed`',
+    ('relayed', 'the recording lacks something', '`unfounded`, `told` in the datagram of `claimed`',
      'the sample and the answer are in one datagram: a relay packed them, or the recording was changed'),
-    ('unfounded_in_fragments', 'unfounded', '`fragments`, `pieces` or `cut` above 0',
+    ('unfounded_in_fragments', 'the recording lacks something', '`unfounded`, and `fragments`, `pieces` or `cut` above 0',
      'it may be in a fragment or frame that was not read: see below what to do for these'),
-    ('late', 'unfounded', '`told` in a later datagram',
+    ('late', 'the recording lacks something', '`unfounded`, `told` in a later datagram',
      'the datagrams are out of order, or the copy that the reader received is not here: record on one host'),
-    ('unannounced', 'unfounded', '`told nowhere`, the number above `announced`',
+    ('unannounced', 'two have one GUID', '`unfounded`, `told nowhere`, the number above `announced`',
      'the reader acknowledged what nobody announced: it has a defect, or another writer had this GUID before'),
-    ('began_late', 'unfounded', '`told nowhere`, the number is `from`, and the reader did not join here',
+    ('began_late', 'the recording lacks something', '`unfounded`, `told nowhere`, the number is `from`, and the reader did not join here',
      'record from before the start of the participants'),
-    ('lacking', 'unfounded', '`told nowhere`',
+    ('lacking', 'the recording lacks something', '`unfounded`, `told nowhere`',
      'the recording lacks it: see how many packets tcpdump says it dropped, and switch off shared memory'),
 ]
 SENTENCES = {name: sentence for name, _, _, sentence in ADVICE}

@@ -12,7 +12,6 @@ has the members of `check --json`.
 """
 import os
 import random
-import subprocess
 import sys
 from importlib import import_module
 
@@ -186,15 +185,15 @@ def compare(program, count, seed):
     seen = dict.fromkeys(('"times":[[', '"wait":{', '"silence":["', '"arrived":', '"not_arrived":[', '"arrived":[{'), 0)
     for k in range(count):
         octets, asked = some_run(rng)
-        want, told, status = answer(octets, asked)
-        got = subprocess.run(program.split() + ['page', *asked.words(), '-'], input=octets, capture_output=True)
-        if (got.stdout.decode(), got.stderr.decode().splitlines(), got.returncode) != (want, told, status):
+        wanted = answer(octets, asked)
+        gave = reference.given_by(program, ['page', *asked.words()], octets)
+        if gave != wanted:
             differing += 1
-            print(f'page {" ".join(asked.words())} differs on recording {k}, kept in {reference.kept(octets)}')
+            print(f'page {" ".join(asked.words())} differs on recording {k}, kept in {reference.kept(octets, ".rec", wanted, gave)}')
         elif asked.arrived is not None:
             os.unlink(asked.arrived)
         for what in seen:
-            seen[what] += what in want
+            seen[what] += what in wanted[0]
     print(f'{count} recordings, {differing} differences; {seen}')
     return int(differing > 0)
 

@@ -1111,20 +1111,30 @@ def runs(count, seed):
     return int(differing > 0)
 
 
-def kept(text, suffix='.rec'):
+def kept(text, suffix='.rec', wanted=None, gave=None):
+    """the name of a file with these octets; where two answers differ they stand beside it, in NAME.wanted and NAME.got"""
     with tempfile.NamedTemporaryFile(delete=False, suffix=suffix) as f:
         f.write(text)
+    for what, answer in (('wanted', wanted), ('got', gave)) if wanted else ():
+        with open(f'{f.name}.{what}', 'w', encoding='utf-8') as g:
+            print(*answer, sep='\n', file=g)
     return f.name
+
+
+def given_by(program, words, octets):
+    """what the program gives: its text, its lines on standard error, its status"""
+    got = subprocess.run(program.split() + words + ['-'], input=octets, capture_output=True)
+    return got.stdout.decode(), got.stderr.decode().splitlines(), got.returncode
 
 
 def differs(program, octets, answer, where):
     """whether the program answers otherwise than the words, the text and the status say; it is told, and the recording is kept"""
     words, want, status = answer
-    got = subprocess.run(program.split() + words + ['-'], input=octets, capture_output=True)
-    if (got.stdout.decode(), got.returncode) == (want, status):
+    printed, _, ended = given_by(program, words, octets)
+    if (printed, ended) == (want, status):
         return False
     what, suffix = where
-    print(f"{' '.join(words)} differs on {what}, kept in {kept(octets, suffix)}")
+    print(f"{' '.join(words)} differs on {what}, kept in {kept(octets, suffix, (want, status), (printed, ended))}")
     return True
 
 
@@ -1143,11 +1153,11 @@ def answers(rng, text):
 
 
 def differing_in_answers(rng, program, text):
-    """the command lines whose answers differ from those of the program"""
-    for words, (want, told, status) in answers(rng, text):
-        got = subprocess.run(program.split() + words + ['-'], input=text, capture_output=True)
-        if (got.stdout.decode(), got.stderr.decode().splitlines(), got.returncode) != (want, told, status):
-            yield ' '.join(words)
+    """the command lines whose answers differ from those of the program, each with both"""
+    for words, wanted in answers(rng, text):
+        gave = given_by(program, words, text)
+        if gave != wanted:
+            yield ' '.join(words), wanted, gave
 
 
 def differing_in_runs(recording, w, r):
@@ -1175,10 +1185,10 @@ def compare(program, count, seed):
             kind = plain.split()[0]
             verdicts[kind] = verdicts.get(kind, 0) + 1
             fragmented += plain != judge([acts_of(d, True) for d in datagrams], w, r)
-            found += differing_in_runs(recording, w, r)
+            found += [(what, None, None) for what in differing_in_runs(recording, w, r)]
         differing += len(found)
-        for what in found:
-            print(f'{what} differs on recording {k}, kept in {kept(text)}')
+        for what, wanted, gave in found:
+            print(f"{what} differs on recording {k}, kept in {kept(text, '.rec', wanted, gave)}")
     print(f'{count} recordings, {differing} differences; verdicts {verdicts}, of which {fragmented} are others with fragments')
     return int(differing > 0)
 
@@ -1237,9 +1247,11 @@ def texts(program, count, seed):
         faulty += isinstance(found, str)
         for view in ('show', 'audit', 'json', 'why', 'check'):
             want, told, status = any_answer(view, text, PLAIN, limits)
-            if in_pieces(rng, program, [*words_of(view), *words, '-'], text) != (want, ''.join(line + '\n' for line in told), status):
+            wanted = want, ''.join(line + '\n' for line in told), status
+            gave = in_pieces(rng, program, [*words_of(view), *words, '-'], text)
+            if gave != wanted:
                 differing += 1
-                print(f'{view} of text {k} differs within {limits}, kept in {kept(text)}')
+                print(f"{view} of text {k} differs within {limits}, kept in {kept(text, '.rec', wanted, gave)}")
     print(f'{count} texts, {faulty} of them no recordings, {differing} differences')
     return int(differing > 0)
 
@@ -1267,10 +1279,10 @@ def captures(program, count, seed):
     for k in range(count):
         octets = some_capture(rng)
         for words, wanted in answers_of_capture(rng, octets):
-            got = subprocess.run(program.split() + words + ['-'], input=octets, capture_output=True)
-            if (got.stdout.decode(), got.stderr.decode().splitlines(), got.returncode) != wanted:
+            gave = given_by(program, words, octets)
+            if gave != wanted:
                 differing += 1
-                file = kept(octets, '.pcap')
+                file = kept(octets, '.pcap', wanted, gave)
                 print(f"{' '.join(words)} differs on capture {k}, kept in {file}", flush=True)
             refused += wanted[2] == 2
         for any_form in (False, True):

@@ -100,15 +100,28 @@ def names(tests, name, page):
             tests.holds(f'{name} names {path}', True, os.path.exists(os.path.join(ROOT, path)))
 
 
+def rows_of(page):
+    """the rows of the tables of a page, each as its cells; an empty first cell is that of the row above"""
+    rows = []
+    for line in page.splitlines():
+        cells = [cell.strip().strip('*') for cell in line.strip('|').split(' | ')] if line.startswith('| ') else []
+        rows += [[cells[0] or rows[-1][0], *cells[1:]]] if cells else []
+    return rows
+
+
 def advice(tests):
-    """what to do for a pair: the table of the guide is that of the second implementation, with the sentences of the definition"""
+    """what to do: the guide has each sentence behind what happened and what one sees of it, and the sentences are those of the definition"""
     sys.path.insert(0, os.path.join(ROOT, 'bench'))
-    from check import ADVICE
+    import check
     guide, definition = (file_of(*path).decode() for path in (('docs', 'GUIDE.md'), ('crates', 'rtps_report', 'specs', 'Advice.antt')))
-    rows = ''.join(f'| `{verdict}` | {fits} | {sentence} |\n' for _, verdict, fits, sentence in ADVICE)
-    tests.holds('the guide has the table of what to do', True, rows in guide)
+    rows = rows_of(guide)
+    for name, *row in check.ADVICE:
+        tests.holds(f'the guide tells what to do for {name}', True, row in rows)
+    for name, sentence in vars(check).items():
+        if name.startswith('NO_PAIR'):
+            tests.holds(f'the guide has the sentence {name}', True, any(sentence in cell for row in rows for cell in row))
     sentences = re.findall(r'^sentence_of .* = codes "(.*)"$', definition, re.MULTILINE)
-    tests.holds('the sentences are those of the definition', [sentence for *_, sentence in ADVICE], sentences)
+    tests.holds('the sentences are those of the definition', [sentence for *_, sentence in check.ADVICE], sentences)
 
 
 def main():

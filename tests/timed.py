@@ -1,6 +1,6 @@
 #!/usr/bin/env python3
-"""Tests what the program says of times: of captures in all units, of times that go back, of who is silent, and of how long a reader let
-its writer wait.
+"""Tests what the program says of times: of captures in all units, of times that go back, of who is silent, of how long a reader let its writer
+wait, and of what happened to several pairs.
 
     tests/timed.py [PROGRAM]
 
@@ -171,6 +171,8 @@ SAID = f'''0 of 1 pair is clean, 1 of 2 numbers received
 topic     pairs  clean  before  received  missed
 /chatter      1      0       0         1       1
 
+from participant {WRITER[:24]}.000001c1 to participant {READER[:24]}.000001c1, first sent at 0.700 s: 1 pair, 1 number
+
 /chatter std_msgs/msg/String
   writer {WRITER}
   reader {READER}, from 1
@@ -207,13 +209,14 @@ PLACES = (
     '"gone":{"by":"heartbeat","datagram":12,"at":20,"time":1.100}',
 )
 SENT = '"sent":{"datagram":8,"at":20,"time":0.700}'
-NO_SECOND = r', \d\.\d{3} s| \(\d\.\d{3} s\)'
+FIRST_AND_LAST = [SENT.replace('sent', name, 1) for name in ('first', 'last')]
+NO_SECOND = r', (first sent at )?\d\.\d{3} s| \(\d\.\d{3} s\)'
 
 
 def places(tests):
     octets = timed(lost(), STEADY)
     tests.says('each place', 'check', octets, SAID)
-    for name, view, words, more in (('each place', 'json', (), []), ('of check', 'check', ('--json',), [SENT])):
+    for name, view, words, more in (('each place', 'json', (), []), ('of check', 'check', ('--json',), [SENT, *FIRST_AND_LAST])):
         tests.says(name, view, octets, [*PLACES, *more], lambda text: re.findall(r'"\w+":{[^{}]*"at"[^{}]*}', text), words)
     tests.tells('the row', octets, r'"from":1,.*?"outcomes"|"clean":false,.*"advice":', '"from":1,"until":null,"until_time":null,"outcomes"',
                 f'"clean":false,"wait":null,"numbers":{{"missed":{{"ranges":[{{"first":2,"last":2,{SENT}}}],"more":0}}}},"silence":[],"advice":')
@@ -374,6 +377,7 @@ def leaving(topic):
     return b'RTPS\2\5\0\0' + topic.reader + b'\x15\2' + len(body).to_bytes(2, 'big') + body
 
 
+LAST_HEARD = 'participant {}.000001c1 was last heard at {} s, and did not leave: 1 pair'
 SILENT = "the {}'s participant is silent since datagram {}, {} s, and did not leave: it was killed, or cut off"
 
 
@@ -388,7 +392,7 @@ def silence(tests):
 
     acknowledged, number = 'acknowledged below 2 in datagram 7 at 36, 2.000 s', 'number 2 told by data in datagram 8 at 20, {} s'
     tests.checks('ten seconds', ending(at(12)))
-    tests.checks('a nanosecond more', ending(at(12, 1)), acknowledged, number.format('12.000'), SILENT.format('reader', 7, '2.000'), SEE.format('reader', '2.000'))
+    tests.checks('a nanosecond more', ending(at(12, 1)), LAST_HEARD.format(READER[:24], '2.000'), acknowledged, number.format('12.000'), SILENT.format('reader', 7, '2.000'), SEE.format('reader', '2.000'))
     tests.tells('ten seconds', ending(at(12)), r'"(?:first|last|left)_time":[^,]*,?|"silent":\w+|"silence":\[.*?\]', '"silence":[]',
                 '"first_time":0.000,', '"last_time":12.000,', '"left_time":null,', '"silent":false',
                 '"first_time":0.000,', '"last_time":2.000,', '"left_time":null,', '"silent":false')
@@ -403,12 +407,12 @@ def silence(tests):
     left = ending(at(30), leaving(topic))
     tests.checks('the reader left', left)
     tests.tells('the reader left', left, r'"until":8,"until_time":[^,]*|"left":8.*', '"until":8,"until_time":2.000',
-                '"left":8,"first_time":0.000,"last_time":2.000,"left_time":2.000,"silent":false}],"notes":[]}')
+                '"left":8,"first_time":0.000,"last_time":2.000,"left_time":2.000,"silent":false,"host":null,"process":null,"pid":null,"name":null,"enclave":null,"nodes":[]}],"events":[],"notes":[]}')
     lacking = [*TWO, *topic.announced, topic.sent(1), topic.asks(1, 1), topic.answers(1, 1), topic.resent(1), topic.asks(2, 1), leaving(topic), topic.sent(2)]
     tests.says('the reader left behind a miss', 'check', timed(lacking, [at(90)] * 10 + [at(140)]), [f'reader {READER}, from 1, left in datagram 10, 0.000 s'],
                lambda text: [line for line in of_times(text) if 'left' in line])
     writer = timed(begun + [topic.sent(2), topic.answers(2)], [at(90)] * 7 + [at(91), at(101, 1)])
-    tests.checks('the writer', writer, acknowledged.replace('2.000', '0.000'), number.format('1.000'), SILENT.format('writer', 8, '1.000'),
+    tests.checks('the writer', writer, LAST_HEARD.format(WRITER[:24], '1.000'), acknowledged.replace('2.000', '0.000'), number.format('1.000'), SILENT.format('writer', 8, '1.000'),
                  SEE.format('writer', '1.000'))
     both = timed(begun + [topic.sent(2), TWO[0][:8] + b'\3' * 12], [at(90)] * 6 + [at(91), at(92), at(103, 1)])
     tests.says('both', 'check', both, [SEE.format('reader', '1.000')], shared)
@@ -490,6 +494,170 @@ def silence_to_the_last_frame(tests):
         tests.says(name, 'check', octets, wanted, lambda text: re.findall(
             r"the (\w+)'s participant is silent since datagram (\d+, -?[0-9.]+) s", text))
     print('silence to the last frame: 4')
+
+
+# ---- what happened to several pairs
+
+def locator(octet):
+    return parameter(0x31, (1).to_bytes(4, 'big') + (7411).to_bytes(4, 'big') + bytes(12) + bytes([10, 0, 0, octet]))
+
+
+def properties(**named):
+    texts = [word + bytes(-len(word) % 4) for pair in named.items() for word in (text('__' + pair[0]), text(pair[1]))]
+    return parameter(0x59, len(named).to_bytes(4, 'big') + b''.join(texts))
+
+
+def text(word):
+    return (len(word) + 1).to_bytes(4, 'big') + word.encode() + b'\0'
+
+
+def heads(text):
+    """the heads of events"""
+    return [line for line in text.splitlines() if line.startswith('from ') or 'was last heard at' in line]
+
+
+class Robot:
+    """a process that sends three topics: two to a process that is killed, and one to a process of another host"""
+
+    def __init__(self, *hosts):
+        one, killed, other = self.processes = [Participant(octet) for octet in (1, 2, 3)]
+        self.first, self.second = (Topic(name, b'T', one, killed) for name in (b'rt/a', b'rt/b'))
+        self.third = Topic(b'rt/c', b'T', one, other)
+        self.start = [process.announced(*more) for process, more in zip(self.processes, hosts)]
+        self.start += [d for topic in (self.first, self.second, self.third) for d in topic.announced]
+
+    def killed(self, missed=2):
+        """the second process is last heard at 2 s. Number 2 of the first topic is asked about from 4 s on, and dropped; number 1 of the second topic
+        is asked about from 3.5 s on. The third process lacks some numbers of the third topic, and is there until the end"""
+        first, second, third = self.first, self.second, self.third
+        said = [(0.1, first.sent(1)), (0.2, third.sent(1)), (0.3, second.sent(1)), (1, first.asks(1, 1)), (2, first.answers(2)), (3, first.sent(2)),
+                (3.2, third.sent(2)), (3.5, second.asks(1, 1)), (4, first.asks(1, 2)), (5, first.asks(1, 2)), (5.5, third.asks(1, 2)),
+                (6, third.answers(1, *[1, 2][:missed])), (7, first.asks(3, 2)), (20, third.asks(1, 2)), (20.5, third.answers(1, *[1, 2][:missed]))]
+        return [at(50)] * len(self.start) + [at(50) + round(time * 1000) * MILLISECOND for time, _ in said], self.start + [d for _, d in said]
+
+
+NAMED = [[properties(Hostname='robot1', ProcessName='driver', Pid='4711'), locator(1)], [properties(Pid='12', Hostname='robot2')], [locator(3)]]
+ASKED = ' was last heard at 2.000 s, was asked from 3.500 s on, and did not leave: 2 pairs, 1 number'
+
+
+def events(tests):
+    times, datagrams = Robot(*NAMED).killed()
+    octets = timed(datagrams, times)
+    between = 'from process 4711 on robot1 to 10.0.0.3, first sent between 0.200 s and 3.200 s: 1 pair, 2 numbers'
+    silent = 'process 12 on robot2' + ASKED
+    tests.says('the worst first', 'check', octets, [between, silent], heads)
+    blocks = [between, '/c T', silent, '/a T', '/b T', '1 pair of participants talks one way']
+    tests.says('rows under their event', 'check', octets, blocks, lambda text: [part.split('\n')[0] for part in text.split('\n\n')[2:-1]])
+    ends = ['  writer driver (pid 4711 on robot1, 10.0.0.1) 010f01010101010101010101.00000303', '  reader 010f03030303030303030303.00000104 at 10.0.0.3, from 1',
+            '  writer driver (pid 4711 on robot1, 10.0.0.1) 010f01010101010101010101.00000103', '  reader (pid 12 on robot2) 010f02020202020202020202.00000104, from 1']
+    tests.says('ends', 'check', octets, ends, lambda text: re.findall('^  (?:writer|reader) .*', text, re.M)[:4])
+    values = ('"events":[{"event":"between","participants":["010f01010101010101010101.000001c1","010f03030303030303030303.000001c1"],"pairs":[2],"numbers":2,'
+              '"first":{"datagram":11,"at":20,"time":0.200},"last":{"datagram":16,"at":20,"time":3.200},"asked":null,"text":"%s"},'
+              '{"event":"silent","participants":["010f02020202020202020202.000001c1"],"pairs":[0,1],"numbers":1,"first":{"datagram":15,"at":20,"time":3.000},'
+              '"last":{"datagram":15,"at":20,"time":3.000},"asked":{"datagram":17,"at":20,"time":3.500},"text":"%s"}]') % (between, silent)
+    tests.tells('the worst first', octets, r'"events":.*\]', values + ',"notes":[]')
+    tests.says('the worst first', 'why', octets, [], heads)
+    # As many numbers: the first row decides.
+    times, datagrams = Robot(*NAMED).killed(missed=1)
+    tests.says('as many numbers', 'check', timed(datagrams, times), [silent, 'from process 4711 on robot1 to 10.0.0.3, first sent at 0.200 s: 1 pair, 1 number'], heads)
+    # By what is known of the two.
+    hosts = {
+        'an address': ([locator(2)], '10.0.0.2'), 'a process and an address': ([properties(Pid='7'), locator(2)], 'process 7 at 10.0.0.2'),
+        'a process': ([properties(Pid='7')], 'process 7'), 'a host alone': ([properties(Hostname='robot2')], 'participant 010f02020202020202020202.000001c1'),
+        'a host and an address': ([properties(Hostname='robot2'), locator(2)], '10.0.0.2'),
+        'a process of both stacks': ([properties(Pid='7', Hostname='a"b'), locator(2)], 'process 7 on a\\x22b'),
+    }
+    for name, (parameters, wanted) in hosts.items():
+        times, datagrams = Robot(NAMED[0], parameters, NAMED[2]).killed()
+        tests.says(name, 'check', timed(datagrams, times), [between, wanted + ASKED], heads)
+    # Where a sending or a question has no time, nothing is said of when it was.
+    times, datagrams = Robot(*NAMED).killed()
+    no_time = lambda at: section() + interface(options=told(9, 9)) + b''.join(
+        simple(packet(d)) if k == at else enhanced(packet(d), time=time) for k, (time, d) in enumerate(zip(times, datagrams), 1))
+    tests.says('a sending without a time', 'check', no_time(16), ['from process 4711 on robot1 to 10.0.0.3: 1 pair, 2 numbers', silent], heads)
+    tests.says('a question without a time', 'check', no_time(17), [between, silent.replace(', was asked from 3.500 s on', '')], heads)
+    # In a text nobody is silent.
+    tests.says('a text', 'check', text_of(datagrams), ['from process 4711 on robot1 to 10.0.0.3: 1 pair, 2 numbers',
+                                                       'from process 4711 on robot1 to process 12 on robot2: 2 pairs, 1 number'], heads)
+    print(f'what happened: {len(hosts) + 9}')
+
+
+SILENT_READER = 'participant 010f02020202020202020202.000001c1'
+
+
+def silent_events(tests):
+    """the reader is last heard at 2 s; the writer sends number 2 at 3 s, asks for an answer at 4 s and 5 s, and sends number 3 at 20 s"""
+    topic = pair()
+    begun = [*topic.announced, topic.sent(1), topic.asks(1, 1)]
+    asks, final = topic.asks(1, 2), topic.asks(1, 2)[:21] + b'\2' + topic.asks(1, 2)[22:]
+    nothing = topic.answers(1)[:20]
+
+    def ending(*asked):
+        last = [topic.sent(2), *asked, topic.sent(3)]
+        datagrams = [ONE.announced(), OTHER.announced(), *begun, topic.answers(2), *last]
+        return timed(datagrams, [at(50)] * 6 + [at(52), at(53), *(at(54 + k) for k in range(len(asked))), at(70)])
+
+    end = ', and did not leave: 1 pair'
+    rows = {
+        'asked': (ending(asks, asks), f'{SILENT_READER} was last heard at 2.000 s, was asked from 4.000 s on{end}'),
+        'asked with the final flag first': (ending(final, asks), f'{SILENT_READER} was last heard at 2.000 s, was asked from 5.000 s on{end}'),
+        'asked with the final flag alone': (ending(final), f'{SILENT_READER} was last heard at 2.000 s{end}'),
+        'asked before its last answer alone': (ending(), f'{SILENT_READER} was last heard at 2.000 s{end}'),
+        'heard behind its last answer': (ending(asks, nothing), f'{SILENT_READER} was last heard at 5.000 s, was asked from 4.000 s on{end}'),
+    }
+    for name, (octets, wanted) in rows.items():
+        tests.says(name, 'check', octets, [wanted], heads)
+        tests.tells(name, octets, r'"event":.*?"text":"(.*?)"', wanted)
+    tests.tells('asked', rows['asked'][0], r'"event":.*?"text"',
+                '"event":"silent","participants":["010f02020202020202020202.000001c1"],"pairs":[0],"numbers":0,"first":null,"last":null,'
+                '"asked":{"datagram":9,"at":20,"time":4.000},"text"')
+    print(f'silent events: {2 * len(rows) + 1}')
+
+
+def events_of_pairs(tests):
+    """two readers of one participant, and one of another one, each lack numbers of one writer; one of the former is silent in some recordings"""
+    one, two, other = Participant(1), Participant(2), Participant(3)
+    odom, scan = Topic(b'rt/odom', b'Odom', one, two), Topic(b'rt/scan', b'Scan', one, two)
+    third = Topic(b'rt/map', b'Map', one, other)
+    known = [p.announced(locator(p.prefix[2])) for p in (one, two, other)]
+    topics = odom, scan, third
+    begun = [*known, *(d for topic in topics for d in topic.announced)]
+    sent = [topic.sent(n) for n in range(1, 5) for topic in topics]
+
+    def ending(*answers, more=()):
+        """a datagram each 100 ms: what is announced, numbers 1 to 4 of each topic, and answers"""
+        datagrams = [*begun, *sent, *answers]
+        return timed([*datagrams, *more], [at(50) + 100 * MILLISECOND * k for k in range(len(datagrams))] + [at(80)] * len(more))
+
+    # Of number n of topic k the datagram is the (9 + 3 * (n - 1) + k + 1)th, at 0.1 * (9 + 3 * (n - 1) + k) s.
+    few = odom.answers(4, 4), scan.answers(3, 3, 4), third.answers(3, 3)
+    many = odom.answers(4, 4), scan.answers(4, 4), third.answers(2, 2, 3, 4)
+    both = odom.answers(4, 4), scan.answers(5), third.answers(4, 4)
+    rows = {
+        'more of the first': (ending(*few), ['from 10.0.0.1 to 10.0.0.2, first sent between 1.600 s and 1.900 s: 2 pairs, 3 numbers',
+                                             'from 10.0.0.1 to 10.0.0.3, first sent at 1.700 s: 1 pair, 1 number']),
+        'more of the second': (ending(*many), ['from 10.0.0.1 to 10.0.0.3, first sent between 1.400 s and 2.000 s: 1 pair, 3 numbers',
+                                               'from 10.0.0.1 to 10.0.0.2, first sent between 1.800 s and 1.900 s: 2 pairs, 2 numbers']),
+        'as many': (ending(*both), ['from 10.0.0.1 to 10.0.0.2, first sent at 1.800 s: 1 pair, 1 number',
+                                    'from 10.0.0.1 to 10.0.0.3, first sent at 2.000 s: 1 pair, 1 number']),
+        'the first is silent': (ending(*few, more=[third.sent(5), third.answers(4)[:20]]),
+                                ['10.0.0.2 was last heard at 2.200 s, and did not leave: 2 pairs, 3 numbers',
+                                 'from 10.0.0.1 to 10.0.0.3, first sent at 1.700 s: 1 pair, 1 number']),
+        'the writer is silent': (ending(*few, more=[odom.answers(1)[:20], third.answers(1)[:20]]),
+                                 ['10.0.0.1 was last heard at 2.000 s, and did not leave: 3 pairs, 4 numbers']),
+        'the writer is silent, and the second reader': (ending(*few, more=[odom.answers(1)[:20]]),
+                                                        ['10.0.0.1 was last heard at 2.000 s, and did not leave: 2 pairs, 3 numbers',
+                                                         '10.0.0.3 was last heard at 2.300 s, and did not leave: 1 pair, 1 number']),
+    }
+    for name, (octets, wanted) in rows.items():
+        tests.says(name, 'check', octets, wanted, heads)
+        tests.tells(name, octets, r'"text":"(.*?)"', *wanted)
+    tests.tells('more of the second', rows['more of the second'][0], r'"event":.*?"text"',
+                '"event":"between","participants":["010f01010101010101010101.000001c1","010f03030303030303030303.000001c1"],"pairs":[2],"numbers":3,'
+                '"first":{"datagram":15,"at":20,"time":1.400},"last":{"datagram":21,"at":20,"time":2.000},"asked":null,"text"',
+                '"event":"between","participants":["010f01010101010101010101.000001c1","010f02020202020202020202.000001c1"],"pairs":[0,1],"numbers":2,'
+                '"first":{"datagram":19,"at":20,"time":1.800},"last":{"datagram":20,"at":20,"time":1.900},"asked":null,"text"')
+    print(f'events of pairs: {2 * len(rows) + 1}')
 
 
 # ---- outages: what is told gone soon was none
@@ -589,8 +757,8 @@ def main():
     if len(sys.argv) > 2:
         raise SystemExit(__doc__)
     tests = Timed(sys.argv[1] if len(sys.argv) == 2 else None)
-    for group in (units, places, frames, page_data, going_back, waiting, silence, silence_by_headers, silence_by_leases, silence_to_the_last_frame, outages,
-                  asked_at_the_end, given_twice):
+    for group in (units, places, frames, page_data, going_back, waiting, silence, silence_by_headers, silence_by_leases, silence_to_the_last_frame, events, silent_events,
+                  events_of_pairs, outages, asked_at_the_end, given_twice):
         group(tests)
     return tests.told()
 

@@ -2,6 +2,4 @@ mod AppendLemmas
 mod ArrivedLemmas
 mod HostLemmas
 mod OneWayLemmas
-mod OrderLemmas
-mod SortLemmas
 mod UnmatchedLemmas

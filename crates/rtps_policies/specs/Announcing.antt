@@ -1,7 +1,7 @@
 -- What acts announce of policies and of hosts. DDSI-RTPS 2.5, 8.5 "Discovery Module". own: of the announcements of a GUID the first one
 -- without a fault counts, whatever its source and destination. A later one may change a policy, and no recording shows which of them another
 -- participant got.
-use Rattle.std.specs.Prelude.{ℕ, ◌≡◌, List, [], Option, Some, None, unwrap_or}
+use Rattle.std.specs.Prelude.{ℕ, ◌≡◌, false, List, [], Option, Some, None, unwrap_or}
 use Rattle.std.specs.BTreeMap.{is_at}
 use Rattle.std.specs.List.{filter_map}
 use Rattle.std.specs.Map.{lookup}
@@ -35,7 +35,7 @@ policies_by (Some fields) = policies_in fields
 
 -- what is unknown of a host
 abbrev pub unknown_host : Host
-unknown_host = record { domain = None; address = None; lease = DEFAULT }
+unknown_host = record { domain = None; address = None; lease = DEFAULT; shares_memory = false }
 
 -- what the fields of a payload announce of a host
 abbrev pub host_by : Option Fields → Host

@@ -1,20 +1,24 @@
 -- Where a participant is, and its lease, by the parameters that announce it. DDSI-RTPS 2.5, 8.5.3.2 "SPDPdiscoveredParticipantData", 9.6.3, and
 -- 9.3.2 ("Locator_t": kind, port, and an address of sixteen octets, of which the last four are one of IPv4). own: the domain and the kind of a
--- locator are read without a sign, since no domain, and no kind that is read, is below 0.
-use Rattle.std.specs.Prelude.{ℕ, ◌==◌, Bool, true, false, if◌then◌else◌, List, Option, Some, None, drop, find, length, nat_lt, not, option_and_then, take, unwrap_or}
-use Rattle.std.specs.List.{filter_map}
+-- locator are read without a sign, since no domain, and no kind that is read, is below 0. own: Fast DDS has kinds of its own, from 16 on, for the memory
+-- that processes of one host share.
+use Rattle.std.specs.Prelude.{ℕ, ◌==◌, ◌&&◌, ◌||◌, ◌^◌, Bool, true, false, if◌then◌else◌, List, Option, Some, None, drop, find, length, nat_le, nat_lt, not, option_and_then, take, unwrap_or}
+use Rattle.std.specs.List.{filter_map, list_any}
 use Rattle.std.specs.Option.{option_or}
+use Rattle.rtps_ids.specs.Octets.{number_of}
 use Rattle.rtps_ids.specs.declared.order.Order.{Order}
 use Rattle.rtps_params.specs.Grammar.{Pairs}
 use Rattle.rtps_params.specs.Values.{u32_of}
 use Rattle.rtps_discovery.specs.Announcement.{Fields, field}
+use Rattle.rtps_policies.specs.Domains.{domain_in}
 use Rattle.rtps_policies.specs.Durations.{duration_at, nanoseconds_in}
+use Rattle.rtps_policies.specs.Vendors.{is_of_fast}
 use Rattle.rtps_policies.specs.declared.host.Address.{Address}
 use Rattle.rtps_policies.specs.declared.host.Address.TheVariants.{V4, V6}
 use Rattle.rtps_policies.specs.declared.host.Host.{Host}
 use Rattle.rtps_policies.specs.declared.layout.lease.TheConstants as lease
 use Rattle.rtps_policies.specs.declared.layout.locator.TheConstants as locator
-use Rattle.rtps_policies.specs.declared.layout.pid.TheConstants.{DEFAULT_UNICAST_LOCATOR, DOMAIN_ID, PARTICIPANT_LEASE_DURATION}
+use Rattle.rtps_policies.specs.declared.layout.pid.TheConstants.{DEFAULT_UNICAST_LOCATOR, METATRAFFIC_UNICAST_LOCATOR, PARTICIPANT_LEASE_DURATION}
 
 -- the address of a kind of locator
 abbrev pub address_of_kind : ℕ → List ℕ → Option Address
@@ -49,15 +53,32 @@ addresses_in order pairs = filter_map (address_by order) pairs
 abbrev pub address_in : Fields → Option Address
 address_in fields = best_of (addresses_in fields.order fields.pairs)
 
--- the domain that a participant announces (8.5.3.2 "domainId")
-abbrev pub domain_in : Fields → Option ℕ
-domain_in fields = option_and_then (u32_of fields.order) (field DOMAIN_ID fields)
-
 -- the lease that a participant announces (8.5.3.2 "leaseDuration"), in nanoseconds. own: one below 0 is as if none is announced
 abbrev pub lease_in : Fields → ℕ
 lease_in fields =
     unwrap_or (option_and_then nanoseconds_in (option_and_then (λ value. duration_at fields.order value 0) (field PARTICIPANT_LEASE_DURATION fields))) lease.DEFAULT
 
+-- a kind of locator is one of memory: 16 or above, and not below 0
+abbrev pub is_kind_of_memory : ℕ → Bool
+is_kind_of_memory kind = nat_le locator.MEMORY kind && nat_lt kind (2 ^ 31)
+
+-- a locator is one of memory
+abbrev pub is_memory : Order → List ℕ → Bool
+is_memory order value = nat_le locator.SIZE (length value) && is_kind_of_memory (number_of order 4 value)
+
+-- a parameter announces a unicast locator, for discovery or for all else
+abbrev pub is_unicast : ℕ → Bool
+is_unicast pid = (pid == DEFAULT_UNICAST_LOCATOR) || (pid == METATRAFFIC_UNICAST_LOCATOR)
+
+-- it announces one of memory
+abbrev pub announces_memory : Order → ℕ × List ℕ → Bool
+announces_memory order pair = is_unicast pair.0 && is_memory order pair.1
+
+-- a participant is of Fast DDS, and announces that it shares memory
+abbrev pub shares_memory_in : Fields → Bool
+shares_memory_in fields = is_of_fast fields && list_any (announces_memory fields.order) fields.pairs
+
 -- what a participant announces of where it is, and of its lease
 abbrev pub host_in : Fields → Host
-host_in fields = record { domain = domain_in fields; address = address_in fields; lease = lease_in fields }
+host_in fields =
+    record { domain = domain_in fields; address = address_in fields; lease = lease_in fields; shares_memory = shares_memory_in fields }

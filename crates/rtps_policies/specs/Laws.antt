@@ -1,10 +1,11 @@
--- What the tests of patterns, policies and reasons say, and what is listed as unmatched. own: what a reader of the definitions would ask
+-- What the tests of patterns, policies and reasons say, which domain a port tells, and what is listed as unmatched. own: what a reader of the definitions would ask
 -- of them.
-use Rattle.std.specs.Prelude.{ℕ, ◌≡◌, ◌↔◌, List, [], Contains, map, true}
+use Rattle.std.specs.Prelude.{ℕ, ◌≡◌, ◌↔◌, List, [], Contains, Some, map, true}
 use Rattle.std.specs.List.Sorted.{IsStrictlySortedBy}
 use Rattle.rtps_receiver.specs.Values.{ActValue}
 use Rattle.rtps_discovery.specs.Directory.{DirectoryValue, IsMapOf, settled_in}
 use Rattle.rtps_discovery.specs.Listings.{pair_cmp}
+use Rattle.rtps_policies.specs.Domains.{IsFirstPortOf, IsPortOf, domain_from, domain_with}
 use Rattle.rtps_policies.specs.Fitting.{ProfileValue, Suits, reasons, suits}
 use Rattle.rtps_policies.specs.NamePatterns.{Fits, NamesFit, fits, names_fit}
 use Rattle.rtps_policies.specs.Unmatched.{IsUnmatched, UnmatchedValue, pair_of, unmatched_among}
@@ -39,3 +40,11 @@ UnmatchedAreListed =
 abbrev pub UnmatchedAreInOrder : Type 0
 UnmatchedAreInOrder =
     (acts : List ActValue) (directory : DirectoryValue) → IsMapOf acts directory → IsStrictlySortedBy pair_cmp (map pair_of (unmatched_among acts (settled_in directory.endpoints)))
+
+-- the ports of a domain are found to begin with a port exactly where they do
+abbrev pub FirstPortTellsDomain : Type 0
+FirstPortTellsDomain = (domain port : ℕ) → (domain_from port ≡ Some domain) ↔ IsFirstPortOf domain port
+
+-- a port is found to be among those of a domain exactly where it is
+abbrev pub PortTellsDomain : Type 0
+PortTellsDomain = (domain port : ℕ) → (domain_with port ≡ Some domain) ↔ IsPortOf domain port

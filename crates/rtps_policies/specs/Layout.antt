@@ -2,6 +2,7 @@
 -- here and in `layout`. DDSI-RTPS 2.5, 9.6.3; XTypes 1.3, 7.6.3.1.1; DDS 1.4, 2.2.3.
 use Rattle.std.specs.Prelude.{◌≡◌, ◌*◌, ◌^◌, [], ◌∷◌}
 use Rattle.rtps_policies.specs.declared.layout.destination_order.TheConstants as destination_order
+use Rattle.rtps_policies.specs.declared.layout.discovery_port.TheConstants as discovery_port
 use Rattle.rtps_policies.specs.declared.layout.entity.TheConstants as entity
 use Rattle.rtps_policies.specs.declared.layout.header.TheConstants as header
 use Rattle.rtps_policies.specs.declared.layout.lease.TheConstants as lease
@@ -13,13 +14,15 @@ use Rattle.rtps_policies.specs.declared.layout.pid.TheConstants as pid
 use Rattle.rtps_policies.specs.declared.layout.presentation.TheConstants as presentation
 use Rattle.rtps_policies.specs.declared.layout.representation.TheConstants as representation
 use Rattle.rtps_policies.specs.declared.layout.sequence.TheConstants as sequence
+use Rattle.rtps_policies.specs.declared.layout.vendor.TheConstants as vendor
 
 -- the ids of the parameters that are read (DDSI-RTPS 2.5, 9.6.3; XTypes 1.3, 7.6.3.1.1)
 abbrev pub pid_is : Type 0
 pid_is =
     (pid.PARTICIPANT_LEASE_DURATION ≡ 0x0002) × (pid.DOMAIN_ID ≡ 0x000f) × (pid.LIVELINESS ≡ 0x001b) × (pid.OWNERSHIP ≡ 0x001f) × (pid.PRESENTATION ≡ 0x0021)
     × (pid.DEADLINE ≡ 0x0023) × (pid.DESTINATION_ORDER ≡ 0x0025) × (pid.LATENCY_BUDGET ≡ 0x0027) × (pid.PARTITION ≡ 0x0029)
-    × (pid.DEFAULT_UNICAST_LOCATOR ≡ 0x0031) × (pid.DATA_REPRESENTATION ≡ 0x0073)
+    × (pid.DEFAULT_UNICAST_LOCATOR ≡ 0x0031) × (pid.METATRAFFIC_UNICAST_LOCATOR ≡ 0x0032) × (pid.METATRAFFIC_MULTICAST_LOCATOR ≡ 0x0033)
+    × (pid.VENDOR_ID ≡ 0x0016) × (pid.DATA_REPRESENTATION ≡ 0x0073)
 
 -- the kinds of liveliness (DDS 1.4, 2.2.3.11), and the offset of the lease
 abbrev pub liveliness_is : Type 0
@@ -66,7 +69,16 @@ entity_is = (entity.PARTICIPANT.0 ≡ 0x00 ∷ 0x00 ∷ 0x01 ∷ 0xc1 ∷ []) ×
 abbrev pub lease_is : Type 0
 lease_is = lease.DEFAULT ≡ 100 * 10 ^ 9
 
--- locators (DDSI-RTPS 2.5, 9.3.2)
+-- locators (DDSI-RTPS 2.5, 9.3.2; own: the least kind of memory)
 abbrev pub locator_is : Type 0
 locator_is =
-    (locator.SIZE ≡ 24) × (locator.UDP_V4 ≡ 1) × (locator.UDP_V6 ≡ 2) × (locator.ADDRESS ≡ 8) × (locator.V4_ADDRESS ≡ 20)
+    (locator.SIZE ≡ 24) × (locator.UDP_V4 ≡ 1) × (locator.UDP_V6 ≡ 2) × (locator.MEMORY ≡ 16) × (locator.BELOW_ZERO ≡ 2 ^ 31) × (locator.PORT ≡ 4)
+    × (locator.ADDRESS ≡ 8) × (locator.V4_ADDRESS ≡ 20)
+
+-- the ports for discovery (DDSI-RTPS 2.5, 9.6)
+abbrev pub discovery_port_is : Type 0
+discovery_port_is = (discovery_port.BASE ≡ 7400) × (discovery_port.GAIN ≡ 250)
+
+-- vendors (DDSI-RTPS 2.5, 8.3.3.1.3)
+abbrev pub vendor_is : Type 0
+vendor_is = vendor.FAST_DDS ≡ 0x01 ∷ 0x0f ∷ []

@@ -9,6 +9,8 @@ pub mod Views
 pub mod Policies
 pub mod Fitting
 pub mod Ranks
+pub mod Vendors
+pub mod Domains
 pub mod Hosts
 pub mod Announcing
 pub mod Told

@@ -1,11 +1,14 @@
 ghost use Rattle.std.specs.Prelude.{◌≡◌, Some};
+ghost use Rattle.std.specs.List.{list_any};
 ghost use Rattle.std.specs.Fmt.{WritesOnOk};
 ghost use Rattle.rtps_discovery.specs.Fields.{fields_value};
 ghost use Rattle.rtps_policies.specs.AddressText.{address_text, groups_of, groups_text};
-ghost use Rattle.rtps_policies.specs.Hosts.{address_by, address_in as address_in_lem, address_of, domain_in as domain_in_lem, host_in, is_v4, lease_in as lease_in_lem};
+ghost use Rattle.rtps_policies.specs.Hosts.{address_by, address_in as address_in_lem, address_of, announces_memory as announces_memory_lem, host_in, is_memory as is_memory_lem, is_v4, lease_in as lease_in_lem};
 
+use crate::domain::domain_in;
 use crate::duration::duration_at;
 use crate::layout::{lease, locator, pid};
+use crate::vendor::is_of_fast;
 use rtps_ids::Order;
 use rtps_params::{ParamList, read_u32};
 use std::fmt;
@@ -57,12 +60,14 @@ fn write_groups<W: fmt::Write>(octets: &[u8], f: &mut fmt::Formatter<W>) -> fmt:
 /// What a participant announces of where it is, and of its lease (DDSI-RTPS 2.5, 8.5.3.2 "SPDPdiscoveredParticipantData").
 #[derive(Clone, Copy)]
 pub struct Host {
-    /// Its domain.
+    /// Its domain: the one that it announces, or else the one that its ports tell.
     pub domain: Option<u32>,
     /// Its first default unicast locator of IPv4, or else its first one of IPv6.
     pub address: Option<Address>,
     /// Its lease, in nanoseconds; 100 s where it announces none. It is taken to be there for so long when nothing of it comes.
     pub lease: u64,
+    /// Whether it is of Fast DDS, and announces that it shares memory with processes of its host.
+    pub shares_memory: bool,
 }
 
 impl Host {
@@ -71,6 +76,7 @@ impl Host {
         domain: None,
         address: None,
         lease: lease::DEFAULT,
+        shares_memory: false,
     };
 
     /// What a parameter list announces.
@@ -81,16 +87,9 @@ impl Host {
             domain: domain_in(list),
             address: address_in(list),
             lease: lease_in(list),
+            shares_memory: is_of_fast(list) && announces_memory_in(list),
         }
     }
-}
-
-/// The domain in a list.
-fn domain_in(list: &ParamList<'_>) -> Option<u32>
-    ensures { result ≡ domain_in_lem (fields_value list.now) }
-{
-    let value = list.first(pid::DOMAIN_ID)?;
-    read_u32(value, list.order())
 }
 
 /// The lease in a list, in nanoseconds.
@@ -151,4 +150,37 @@ fn address_in(list: &ParamList<'_>) -> Option<Address>
         }
     }
     found
+}
+
+/// Whether a locator is one of memory; false if it is cut.
+fn is_memory(value: &[u8], order: Order) -> bool
+    ensures { result ≡ is_memory_lem order value.now }
+{
+    if value.len() < locator::SIZE {
+        return false;
+    }
+    match read_u32(value, order) {
+        Some(kind) => locator::MEMORY <= kind && kind < locator::BELOW_ZERO,
+        None => false,
+    }
+}
+
+/// Whether a parameter announces a unicast locator of memory.
+fn announces_memory(pid: u16, value: &[u8], order: Order) -> bool
+    ensures { result ≡ announces_memory_lem order (pid, value.now) }
+{
+    (pid == pid::DEFAULT_UNICAST_LOCATOR || pid == pid::METATRAFFIC_UNICAST_LOCATOR)
+        && is_memory(value, order)
+}
+
+/// Whether a list announces a unicast locator of memory.
+fn announces_memory_in(list: &ParamList<'_>) -> bool
+    ensures { result ≡ list_any (announces_memory_lem (fields_value list.now).order) (fields_value list.now).pairs }
+{
+    for (pid, value) in list.params() {
+        if announces_memory(pid, value, list.order()) {
+            return true;
+        }
+    }
+    false
 }

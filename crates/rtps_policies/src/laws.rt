@@ -1,7 +1,7 @@
 //! Laws of the definitions. Each is the contract of a function that does nothing.
 
-ghost use Rattle.rtps_policies.specs.Laws.{FitsWhereNoReason, NamesFitAsTested, PatternsFitAsTested, ReasonsDoNotSuit, SuitsAsTested, UnmatchedAreInOrder, UnmatchedAreListed};
-ghost use Rattle.rtps_policies.specs.Layout.{destination_order_is, entity_is, header_is, lease_is, liveliness_is, locator_is, ownership_is, pattern_is, pid_is, presentation_is, representation_is, sequence_is};
+ghost use Rattle.rtps_policies.specs.Laws.{FirstPortTellsDomain, FitsWhereNoReason, NamesFitAsTested, PatternsFitAsTested, PortTellsDomain, ReasonsDoNotSuit, SuitsAsTested, UnmatchedAreInOrder, UnmatchedAreListed};
+ghost use Rattle.rtps_policies.specs.Layout.{destination_order_is, discovery_port_is, entity_is, header_is, lease_is, liveliness_is, locator_is, ownership_is, pattern_is, pid_is, presentation_is, representation_is, sequence_is, vendor_is};
 
 use rtps_discovery::laws::{in_order, settled_and_unsettled};
 
@@ -21,6 +21,12 @@ pub fn policies_suit_as_tested()
 pub fn reasons_are_what_does_not_suit()
     ensures each { ReasonsDoNotSuit }
     ensures none { FitsWhereNoReason }
+{}
+
+/// A port tells a domain exactly where it is the first one of that domain's ports; and exactly where it is one of them.
+pub fn ports_tell_domains()
+    ensures first { FirstPortTellsDomain }
+    ensures any { PortTellsDomain }
 {}
 
 /// A pair is listed as unmatched if and only if it is a settled writer and a settled reader of one topic that are not in two
@@ -52,4 +58,6 @@ pub fn layout_is_that_of_the_standard()
     ensures entity { entity_is }
     ensures lease { lease_is }
     ensures locator { locator_is }
+    ensures discovery_port { discovery_port_is }
+    ensures vendor { vendor_is }
 {}

@@ -6,6 +6,8 @@ pub(crate) mod pid {
 
     pub(crate) const DOMAIN_ID: u16 = 0x000f;
 
+    pub(crate) const VENDOR_ID: u16 = 0x0016;
+
     pub(crate) const LIVELINESS: u16 = 0x001b;
 
     pub(crate) const OWNERSHIP: u16 = 0x001f;
@@ -21,6 +23,10 @@ pub(crate) mod pid {
     pub(crate) const PARTITION: u16 = 0x0029;
 
     pub(crate) const DEFAULT_UNICAST_LOCATOR: u16 = 0x0031;
+
+    pub(crate) const METATRAFFIC_UNICAST_LOCATOR: u16 = 0x0032;
+
+    pub(crate) const METATRAFFIC_MULTICAST_LOCATOR: u16 = 0x0033;
 
     pub(crate) const DATA_REPRESENTATION: u16 = 0x0073;
 }
@@ -137,8 +143,28 @@ pub(crate) mod locator {
     pub(crate) const UDP_V4: u32 = 1;
     /// LOCATOR_KIND_UDPv6.
     pub(crate) const UDP_V6: u32 = 2;
+    /// The least kind of memory that processes of one host share, of Fast DDS.
+    pub(crate) const MEMORY: u32 = 16;
+    /// From here on a kind is below 0: it has a sign.
+    pub(crate) const BELOW_ZERO: u32 = 0x8000_0000;
+    /// The offset of the port.
+    pub(crate) const PORT: usize = 4;
     /// The offset of the address.
     pub(crate) const ADDRESS: usize = 8;
     /// The offset of an address of four octets, which is the end of the address.
     pub(crate) const V4_ADDRESS: usize = 20;
+}
+
+/// The ports for discovery (DDSI-RTPS 2.5, 9.6).
+pub(crate) mod discovery_port {
+    /// Those of domain 0 begin with it.
+    pub(crate) const BASE: u32 = 7400;
+    /// How many ports each domain has.
+    pub(crate) const GAIN: u32 = 250;
+}
+
+/// The ids of vendors (DDSI-RTPS 2.5, 8.3.3.1.3 "vendorId").
+pub(crate) mod vendor {
+    /// eProsima Fast DDS.
+    pub(crate) const FAST_DDS: [u8; 2] = [0x01, 0x0f];
 }

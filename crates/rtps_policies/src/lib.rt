@@ -3,6 +3,7 @@
 #![tactic(auto)]
 
 mod announced;
+mod domain;
 mod duration;
 mod fields;
 mod fitting;
@@ -21,6 +22,7 @@ mod representations;
 mod silence;
 mod topic_readers;
 mod unmatched;
+mod vendor;
 
 pub use announced::{Announced, announced_participant, keep_first, participant_of, payload_of};
 pub use duration::Duration;

@@ -2,6 +2,8 @@ mod ActsInOrder
 mod AskedLemmas
 mod BestEffortLemmas
 mod BestEffortSums
+mod EventLemmas
+mod EventOrder
 mod FollowedLemmas
 mod KeptLemmas
 mod MatchLemmas
@@ -10,12 +12,14 @@ mod NamingWalkLemmas
 pub mod Offered
 mod OneReportLemmas
 mod OneTalkLemmas
+mod OrderLemmas
 mod ParticipantLemmas
 mod PatternLemmas
 mod PiecesLemmas
 mod PresenceLemmas
 mod RowPairLemmas
 mod SameLists
+mod SortLemmas
 mod StayLemmas
 mod TalkLemmas
 mod TopicLemmas

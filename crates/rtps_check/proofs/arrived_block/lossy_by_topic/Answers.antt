@@ -5,7 +5,7 @@ use Rattle.std.proofs.lemmas.List.Sorted.{IsPermutation-map, answers_always}
 use Rattle.rtps_report.specs.BestEfforts.{HeldValue, held_value}
 use Rattle.rtps_report.specs.declared.best_effort.HeldPair.{HeldPair}
 use Rattle.rtps_check.specs.ArrivedText.{AreByTopic, is_lossy, topic_cmp}
-use Rattle.rtps_check.proofs.SortLemmas.{sorted_values, stable_values}
+use Rattle.rtps_report.proofs.Offered.{sorted_values, stable_values}
 use Rattle.rtps_check.proofs.arrived_block.lossy_by_topic.Goals as goal
 
 -- the same with this topic

@@ -24,7 +24,7 @@ use Rattle.rtps_lines.specs.Notes.{talking_names}
 use Rattle.rtps_check.specs.ArrivedText.{AreByTopic as LossyByTopic, is_lossy, lossy_lines}
 use Rattle.rtps_check.specs.CheckText.{Beside, IsCheckText, IsTextBy, beside_of, ending_text, first_lines, told_beside, topics_text}
 use Rattle.rtps_check.specs.TalkText.{AreByTopic as UnmatchedByTopic, AreLeftByTopic, one_way_block, unmatched_lines}
-use Rattle.rtps_check.proofs.OrderLemmas.{sorted_once, sorted_same}
+use Rattle.rtps_report.proofs.Offered.{sorted_once, sorted_same}
 use Rattle.rtps_check.proofs.laws.one_text.Goals as goal
 
 -- ---- rows by topic

@@ -5,7 +5,7 @@ use Rattle.std.proofs.lemmas.List.Sorted.{IsPermutation-map, answers_always}
 use Rattle.rtps_report.specs.Talk.{LeftOutValue, left_out_value}
 use Rattle.rtps_report.specs.declared.talk.LeftOut.{LeftOut}
 use Rattle.rtps_check.specs.TalkText.{AreLeftByTopic, left_cmp}
-use Rattle.rtps_check.proofs.SortLemmas.{sorted_values, stable_values}
+use Rattle.rtps_report.proofs.Offered.{sorted_values, stable_values}
 use Rattle.rtps_check.proofs.unmatched_block.left_by_topic.Goals as goal
 
 -- the same with this topic

@@ -6,7 +6,7 @@ use Rattle.std.proofs.lemmas.List.Sorted.{IsPermutation-map, answers_always}
 use Rattle.rtps_policies.specs.Unmatched.{UnmatchedValue, unmatched_value}
 use Rattle.rtps_policies.specs.declared.unmatched.Unmatched.{Unmatched}
 use Rattle.rtps_check.specs.TalkText.{AreByTopic, topic_cmp}
-use Rattle.rtps_check.proofs.SortLemmas.{sorted_values, stable_values}
+use Rattle.rtps_report.proofs.Offered.{sorted_values, stable_values}
 use Rattle.rtps_check.proofs.unmatched_block.unmatched_by_topic.Goals as goal
 
 -- the same with this topic

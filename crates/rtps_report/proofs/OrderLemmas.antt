@@ -6,7 +6,7 @@ use Rattle.std.specs.Ordering.{is_lt}
 use Rattle.std.specs.declared.cmp.Ordering.{Ordering}
 use Rattle.std.proofs.lemmas.List.Elements.{All-cons, All-head, All-tail}
 use Rattle.std.proofs.lemmas.List.Sorted.{ranks_by, sorted_far}
-use Rattle.rtps_check.proofs.SortLemmas.{sorted_values, stable_values}
+use Rattle.rtps_report.proofs.SortLemmas.{sorted_values, stable_values}
 
 -- the elements behind the first
 abbrev rest_of : {X : Type 0} → List X → List X
