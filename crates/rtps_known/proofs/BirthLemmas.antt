@@ -1,0 +1,2 @@
+-- One source time more of a number.
+use Rattle.std.proofs.Common.{◌≡◌, refl}

@@ -1,0 +1,4 @@
+mod BoolLemmas
+mod KeyLemmas
+mod AccountLemmas
+mod BirthLemmas
