@@ -91,11 +91,12 @@ class Known:
             own = [times.of(datagram) for datagram in sent.get(prefix, [])]
             self.last[prefix] = max(own) if own and None not in own else None
         self.lives = self.two_lives(vendors)
+        self.twice = {prefix for prefix, _ in self.lives}
 
     # ---- one GUID, two lives
 
     def two_lives(self, vendors):
-        """by prefix the two source times of the first number of which there are two"""
+        """by prefix and number the source times of each number of which there are two: the first one, and the first other one"""
         first, found = {}, {}
         for i, acts in enumerate(self.recording):
             for act, vendor in zip(acts, vendors[i]):
@@ -103,14 +104,14 @@ class Known:
                     continue
                 told = first.setdefault((act['source'], act['number']), act['time'])
                 if told != act['time']:
-                    found.setdefault(act['source'], (told, act['time']))
+                    found.setdefault((act['source'], act['number']), (told, act['time']))
         return found
 
     # ---- what is told
 
     def qualify(self, one, other):
         return (one != other and ((one, other) in self.namings or (other, one) in self.namings) and not self.announced.two_domains(one, other)
-                and one not in self.lives and other not in self.lives)
+                and one not in self.twice and other not in self.twice)
 
     def end(self, one, other):
         """the time up to which what the one tells counts for the other; None where that is not known, or they were announced too late"""
@@ -150,8 +151,8 @@ class Known:
         return [found for found in (self.untold_of(*pair) for pair in pairs) if found.count() > 0]
 
     def lines(self):
-        for prefix, (one, other) in sorted(self.lives.items()):
-            yield f'lives {prefix.hex()} {one[0]}.{one[1]} {other[0]}.{other[1]}'
+        for (prefix, number), (one, other) in sorted(self.lives.items()):
+            yield f'lives {prefix.hex()} {number} {one[0]}.{one[1]} {other[0]}.{other[1]}'
         for found in self.untold():
             yield found.line()
 
@@ -339,7 +340,7 @@ def tell(names):
         datagrams, times = input_of(octets, any_form=True)[0], times_of(octets, any_form=True)
         known = known_of(datagrams, times)
         print(name)
-        for prefix, both in sorted(known.lives.items()):
+        for (prefix, _), both in sorted(known.lives.items()):
             seconds = [one[0] + one[1] / 2 ** 32 for one in both]
             address = known.announced.address(prefix)
             print(f"  {guid_text(prefix + PARTICIPANT)} at {address and address_text(address)} has two lives: sent at {seconds[0]:.3f} and {seconds[1]:.3f}")

@@ -1,4 +1,9 @@
 mod BoolLemmas
+mod OrderLemmas
 mod KeyLemmas
-mod AccountLemmas
+mod BulletinLemmas
 mod BirthLemmas
+mod KnownLemmas
+mod LackingLemmas
+mod UntoldLemmas
+mod LawLemmas

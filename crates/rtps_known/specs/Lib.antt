@@ -1,6 +1,6 @@
 pub mod Layout
 pub mod Tellings
-pub mod Accounts
+pub mod Bulletins
 pub mod Visits
 pub mod Lives
 pub mod Meetings

@@ -8,12 +8,12 @@ use Rattle.std.specs.List.{filter_map}
 use Rattle.std.specs.List.Sorted.{IsStrictlySortedBy}
 use Rattle.std.specs.Map.{lookup}
 use Rattle.std.specs.Option.{option_map}
-use Rattle.std.specs.Ordering.{nat_cmp, ordering_then}
+use Rattle.std.specs.Ordering.{is_eq, nat_cmp, ordering_then}
 use Rattle.std.specs.declared.cmp.Ordering.{Ordering}
 use Rattle.rtps_ids.specs.declared.identity.GuidPrefix.{GuidPrefix}
 use Rattle.rtps_ids.specs.declared.identity.Stamp.{Stamp}
 use Rattle.rtps_ids.specs.declared.identity.Vendor.{Vendor}
-use Rattle.rtps_receiver.specs.Speech.{is_entity, is_prefix}
+use Rattle.rtps_receiver.specs.Speech.{is_entity}
 use Rattle.rtps_receiver.specs.Values.{ActBodyValue, ActValue}
 use Rattle.rtps_receiver.specs.Values.ActBodyValue.{Data}
 use Rattle.rtps_known.specs.declared.layout.entity.TheConstants.{PARTICIPANTS}
@@ -48,7 +48,7 @@ birth_cmp a b = ordering_then (slice_cmp nat_cmp a.participant.0 b.participant.0
 
 -- two births are of one number
 abbrev pub is_birth : Birth → Birth → Bool
-is_birth one other = is_prefix one.participant other.participant && (one.number == other.number)
+is_birth one other = is_eq (birth_cmp one other)
 
 -- the source time of what is told of this number
 abbrev pub stamp_by : Birth → Option (Birth × Stamp) → Option Stamp
@@ -94,7 +94,7 @@ birth_of life = record { participant = life.participant; number = life.number }
 -- these are the numbers with two source times, in order
 pub record AreLivesOf (acts : List ActValue) (lives : List Life) : Type 0 where
   pub ordered : IsStrictlySortedBy birth_cmp (map birth_of lives)
-  pub times : (birth : Birth) → option_map (λ life. life.sent) (find (λ life. is_birth (birth_of life) birth) lives) ≡ two_times acts birth
+  pub times : (birth : Birth) → lookup (is_birth birth) (map (λ life. (birth_of life, life.sent)) lives) ≡ two_times acts birth
 
 -- a participant has two lives: some number of it has two source times
 abbrev pub HasTwoLives : List ActValue → GuidPrefix → Type 0

@@ -2,9 +2,10 @@
 //! GUID (DDSI-RTPS 2.5, 8.5.4 "The Simple Endpoint Discovery Protocol").
 #![tactic(auto)]
 
-mod account;
+mod bulletin;
 mod known;
 mod lacking;
+pub mod laws;
 mod layout;
 mod life;
 mod telling;

@@ -1,6 +1,6 @@
 ghost use Rattle.std.specs.Prelude.{◌≡◌, ◌++◌, ◌∷◌, [], IfOk, List, OnOk};
 ghost use Rattle.rtps_receiver.specs.Values.{ActValue, spoken_value};
-ghost use Rattle.rtps_known.specs.Lives.{AreBirthsOf, birth_in, is_tried as is_tried_lem, life_by, lives_in, sent_with};
+ghost use Rattle.rtps_known.specs.Lives.{AreBirthsOf, AreLivesOf, birth_in, is_tried as is_tried_lem, life_by, sent_with};
 
 use crate::layout::{entity, vendor};
 use rtps_ids::{GuidPrefix, Memory, Stamp, Vendor};
@@ -85,7 +85,8 @@ pub(crate) fn note_birth(
     let Some((birth, stamp)) = birth_told(act) else {
         return Ok(());
     };
-    let sent = with_stamp(births.get(&birth).copied(), stamp);
+    let kept = births.get(&birth).copied();
+    let sent = with_stamp(kept, stamp);
     births.insert(birth, sent)?;
     Ok(())
 }
@@ -107,7 +108,7 @@ pub(crate) fn lives_among(
     alloc: Global,
     births: &BTreeMap<Birth, Sent>,
 ) -> Result<Vec<Life>, Memory>
-    ensures { IfOk result (λ lives. lives.items ≡ lives_in births.now.entries) }
+    ensures { IfOk result (λ lives. (acts : List ActValue) → AreBirthsOf acts births.now.entries → AreLivesOf acts lives.items) }
 {
     let mut lives = Vec::new(alloc);
     for (birth, sent) in births.iter() {

@@ -1,9 +1,21 @@
+ghost use Rattle.std.specs.Prelude.{◌≡◌, ◌↔◌, IfOk, IsTrue, List, MatchOption, not};
+ghost use Rattle.std.specs.BTreeSet.{contains};
+ghost use Rattle.rtps_ids.specs.declared.identity.GuidPrefix.{GuidPrefix as GuidPrefixValue};
+ghost use Rattle.rtps_receiver.specs.Speech.{is_prefix};
+ghost use Rattle.rtps_receiver.specs.Values.{ActValue};
+ghost use Rattle.rtps_policies.specs.Announcing.{IsAnnouncedBy, hosts_in};
+ghost use Rattle.rtps_policies.specs.Silence.{two_domains as two_domains_lem};
+ghost use Rattle.rtps_known.specs.Bulletins.{prefix_cmp};
+ghost use Rattle.rtps_known.specs.Lives.{HasTwoLives};
+ghost use Rattle.rtps_known.specs.Recorded.{IsKnownOf, acts_of};
+ghost use Rattle.rtps_known.specs.Tellings.{TimedAct};
+ghost use Rattle.rtps_known.specs.Untold.{AreUntoldIn, IsAllTold, IsUntold, IsUntoldUntil, is_nothing as is_nothing_lem, may_tell as may_tell_lem};
+
 use crate::known::Known;
 use crate::layout::entity;
 use crate::visit::{Visit, end_between};
-use rtps_ids::{EntityId, Guid, GuidPrefix, Memory};
+use rtps_ids::{Guid, GuidPrefix, Memory};
 use rtps_policies::{Announced, Naming, participant_of, two_domains};
-use std::alloc::Global;
 use std::collections::{BTreeMap, BTreeSet};
 
 /// The endpoints of a participant that another was never told of.
@@ -15,25 +27,30 @@ pub struct Untold {
     pub writers: Vec<Guid>,
     /// The readers that it names, in order.
     pub readers: Vec<Guid>,
-    /// How many announcements it does not name.
+    /// How many numbers announce what it does not name.
     pub unnamed: u64,
 }
 
 impl Untold {
     /// Whether there are none.
-    fn is_none(&self) -> bool {
+    fn is_nothing(&self) -> bool
+        ensures { result ≡ is_nothing_lem self.now }
+    {
         self.writers.is_empty() && self.readers.is_empty() && self.unnamed == 0
     }
 }
 
 impl Known {
-    /// Of each participant and another what the other was never told of, in their order. There are these participants, with the times when
-    /// they are there, and this is announced of them.
+    /// Of each participant and another of which one names the other, in the order of both, what the other was never told of. Of those that are not
+    /// among the visits nothing is said, nor of two domains, as they are announced, nor of a participant with two lives.
     pub fn untold(
         &self,
         visits: &BTreeMap<GuidPrefix, Visit>,
         announced: &Announced<'_>,
-    ) -> Result<Vec<Untold>, Memory> {
+    ) -> Result<Vec<Untold>, Memory>
+        ensures { IfOk result (λ found. (acts : List TimedAct) (announcing : List ActValue) → IsKnownOf acts self.now → IsAnnouncedBy announcing announced.now
+            → AreUntoldIn acts (record { announcing = announcing; visits = visits.now }) found.items) }
+    {
         let twice = self.twice()?;
         let mut found = Vec::new(self.alloc);
         for naming in self.met.iter() {
@@ -48,9 +65,13 @@ impl Known {
     }
 
     /// The participants with two lives.
-    fn twice(&self) -> Result<BTreeSet<GuidPrefix>, Memory> {
+    fn twice(&self) -> Result<BTreeSet<GuidPrefix>, Memory>
+        ensures { IfOk result (λ twice. (acts : List TimedAct) → IsKnownOf acts self.now
+            → (prefix : GuidPrefixValue) → IsTrue (contains prefix_cmp twice prefix) ↔ HasTwoLives (acts_of acts) prefix) }
+    {
+        let lives = self.lives()?;
         let mut twice = BTreeSet::new(self.alloc);
-        for life in &self.lives()? {
+        for life in &lives {
             twice.insert(life.participant)?;
         }
         Ok(twice)
@@ -61,7 +82,10 @@ impl Known {
         &self,
         visits: &BTreeMap<GuidPrefix, Visit>,
         naming: Naming,
-    ) -> Result<Option<Untold>, Memory> {
+    ) -> Result<Option<Untold>, Memory>
+        ensures { IfOk result (λ said. (acts : List TimedAct) → IsKnownOf acts self.now
+            → MatchOption said (IsAllTold acts visits.now naming) (IsUntold acts visits.now naming)) }
+    {
         let (Some(one), Some(other)) = (visits.get(&naming.source), visits.get(&naming.dest)) else {
             return Ok(None);
         };
@@ -69,16 +93,26 @@ impl Known {
             return Ok(None);
         };
         let untold = self.untold_until(naming, end)?;
-        if untold.is_none() {
+        if untold.is_nothing() {
             return Ok(None);
         }
         Ok(Some(untold))
     }
 
     /// What a participant was never told of another, of what the other told up to a time.
-    fn untold_until(&self, naming: Naming, end: u64) -> Result<Untold, Memory> {
-        let writers = self.lacking_of(naming, entity::PUBLICATIONS, end)?;
-        let readers = self.lacking_of(naming, entity::SUBSCRIPTIONS, end)?;
+    fn untold_until(&self, naming: Naming, end: u64) -> Result<Untold, Memory>
+        ensures { IfOk result (λ untold. (acts : List TimedAct) → IsKnownOf acts self.now → IsUntoldUntil acts naming end untold) }
+    {
+        let publications = Guid {
+            prefix: naming.source,
+            entity: entity::PUBLICATIONS,
+        };
+        let subscriptions = Guid {
+            prefix: naming.source,
+            entity: entity::SUBSCRIPTIONS,
+        };
+        let writers = self.lacking_of(publications, naming.dest, end)?;
+        let readers = self.lacking_of(subscriptions, naming.dest, end)?;
         Ok(Untold {
             from: participant_of(naming.source),
             to: participant_of(naming.dest),
@@ -90,9 +124,16 @@ impl Known {
 }
 
 /// Whether what one participant tells another may be looked at: the two differ, are not in two domains, and have one life each.
-fn may_tell(announced: &Announced<'_>, twice: &BTreeSet<GuidPrefix>, naming: Naming) -> bool {
+fn may_tell(announced: &Announced<'_>, twice: &BTreeSet<GuidPrefix>, naming: Naming) -> bool
+    ensures { result ≡ may_tell_lem (is_prefix naming.source naming.dest)
+        (two_domains_lem (hosts_in announced.now naming.source) (hosts_in announced.now naming.dest))
+        (contains prefix_cmp twice.now naming.source) (contains prefix_cmp twice.now naming.dest) }
+{
     naming.source != naming.dest
-        && !two_domains(announced.host_of(naming.source), announced.host_of(naming.dest))
+        && !two_domains(
+            announced.host_of(naming.source),
+            announced.host_of(naming.dest),
+        )
         && !twice.contains(&naming.source)
         && !twice.contains(&naming.dest)
 }

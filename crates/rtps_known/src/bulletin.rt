@@ -4,7 +4,7 @@ ghost use Rattle.std.specs.List.{list_any};
 ghost use Rattle.rtps_ids.specs.declared.identity.GuidPrefix.{GuidPrefix as GuidPrefixValue};
 ghost use Rattle.rtps_receiver.specs.Speech.{is_prefix};
 ghost use Rattle.rtps_receiver.specs.Values.{spoken_value};
-ghost use Rattle.rtps_known.specs.Accounts.{AreToldBy, IsAccountOf, base_by, prefix_cmp, reaches};
+ghost use Rattle.rtps_known.specs.Bulletins.{AreToldBy, IsBulletinOf, base_by, prefix_cmp, reaches};
 ghost use Rattle.rtps_known.specs.Tellings.{TimedAct, acknowledgement_in, announcement_in, holds, number_ended as number_ended_lem};
 ghost use Rattle.rtps_known.specs.declared.telling.Announcement.{Announcement as AnnouncementValue};
 
@@ -16,7 +16,7 @@ use std::collections::{BTreeMap, BTreeSet};
 
 /// What a recording has of a built-in writer of endpoints.
 #[derive(Drop)]
-pub(crate) struct Account {
+pub(crate) struct Bulletin {
     /// What it tells, and when it does so first, in nanoseconds.
     pub(crate) told: BTreeMap<Telling, u64>,
     /// The numbers that say that an endpoint ends.
@@ -27,12 +27,12 @@ pub(crate) struct Account {
     pub(crate) bases: BTreeMap<GuidPrefix, u64>,
 }
 
-impl Account {
+impl Bulletin {
     /// That of no acts. It takes no memory.
-    pub(crate) fn new(alloc: Global) -> Account
-        ensures { IsAccountOf [] result }
+    pub(crate) fn new(alloc: Global) -> Bulletin
+        ensures { IsBulletinOf [] result }
     {
-        Account {
+        Bulletin {
             told: BTreeMap::new(alloc),
             ended: BTreeSet::new(alloc),
             announced: BTreeSet::new(alloc),
@@ -42,13 +42,14 @@ impl Account {
 
     /// Keeps what an act about the writer says, and when its datagram came. After `Memory` it is of no use.
     pub(crate) fn note(&mut self, act: &Spoken<'_>, time: Option<u64>) -> Result<(), Memory>
-        ensures { OnOk result ((acts : List TimedAct) → IsAccountOf acts self.old
-            → IsAccountOf (acts ++ (record { act = spoken_value act.now; time = time }) ∷ []) self.new) }
+        ensures { OnOk result ((acts : List TimedAct) → IsBulletinOf acts self.old
+            → IsBulletinOf (acts ++ (record { act = spoken_value act.now; time = time }) ∷ []) self.new) }
     {
         note_told(&mut self.told, act, time)?;
         note_ended(&mut self.ended, act)?;
         note_announced(&mut self.announced, act)?;
-        note_base(&mut self.bases, act)
+        note_base(&mut self.bases, act)?;
+        Ok(())
     }
 
     /// The greatest base of a participant; 0 where it acknowledges nothing.
@@ -80,7 +81,8 @@ fn note_told(
         lo: numbers.lo,
         hi: numbers.hi,
     };
-    keep_least(told, telling, time)
+    keep_least(told, telling, time)?;
+    Ok(())
 }
 
 /// Keeps a time of a telling, unless there is an earlier one. After `Memory` it is of no use.

@@ -8,7 +8,7 @@ use Rattle.std.specs.Cmp.Lexicographic.{slice_cmp}
 use Rattle.std.specs.Ordering.{nat_cmp}
 use Rattle.std.specs.declared.cmp.Ordering.{Ordering}
 use Rattle.rtps_known.specs.Tellings.{TimedAct, acknowledges, announcement_in, holds, is_to, number_ended, tells_until}
-use Rattle.rtps_known.specs.declared.account.Account.{Account}
+use Rattle.rtps_known.specs.declared.bulletin.Bulletin.{Bulletin}
 use Rattle.rtps_known.specs.declared.telling.Announcement.{Announcement}
 use Rattle.rtps_known.specs.declared.telling.Telling.{Telling}
 
@@ -37,16 +37,16 @@ abbrev pub AreAnnouncedBy : List TimedAct → List Announcement → Type 0
 AreAnnouncedBy acts kept = (test : Announcement → Bool) → list_any test kept ≡ list_any (λ timed. holds test (announcement_in timed.act)) acts
 
 -- the greatest base that is kept of a participant
-abbrev pub base_by : Account → GuidPrefix → ℕ
-base_by account prefix = unwrap_or (get prefix_cmp account.bases prefix) 0
+abbrev pub base_by : Bulletin → GuidPrefix → ℕ
+base_by bulletin prefix = unwrap_or (get prefix_cmp bulletin.bases prefix) 0
 
 -- below it are the numbers that it acknowledges
 abbrev pub AreBasesBy : List TimedAct → (GuidPrefix → ℕ) → Type 0
 AreBasesBy acts base = (prefix : GuidPrefix) (n : ℕ) → nat_lt n (base prefix) ≡ list_any (acknowledges prefix n) acts
 
 -- what is kept of these acts
-pub record IsAccountOf (acts : List TimedAct) (account : Account) : Type 0 where
-  pub told : AreToldBy acts account.told.entries
-  pub ended : AreEndedBy acts account.ended.keys
-  pub announced : AreAnnouncedBy acts account.announced.keys
-  pub bases : AreBasesBy acts (base_by account)
+pub record IsBulletinOf (acts : List TimedAct) (bulletin : Bulletin) : Type 0 where
+  pub told : AreToldBy acts bulletin.told.entries
+  pub ended : AreEndedBy acts bulletin.ended.keys
+  pub announced : AreAnnouncedBy acts bulletin.announced.keys
+  pub bases : AreBasesBy acts (base_by bulletin)
