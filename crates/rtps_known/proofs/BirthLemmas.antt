@@ -21,13 +21,15 @@ use Rattle.rtps_known.proofs.OrderLemmas.{exact_births}
 
 -- ---- one source time more
 
+abbrev sent_of : Stamp → Option Stamp → Sent
+sent_of first other = record { first = first; other = other }
+
 other_more : (first stamp : Stamp) (found : Option Stamp)
-    → Some (record { first = first; other = option_or found (if not (is_stamp first stamp) then Some stamp else None) }) ≡ Some (sent_with (Some (record { first = first; other = found })) stamp)
+    → Some (sent_of first (option_or found (if not (is_stamp first stamp) then Some stamp else None))) ≡ Some (sent_with (Some (sent_of first found)) stamp)
 other_more first stamp (Some other) = refl
 other_more first stamp None = by (is_stamp first stamp)
   where
-    by : (same : Bool) → Some (record { first = first; other = if not same then Some stamp else None })
-        ≡ Some (if same then record { first = first; other = None } else record { first = first; other = Some stamp })
+    by : (same : Bool) → Some (sent_of first (if not same then Some stamp else None)) ≡ Some (if same then sent_of first None else sent_of first (Some stamp))
     by true = refl
     by false = refl
 
@@ -38,7 +40,7 @@ one_found first stamp = refl
 sent_push : (stamps : List Stamp) (stamp : Stamp) → sent_by (stamps ++ stamp ∷ []) ≡ Some (sent_with (sent_by stamps) stamp)
 sent_push [] stamp = refl
 sent_push (first ∷ stamps) stamp =
-    ap (λ o. Some (record { first = first; other = o }))
+    ap (λ o. Some (sent_of first o))
     (find-append (λ other. not (is_stamp first other)) stamps (stamp ∷ []) ∙ ap (option_or (find (λ other. not (is_stamp first other)) stamps)) (one_found first stamp))
     ∙ other_more first stamp (find (λ other. not (is_stamp first other)) stamps)
 

@@ -61,10 +61,10 @@ and_or : (a b c : Bool) → (a && (b || c)) ≡ ((a && b) || (a && c))
 and_or true b c = refl
 and_or false b c = refl
 
-pub least_reaches : (prefix : GuidPrefix) (end n : ℕ) (telling : Telling) (was time : ℕ)
-    → reaches prefix end n (telling, min was time) ≡ (reaches prefix end n (telling, was) || reaches prefix end n (telling, time))
-least_reaches prefix end n telling was time =
-    ap (λ b. has_number prefix n telling && b) (nat_le_min was time end) ∙ and_or (has_number prefix n telling) (nat_le was end) (nat_le time end)
+pub least_reaches : (prefix : GuidPrefix) (end n : ℕ) (telling : Telling) (was time w : ℕ) → w ≡ min was time
+    → reaches prefix end n (telling, w) ≡ (reaches prefix end n (telling, was) || reaches prefix end n (telling, time))
+least_reaches prefix end n telling was time w least =
+    ap (λ t. reaches prefix end n (telling, t)) least ∙ ap (λ b. has_number prefix n telling && b) (nat_le_min was time end) ∙ and_or (has_number prefix n telling) (nat_le was end) (nat_le time end)
 
 -- the base of a participant after one more
 pub base_more : (old new : GuidPrefix → Option ℕ) (source : GuidPrefix) (base w : ℕ) → w ≡ max (unwrap_or (old source) 0) base
@@ -80,3 +80,6 @@ base_more old new source base w greatest updates prefix n =
         let one : source ≡ prefix = tells_apart exact_prefixes source prefix e in
         ap (nat_lt n) greatest ∙ nat_lt_max n (unwrap_or (old source) 0) base ∙ ap (λ p. nat_lt n (unwrap_or (old p) 0) || nat_lt n base) one
     by false e = or_none (nat_lt n (unwrap_or (old prefix) 0))
+
+pub none_less : (n : ℕ) → n ≡ max 0 n
+none_less n = omega arith

@@ -21,7 +21,7 @@ use Rattle.rtps_known.specs.Bulletins.{prefix_cmp}
 use Rattle.rtps_known.specs.Lives.{AreLivesOf, HasTwoLives, birth_cmp, birth_of, is_birth, two_times}
 use Rattle.rtps_known.specs.Recorded.{acts_of}
 use Rattle.rtps_known.specs.Tellings.{TimedAct}
-use Rattle.rtps_known.specs.Untold.{AreSaidOf, Attendance, IsSaidOf, MayTell, listed, may_tell}
+use Rattle.rtps_known.specs.Untold.{AreSaidOf, Attendance, IsAllTold, IsSaidOf, IsUntold, MayTell, listed, may_tell}
 use Rattle.rtps_known.specs.declared.life.Birth.{Birth}
 use Rattle.rtps_known.specs.declared.life.Life.{Life}
 use Rattle.rtps_known.specs.declared.untold.Untold.{Untold}
@@ -151,3 +151,9 @@ pub said_more : (acts : List TimedAct) (attendance : Attendance) (naming : Namin
 said_more acts attendance naming rest all found said is so_far behind rest_said =
     let P : List Untold → Type 0 = λ l. AreSaidOf acts attendance all l in
     subst P (sym (append_assoc found (listed said) behind)) (so_far (listed said ++ behind) (said, behind, refl, is, rest_said))
+
+-- what is said of two that may be looked at
+pub said_is : (acts : List TimedAct) (attendance : Attendance) (naming : Naming) (said : Option Untold) → MayTell acts attendance.announcing naming
+    → MatchOption said (IsAllTold acts attendance.visits naming) (IsUntold acts attendance.visits naming) → IsSaidOf acts attendance naming said
+said_is acts attendance naming None may told = inr told
+said_is acts attendance naming (Some untold) may told = (may, told)

@@ -1,7 +1,8 @@
 -- Who was never told of whose endpoints. DDSI-RTPS 2.5, 8.5.4 "The Simple Endpoint Discovery Protocol". own: of two participants that differ, are not in
 -- two domains, have one life each, and of which one names the other; of both it is known when they are there.
-use Rattle.std.specs.Prelude.{ℕ, ◌≡◌, ◌+◌, ◌==◌, ◌&&◌, ◌⊎◌, Bool, true, false, List, [], ◌∷◌, ◌++◌, length, not, Option, Some, None}
+use Rattle.std.specs.Prelude.{ℕ, ◌≡◌, ◌+◌, ◌==◌, ◌&&◌, ◌⊎◌, Bool, true, false, List, [], ◌∷◌, ◌++◌, ◌↔◌, IsTrue, length, not, Option, Some, None}
 use Rattle.std.specs.BTreeMap.{BTreeMap, get}
+use Rattle.std.specs.BTreeSet.{BTreeSet, contains}
 use Rattle.std.specs.List.{list_any}
 use Rattle.std.specs.List.Sorted.{IsStrictlySortedBy}
 use Rattle.std.specs.Ordering.{eq_by_cmp}
@@ -108,6 +109,10 @@ pub record AreUntoldIn (acts : List TimedAct) (attendance : Attendance) (found :
   pub said : AreSaidOf acts attendance namings found
 
 -- ---- the same of the code
+
+-- these have two lives
+abbrev pub AreTwice : List TimedAct → BTreeSet GuidPrefix → Type 0
+AreTwice acts twice = (prefix : GuidPrefix) → IsTrue (contains prefix_cmp twice prefix) ↔ HasTwoLives (acts_of acts) prefix
 
 -- two may be looked at, by whether each has two lives
 abbrev pub may_tell : Bool → Bool → Bool → Bool → Bool

@@ -9,7 +9,7 @@ ghost use Rattle.rtps_ids.specs.declared.identity.Guid.{Guid as GuidValue};
 ghost use Rattle.rtps_discovery.specs.GuidOrder.{guid_cmp};
 ghost use Rattle.rtps_known.specs.Bulletins.{IsBulletinOf, reaches};
 ghost use Rattle.rtps_known.specs.Lacking.{IsLackingOf, is_listed, is_marked, is_still as is_still_lem};
-ghost use Rattle.rtps_known.specs.Tellings.{TimedAct, holds, is_to};
+ghost use Rattle.rtps_known.specs.Tellings.{TimedAct, holds, is_guid, is_to};
 
 use crate::bulletin::Bulletin;
 use crate::layout::END;
@@ -58,6 +58,26 @@ fn of_one(number: u64) -> Stretch
     }
 }
 
+/// Inserts an endpoint where a condition holds. After `Memory` the endpoints are of no use.
+fn insert_if(endpoints: &mut BTreeSet<Guid>, endpoint: Guid, holds: bool) -> Result<(), Memory>
+    ensures { OnOk result ((guid : GuidValue) → contains guid_cmp endpoints.new guid ≡ (contains guid_cmp endpoints.old guid || (is_guid guid endpoint && holds))) }
+{
+    if holds {
+        endpoints.insert(endpoint)?;
+    }
+    Ok(())
+}
+
+/// Appends a stretch, if there is one. After `Memory` the stretches are of no use.
+fn push_some(stretches: &mut Vec<Stretch>, stretch: Option<Stretch>) -> Result<(), Memory>
+    ensures { OnOk result ((n : ℕ) → stretches_have stretches.new.items n ≡ (stretches_have stretches.old.items n || holds (stretch_has n) stretch)) }
+{
+    if let Some(stretch) = stretch {
+        stretches.push(stretch)?;
+    }
+    Ok(())
+}
+
 /// The numbers of a telling that is for a participant, and not later than a time.
 fn told_until(telling: &Telling, time: u64, prefix: GuidPrefix, end: u64) -> Option<Stretch>
     ensures { (n : ℕ) → holds (stretch_has n) result ≡ reaches prefix end n (telling.now, time) }
@@ -78,9 +98,8 @@ impl Bulletin {
     {
         let mut told = Vec::new(alloc);
         for (telling, time) in self.told.iter() {
-            if let Some(stretch) = told_until(telling, *time, prefix, end) {
-                told.push(stretch)?;
-            }
+            let stretch = told_until(telling, *time, prefix, end);
+            push_some(&mut told, stretch)?;
         }
         let told = in_order(alloc, &mut told)?;
         Ok(told)
@@ -104,9 +123,8 @@ impl Bulletin {
     {
         let mut endpoints = BTreeSet::new(alloc);
         for announcement in self.announced.iter() {
-            if self.is_still(told, base, announcement.number) {
-                endpoints.insert(announcement.endpoint)?;
-            }
+            let still = self.is_still(told, base, announcement.number);
+            insert_if(&mut endpoints, announcement.endpoint, still)?;
         }
         Ok(endpoints)
     }

@@ -1,15 +1,13 @@
-ghost use Rattle.std.specs.Prelude.{◌≡◌, ◌↔◌, IfOk, IsTrue, List, MatchOption, not};
+ghost use Rattle.std.specs.Prelude.{◌≡◌, ◌++◌, IfOk, List, MatchOption, OnOk};
 ghost use Rattle.std.specs.BTreeSet.{contains};
-ghost use Rattle.rtps_ids.specs.declared.identity.GuidPrefix.{GuidPrefix as GuidPrefixValue};
 ghost use Rattle.rtps_receiver.specs.Speech.{is_prefix};
 ghost use Rattle.rtps_receiver.specs.Values.{ActValue};
 ghost use Rattle.rtps_policies.specs.Announcing.{IsAnnouncedBy, hosts_in};
 ghost use Rattle.rtps_policies.specs.Silence.{two_domains as two_domains_lem};
 ghost use Rattle.rtps_known.specs.Bulletins.{prefix_cmp};
-ghost use Rattle.rtps_known.specs.Lives.{HasTwoLives};
-ghost use Rattle.rtps_known.specs.Recorded.{IsKnownOf, acts_of};
+ghost use Rattle.rtps_known.specs.Recorded.{IsKnownOf};
 ghost use Rattle.rtps_known.specs.Tellings.{TimedAct};
-ghost use Rattle.rtps_known.specs.Untold.{AreUntoldIn, IsAllTold, IsUntold, IsUntoldUntil, is_nothing as is_nothing_lem, may_tell as may_tell_lem};
+ghost use Rattle.rtps_known.specs.Untold.{AreTwice, AreUntoldIn, IsAllTold, IsSaidOf, IsUntold, IsUntoldUntil, listed, is_nothing as is_nothing_lem, may_tell as may_tell_lem};
 
 use crate::known::Known;
 use crate::layout::entity;
@@ -29,6 +27,13 @@ pub struct Untold {
     pub readers: Vec<Guid>,
     /// How many numbers announce what it does not name.
     pub unnamed: u64,
+}
+
+/// What is known of participants: when they are there, what is announced of them, and which have two lives.
+struct Attending<'r, 'a> {
+    visits: &'r BTreeMap<GuidPrefix, Visit>,
+    announced: &'r Announced<'a>,
+    twice: &'r BTreeSet<GuidPrefix>,
 }
 
 impl Untold {
@@ -52,22 +57,39 @@ impl Known {
             → AreUntoldIn acts (record { announcing = announcing; visits = visits.now }) found.items) }
     {
         let twice = self.twice()?;
+        let attending = Attending {
+            visits,
+            announced,
+            twice: &twice,
+        };
         let mut found = Vec::new(self.alloc);
         for naming in self.met.iter() {
-            if !may_tell(announced, &twice, *naming) {
-                continue;
-            }
-            if let Some(untold) = self.untold_between(visits, *naming)? {
-                found.push(untold)?;
-            }
+            let said = self.said_of(&attending, *naming)?;
+            push_said(&mut found, said)?;
         }
         Ok(found)
     }
 
+    /// What a participant was never told of another, if there is something and the two may be looked at.
+    fn said_of(
+        &self,
+        attending: &Attending<'_, '_>,
+        naming: Naming,
+    ) -> Result<Option<Untold>, Memory>
+        ensures { IfOk result (λ said. (acts : List TimedAct) (announcing : List ActValue) → IsKnownOf acts self.now
+            → IsAnnouncedBy announcing attending.now.announced.now → AreTwice acts attending.now.twice.now
+            → IsSaidOf acts (record { announcing = announcing; visits = attending.now.visits.now }) naming said) }
+    {
+        if !may_tell(attending.announced, attending.twice, naming) {
+            return Ok(None);
+        }
+        let said = self.untold_between(attending.visits, naming)?;
+        Ok(said)
+    }
+
     /// The participants with two lives.
     fn twice(&self) -> Result<BTreeSet<GuidPrefix>, Memory>
-        ensures { IfOk result (λ twice. (acts : List TimedAct) → IsKnownOf acts self.now
-            → (prefix : GuidPrefixValue) → IsTrue (contains prefix_cmp twice prefix) ↔ HasTwoLives (acts_of acts) prefix) }
+        ensures { IfOk result (λ twice. (acts : List TimedAct) → IsKnownOf acts self.now → AreTwice acts twice) }
     {
         let lives = self.lives()?;
         let mut twice = BTreeSet::new(self.alloc);
@@ -121,6 +143,16 @@ impl Known {
             unnamed: writers.unnamed + readers.unnamed,
         })
     }
+}
+
+/// Appends what is said of two, if it is something. After `Memory` the list is of no use.
+fn push_said(found: &mut Vec<Untold>, said: Option<Untold>) -> Result<(), Memory>
+    ensures { OnOk result (found.new.items ≡ found.old.items ++ listed said.entry) }
+{
+    if let Some(untold) = said {
+        found.push(untold)?;
+    }
+    Ok(())
 }
 
 /// Whether what one participant tells another may be looked at: the two differ, are not in two domains, and have one life each.
