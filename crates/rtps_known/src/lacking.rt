@@ -3,6 +3,7 @@
 ghost use Rattle.std.specs.Prelude.{ℕ, ◌≡◌, ◌-◌, ◌≤◌, ◌<◌, ◌&&◌, ◌||◌, IfOk, List, OnOk, nat_eq, not};
 ghost use Rattle.std.specs.BTreeSet.{contains};
 ghost use Rattle.std.specs.List.{list_any};
+ghost use Rattle.std.specs.List.Sorted.{IsStrictlySortedBy};
 ghost use Rattle.rtps_coverage.specs.Counts.{count_in};
 ghost use Rattle.rtps_coverage.specs.Stretches.{stretch_has, stretches_have};
 ghost use Rattle.rtps_ids.specs.declared.identity.Guid.{Guid as GuidValue};
@@ -64,6 +65,28 @@ fn insert_if(endpoints: &mut BTreeSet<Guid>, endpoint: Guid, holds: bool) -> Res
 {
     if holds {
         endpoints.insert(endpoint)?;
+    }
+    Ok(())
+}
+
+/// These endpoints, in order.
+fn listed(alloc: Global, endpoints: &BTreeSet<Guid>) -> Result<Vec<Guid>, Memory>
+    ensures items { IfOk result (λ listed. listed.items ≡ endpoints.now.keys) }
+    ensures ordered { IfOk result (λ listed. IsStrictlySortedBy guid_cmp listed.items) }
+{
+    let mut listed = Vec::new(alloc);
+    for endpoint in endpoints.iter() {
+        listed.push(*endpoint)?;
+    }
+    Ok(listed)
+}
+
+/// Appends stretches. After `Memory` they are of no use.
+fn append(stretches: &mut Vec<Stretch>, more: &[Stretch]) -> Result<(), Memory>
+    ensures { OnOk result ((n : ℕ) → stretches_have stretches.new.items n ≡ (stretches_have stretches.old.items n || stretches_have more.now n)) }
+{
+    for stretch in more {
+        stretches.push(*stretch)?;
     }
     Ok(())
 }
@@ -154,12 +177,8 @@ impl Bulletin {
         let endpoints = self.endpoints_among(alloc, &told, base)?;
         let mut marked = self.numbers_marked(alloc)?;
         let unnamed = count_others(&mut marked, &told, base.max(1).min(END))?;
-        let mut listed = Vec::with_capacity(alloc, endpoints.len())?;
-        listed.extend(endpoints.iter().copied())?;
-        Ok(Lacking {
-            endpoints: listed,
-            unnamed,
-        })
+        let endpoints = listed(alloc, &endpoints)?;
+        Ok(Lacking { endpoints, unnamed })
     }
 }
 
@@ -195,7 +214,7 @@ fn count_others(
     ensures bounded { IfOk result (λ count. count ≤ END - from) }
 {
     let before = count_of(others, from, END)?;
-    others.extend(stretches.iter().copied())?;
+    append(others, stretches)?;
     let all = count_of(others, from, END)?;
     Ok(all - before)
 }

@@ -30,6 +30,7 @@ pub struct Untold {
 }
 
 /// What is known of participants: when they are there, what is announced of them, and which have two lives.
+#[derive(Clone, Copy)]
 struct Attending<'r, 'a> {
     visits: &'r BTreeMap<GuidPrefix, Visit>,
     announced: &'r Announced<'a>,
@@ -64,7 +65,7 @@ impl Known {
         };
         let mut found = Vec::new(self.alloc);
         for naming in self.met.iter() {
-            let said = self.said_of(&attending, *naming)?;
+            let said = self.said_of(attending, *naming)?;
             push_said(&mut found, said)?;
         }
         Ok(found)
@@ -73,12 +74,12 @@ impl Known {
     /// What a participant was never told of another, if there is something and the two may be looked at.
     fn said_of(
         &self,
-        attending: &Attending<'_, '_>,
+        attending: Attending<'_, '_>,
         naming: Naming,
     ) -> Result<Option<Untold>, Memory>
         ensures { IfOk result (λ said. (acts : List TimedAct) (announcing : List ActValue) → IsKnownOf acts self.now
-            → IsAnnouncedBy announcing attending.now.announced.now → AreTwice acts attending.now.twice.now
-            → IsSaidOf acts (record { announcing = announcing; visits = attending.now.visits.now }) naming said) }
+            → IsAnnouncedBy announcing attending.announced.now → AreTwice acts attending.twice.now
+            → IsSaidOf acts (record { announcing = announcing; visits = attending.visits.now }) naming said) }
     {
         if !may_tell(attending.announced, attending.twice, naming) {
             return Ok(None);

@@ -8,15 +8,15 @@ use Rattle.rtps_known.proofs.known.Known.said_of.Goals as goal
 pub returns-then-not-may_tell : goal.returns-then-not-may_tell
 returns-then-not-may_tell c = λ acts announcing known were twice.
     let naming = c.args.naming in
-    inl (may_not_tell acts announcing c.args.attending.now.announced.now naming (contains prefix_cmp c.args.attending.now.twice.now naming.source)
-    (contains prefix_cmp c.args.attending.now.twice.now naming.dest) were (twice naming.source).0 (twice naming.dest).0 (sym c.may_tell.ensures ∙ c.if-not-may_tell.true))
+    inl (may_not_tell acts announcing c.args.attending.announced.now naming (contains prefix_cmp c.args.attending.twice.now naming.source)
+    (contains prefix_cmp c.args.attending.twice.now naming.dest) were (twice naming.source).0 (twice naming.dest).0 (sym c.may_tell.ensures ∙ c.if-not-may_tell.true))
 
 pub returns : goal.returns
 returns c = λ acts announcing known were twice.
     let naming = c.args.naming in
-    let attendance : Attendance = record { announcing = announcing; visits = c.args.attending.now.visits.now } in
+    let attendance : Attendance = record { announcing = announcing; visits = c.args.attending.visits.now } in
     said_is acts attendance naming c.in_ok-said.said
-    (may_tell_is acts announcing c.args.attending.now.announced.now naming (contains prefix_cmp c.args.attending.now.twice.now naming.source)
-    (contains prefix_cmp c.args.attending.now.twice.now naming.dest) were (twice naming.source).0 (twice naming.dest).0 (twice naming.source).1 (twice naming.dest).1
+    (may_tell_is acts announcing c.args.attending.announced.now naming (contains prefix_cmp c.args.attending.twice.now naming.source)
+    (contains prefix_cmp c.args.attending.twice.now naming.dest) were (twice naming.source).0 (twice naming.dest).0 (twice naming.source).1 (twice naming.dest).1
     (sym c.may_tell.ensures ∙ c.if-not-may_tell.false))
     (c.in_ok-said.ensures acts known)
