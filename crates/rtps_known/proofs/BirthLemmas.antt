@@ -118,4 +118,4 @@ times_shown (one ∷ kept) sorted birth = by (is_birth birth one.0) one.1.other 
     by false None e rest = rest
 
 pub lives_are : (acts : List ActValue) (kept : List (Birth × Sent)) → IsStrictlySortedBy birth_cmp (keys_of kept) → AreBirthsOf acts kept → AreLivesOf acts (lives_in kept)
-lives_are acts kept sorted were = record { ordered = shown_sorted kept sorted; times = λ birth. times_shown kept sorted birth ∙ ap two_of (were birth); }
+lives_are acts kept sorted were = record { ordered = shown_sorted kept sorted; times = λ birth. times_shown kept sorted birth ∙ ap two_of (were birth) }

@@ -77,7 +77,7 @@ joins_more acts timed old between new dest some first second were naming =
 
 -- ---- what is kept of each writer
 
-guids_alike : (one other : Guid) → is_at (guid_cmp one) other ≡ is_guid one other
+pub guids_alike : (one other : Guid) → is_at (guid_cmp one) other ≡ is_guid one other
 guids_alike one other = sym (both_tied _ _ (slice_cmp nat_cmp one.prefix.0 other.prefix.0) (slice_cmp nat_cmp one.entity.0 other.entity.0) (texts_ties one.prefix.0 other.prefix.0) (texts_ties one.entity.0 other.entity.0))
 
 -- the acts about a writer, after one more that is, or is not

@@ -23,7 +23,7 @@ use Rattle.rtps_known.specs.declared.telling.Announcement.{Announcement}
 
 -- ---- tests that agree
 
-any_same : {X : Type 0} (one other : X → Bool) → ((x : X) → one x ≡ other x) → (xs : List X) → list_any one xs ≡ list_any other xs
+pub any_same : {X : Type 0} (one other : X → Bool) → ((x : X) → one x ≡ other x) → (xs : List X) → list_any one xs ≡ list_any other xs
 any_same one other same [] = refl
 any_same one other same (x ∷ xs) = ap (λ b. b || list_any one xs) (same x) ∙ ap (λ b. other x || b) (any_same one other same xs)
 

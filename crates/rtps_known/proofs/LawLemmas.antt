@@ -39,4 +39,4 @@ unacknowledged acts prefix end guid has =
     let parts = both (is_guid guid one.0.endpoint) (list_any (tells_until prefix end n) acts && (not (is_ended acts n) && not (list_any (acknowledges prefix n) acts))) one.1 in
     let told = both (list_any (tells_until prefix end n) acts) (not (is_ended acts n) && not (list_any (acknowledges prefix n) acts)) parts.1 in
     let rest = both (not (is_ended acts n)) (not (list_any (acknowledges prefix n) acts)) told.1 in
-    record { announcement = one.0; of_endpoint = parts.0; told = told.0; acknowledged_never = never (list_any (acknowledges prefix n) acts) rest.1; }
+    record { announcement = one.0; of_endpoint = parts.0; told = told.0; acknowledged_never = never (list_any (acknowledges prefix n) acts) rest.1 }

@@ -63,13 +63,17 @@ number_of (life ∷ lives) prefix any = by (is_eq (prefix_cmp life.participant p
     by true e any rest =
         let one : life.participant ≡ prefix = tells_apart exact_prefixes life.participant prefix e in
         let here : is_birth (record { participant = prefix; number = life.number }) (birth_of life) ≡ true =
-        ap (λ p. is_birth (record { participant = p; number = life.number }) (birth_of life)) (sym one) ∙ birth_same (birth_of life) in
-        (life.number, is_some_at (is_birth (record { participant = prefix; number = life.number }) (birth_of life)) life.sent
-        (lookup (is_birth (record { participant = prefix; number = life.number })) (map (λ life. (birth_of life, life.sent)) lives)) here)
+        ap (λ p. is_birth (record { participant = p; number = life.number }) (birth_of life)) (sym one) ∙ birth_same (birth_of life) in (
+          life.number,
+          is_some_at (is_birth (record { participant = prefix; number = life.number }) (birth_of life)) life.sent
+              (lookup (is_birth (record { participant = prefix; number = life.number })) (map (λ life. (birth_of life, life.sent)) lives)) here,
+        )
     by false e any rest =
-        let found = rest any in
-        (found.0, is_some_or (is_birth (record { participant = prefix; number = found.0 }) (birth_of life)) life.sent
-        (lookup (is_birth (record { participant = prefix; number = found.0 })) (map (λ life. (birth_of life, life.sent)) lives)) found.1)
+        let found = rest any in (
+          found.0,
+          is_some_or (is_birth (record { participant = prefix; number = found.0 }) (birth_of life)) life.sent
+              (lookup (is_birth (record { participant = prefix; number = found.0 })) (map (λ life. (birth_of life, life.sent)) lives)) found.1,
+        )
 
 -- and a number that shows a life is of one
 life_among : (lives : List Life) (birth : Birth) → IsSome (lookup (is_birth birth) (map (λ life. (birth_of life, life.sent)) lives))
@@ -94,9 +98,10 @@ life_among (life ∷ lives) birth some = by (is_birth birth (birth_of life)) ref
 -- the participants of lives are those with two
 pub twice_is : (acts : List ActValue) (lives : List Life) (prefix : GuidPrefix) (has : Bool) → has ≡ list_any (λ life. is_eq (prefix_cmp life.participant prefix)) lives → AreLivesOf acts lives
     → (IsTrue has → HasTwoLives acts prefix) × (HasTwoLives acts prefix → IsTrue has)
-twice_is acts lives prefix has is were =
-    ((λ yes. let found = number_of lives prefix (sym is ∙ yes) in (found.0, subst IsSome (were.times (record { participant = prefix; number = found.0 })) found.1)),
-    (λ two. is ∙ life_among lives (record { participant = prefix; number = two.0 }) (subst IsSome (sym (were.times (record { participant = prefix; number = two.0 }))) two.1)))
+twice_is acts lives prefix has is were = (
+  (λ yes. let found = number_of lives prefix (sym is ∙ yes) in (found.0, subst IsSome (were.times (record { participant = prefix; number = found.0 })) found.1)),
+  (λ two. is ∙ life_among lives (record { participant = prefix; number = two.0 }) (subst IsSome (sym (were.times (record { participant = prefix; number = two.0 }))) two.1)),
+)
 
 -- ---- two that may be looked at
 
@@ -117,7 +122,7 @@ may_tell_is acts announcing announced naming source dest were of_source of_dest 
     by : (same apart one other : Bool) → is_prefix naming.source naming.dest ≡ same → two_domains (hosts_in announced naming.source) (hosts_in announced naming.dest) ≡ apart
         → may_tell same apart one other ≡ true → (HasTwoLives (acts_of acts) naming.source → IsTrue one) → (HasTwoLives (acts_of acts) naming.dest → IsTrue other) → MayTell acts announcing naming
     by false false false false two one_domain yes to_source to_dest =
-        record { two = two; one_domain = domains ∙ one_domain; source_once = λ has. false≢true (to_source has); dest_once = λ has. false≢true (to_dest has); }
+        record { two = two; one_domain = domains ∙ one_domain; source_once = λ has. false≢true (to_source has); dest_once = λ has. false≢true (to_dest has) }
     by true apart one other two one_domain yes to_source to_dest = absurd (false≢true yes)
     by false true one other two one_domain yes to_source to_dest = absurd (false≢true yes)
     by false false true other two one_domain yes to_source to_dest = absurd (false≢true yes)

@@ -8,7 +8,9 @@ ghost use Rattle.rtps_known.specs.Bulletins.{AreToldBy, IsBulletinOf, base_by, p
 ghost use Rattle.rtps_known.specs.Tellings.{TimedAct, acknowledgement_in, announcement_in, holds, number_ended as number_ended_lem};
 ghost use Rattle.rtps_known.specs.declared.telling.Announcement.{Announcement as AnnouncementValue};
 
-use crate::telling::{Announcement, Telling, acknowledged, number_announced, number_ended, numbers_told};
+use crate::telling::{
+    Announcement, Telling, acknowledged, number_announced, number_ended, numbers_told,
+};
 use rtps_ids::{GuidPrefix, Memory};
 use rtps_receiver::Spoken;
 use std::alloc::Global;
@@ -86,11 +88,7 @@ fn note_told(
 }
 
 /// Keeps a time of a telling, unless there is an earlier one. After `Memory` it is of no use.
-fn keep_least(
-    told: &mut BTreeMap<Telling, u64>,
-    telling: Telling,
-    time: u64,
-) -> Result<(), Memory>
+fn keep_least(told: &mut BTreeMap<Telling, u64>, telling: Telling, time: u64) -> Result<(), Memory>
     ensures { OnOk result ((prefix : GuidPrefixValue) (end n : ℕ) → list_any (reaches prefix end n) told.new.entries
         ≡ (list_any (reaches prefix end n) told.old.entries || reaches prefix end n (telling, time))) }
 {

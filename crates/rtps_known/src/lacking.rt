@@ -174,16 +174,20 @@ impl Bulletin {
     {
         let base = self.base(prefix);
         let told = self.told_to(alloc, prefix, end)?;
-        let endpoints = self.endpoints_among(alloc, &told, base)?;
+        let found = self.endpoints_among(alloc, &told, base)?;
         let mut marked = self.numbers_marked(alloc)?;
-        let unnamed = count_others(&mut marked, &told, base.max(1).min(END))?;
-        let endpoints = listed(alloc, &endpoints)?;
+        let from = base.max(1).min(END);
+        let unnamed = count_others(&mut marked, &told, from)?;
+        let endpoints = listed(alloc, &found)?;
         Ok(Lacking { endpoints, unnamed })
     }
 }
 
 /// Appends the numbers that announce an endpoint. After `Memory` the stretches are of no use.
-fn mark_announced(marked: &mut Vec<Stretch>, announced: &BTreeSet<Announcement>) -> Result<(), Memory>
+fn mark_announced(
+    marked: &mut Vec<Stretch>,
+    announced: &BTreeSet<Announcement>,
+) -> Result<(), Memory>
     ensures { OnOk result ((n : ℕ) → n < END → stretches_have marked.new.items n
         ≡ (stretches_have marked.old.items n || list_any (λ announcement. nat_eq n announcement.number) announced.now.keys)) }
 {
@@ -204,11 +208,7 @@ fn mark_ended(marked: &mut Vec<Stretch>, ended: &BTreeSet<u64>) -> Result<(), Me
 }
 
 /// How many numbers from `from` on stretches have that others do not have. The others are of no use behind it.
-fn count_others(
-    others: &mut Vec<Stretch>,
-    stretches: &[Stretch],
-    from: u64,
-) -> Result<u64, Memory>
+fn count_others(others: &mut Vec<Stretch>, stretches: &[Stretch], from: u64) -> Result<u64, Memory>
     requires { from ≤ END }
     ensures count { IfOk result (λ count. count ≡ count_in (λ n. stretches_have stretches.now n && not (stretches_have others.old.items n)) from END) }
     ensures bounded { IfOk result (λ count. count ≤ END - from) }

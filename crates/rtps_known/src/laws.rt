@@ -6,8 +6,7 @@ ghost use Rattle.rtps_known.specs.Layout.{bounds_are, entity_is, status_is, vend
 /// An endpoint that is told as not known is announced by a number that was told in time and that no acknowledgement covers.
 pub fn lacking_is_unacknowledged()
     ensures { LackingIsUnacknowledged }
-{
-}
+{}
 
 /// The numbers of the layout are those of the standard.
 pub fn layout_is_that_of_the_standard()
@@ -15,5 +14,4 @@ pub fn layout_is_that_of_the_standard()
     ensures status { status_is }
     ensures vendor { vendor_is }
     ensures bounds { bounds_are }
-{
-}
+{}

@@ -75,10 +75,7 @@ fn with_stamp(sent: Option<Sent>, stamp: Stamp) -> Sent
 }
 
 /// Keeps the source time of an act that announces a participant. After `Memory` it is of no use.
-pub(crate) fn note_birth(
-    births: &mut BTreeMap<Birth, Sent>,
-    act: &Spoken<'_>,
-) -> Result<(), Memory>
+pub(crate) fn note_birth(births: &mut BTreeMap<Birth, Sent>, act: &Spoken<'_>) -> Result<(), Memory>
     ensures { OnOk result ((acts : List ActValue) → AreBirthsOf acts births.old.entries
         → AreBirthsOf (acts ++ spoken_value act.now ∷ []) births.new.entries) }
 {

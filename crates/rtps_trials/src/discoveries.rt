@@ -83,7 +83,11 @@ fn tell(alloc: Global, arrivals: &[Arrival], text: &mut String) -> Result<(), Fa
     for life in &heard.known.lives()? {
         let (one, other) = life.sent;
         let (one, part) = (one.seconds, one.fraction);
-        write!(text, "lives {} {} {one}.{part}", life.participant, life.number)?;
+        write!(
+            text,
+            "lives {} {} {one}.{part}",
+            life.participant, life.number
+        )?;
         writeln!(text, " {}.{}", other.seconds, other.fraction)?;
     }
     let visits = heard.visits(alloc)?;
