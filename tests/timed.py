@@ -278,10 +278,10 @@ def verdicts():
 
 
 def page_data(tests):
-    """the seconds that the page has for its chart: of each datagram that stands in it, once"""
+    """the seconds and frames that the page has for its chart: of each datagram that stands in it, once"""
     topic = pair()
     octets = timed(lost()[:-1] + [topic.answers(3) + topic.answers(3)[20:]], STEADY)
-    wanted = ['"times":[[5,0.400],[6,0.500],[7,0.600],[8,0.700],[9,0.800],[10,0.899],[11,1.000],[12,1.100],[13,1.200]]']
+    wanted = ['"times":[[5,0.400,5],[6,0.500,6],[7,0.600,7],[8,0.700,8],[9,0.800,9],[10,0.899,10],[11,1.000,11],[12,1.100,12],[13,1.200,13]]']
     tests.says('the chart', 'page', octets, wanted, lambda text: re.findall(r'"times":\[\[.*?\]\]', text))
     tests.says('a text', 'page', text_of(lost()), [], lambda text: re.findall(r'"times":\[[\[\]]', text))
     print('data of the page: 2')
