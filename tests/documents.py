@@ -113,12 +113,13 @@ def advice(tests):
     """what to do: the guide has each sentence behind what happened and what one sees of it, and the sentences are those of the definition"""
     sys.path.insert(0, os.path.join(ROOT, 'bench'))
     import check
+    import nothing
     guide, definition = (file_of(*path).decode() for path in (('docs', 'GUIDE.md'), ('crates', 'rtps_report', 'specs', 'Advice.antt')))
     rows = rows_of(guide)
     for name, *row in check.ADVICE:
         tests.holds(f'the guide tells what to do for {name}', True, row in rows)
-    for name, sentence in vars(check).items():
-        if name.startswith('NO_PAIR'):
+    for name, sentence in vars(nothing).items():
+        if name.isupper() and isinstance(sentence, str):
             tests.holds(f'the guide has the sentence {name}', True, any(sentence in cell for row in rows for cell in row))
     sentences = re.findall(r'^sentence_of .* = codes "(.*)"$', definition, re.MULTILINE)
     tests.holds('the sentences are those of the definition', [sentence for *_, sentence in check.ADVICE], sentences)
