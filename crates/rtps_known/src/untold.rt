@@ -78,8 +78,8 @@ impl Known {
         naming: Naming,
     ) -> Result<Option<Untold>, Memory>
         ensures { IfOk result (λ said. (acts : List TimedAct) (announcing : List ActValue) → IsKnownOf acts self.now
-            → IsAnnouncedBy announcing attending.announced.now → AreTwice acts attending.twice.now
-            → IsSaidOf acts (record { announcing = announcing; visits = attending.visits.now }) naming said) }
+            → IsAnnouncedBy announcing attending.entry.announced.now → AreTwice acts attending.entry.twice.now
+            → IsSaidOf acts (record { announcing = announcing; visits = attending.entry.visits.now }) naming said) }
     {
         if !may_tell(attending.announced, attending.twice, naming) {
             return Ok(None);
@@ -148,7 +148,7 @@ impl Known {
 
 /// Appends what is said of two, if it is something. After `Memory` the list is of no use.
 fn push_said(found: &mut Vec<Untold>, said: Option<Untold>) -> Result<(), Memory>
-    ensures { OnOk result (found.new.items ≡ found.old.items ++ listed said.entry) }
+    ensures { OnOk result (found.new.items ≡ found.old.items ++ listed said) }
 {
     if let Some(untold) = said {
         found.push(untold)?;
