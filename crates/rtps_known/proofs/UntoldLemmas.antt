@@ -114,14 +114,13 @@ either false true = refl
 either false false = refl
 
 -- the participants of one life more
-pub participants_more : (lives : List Life) (i : ℕ) (life : Life) (old new : BTreeSet GuidPrefix) (prefix : GuidPrefix) → i < length lives → life ≡ get_or lives i life
-    → contains prefix_cmp new prefix ≡ cond (is_at (prefix_cmp life.participant) prefix) true (contains prefix_cmp old prefix)
+pub participants_more : (lives : List Life) (i : ℕ) (d : Life) (old new : BTreeSet GuidPrefix) (prefix : GuidPrefix) → i < length lives
+    → contains prefix_cmp new prefix ≡ cond (is_at (prefix_cmp (get_or lives i d).participant) prefix) true (contains prefix_cmp old prefix)
     → contains prefix_cmp old prefix ≡ list_any (λ life. is_eq (prefix_cmp life.participant prefix)) (take i lives)
     → contains prefix_cmp new prefix ≡ list_any (λ life. is_eq (prefix_cmp life.participant prefix)) (take (i + 1) lives)
-participants_more lives i life old new prefix within is added were =
-    let test : Life → Bool = λ one. is_eq (prefix_cmp one.participant prefix) in
-    added ∙ either (is_eq (prefix_cmp life.participant prefix)) (contains prefix_cmp old prefix) ∙ ap (λ b. b || is_eq (prefix_cmp life.participant prefix)) were
-    ∙ ap (λ (one : Life). list_any test (take i lives) || test one) is ∙ sym (list_any_more test lives i life within)
+participants_more lives i d old new prefix within added were =
+    let test : Life → Bool = λ life. is_eq (prefix_cmp life.participant prefix) in
+    added ∙ either (test (get_or lives i d)) (contains prefix_cmp old prefix) ∙ ap (λ b. b || test (get_or lives i d)) were ∙ sym (list_any_more test lives i d within)
 
 -- ---- two that may be looked at
 

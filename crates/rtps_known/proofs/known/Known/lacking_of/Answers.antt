@@ -21,7 +21,7 @@ returns-in_default-clause-lacking c = λ acts known.
     let writer = c.args.writer in
     let none : get guid_cmp c.args.self.now.bulletins writer ≡ None = sym c.get.ensures.value ∙ ap option_copied c.in_default.is in
     let M : Option Bulletin → Type 0 = λ kept. MatchOption kept (about writer acts ≡ []) (IsBulletinOf (about writer acts)) in
-    of_none (about writer acts) c.args.prefix c.args.end _ (subst M none (known.bulletins writer)) refl refl
+    of_none (about writer acts) c.args.prefix c.args.end (record { endpoints = c.new.result; unnamed = 0 }) (subst M none (known.bulletins writer)) c.new.ensures.items refl
 
 pub returns-clause-lacking : goal.returns-clause-lacking
 returns-clause-lacking c = λ acts known.
