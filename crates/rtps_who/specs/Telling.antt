@@ -1,7 +1,6 @@
 -- What the samples of participants tell of their nodes. DDSI-RTPS 2.5, 8.3.8.2 "Data" and 8.3.8.3 "DataFrag". own: the last sample of a recording
 -- that can be read counts, of a writer that tells of nodes and has the prefix of the participant. A sample in fragments stands where it is told
--- whole to an audience, and again where it is told to another one: so does a DATA that is sent again. Fragments that no audience has all of tell
--- nothing.
+-- whole.
 use Rattle.std.specs.Prelude.{ℕ, ◌≡◌, if◌then◌else◌, List, Option, None, option_and_then, reverse}
 use Rattle.std.specs.BTreeMap.{is_at}
 use Rattle.std.specs.List.{filter_map}
