@@ -62,11 +62,12 @@ number_same a b is = grind (arith, nat_tests)
 making_sound : (file : List ℕ) (frames : List Contents) (hosts : FragmentHosts) (identification : ℕ) (recent : List KeyedMaking) → AreRecent file frames hosts recent
     → AreOf file frames (key_of hosts identification) (making_in recent identification).making
 making_sound file frames hosts identification [] all = tt
-making_sound file frames hosts identification (one ∷ recent) all = by (is_of identification one) refl
+making_sound file frames hosts identification (one ∷ recent) all = by (is_of identification one) refl (making_sound file frames hosts identification recent all.1)
   where
-    by : (here : Bool) → is_of identification one ≡ here → AreOf file frames (key_of hosts identification) (if here then one.making else making_in recent identification).making
-    by true is = subst (λ (n : ℕ). AreOf file frames (key_of hosts n) one.making.making) (number_same one.identification identification is) all.0
-    by false is = making_sound file frames hosts identification recent all.1
+    by : (here : Bool) → is_of identification one ≡ here → AreOf file frames (key_of hosts identification) (making_in recent identification).making
+        → AreOf file frames (key_of hosts identification) (if here then one.making else making_in recent identification).making
+    by true is rest = subst (λ (n : ℕ). AreOf file frames (key_of hosts n) one.making.making) (number_same one.identification identification is) all.0
+    by false is rest = rest
 
 with_sound : (file : List ℕ) (frames : List Contents) (hosts : FragmentHosts) (identification : ℕ) (making : Making) (recent : List KeyedMaking)
     → AreOf file frames (key_of hosts identification) making.making → AreRecent file frames hosts recent → AreRecent file frames hosts (recent_with identification making recent)

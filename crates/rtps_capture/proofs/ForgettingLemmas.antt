@@ -66,11 +66,12 @@ take_same (suc n) (x ∷ xs) = ap (λ l. x ∷ l) (take_same n xs)
 take_without : (n k : ℕ) (xs : List ℕ) → take n (without (same_as k) (take (suc n) xs)) ≡ take n (without (same_as k) xs)
 take_without zero k xs = refl
 take_without (suc n) k [] = refl
-take_without (suc n) k (x ∷ xs) = by (same_as k x)
+take_without (suc n) k (x ∷ xs) = by (same_as k x) (take_without n k xs)
   where
-    by : (here : Bool) → take (suc n) (if here then take (suc n) xs else x ∷ without (same_as k) (take (suc n) xs)) ≡ take (suc n) (if here then xs else x ∷ without (same_as k) xs)
-    by true = take_same (suc n) xs
-    by false = ap (λ l. x ∷ l) (take_without n k xs)
+    by : (here : Bool) → take n (without (same_as k) (take (suc n) xs)) ≡ take n (without (same_as k) xs)
+        → take (suc n) (if here then take (suc n) xs else x ∷ without (same_as k) (take (suc n) xs)) ≡ take (suc n) (if here then xs else x ∷ without (same_as k) xs)
+    by true rest = take_same (suc n) xs
+    by false rest = ap (λ (l : List ℕ). x ∷ l) rest
 
 -- the identifications that are remembered of what came
 abbrev latest : List ℕ → List ℕ
@@ -91,7 +92,7 @@ among_take zero k xs = sym (ap (λ (b : Bool). is_among k xs && b) (let none : n
 among_take (suc n) k [] = refl
 among_take (suc n) k (x ∷ xs) = by (same_as k x) (among_take n k xs)
   where
-    shift : nat_lt (1 + length (behind_last k xs)) (suc n) ≡ nat_lt (length (behind_last k xs)) n
+    shift : nat_lt (length (x ∷ behind_last k xs)) (suc n) ≡ nat_lt (length (behind_last k xs)) n
     shift = grind (arith, nat_tests)
 
     first : nat_lt 0 (suc n) ≡ true
@@ -104,39 +105,49 @@ among_take (suc n) k (x ∷ xs) = by (same_as k x) (among_take n k xs)
 
 among_without : (x k : ℕ) → nat_eq x k ≡ false → (ys : List ℕ) → is_among k (without (same_as x) ys) ≡ is_among k ys
 among_without x k other [] = refl
-among_without x k other (y ∷ ys) = by (same_as x y) refl
+among_without x k other (y ∷ ys) = by (same_as x y) refl (among_without x k other ys)
   where
-    by : (here : Bool) → same_as x y ≡ here → is_among k (if here then ys else y ∷ without (same_as x) ys) ≡ (same_as k y || is_among k ys)
-    by true is = sym (ap (λ (b : Bool). b || is_among k ys) (unlike x k y other is))
-    by false is = ap (λ (b : Bool). same_as k y || b) (among_without x k other ys)
+    by : (here : Bool) → same_as x y ≡ here → is_among k (without (same_as x) ys) ≡ is_among k ys
+        → is_among k (if here then ys else y ∷ without (same_as x) ys) ≡ (same_as k y || is_among k ys)
+    by true is rest = sym (ap (λ (b : Bool). b || is_among k ys) (unlike x k y other is))
+    by false is rest = ap (λ (b : Bool). same_as k y || b) rest
 
 among_once : (k : ℕ) (came : List ℕ) → is_among k (each_once came) ≡ is_among k came
 among_once k [] = refl
-among_once k (x ∷ came) = by (same_as k x) refl
+among_once k (x ∷ came) = by (same_as k x) refl (among_once k came)
   where
-    by : (here : Bool) → same_as k x ≡ here → (here || is_among k (without (same_as x) (each_once came))) ≡ (here || is_among k came)
-    by true is = refl
-    by false is = among_without x k is (each_once came) ∙ among_once k came
+    by : (here : Bool) → same_as k x ≡ here → is_among k (each_once came) ≡ is_among k came → (here || is_among k (without (same_as x) (each_once came))) ≡ (here || is_among k came)
+    by true is rest = refl
+    by false is rest = among_without x k is (each_once came) ∙ rest
 
 behind_without : (x k : ℕ) → nat_eq x k ≡ false → (ys : List ℕ) → behind_last k (without (same_as x) ys) ≡ without (same_as x) (behind_last k ys)
 behind_without x k other [] = refl
-behind_without x k other (y ∷ ys) = by (same_as x y) refl (same_as k y) refl
+behind_without x k other (y ∷ ys) = by (same_as x y) refl (same_as k y) refl (behind_without x k other ys)
   where
-    by : (here : Bool) → same_as x y ≡ here → (there : Bool) → same_as k y ≡ there
+    left : List ℕ
+    left = without (same_as x) ys
+
+    last : List ℕ
+    last = behind_last k ys
+
+    by : (here : Bool) → same_as x y ≡ here → (there : Bool) → same_as k y ≡ there → behind_last k left ≡ without (same_as x) last
         → behind_last k (if here then ys else y ∷ without (same_as x) ys) ≡ without (same_as x) (if there then [] else y ∷ behind_last k ys)
-    by true is true at = let no = sym at ∙ unlike x k y other is in cc
-    by true is false at = rw is refl
-    by false is true at = rw at refl
-    by false is false at = rw (at, is) (ap (λ l. y ∷ l) (behind_without x k other ys))
+    by true is true at rest = let no = sym at ∙ unlike x k y other is in cc
+    by true is false at rest = sym (ap (λ (b : Bool). if b then last else y ∷ without (same_as x) last) is)
+    by false is true at rest = ap (λ (b : Bool). if b then [] else y ∷ behind_last k left) at
+    by false is false at rest =
+        ap (λ (b : Bool). if b then [] else y ∷ behind_last k left) at
+        ∙ ap (λ (l : List ℕ). y ∷ l) rest
+        ∙ sym (ap (λ (b : Bool). if b then last else y ∷ without (same_as x) last) is)
 
 behind_once : (k : ℕ) (came : List ℕ) → behind_last k (each_once came) ≡ each_once (behind_last k came)
 behind_once k [] = refl
-behind_once k (x ∷ came) = by (same_as k x) refl
+behind_once k (x ∷ came) = by (same_as k x) refl (behind_once k came)
   where
-    by : (here : Bool) → same_as k x ≡ here
+    by : (here : Bool) → same_as k x ≡ here → behind_last k (each_once came) ≡ each_once (behind_last k came)
         → (if here then [] else x ∷ behind_last k (without (same_as x) (each_once came))) ≡ each_once (if here then [] else x ∷ behind_last k came)
-    by true is = refl
-    by false is = ap (λ l. x ∷ l) (behind_without x k is (each_once came) ∙ ap (without (same_as x)) (behind_once k came))
+    by true is rest = refl
+    by false is rest = ap (λ (l : List ℕ). x ∷ l) (behind_without x k is (each_once came) ∙ ap (without (same_as x)) rest)
 
 remembered_is : (k : ℕ) (came : List ℕ) → is_among k (latest came) ≡ is_remembered k came
 remembered_is k came =

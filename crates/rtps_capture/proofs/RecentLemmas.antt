@@ -1,6 +1,6 @@
 -- The keys of two hosts that are remembered: how the fragments of one are found and taken out, and put in front.
 use Rattle.std.proofs.Common.{◌≡◌, ℕ, zero, suc, ◌+◌, ◌<◌, ◌≤◌, Bool, true, false, List, [], ◌∷◌, ◌++◌, length, drop, take, refl, sym, ap, ap₂, subst, ◌∙◌, cond, arith}
-use Rattle.std.specs.Prelude.{None, Option, Some, ◌==◌, not, nat_eq, nat_lt, if◌then◌else◌, slice_index_or}
+use Rattle.std.specs.Prelude.{IfOk, IsSome, None, Option, Some, Result, Err, Ok, ◌==◌, not, nat_eq, nat_lt, if◌then◌else◌, slice_index_or}
 use Rattle.std.specs.BTreeMap.{BTreeMap, Updates, get}
 use Rattle.std.specs.List.{AllByRecursion, position, position_or_len, remove}
 use Rattle.std.specs.Option.{unwrap_or}
@@ -64,10 +64,10 @@ none_first identification (one ∷ recent) past = by (is_of identification one) 
     by false less rest = let there = rest (omega (arith, less)) in (there.0, ap (λ l. one ∷ l) there.1)
 
 pub not_within : (place n : ℕ) → (place < n → ⊥) → n ≤ place
-not_within place n no = by (nat_lt place n) refl
+not_within place n never = by (nat_lt place n) refl
   where
     by : (less : Bool) → nat_lt place n ≡ less → n ≤ place
-    by true is = absurd (no (let within : place < n = grind (arith, nat_tests) in within))
+    by true is = absurd (never (let within : place < n = grind (arith, nat_tests) in within))
     by false is = grind (arith, nat_tests)
 
 -- what is at the place of a key, and what is left without it
@@ -95,6 +95,26 @@ recent_put old new hosts w updates other = ap recent_in (updates.0 other) ∙ by
     by true = refl
     by false = refl
 
+-- a fragment was taken of hosts that had these keys, and these are put in
+spread : (file packet : List ℕ) (old new : BTreeMap FragmentHosts RecentMakings) (key : FragmentKey) (hosts : FragmentHosts) (recent left : List KeyedMaking) (piece other : Piece)
+    (taken : Taken) → recent ≡ recent_of old (hosts_of key) → piece ≡ other → hosts ≡ hosts_of key
+    → ((one : FragmentHosts) → recent_of new one ≡ (if is_eq (hosts_cmp hosts one) then left else recent_of old one))
+    → TakesPiece (taken_piece file key (making_in recent key.identification) piece) key taken recent left packet
+    → TakesFragment (taken_piece file key (making_in (recent_of old (hosts_of key)) key.identification) other) key taken old new packet
+spread file packet old new key hosts recent left piece other taken there same are puts is =
+    let joined : Joined = taken_piece file key (making_in (recent_of old (hosts_of key)) key.identification) other in
+    let step : taken_piece file key (making_in recent key.identification) piece ≡ joined =
+    ap₂ (λ (l : List KeyedMaking) (p : Piece). taken_piece file key (making_in l key.identification) p) there same in
+    let takes : TakesPiece joined key taken (recent_of old (hosts_of key)) left packet =
+    subst (λ (l : List KeyedMaking). TakesPiece joined key taken l left packet) there
+    (subst (λ (j : Joined). TakesPiece j key taken recent left packet) step is) in (
+      takes.0,
+      takes.1,
+      λ one.
+          puts one
+          ∙ ap₂ (λ (l : List KeyedMaking) (h : FragmentHosts). if is_eq (hosts_cmp h one) then l else recent_of old one) takes.2 are,
+    )
+
 -- the first fragment of two hosts was taken
 pub put_taken : (file packet : List ℕ) (old between new : BTreeMap FragmentHosts RecentMakings) (key : FragmentKey) (hosts : FragmentHosts) (v w : RecentMakings)
     (piece other : Piece) (taken : Taken) → v.makings.items ≡ [] → piece ≡ other → hosts ≡ hosts_of key → get hosts_cmp old hosts ≡ None → between ≡ old
@@ -102,21 +122,20 @@ pub put_taken : (file packet : List ℕ) (old between new : BTreeMap FragmentHos
     → TakesPiece (taken_piece file key (making_in v.makings.items key.identification) piece) key taken v.makings.items w.makings.items packet
     → TakesFragment (taken_piece file key (making_in (recent_of old (hosts_of key)) key.identification) other) key taken old new packet
 put_taken file packet old between new key hosts v w piece other taken begins same are none unchanged updates is =
-    let there : v.makings.items ≡ recent_of old (hosts_of key) = begins ∙ sym (ap recent_in none) ∙ ap (recent_of old) are in
-    let step : taken_piece file key (making_in v.makings.items key.identification) piece ≡ taken_piece file key (making_in (recent_of old (hosts_of key)) key.identification) other =
-    ap₂ (λ (l : List KeyedMaking) (p : Piece). taken_piece file key (making_in l key.identification) p) there same in
-    let left : TakesPiece (taken_piece file key (making_in (recent_of old (hosts_of key)) key.identification) other) key taken (recent_of old (hosts_of key)) w.makings.items packet =
-    subst (λ (l : List KeyedMaking). TakesPiece (taken_piece file key (making_in (recent_of old (hosts_of key)) key.identification) other) key taken l w.makings.items packet) there
-    (subst (λ (j : Joined). TakesPiece j key taken v.makings.items w.makings.items packet) step is) in (
-      left.0,
-      left.1,
-      λ one.
-          recent_put between new hosts w updates one
-          ∙ ap₂ (λ (l : List KeyedMaking) (m : BTreeMap FragmentHosts RecentMakings). if is_eq (hosts_cmp hosts one) then l else recent_of m one) left.2 unchanged
-          ∙ ap (λ (h : FragmentHosts). if is_eq (hosts_cmp h one)
-            then recent_with key.identification (taken_piece file key (making_in (recent_of old (hosts_of key)) key.identification) other).making (recent_of old (hosts_of key))
-            else recent_of old one) are,
-    )
+    spread file packet old new key hosts v.makings.items w.makings.items piece other taken (begins ∙ sym (ap recent_in none) ∙ ap (recent_of old) are) same are
+    (λ one. recent_put between new hosts w updates one
+      ∙ ap (λ (m : BTreeMap FragmentHosts RecentMakings). if is_eq (hosts_cmp hosts one) then w.makings.items else recent_of m one) unchanged) is
+
+-- another one was taken
+pub there_taken : {E : Type 0} (file packet : List ℕ) (old new : BTreeMap FragmentHosts RecentMakings) (key : FragmentKey) (hosts : FragmentHosts) (v w : RecentMakings)
+    (piece other : Piece) (result : Result Taken E) → piece ≡ other → hosts ≡ hosts_of key → get hosts_cmp old hosts ≡ Some v
+    → (IsSome (get hosts_cmp old hosts) → Updates hosts_cmp old new hosts (Some w))
+    → IfOk result (λ taken. TakesPiece (taken_piece file key (making_in v.makings.items key.identification) piece) key taken v.makings.items w.makings.items packet)
+    → IfOk result (λ taken. TakesFragment (taken_piece file key (making_in (recent_of old (hosts_of key)) key.identification) other) key taken old new packet)
+there_taken file packet old new key hosts v w piece other (Err e) same are there updates is = tt
+there_taken file packet old new key hosts v w piece other (Ok taken) same are there updates is =
+    spread file packet old new key hosts v.makings.items w.makings.items piece other taken (sym (ap recent_in there) ∙ ap (recent_of old) are) same are
+    (recent_put old new hosts w (updates (subst IsSome (sym there) refl))) is
 
 -- hosts that compare as equal are
 nat_same : (a b : ℕ) → is_eq (nat_cmp a b) ≡ true → a ≡ b
