@@ -1,6 +1,6 @@
 -- The keys that a reading remembers are those whose last pieces came last.
-use Rattle.std.proofs.Common.{◌≡◌, ℕ, zero, suc, ◌+◌, ◌≤◌, Bool, true, false, List, [], ◌∷◌, length, map, take, refl, sym, ap, ap₂, subst, ◌∙◌, arith}
-use Rattle.std.specs.Prelude.{None, Option, Some, Ok, Err, Result, ◌==◌, ◌&&◌, ◌||◌, nat_eq, nat_lt, if◌then◌else◌}
+use Rattle.std.proofs.Common.{◌≡◌, ℕ, zero, suc, ◌≤◌, Bool, true, false, List, [], ◌∷◌, length, map, take, refl, sym, ap, ap₂, subst, ◌∙◌, arith}
+use Rattle.std.specs.Prelude.{None, Option, Ok, Err, ◌==◌, ◌&&◌, ◌||◌, nat_eq, nat_lt, if◌then◌else◌}
 use Rattle.std.specs.List.{list_any}
 use Rattle.std.specs.Ordering.{is_eq}
 use Rattle.std.proofs.lemmas.Bool.Decides.{nat_tests}
@@ -13,7 +13,6 @@ use Rattle.rtps_capture.specs.Recent.{behind_last, each_once, hosts_cmp, hosts_o
 use Rattle.rtps_capture.specs.Sent.{contents_among}
 use Rattle.rtps_capture.specs.declared.assembly.KeyedMaking.{KeyedMaking}
 use Rattle.rtps_capture.specs.declared.assembly.Making.{Making}
-use Rattle.rtps_capture.specs.declared.capture.CaptureFault.{CaptureFault}
 use Rattle.rtps_capture.specs.declared.capture.CaptureFault.TheVariants as fault
 use Rattle.rtps_capture.specs.declared.captures.Captures.{Captures}
 use Rattle.rtps_capture.specs.declared.captures.Captures.TheVariants.{Any, Classic}
@@ -49,7 +48,7 @@ ids_without identification (one ∷ recent) = by (is_of identification one) (ids
   where
     by : (here : Bool) → ids (without (is_of identification) recent) ≡ without (same_as identification) (ids recent)
         → ids (if here then recent else one ∷ without (is_of identification) recent)
-          ≡ (if here then ids recent else one.identification ∷ without (same_as identification) (ids recent))
+        ≡ (if here then ids recent else one.identification ∷ without (same_as identification) (ids recent))
     by true rest = refl
     by false rest = ap (λ l. one.identification ∷ l) rest
 
@@ -169,7 +168,7 @@ contents_latest file time so_far hosts came (contents.Fragment fragment) same is
 
     by : (here : Bool) → is_eq (hosts_cmp (hosts_of fragment.key) hosts) ≡ here
         → ids (if here then recent_with fragment.key.identification made (so_far.recent (hosts_of fragment.key)) else so_far.recent hosts)
-          ≡ latest (if here then fragment.key.identification ∷ came else came)
+        ≡ latest (if here then fragment.key.identification ∷ came else came)
     by true equal =
         latest_with fragment.key.identification made (so_far.recent (hosts_of fragment.key)) came
         (ap (λ (h : FragmentHosts). ids (so_far.recent h)) (same (hosts_of fragment.key) equal) ∙ is)

@@ -1,6 +1,6 @@
 -- The keys of two hosts that are remembered: how the fragments of one are found and taken out, and put in front.
-use Rattle.std.proofs.Common.{◌≡◌, ℕ, zero, suc, ◌+◌, ◌<◌, ◌≤◌, Bool, true, false, List, [], ◌∷◌, ◌++◌, length, drop, take, refl, sym, ap, ap₂, subst, ◌∙◌, cond, arith}
-use Rattle.std.specs.Prelude.{IfOk, IsSome, None, Option, Some, Result, Err, Ok, ◌==◌, not, nat_eq, nat_lt, if◌then◌else◌, slice_index_or}
+use Rattle.std.proofs.Common.{◌≡◌, ℕ, zero, suc, ◌+◌, ◌<◌, ◌≤◌, Bool, true, false, List, [], ◌∷◌, length, take, refl, sym, ap, ap₂, subst, ◌∙◌, cond, arith}
+use Rattle.std.specs.Prelude.{IfOk, IsSome, None, Some, Result, Err, Ok, not, nat_lt, if◌then◌else◌, slice_index_or}
 use Rattle.std.specs.BTreeMap.{BTreeMap, Updates, get}
 use Rattle.std.specs.List.{AllByRecursion, position, position_or_len, remove}
 use Rattle.std.specs.Option.{unwrap_or}
@@ -10,9 +10,8 @@ use Rattle.std.specs.declared.cmp.Ordering.TheVariants.{Equal, Greater, Less}
 use Rattle.std.proofs.lemmas.Bool.Decides.{nat_tests}
 use Rattle.std.proofs.lemmas.List.Sums.{prefix_len-le-length}
 use Rattle.rtps_capture.specs.Assembly.{Joined, fresh_making, taken_piece}
-use Rattle.rtps_capture.specs.Recent.{TakesFragment, TakesPiece, hosts_cmp, hosts_of, is_of, making_in, recent_in, recent_of, recent_with, without}
+use Rattle.rtps_capture.specs.Recent.{TakesFragment, TakesPiece, hosts_cmp, hosts_of, is_of, making_in, recent_in, recent_of, without}
 use Rattle.rtps_capture.specs.declared.assembly.KeyedMaking.{KeyedMaking}
-use Rattle.rtps_capture.specs.declared.assembly.Making.{Making}
 use Rattle.rtps_capture.specs.declared.assembly.RecentMakings.{RecentMakings}
 use Rattle.rtps_capture.specs.declared.assembly.Taken.{Taken}
 use Rattle.rtps_capture.specs.declared.fragment.FragmentHosts.{FragmentHosts}
@@ -124,7 +123,7 @@ pub put_taken : (file packet : List ℕ) (old between new : BTreeMap FragmentHos
 put_taken file packet old between new key hosts v w piece other taken begins same are none unchanged updates is =
     spread file packet old new key hosts v.makings.items w.makings.items piece other taken (begins ∙ sym (ap recent_in none) ∙ ap (recent_of old) are) same are
     (λ one. recent_put between new hosts w updates one
-      ∙ ap (λ (m : BTreeMap FragmentHosts RecentMakings). if is_eq (hosts_cmp hosts one) then w.makings.items else recent_of m one) unchanged) is
+    ∙ ap (λ (m : BTreeMap FragmentHosts RecentMakings). if is_eq (hosts_cmp hosts one) then w.makings.items else recent_of m one) unchanged) is
 
 -- another one was taken
 pub there_taken : {E : Type 0} (file packet : List ℕ) (old new : BTreeMap FragmentHosts RecentMakings) (key : FragmentKey) (hosts : FragmentHosts) (v w : RecentMakings)

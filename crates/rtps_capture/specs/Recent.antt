@@ -62,7 +62,7 @@ abbrev pub TakesFragment : Joined → FragmentKey → Taken → BTreeMap Fragmen
 TakesFragment joined key taken old new packet =
     (taken ≡ joined.taken) × (packet ≡ joined.packet)
     × ((hosts : FragmentHosts) → recent_of new hosts
-      ≡ (if is_eq (hosts_cmp (hosts_of key) hosts) then recent_with key.identification joined.making (recent_of old (hosts_of key)) else recent_of old hosts))
+    ≡ (if is_eq (hosts_cmp (hosts_of key) hosts) then recent_with key.identification joined.making (recent_of old (hosts_of key)) else recent_of old hosts))
 
 -- one of the numbers is this one
 abbrev pub is_among : ℕ → List ℕ → Bool

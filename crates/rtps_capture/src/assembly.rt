@@ -182,9 +182,7 @@ impl RecentMakings {
         ensures making { result ≡ making_in self.old.makings.items identification }
         ensures others { self.new.makings.items ≡ without (is_of identification) self.old.makings.items }
     {
-        let place = self
-            .place_of(identification)
-            .unwrap_or(self.makings.len());
+        let place = self.place_of(identification).unwrap_or(self.makings.len());
         match self.makings.remove(place) {
             Some(there) => there.making,
             None => Making::new(self.alloc),

@@ -1,8 +1,6 @@
-use Rattle.std.proofs.Common.{◌≡◌, ◌<◌, ◌≤◌, ◌∙◌, length, refl, sym, subst, ap, ap₂, arith, ℕ}
-use Rattle.std.specs.Prelude.{IsSome, None, Option}
-use Rattle.std.specs.List.{position}
+use Rattle.std.proofs.Common.{◌<◌, ◌≤◌, ◌∙◌, length, refl, sym, subst, ap, ap₂, arith, ℕ}
+use Rattle.std.specs.Prelude.{IsSome, Option}
 use Rattle.std.specs.Option.{unwrap_or}
-use Rattle.rtps_capture.specs.Recent.{is_of}
 use Rattle.rtps_capture.proofs.RecentLemmas.{none_out, not_within, one_out}
 use Rattle.rtps_capture.proofs.assembly.RecentMakings.take_out.Goals as goal
 
