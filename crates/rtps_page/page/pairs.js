@@ -157,7 +157,7 @@ class Pairs {
       makeButton({ class: 'open-all' }, 'Open all', () => this.openAll(ALL)), makeButton(null, 'Fold', () => this.openAll(null)));
     const wide = make('div', { class: 'wide' }, this.table);
     const words = this.explanation();
-    tools.hidden = wide.hidden = words.hidden = this.report.rows.length === 0;
+    document.getElementById('pairs').hidden = this.report.rows.length === 0;
     document.getElementById('pairs').append(this.kindButtons(), tools, this.status, wide, this.more, words);
   }
 
@@ -237,8 +237,6 @@ class Pairs {
 
   statusText(found, open, shown) {
     const all = this.report.rows.length;
-    // The first lines of the text say what to do where there is none.
-    if (all === 0) return document.querySelector('#text pre').textContent.split('\n\n')[0].replace(/\s+/g, ' ').replaceAll(' -> ', ': ');
     const folded = found - open;
     const some = shown < open ? `; the first ${counted(shown)} are shown` : '';
     return `${partOf(found, all, 'pair')}${some}${folded > 0 ? `; ${counted(folded)} ${folded === 1 ? 'is' : 'are'} folded` : ''}.`;

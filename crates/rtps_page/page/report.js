@@ -113,6 +113,7 @@ class Report {
     this.hasSilent = data.participants.some(({ silent }) => silent);
     this.bases = null;
     this.numbered = new Map();
+    this.told = new Map();
   }
 
   // the second of a datagram that a chart has, or undefined where it has none
@@ -138,6 +139,11 @@ class Report {
     return Math.max(last, begin !== null && end !== null ? (end - begin) / 1000 : 0);
   }
 
+  // where a datagram of a chart stands on it; undefined where it has no time
+  placeOf(datagram) {
+    return this.isTimed ? this.secondOf(datagram) : datagram;
+  }
+
   // where a place stands on it; null where it has no time
   onAxis({ datagram, time = null }) {
     return this.isTimed ? time : datagram;
@@ -154,6 +160,12 @@ class Report {
     return this.bases.get(writer + reader);
   }
 
+  // which numbers the reader of a row asked for, and where; none where the page does not tell it
+  asksOf({ writer, reader }) {
+    this.asks ||= new Map(this.data.answers.map((answer) => [answer.writer + answer.reader, answer.asks || []]));
+    return this.asks.get(writer + reader);
+  }
+
   // what the writer of a row said, to whichever reader
   actsOf({ writer }) {
     return this.acts.get(writer);
@@ -163,21 +175,46 @@ class Report {
   sendingsOf({ writer, reader }) {
     const byNumber = entryOf(this.numbered, writer, () => dataByNumber(this.acts.get(writer) || []));
     const to = namesOf(reader);
-    return (number) => (byNumber.get(number) || []).find((entry) => to.includes(entry[4]));
+    return (number) => (byNumber.get(number) || []).find((entry) => to.includes(entry[entry[2] === 'piece' ? 5 : 4]));
+  }
+
+  // where the writer of a row first tells of greater and greater numbers, each a datagram and a number; null where it has no chart
+  tellingsOf({ writer }) {
+    return entryOf(this.told, writer, () => (this.acts.has(writer) ? risingOf(this.acts.get(writer)) : null));
   }
 
   participantOf(guid) {
     return this.participants.get(prefixOf(guid));
+  }
+
+  // that the two ends of a row matched late, or undefined
+  lateOf({ writer, reader }) {
+    return (this.data.late || []).find((late) => late.writer === writer && late.reader === reader);
   }
 }
 
 // The names by which an entry is for a reader: it names nobody, or the reader, its participant or its entity.
 const namesOf = (reader) => [undefined, reader, prefixOf(reader), entityOf(reader)];
 
+// Entries by which a writer sends a number: a DATA, or what completes a sample in pieces, and a piece.
+const IS_SENDING = new Set(['data', 'piece']);
+
 function dataByNumber(acts) {
   const found = new Map();
-  for (const entry of acts) if (entry[2] === 'data') entryOf(found, entry[3], () => []).push(entry);
+  for (const entry of acts) if (IS_SENDING.has(entry[2])) entryOf(found, entry[3], () => []).push(entry);
   return found;
+}
+
+// Of what a writer sends or announces each number that is above all before it.
+function risingOf(acts) {
+  const steps = [];
+  let last = 0;
+  for (const [datagram, , what, number] of acts) {
+    if (what === 'gone' || number <= last) continue;
+    steps.push([datagram, Number(number)]);
+    last = number;
+  }
+  return steps;
 }
 
 // The rows by topic and type, in the order of their first row. Each row gets its place, its kind, how bad it is, and its group.

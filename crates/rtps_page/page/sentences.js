@@ -63,6 +63,9 @@ const evidenceSentences = (row) => [
   ...spanSentences(row), ...commonSentences(row), ...receivedSentences(row), ...OWN_SENTENCES[row.verdict](row), ...waitSentences(row), ...silenceSentences(row),
 ];
 
+// That the two ends of a row matched late, where that is told.
+const lateSentences = (late) => (late === undefined ? [] : [`The two matched ${lateText(late)}.`]);
+
 function spanSentences({ from, until, until_time: time, until_frame: frame, outcomes }) {
   const kinds = OUTCOMES.filter((name) => outcomes[name] > 0).map((name) => `${counted(outcomes[name])} ${name}`);
   const left = until === null ? '' : `, until datagram ${until}${frameText(frame)}${secondText(time)}, in which the reader left`;
