@@ -6,7 +6,7 @@ pub(crate) const HEAD: &str = "\
 <html lang=\"en\">\n\
 <head>\n\
 <meta charset=\"utf-8\">\n\
-<meta http-equiv=\"Content-Security-Policy\" content=\"default-src 'none'; style-src 'sha256-wewtcssLakNnzoaE67MRY7QR8hH1k0pLdv1MTL5BjGg='; script-src 'sha256-hpmW3mDyoQhB9f0WRZW6RarG+nvTxqFH2yl+nJ5/Zek=' 'sha256-sp6ltp8z8p95/rz0H6nBnbmepneJnFp0R3fuxXh/OUQ=' 'sha256-ITctgU4SinAQQYsXVflAZKVj6OUeisokZHBS2nZUUoI=' 'sha256-4s0DWENkSIhSAH/EF+Flxu6l0w9gBcLDaxTC0jPrP3Q=' 'sha256-nzGEYvzDKKZYZJA/DM7XyA16Ls/k6Nl4xNWS6IHdY/Q=' 'sha256-9e+HgCiT2n3PNELWhwsUg4q61Swtd9VcyOpbngcVG9g=' 'sha256-IDKn87SsjoB7KFxDOA98+C9PAwaZUG5nSecNhajfn5Y=' 'sha256-2ELIcGH5E1pJxmMUXa4vBYSAMFL1BCId//7q11HXGjY=' 'sha256-YKfXUCxjsA2JhKMB27DqdbmQs5lIqI42dpn8+zc7Guo=' 'sha256-kVdnEU2vVvmrVFvfoaOWgyjH7vn7mLhAiHHOsUb7jwM=' 'sha256-bxkq+E3F0BHN7VQS0dQSY4Jrr4eB9RAk2ER2DkSuwy8=' 'sha256-Ng/qG/jczhEehaLvFM9UoDXYY2suV6XApjDWWpgKjqI=' 'sha256-uvj8D2CsPVn8abqL+tKLZ9PrBdOnwiCB8dfcyJYwoS0='; base-uri 'none'; form-action 'none'\">\n\
+<meta http-equiv=\"Content-Security-Policy\" content=\"default-src 'none'; style-src 'sha256-EseMbammGylegBxk8jCNIG/Y+qVwTO9Z1GFH+sgg35c='; script-src 'sha256-hpmW3mDyoQhB9f0WRZW6RarG+nvTxqFH2yl+nJ5/Zek=' 'sha256-sp6ltp8z8p95/rz0H6nBnbmepneJnFp0R3fuxXh/OUQ=' 'sha256-ITctgU4SinAQQYsXVflAZKVj6OUeisokZHBS2nZUUoI=' 'sha256-4s0DWENkSIhSAH/EF+Flxu6l0w9gBcLDaxTC0jPrP3Q=' 'sha256-nzGEYvzDKKZYZJA/DM7XyA16Ls/k6Nl4xNWS6IHdY/Q=' 'sha256-9e+HgCiT2n3PNELWhwsUg4q61Swtd9VcyOpbngcVG9g=' 'sha256-IDKn87SsjoB7KFxDOA98+C9PAwaZUG5nSecNhajfn5Y=' 'sha256-2ELIcGH5E1pJxmMUXa4vBYSAMFL1BCId//7q11HXGjY=' 'sha256-YKfXUCxjsA2JhKMB27DqdbmQs5lIqI42dpn8+zc7Guo=' 'sha256-kVdnEU2vVvmrVFvfoaOWgyjH7vn7mLhAiHHOsUb7jwM=' 'sha256-bxkq+E3F0BHN7VQS0dQSY4Jrr4eB9RAk2ER2DkSuwy8=' 'sha256-Ng/qG/jczhEehaLvFM9UoDXYY2suV6XApjDWWpgKjqI=' 'sha256-uvj8D2CsPVn8abqL+tKLZ9PrBdOnwiCB8dfcyJYwoS0='; base-uri 'none'; form-action 'none'\">\n\
 <meta name=\"viewport\" content=\"width=device-width, initial-scale=1\">\n\
 <meta name=\"color-scheme\" content=\"light dark\">\n\
 <meta name=\"referrer\" content=\"no-referrer\">\n\
@@ -180,7 +180,7 @@ td p:last-child { margin-bottom: 0; }\n\
 .topics th:nth-child(1) { width: 22%; }\n\
 .topics th:nth-child(2) { width: 44%; }\n\
 .topics .which { padding: 0; list-style: none; font-size: 0.88rem; }\n\
-.advice::first-letter, .notes b::first-letter, .todo::first-letter, #because li::first-letter { text-transform: uppercase; }\n\
+.no-pair h3::first-letter, .advice::first-letter, .notes b::first-letter, .todo::first-letter, #because li::first-letter { text-transform: uppercase; }\n\
 .topics .advice { font-weight: 600; }\n\
 .todo { display: block; }\n\
 .pairs thead th { white-space: normal; min-width: 64px; }\n\
