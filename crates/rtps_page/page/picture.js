@@ -6,6 +6,7 @@ const MOST_STRIPS = 20;
 // How high a strip is, and how wide a column, in pixels. What falls on one column is one mark.
 const STRIP_HEIGHT = 32;
 const COLUMN = 2;
+const LEAST_BAND = 3;
 // At most so many marks of a topic are drawn, and so many of its numbers are looked up.
 const MOST_MARKS = 2000;
 const MOST_LOOKED_UP = 20000;
@@ -89,7 +90,7 @@ class Picture {
     const band = [...bandRuns(columns(samples)), ...spans.map(([from, to]) => [this.pixel(from), this.pixel(to)])];
     place.replaceChildren(
       drawn('path', { class: 'grid', d: grid }),
-      drawn('path', { class: 'samples', d: band.map(([from, to]) => `M${from} 8h${Math.max(COLUMN, to - from)}v8H${from}z`).join('') }),
+      drawn('path', { class: 'samples', d: band.map(([from, to]) => `M${from} 8h${Math.max(LEAST_BAND, to - from)}v8H${from}z`).join('') }),
       ...Object.entries(MARK_FORMS).map(([kind, form]) => drawn('path', { class: `mark ${kind}`, d: columns(points[kind]).slice(0, MOST_MARKS).map(form).join('') })));
   }
 }
@@ -120,10 +121,9 @@ function stripWords(group, points) {
 const LOST_KINDS = ['missed', 'unsent', 'unanswered', 'not_arrived'];
 
 // How many numbers of a kind a topic has; what did not arrive is told of rows that are held, and no other kind of these.
-function lostCount({ rows }, kind) {
-  const held = rows.filter(isHeld);
+function lostCount({ sums, held }, kind) {
   if (kind === 'not_arrived') return sumOf(held, lostOf);
-  return sumOf(held.length === 0 ? rows : rows.filter((row) => !isHeld(row)), ({ outcomes }) => outcomes[kind]);
+  return differenceOf(sums[kind], sumOf(held, ({ outcomes }) => outcomes[kind]));
 }
 
 // ---- where what a strip shows stands on the axis
@@ -133,7 +133,7 @@ function stripPoints(report, group) {
   const left = { numbers: MOST_LOOKED_UP };
   points.neverSent = 0;
   for (const row of group.rows) {
-    if (Object.keys(row.numbers).length > 0) addLost(report, row, points, left);
+    if (row.lost !== 0) addLost(report, row, points, left);
     addReader(report, row, points);
   }
   return { points, samples: samplesOf(report, group), spans: spansOf(report, group) };
@@ -190,13 +190,17 @@ function firstFrom(steps, number) {
 // Where its reader joins, leaves, and where a participant of its two falls silent.
 function addReader(report, row, points) {
   const joined = report.data.joined?.[row.at];
-  const add = (kind, x) => x !== null && x !== undefined && points[kind].push(x);
-  if (joined) add('joins', report.onAxis({ datagram: joined[0], time: joined[2] }));
-  if (row.until !== null) add('leaves', report.onAxis({ datagram: row.until, time: row.until_time }));
+  if (joined) addPoint(points.joins, report.isTimed ? joined[2] : joined[0]);
+  if (row.until !== null) addPoint(points.leaves, report.onAxis({ datagram: row.until, time: row.until_time }));
   for (const guid of report.hasSilent ? [row.reader, row.writer] : []) {
     const announced = report.participantOf(guid)?.announced;
-    if (announced?.silent) add('silent', report.onAxis({ datagram: announced.last, time: announced.last_time }));
+    if (announced?.silent) addPoint(points.silent, report.onAxis({ datagram: announced.last, time: announced.last_time }));
   }
+}
+
+// A place that is on the axis.
+function addPoint(points, x) {
+  if (x !== null && x !== undefined) points.push(x);
 }
 
 // Where samples of a topic are sent, by the writers that have a chart.
@@ -209,12 +213,26 @@ function samplesOf(report, { rows }) {
 // From where to where those are heard of that have none, as far as their rows tell.
 function spansOf(report, { rows }) {
   const spans = new Map();
-  for (const row of rows.filter(({ writer }) => !report.acts.has(writer))) {
-    const places = [row.announced, row.told, row.claimed, row.acknowledged].filter(Boolean).map((place) => report.onAxis(place)).filter((x) => x !== null);
-    const span = entryOf(spans, row.writer, () => [Infinity, -Infinity]);
-    [span[0], span[1]] = [Math.min(span[0], ...places), Math.max(span[1], ...places)];
+  let [writer, span] = [null, null];
+  for (const row of rows) {
+    // Rows of one writer mostly stand together.
+    if (row.writer !== writer) {
+      writer = row.writer;
+      span = report.acts.has(writer) ? null : entryOf(spans, writer, () => [Infinity, -Infinity]);
+    }
+    if (span !== null) widen(span, report, row);
   }
   return [...spans.values()].filter(([from, to]) => from <= to);
+}
+
+// A span, so that the places of a row lie in it.
+function widen(span, report, { announced, told, claimed, acknowledged }) {
+  for (const place of [announced, told, claimed, acknowledged]) {
+    const x = place ? report.onAxis(place) : null;
+    if (x === null) continue;
+    span[0] = Math.min(span[0], x);
+    span[1] = Math.max(span[1], x);
+  }
 }
 
 function pictureLegend(kinds) {

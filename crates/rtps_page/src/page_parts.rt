@@ -6,7 +6,7 @@ pub(crate) const HEAD: &str = "\
 <html lang=\"en\">\n\
 <head>\n\
 <meta charset=\"utf-8\">\n\
-<meta http-equiv=\"Content-Security-Policy\" content=\"default-src 'none'; style-src 'sha256-EseMbammGylegBxk8jCNIG/Y+qVwTO9Z1GFH+sgg35c='; script-src 'sha256-hpmW3mDyoQhB9f0WRZW6RarG+nvTxqFH2yl+nJ5/Zek=' 'sha256-sp6ltp8z8p95/rz0H6nBnbmepneJnFp0R3fuxXh/OUQ=' 'sha256-ITctgU4SinAQQYsXVflAZKVj6OUeisokZHBS2nZUUoI=' 'sha256-4s0DWENkSIhSAH/EF+Flxu6l0w9gBcLDaxTC0jPrP3Q=' 'sha256-nzGEYvzDKKZYZJA/DM7XyA16Ls/k6Nl4xNWS6IHdY/Q=' 'sha256-9e+HgCiT2n3PNELWhwsUg4q61Swtd9VcyOpbngcVG9g=' 'sha256-IDKn87SsjoB7KFxDOA98+C9PAwaZUG5nSecNhajfn5Y=' 'sha256-2ELIcGH5E1pJxmMUXa4vBYSAMFL1BCId//7q11HXGjY=' 'sha256-YKfXUCxjsA2JhKMB27DqdbmQs5lIqI42dpn8+zc7Guo=' 'sha256-kVdnEU2vVvmrVFvfoaOWgyjH7vn7mLhAiHHOsUb7jwM=' 'sha256-bxkq+E3F0BHN7VQS0dQSY4Jrr4eB9RAk2ER2DkSuwy8=' 'sha256-Ng/qG/jczhEehaLvFM9UoDXYY2suV6XApjDWWpgKjqI=' 'sha256-uvj8D2CsPVn8abqL+tKLZ9PrBdOnwiCB8dfcyJYwoS0='; base-uri 'none'; form-action 'none'\">\n\
+<meta http-equiv=\"Content-Security-Policy\" content=\"default-src 'none'; style-src 'sha256-EseMbammGylegBxk8jCNIG/Y+qVwTO9Z1GFH+sgg35c='; script-src 'sha256-hpmW3mDyoQhB9f0WRZW6RarG+nvTxqFH2yl+nJ5/Zek=' 'sha256-R9Xk4sjcmSM2pzw0muQ5pic9bATqz5C85RDxy/d33cY=' 'sha256-ITctgU4SinAQQYsXVflAZKVj6OUeisokZHBS2nZUUoI=' 'sha256-0Ic07IyjN2XDWJx8ud6piX9l/xdS8hFAqJ759Fk9QXY=' 'sha256-nzGEYvzDKKZYZJA/DM7XyA16Ls/k6Nl4xNWS6IHdY/Q=' 'sha256-8p8Dxbx6TBoqoOH/9nx1shdrfyDNuF/MbP2cxU8WwtI=' 'sha256-IDKn87SsjoB7KFxDOA98+C9PAwaZUG5nSecNhajfn5Y=' 'sha256-2ELIcGH5E1pJxmMUXa4vBYSAMFL1BCId//7q11HXGjY=' 'sha256-YKfXUCxjsA2JhKMB27DqdbmQs5lIqI42dpn8+zc7Guo=' 'sha256-kVdnEU2vVvmrVFvfoaOWgyjH7vn7mLhAiHHOsUb7jwM=' 'sha256-vUTO7+SZpcIXDB4FdSR9w04wk6uI0AQVhjGcRbSvPEY=' 'sha256-Ng/qG/jczhEehaLvFM9UoDXYY2suV6XApjDWWpgKjqI=' 'sha256-IjGLpaISxDclr2jdlmOVqEAUYmkIIBwBDOBlxE3KRO8='; base-uri 'none'; form-action 'none'\">\n\
 <meta name=\"viewport\" content=\"width=device-width, initial-scale=1\">\n\
 <meta name=\"color-scheme\" content=\"light dark\">\n\
 <meta name=\"referrer\" content=\"no-referrer\">\n\
@@ -428,12 +428,13 @@ const isLarge = (n) => n > Number.MAX_SAFE_INTEGER;\n\
 function isRounded({ number, announced, acknowledged, from }) {\n\
 return isLarge(number) || isLarge(from) || (announced !== null && isLarge(announced.number)) || (acknowledged !== null && isLarge(acknowledged.below));\n\
 }\n\
-function valueOf(text) {\n\
-const value = JSON.parse(text);\n\
-const isShort = !isLarge(value.options.from) && !isLarge(value.options.expect) && !isLarge(value.options.tail) && !value.pairs.some(isRounded);\n\
-const largeOfBestEffort = [...value.best_effort, ...(value.arrived || [])].some(({ numbers, not_arrived: named = [] }) => [numbers, ...named].some(isLarge));\n\
-if (isShort && !largeOfBestEffort) return value;\n\
-return JSON.parse(text.replace(STRING_OR_LARGE, (found) => (found[0] === '\"' ? found : `\"${found}\"`)));\n\
+function reportOf(text) {\n\
+const report = new Report(JSON.parse(text));\n\
+if (!report.isRounded) return report;\n\
+return new Report(JSON.parse(text.replace(STRING_OR_LARGE, (found) => (found[0] === '\"' ? found : `\"${found}\"`))));\n\
+}\n\
+function isRoundedElsewhere({ options: { from, expect, tail }, best_effort: bestEffort, arrived = [] }) {\n\
+return [from, expect, tail].some(isLarge) || [...bestEffort, ...arrived].some(({ numbers, not_arrived: named = [] }) => [numbers, ...named].some(isLarge));\n\
 }\n\
 function compareNumbers(a, b) {\n\
 if (typeof a === 'number' && typeof b === 'number') return a - b;\n\
@@ -451,11 +452,10 @@ const counted = (n) => String(n).replace(/\\B(?=(\\d{3})+$)/g, ',');\n\
 const plural = (n, noun, nouns = `${noun}s`) => `${counted(n)} ${String(n) === '1' ? noun : nouns}`;\n\
 const partOf = (n, all, noun) => (n === all ? plural(all, noun) : `${counted(n)} of ${plural(all, noun)}`);\n\
 const askedAbout = ({ payloads, gone, untold }) => added(added(payloads, gone), untold);\n\
-const arrivedOf = ({ outcomes }) => outcomes.arrived || 0;\n\
 const isHeld = ({ outcomes: { arrived = null } }) => arrived !== null;\n\
-function lostOf(row) {\n\
-const names = isHeld(row) ? ['likely', 'missed', 'unsent', 'unanswered', 'unconfirmed'] : LOST;\n\
-return names.reduce((sum, name) => added(sum, row.outcomes[name]), 0);\n\
+function lostOf({ outcomes }) {\n\
+const lost = added(added(outcomes.missed, outcomes.unsent), outcomes.unanswered);\n\
+return (outcomes.arrived ?? null) === null ? lost : added(added(lost, outcomes.likely), outcomes.unconfirmed);\n\
 }\n\
 const prefixOf = (guid) => guid.slice(0, 24);\n\
 const entityOf = (guid) => guid.slice(24);\n\
@@ -474,11 +474,12 @@ class Report {\n\
 constructor(data) {\n\
 this.data = data;\n\
 this.rows = data.pairs;\n\
-this.groups = groupsOf(this.rows);\n\
+this.groups = groupsOf(this.rows, data.options.from);\n\
+this.isRounded = isRoundedElsewhere(data) || this.groups.some(({ isRounded }) => isRounded);\n\
 this.acts = new Map(data.writers.map(({ guid, acts }) => [guid, acts]));\n\
 this.endpointOf = new Map(data.endpoints.map((endpoint) => [endpoint.guid, endpoint]));\n\
 this.participants = participantsOf(data);\n\
-this.times = new Map((data.times || []).map(([datagram, ...rest]) => [datagram, rest]));\n\
+this.times = new Map((data.times || []).map((entry) => [entry[0], entry]));\n\
 this.isTimed = data.times !== undefined;\n\
 this.hasSilent = data.participants.some(({ silent }) => silent);\n\
 this.bases = null;\n\
@@ -486,10 +487,10 @@ this.numbered = new Map();\n\
 this.told = new Map();\n\
 }\n\
 secondOf(datagram) {\n\
-return this.times.get(datagram)?.[0];\n\
+return this.times.get(datagram)?.[1];\n\
 }\n\
 frameOf(datagram) {\n\
-return this.times.get(datagram)?.[1];\n\
+return this.times.get(datagram)?.[2];\n\
 }\n\
 axis() {\n\
 this.range ||= this.isTimed ? { word: 's', low: 0, high: this.seconds() } : { word: 'datagram', low: 0, high: this.data.datagrams };\n\
@@ -552,27 +553,60 @@ last = number;\n\
 }\n\
 return steps;\n\
 }\n\
-function groupsOf(rows) {\n\
+const NO_NUMBERS = Object.freeze({});\n\
+function groupsOf(rows, first) {\n\
 const topics = new Map();\n\
-for (const [at, row] of rows.entries()) {\n\
-const { topic, type } = row;\n\
-row.group = entryOf(entryOf(topics, topic, () => new Map()), type, () => ({ topic, type, rows: [] }));\n\
-const kind = kindOf(row);\n\
-row.numbers ||= {};\n\
-Object.assign(row, { at, kind, rank: KINDS.indexOf(kind), lost: lostOf(row), isPlumbing: PLUMBING.includes(topic) });\n\
-row.group.rows.push(row);\n\
+let group = null;\n\
+for (let at = 0; at < rows.length; at += 1) {\n\
+const row = rows[at];\n\
+if (group === null || row.topic !== group.topic || row.type !== group.type) {\n\
+group = entryOf(entryOf(topics, row.topic, () => new Map()), row.type, () => emptyGroup(row));\n\
+}\n\
+judgeRow(row, at, group);\n\
+addRow(group, row, first);\n\
 }\n\
 const groups = [...topics.values()].flatMap((types) => [...types.values()]);\n\
-groups.forEach(judgeGroup);\n\
+groups.forEach((one, at) => Object.assign(one, { at, clean: one.bad === 0 }));\n\
 return groups;\n\
 }\n\
-function judgeGroup(group, at) {\n\
-const { rows } = group;\n\
-const bad = rows.filter(({ clean }) => !clean).length;\n\
-Object.assign(group, {\n\
-at, bad, clean: bad === 0, lost: sumOf(rows, ({ lost }) => lost), rank: rows.reduce((least, { rank }) => Math.min(least, rank), KINDS.length),\n\
-isPlumbing: rows[0].isPlumbing,\n\
-});\n\
+function judgeRow(row, at, group) {\n\
+row.at = at;\n\
+row.group = group;\n\
+row.kind = kindOf(row);\n\
+row.rank = KINDS.indexOf(row.kind);\n\
+row.lost = lostOf(row);\n\
+row.isPlumbing = group.isPlumbing;\n\
+row.numbers ||= NO_NUMBERS;\n\
+}\n\
+function emptyGroup({ topic, type }) {\n\
+return {\n\
+topic, type, rows: [], bad: 0, lost: 0, rank: KINDS.length, isPlumbing: PLUMBING.includes(topic), isRounded: false, held: [],\n\
+kinds: KINDS.map(() => 0),\n\
+sums: { received: 0, arrived: 0, likely: 0, missed: 0, unsent: 0, unanswered: 0, unconfirmed: 0, before: 0, proved: 0, asked: 0 },\n\
+};\n\
+}\n\
+function addRow(group, row, first) {\n\
+const { sums } = group;\n\
+group.rows.push(row);\n\
+group.bad += Number(!row.clean);\n\
+group.lost = added(group.lost, row.lost);\n\
+group.rank = Math.min(group.rank, row.rank);\n\
+group.kinds[row.rank] += 1;\n\
+group.isRounded ||= isRounded(row);\n\
+if (isHeld(row)) group.held.push(row);\n\
+addOutcomes(sums, row.outcomes);\n\
+sums.before = added(sums.before, differenceOf(row.from, first));\n\
+sums.proved = added(sums.proved, row.received);\n\
+sums.asked = added(sums.asked, askedAbout(row));\n\
+}\n\
+function addOutcomes(sums, { received, arrived, likely, missed, unsent, unanswered, unconfirmed }) {\n\
+sums.received = added(sums.received, received);\n\
+sums.arrived = added(sums.arrived, arrived || 0);\n\
+sums.likely = added(sums.likely, likely);\n\
+sums.missed = added(sums.missed, missed);\n\
+sums.unsent = added(sums.unsent, unsent);\n\
+sums.unanswered = added(sums.unanswered, unanswered);\n\
+sums.unconfirmed = added(sums.unconfirmed, unconfirmed);\n\
 }\n\
 function participantsOf(data) {\n\
 const announced = new Map([...data.endpoints, ...data.participants].map(({ guid }) => [prefixOf(guid), null]));\n\
@@ -793,11 +827,11 @@ if (!last) return 'The writer did not ask for an answer since the reader’s las
 return `The writer asked ${plural(count, 'time')} for an answer since the reader’s last one, last in ${placeText(last)}.`;\n\
 }\n\
 const payloadText = ({ payload, octets }) => (payload === 'absent' ? 'no payload' : `${payload === 'key' ? 'a key' : 'a sample'} of ${plural(octets, 'octet')}`);\n\
-function receivedSentence({ rows, data }) {\n\
+function receivedSentence({ rows, groups, data }) {\n\
 if (rows.length === 0) return '';\n\
-const good = rows.filter(({ clean }) => clean).length;\n\
-const [received, asked] = [sumOf(rows, (row) => row.received), sumOf(rows, askedAbout)];\n\
-const more = data.arrived ? `, ${counted(sumOf(rows, arrivedOf))} more arrived` : '';\n\
+const good = rows.length - groups.reduce((sum, { bad }) => sum + bad, 0);\n\
+const [received, asked, arrived] = ['proved', 'asked', 'arrived'].map((name) => sumOf(groups, ({ sums }) => sums[name]));\n\
+const more = data.arrived ? `, ${counted(arrived)} more arrived` : '';\n\
 return `${counted(good)} of ${plural(rows.length, 'pair')} ${rows.length === 1 ? 'is' : 'are'} clean. The recording proves `\n\
 + `${counted(received)} of ${plural(asked, 'number')} received${more}.`;\n\
 }\n\
@@ -923,6 +957,7 @@ make('dt', null, name.replaceAll('_', ' ')), make('dd', { class: 'count' }, coun
 const MOST_STRIPS = 20;\n\
 const STRIP_HEIGHT = 32;\n\
 const COLUMN = 2;\n\
+const LEAST_BAND = 3;\n\
 const MOST_MARKS = 2000;\n\
 const MOST_LOOKED_UP = 20000;\n\
 const BAND_GAP = 8;\n\
@@ -992,7 +1027,7 @@ const columns = (values) => [...new Set(values.map((x) => Math.floor(this.pixel(
 const band = [...bandRuns(columns(samples)), ...spans.map(([from, to]) => [this.pixel(from), this.pixel(to)])];\n\
 place.replaceChildren(\n\
 drawn('path', { class: 'grid', d: grid }),\n\
-drawn('path', { class: 'samples', d: band.map(([from, to]) => `M${from} 8h${Math.max(COLUMN, to - from)}v8H${from}z`).join('') }),\n\
+drawn('path', { class: 'samples', d: band.map(([from, to]) => `M${from} 8h${Math.max(LEAST_BAND, to - from)}v8H${from}z`).join('') }),\n\
 ...Object.entries(MARK_FORMS).map(([kind, form]) => drawn('path', { class: `mark ${kind}`, d: columns(points[kind]).slice(0, MOST_MARKS).map(form).join('') })));\n\
 }\n\
 }\n\
@@ -1015,17 +1050,16 @@ const unsent = points.neverSent > 0 && `, ${counted(points.neverSent)} of them n
 return words.length > 0 ? [...words, unsent] : [group.clean ? 'clean' : 'not clean'];\n\
 }\n\
 const LOST_KINDS = ['missed', 'unsent', 'unanswered', 'not_arrived'];\n\
-function lostCount({ rows }, kind) {\n\
-const held = rows.filter(isHeld);\n\
+function lostCount({ sums, held }, kind) {\n\
 if (kind === 'not_arrived') return sumOf(held, lostOf);\n\
-return sumOf(held.length === 0 ? rows : rows.filter((row) => !isHeld(row)), ({ outcomes }) => outcomes[kind]);\n\
+return differenceOf(sums[kind], sumOf(held, ({ outcomes }) => outcomes[kind]));\n\
 }\n\
 function stripPoints(report, group) {\n\
 const points = Object.fromEntries(Object.keys(MARK_FORMS).map((kind) => [kind, []]));\n\
 const left = { numbers: MOST_LOOKED_UP };\n\
 points.neverSent = 0;\n\
 for (const row of group.rows) {\n\
-if (Object.keys(row.numbers).length > 0) addLost(report, row, points, left);\n\
+if (row.lost !== 0) addLost(report, row, points, left);\n\
 addReader(report, row, points);\n\
 }\n\
 return { points, samples: samplesOf(report, group), spans: spansOf(report, group) };\n\
@@ -1072,13 +1106,15 @@ return steps[low];\n\
 }\n\
 function addReader(report, row, points) {\n\
 const joined = report.data.joined?.[row.at];\n\
-const add = (kind, x) => x !== null && x !== undefined && points[kind].push(x);\n\
-if (joined) add('joins', report.onAxis({ datagram: joined[0], time: joined[2] }));\n\
-if (row.until !== null) add('leaves', report.onAxis({ datagram: row.until, time: row.until_time }));\n\
+if (joined) addPoint(points.joins, report.isTimed ? joined[2] : joined[0]);\n\
+if (row.until !== null) addPoint(points.leaves, report.onAxis({ datagram: row.until, time: row.until_time }));\n\
 for (const guid of report.hasSilent ? [row.reader, row.writer] : []) {\n\
 const announced = report.participantOf(guid)?.announced;\n\
-if (announced?.silent) add('silent', report.onAxis({ datagram: announced.last, time: announced.last_time }));\n\
+if (announced?.silent) addPoint(points.silent, report.onAxis({ datagram: announced.last, time: announced.last_time }));\n\
 }\n\
+}\n\
+function addPoint(points, x) {\n\
+if (x !== null && x !== undefined) points.push(x);\n\
 }\n\
 function samplesOf(report, { rows }) {\n\
 const writers = [...new Set(rows.map(({ writer }) => writer))].filter((writer) => report.acts.has(writer));\n\
@@ -1087,12 +1123,23 @@ return writers.flatMap((writer) => report.acts.get(writer).filter(([, , what]) =
 }\n\
 function spansOf(report, { rows }) {\n\
 const spans = new Map();\n\
-for (const row of rows.filter(({ writer }) => !report.acts.has(writer))) {\n\
-const places = [row.announced, row.told, row.claimed, row.acknowledged].filter(Boolean).map((place) => report.onAxis(place)).filter((x) => x !== null);\n\
-const span = entryOf(spans, row.writer, () => [Infinity, -Infinity]);\n\
-[span[0], span[1]] = [Math.min(span[0], ...places), Math.max(span[1], ...places)];\n\
+let [writer, span] = [null, null];\n\
+for (const row of rows) {\n\
+if (row.writer !== writer) {\n\
+writer = row.writer;\n\
+span = report.acts.has(writer) ? null : entryOf(spans, writer, () => [Infinity, -Infinity]);\n\
+}\n\
+if (span !== null) widen(span, report, row);\n\
 }\n\
 return [...spans.values()].filter(([from, to]) => from <= to);\n\
+}\n\
+function widen(span, report, { announced, told, claimed, acknowledged }) {\n\
+for (const place of [announced, told, claimed, acknowledged]) {\n\
+const x = place ? report.onAxis(place) : null;\n\
+if (x === null) continue;\n\
+span[0] = Math.min(span[0], x);\n\
+span[1] = Math.max(span[1], x);\n\
+}\n\
 }\n\
 function pictureLegend(kinds) {\n\
 const sign = (shape) => drawn('svg', { viewBox: '0 0 24 32', width: '18', height: '24', 'aria-hidden': 'true' }, shape);\n\
@@ -1840,11 +1887,10 @@ const cell = (report, row) => {\n\
 const count = numberOf(row);\n\
 return count === null ? '–' : marked(count, isBad(row));\n\
 };\n\
-const sums = new Map();\n\
-const sum = (group) => entryOf(sums, group, () => sumOf(group.rows, (row) => numberOf(row) || 0));\n\
+const sum = ({ sums }) => sums[name];\n\
 return {\n\
 name, head: name[0].toUpperCase() + name.slice(1), meaning, class: 'count', compare: byCount((row) => numberOf(row) || 0), cell, isAmount: true, sum,\n\
-total: (group) => marked(sum(group), group.rows.some(isBad)),\n\
+total: (group) => marked(sum(group), isAbove(sum(group), 0) && group.rows.some(isBad)),\n\
 };\n\
 }\n\
 const isLost = (name, row) => LOST.includes(name) || (name === 'likely' && isHeld(row));\n\
@@ -1867,7 +1913,11 @@ countColumn('before', 'numbers of before the reader joined', () => false, ({ fro
 placeColumn('announced', 'Last announced', 'number', 'the last number that the writer announced'),\n\
 placeColumn('acknowledged', 'Acknowledged below', 'below', 'the reader acknowledged all numbers below this one'),\n\
 ];\n\
-const WORST_FIRST = { name: 'worst', head: 'Worst first', compare: worse };\n\
+function worseKey({ clean, lost, rank, isPlumbing }) {\n\
+const rest = rank * 4 + Number(clean) * 2 + Number(isPlumbing);\n\
+return typeof lost === 'number' && lost < 1e12 ? lost * 64 + rest : `${lost} ${rest}`;\n\
+}\n\
+const WORST_FIRST = { name: 'worst', head: 'Worst first', compare: worse, keyOf: worseKey };\n\
 const BY_TOPIC = { name: 'topic', head: 'Topic', compare: (a, b) => byText('topic')(a, b) || worse(a, b) };\n\
 const BY_TYPE = { name: 'type', head: 'Type', compare: (a, b) => byText('type')(a, b) || worse(a, b) };\n\
 function verdictCell(report, row) {\n\
@@ -1877,6 +1927,11 @@ make('span', { class: 'pair-name' }, `Pair ${row.at + 1} `), badge(row.verdict, 
 row.datagram !== undefined && make('span', { class: 'in-datagram' }, ` in datagram ${row.datagram}`),\n\
 bad.flatMap((name) => [' ', badge('missed', `${name} ${counted(row.outcomes[name])}`)]),\n\
 row.clean && [' ', badge('clean', 'clean')]);\n\
+}\n\
+function alike(rows, keyOf) {\n\
+const found = new Map();\n\
+for (const row of rows) entryOf(found, keyOf(row), () => []).push(row);\n\
+return found;\n\
 }\n\
 const [FOLDED, BAD, ALL] = ['folded', 'bad', 'all'];\n\
 class Pairs {\n\
@@ -1893,10 +1948,17 @@ this.render();\n\
 }\n\
 sort() {\n\
 const direction = this.isDown ? -1 : 1;\n\
-this.sorted = [...this.report.rows].sort((a, b) => direction * this.order.compare(a, b) || a.at - b.at);\n\
+const { rows } = this.report;\n\
+const { compare, keyOf } = this.order;\n\
+this.sorted = keyOf\n\
+? [...alike(rows, keyOf).values()].sort(([a], [b]) => direction * compare(a, b)).flat()\n\
+: [...rows].sort((a, b) => direction * compare(a, b) || a.at - b.at);\n\
 }\n\
 hasWord(word) {\n\
 const has = (...texts) => texts.some((text) => typeof text === 'string' && text.toLowerCase().includes(word));\n\
+const seen = new Map([[null, false], [undefined, false]]);\n\
+const hasText = (text) => entryOf(seen, text, () => has(text));\n\
+const isNumber = /^\\d+$/.test(word);\n\
 const { groups, data } = this.report;\n\
 const found = new Set(groups.filter(({ topic, type }) => has(topic, type, rosTopic(topic), rosType(type))));\n\
 for (const { guid } of data.endpoints) {\n\
@@ -1904,8 +1966,8 @@ const participant = this.report.participantOf(guid);\n\
 const { address, host, process, name } = participant.announced || {};\n\
 if (has(guid, participant.name, ...participant.nodes, address, host, process, name)) found.add(guid);\n\
 }\n\
-return ({ group, writer, reader, verdict, kind, number, writer_node: sender, reader_node: receiver }) => (\n\
-found.has(group) || found.has(writer) || found.has(reader) || has(verdict, kind, sender, receiver, String(number)));\n\
+return (row) => found.has(row.group) || found.has(row.writer) || found.has(row.reader) || hasText(row.verdict) || hasText(row.kind)\n\
+|| hasText(row.writer_node) || hasText(row.reader_node) || (isNumber && String(row.number).includes(word));\n\
 }\n\
 matching() {\n\
 const tests = this.words.map((word) => this.hasWord(word));\n\
@@ -1960,7 +2022,7 @@ const said = this.columns.filter(({ meaning }) => meaning).flatMap(({ head, mean
 return make('p', { class: 'hint words' }, ...said, '.');\n\
 }\n\
 kindButtons() {\n\
-const countOf = (kind) => this.report.rows.filter((row) => row.kind === kind).length;\n\
+const countOf = (kind) => this.report.groups.reduce((sum, { kinds }) => sum + kinds[KINDS.indexOf(kind)], 0);\n\
 this.buttons = KINDS.filter(countOf).map((kind) => makeButton({ class: `badge ${kind}`, 'aria-pressed': 'false' },\n\
 `${counted(countOf(kind))} ${KIND_WORDS[kind]}`, (button) => {\n\
 this.toggleKind(kind);\n\
@@ -2198,7 +2260,7 @@ make('td', { class: 'in-pairs' }, pairs));\n\
 </script>\n\
 <script>'use strict';\n\
 function start() {\n\
-const report = new Report(valueOf(document.getElementById('data').textContent));\n\
+const report = reportOf(document.getElementById('data').textContent);\n\
 showHead(report);\n\
 document.getElementById('page').hidden = false;\n\
 const picture = new Picture(report, document.getElementById('picture'));\n\
