@@ -45,7 +45,8 @@ TALKING = 'each_reason_of_silence.rec', 'best_effort_pairs_by_topic.rec', 'reaso
 HELD = sorted(name.removesuffix('.arrived.rec') for name in os.listdir(os.path.join(ROOT, 'tests', 'rows')) if name.endswith('.arrived.rec'))
 MADE_HELD = 'lost_on_the_way', 'lost_of_many'
 BOTH_SIDES = *HELD, *MADE_HELD
-# The most octets of a page of an example and of one of 90,000 pairs.
+# The most octets of a page of an example and of one of 90,000 pairs. The constant parts alone are some 105,000: style and scripts of the picture,
+# the events and the charts.
 EXAMPLE_SIZE, MANY_SIZE = 125_000, 95_000_000
 PROBE = file_of('tests', 'page_probe.js').decode()
 # So many pairs of a page are chosen one after another.
@@ -826,6 +827,7 @@ class PageTests(Counts):
         """in words that are written out here"""
         wanted = {
             'a_reader_that_acknowledged_nothing_and_all_arrived': 'The reader never acknowledged sample 1, but all numbers are received or arrived.',
+            # Each kind of the row is told: by the other recording 4-6 and 8-1499 did not come, and by this one alone they were never sent.
             'lost_on_the_way': 'The reader may lack samples 3 to 1500: they are announced, and the reader never acknowledged them. '
                                'Unsent 4-6, 8-1499. Not arrived 3-6, 8-1499.',
         }
@@ -925,6 +927,7 @@ class PageTests(Counts):
     def keyboard(self):
         tab = self.open('robot')
         seen, reached = [], None
+        # In front of the pairs stand the bar, a strip for each topic, the pairs that events name, folds, kinds, filter, order and heads.
         for _ in range(100):
             tab.press('Tab')
             found = tab.evaluate('focused()')
