@@ -45,7 +45,7 @@ TALKING = 'each_reason_of_silence.rec', 'best_effort_pairs_by_topic.rec', 'reaso
 HELD = sorted(name.removesuffix('.arrived.rec') for name in os.listdir(os.path.join(ROOT, 'tests', 'rows')) if name.endswith('.arrived.rec'))
 MADE_HELD = 'lost_on_the_way', 'lost_of_many'
 BOTH_SIDES = *HELD, *MADE_HELD
-# The most octets of a page of an example and of one of 90,000 pairs. The constant parts alone are some 105,000: style and scripts of the picture,
+# The most octets of a page of an example and of one of 90,000 pairs. The constant parts alone are some 114,000: style and scripts of the picture,
 # the events and the charts.
 EXAMPLE_SIZE, MANY_SIZE = 125_000, 95_000_000
 PROBE = file_of('tests', 'page_probe.js').decode()
