@@ -7,6 +7,7 @@ order. A report is that of `report.Report`: it has rows (`spans.Row`), who talks
 """
 import arrived
 import kinds
+import nothing
 from times import behind, order_notes, timed_line, wait_line
 from told import (best_effort_shares, best_effort_totals, one_way_lines, talk_notes, topic_text, type_text, unmatched_amount,
                   unmatched_lines)
@@ -155,23 +156,10 @@ def topics_of(rows):
 
 # ---- the first lines
 
-NO_PAIR_MATCHES = 'see below which writers and readers do not match'
-NO_PAIR_ANSWERED = 'see below which participants never answer'
-NO_PAIR_SEEN = 'record where the datagrams of the readers and the writers pass, and switch off shared memory'
-NO_PAIR_RELIABLE = 'all pairs that match are of best effort: they are counted below, and not judged'
-NO_PAIR = 'record from before the start, and see in rtps-audit list --any FILE what is announced'
-
-
-def no_pair_advice(talk):
-    """the first case that fits"""
-    cases = (talk.unmatched, NO_PAIR_MATCHES), (talk.one_way, NO_PAIR_ANSWERED), (talk.unobserved, NO_PAIR_SEEN), (talk.best_effort, NO_PAIR_RELIABLE)
-    return next((advice for found, advice in cases if found), NO_PAIR)
-
-
 def first_lines(report):
     rows = report.rows
     if not rows:
-        return ['there is no pair to judge', '  -> ' + no_pair_advice(report.talk)]
+        return ['there is no pair to judge', '  -> ' + nothing.cause(report.talk)]
     numbers = sum(row.asked_about() for row in rows)
     pairs, what = ('pair is' if len(rows) == 1 else 'pairs are'), ('number' if numbers == 1 else 'numbers')
     received = f"{of(total(rows, 'received'), numbers)} {what} received"

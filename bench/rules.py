@@ -11,6 +11,7 @@ from copy import copy
 
 import arrived
 import check
+import nothing
 import report
 from asked import GREATEST
 from life import Span
@@ -82,6 +83,7 @@ def rules_of(found):
         'nodes are asked for': bool(rows and found.asked.nodes),
         'no node is asked for': bool(found.asked.nodes) and not rows,
         **rules_of_events(found),
+        **rules_of_nothing(found),
     } | (rules_of_sides(found) if found.sides else {})
 
 
@@ -104,6 +106,19 @@ def rules_of_events(found):
         'sent first between two times': any('first sent between' in event.text() for event in between),
         'a process': any('process' in event.text() for event in events),
     }
+
+
+def rules_of_nothing(found):
+    """by which cause there is no pair to judge"""
+    told = '' if found.rows else nothing.cause(found.talk)
+    causes = {
+        'nothing of RTPS': told == nothing.NO_RTPS, 'it began late, by several': 'participants speak' in told, 'it began late, by one': 'participant speaks' in told,
+        'one host': told == nothing.ONE_HOST, 'shared memory': told == nothing.IN_MEMORY, 'two domains': 'in domain' in told,
+        'one way': told == nothing.NOT_ANSWERED, 'no match': told == nothing.NOT_MATCHING, 'nothing seen': told == nothing.NOT_SEEN,
+        'best effort alone': told == nothing.BEST_EFFORT, 'a topic of one side': ' and no ' in told, 'more than ten topics': told.endswith(' more'),
+        'no cause': told == nothing.ELSE,
+    }
+    return {f'no pair: {cause}': is_met for cause, is_met in causes.items()}
 
 
 def rules_of_sides(found):

@@ -4,7 +4,7 @@
 -- recording is clean, or why not. A pair that is not clean has the lines of `why` that explain it, and in a last
 -- line what to do; those that lack only a tail share a line, since a system that is stopped while it publishes leaves one with each.
 -- Other programs read the outcome and its reasons without taking lines apart.
-use Rattle.std.specs.Prelude.{ℕ, ◌≡◌, ◌++◌, ◌==◌, if◌then◌else◌, nat_lt, List, [], ◌∷◌, Bool, codes, filter, map, ℤ, decimal, length, Option, None, Some, flat_map, ◌↔◌, true}
+use Rattle.std.specs.Prelude.{ℕ, ◌≡◌, ◌++◌, ◌==◌, if◌then◌else◌, List, [], ◌∷◌, Bool, codes, filter, map, ℤ, decimal, length, Option, None, Some, flat_map, ◌↔◌, true}
 use Rattle.std.specs.List.{concat}
 use Rattle.rtps_evidence.specs.Explanation.{lost_at}
 use Rattle.rtps_evidence.specs.Kinds.{LostValue, lost_value}
@@ -36,6 +36,7 @@ use Rattle.rtps_report.specs.declared.order.Order.{Order}
 use Rattle.rtps_lines.specs.Causes.{causes_of, findings_in, last_line}
 use Rattle.rtps_lines.specs.Notes.{NotedValue, joined_names, notes, number_words, talking_names, topic_name}
 use Rattle.rtps_lines.specs.EventText.{event_text}
+use Rattle.rtps_lines.specs.NoPairText.{IsRemedyOf}
 use Rattle.rtps_lines.specs.NumberRanges.{lost_lines}
 use Rattle.rtps_lines.specs.TailNames.{longest_tail}
 use Rattle.rtps_parts.specs.RosNames.{topic_text, type_text}
@@ -69,30 +70,26 @@ arrived_text (Some side) totals = concat (codes ", " ∷ grouped totals.arrived 
 abbrev pub clean_lines : Option SideFacts → Totals → List ℕ
 clean_lines side totals = clean_line totals ++ (arrived_text side totals ++ codes "\n")
 
--- something, where there are some
-abbrev pub where_some : {X : Type 0} → List X → List ℕ → List ℕ → List ℕ
-where_some [] text other = other
-where_some (x ∷ xs) text other = text
-
--- what to do where there is no pair to judge: the first case that fits
-unfoldable pub no_pair_remedy : TalkValue → List LeftOutValue → List ℕ
-no_pair_remedy talk left_out =
-    where_some talk.unmatched (codes "see below which writers and readers do not match")
-    (where_some talk.one_way (codes "see below which participants never answer")
-    (where_some left_out (codes "record where the datagrams of the readers and the writers pass, and switch off shared memory")
-    (if nat_lt 0 talk.best_effort_total.pairs then codes "all pairs that match are of best effort: they are counted below, and not judged"
-    else codes "record from before the start, and see in rtps-audit list --any FILE what is announced")))
-
 -- that there is no pair, and what to do
-abbrev pub no_pair_lines : TalkValue → List LeftOutValue → List ℕ
-no_pair_lines talk left_out = concat (codes "there is no pair to judge\n  -> " ∷ no_pair_remedy talk left_out ∷ codes "\n" ∷ [])
+abbrev pub no_pair_lines : List ℕ → List ℕ
+no_pair_lines remedy = concat (codes "there is no pair to judge\n  -> " ∷ remedy ∷ codes "\n" ∷ [])
 
--- what is told beside the rows: when datagrams came, which numbers of each row are lost, the events that rows belong to, what weakens the report, what is told of the other recording, if there is one, the
+-- what to do where a report has no row; nothing where it has some
+abbrev pub IsRemedyBy : List Explanation → AskedValue → RecordingValue → ReportValue → List ℕ → Type 0
+IsRemedyBy [] asked recording report text = IsRemedyOf asked recording report text
+IsRemedyBy (row ∷ rows) asked recording report text = text ≡ []
+
+-- the same by the rows of the report
+abbrev pub IsRemedyIn : AskedValue → RecordingValue → ReportValue → List ℕ → Type 0
+IsRemedyIn asked recording report text = IsRemedyBy report.explained.rows.items asked recording report text
+
+-- what is told beside the rows: when datagrams came, which numbers of each row are lost, what to do where there is no pair, the events that rows belong to, what weakens the report, what is told of the other recording, if there is one, the
 -- names of pairs that talk though they do not match, the pairs that it cannot speak of, by topic, who does not talk, whether each number has
 -- to be certain, and how the run ends
 pub record Beside : Type 0 where
   pub times : TimesValue
   pub lost : List LostValue
+  pub remedy : List ℕ
   pub events : List EventValue
   pub facts : NoteFacts
   pub side : Option SideFacts
@@ -104,7 +101,7 @@ pub record Beside : Type 0 where
 
 -- the first lines
 abbrev pub first_lines : Totals → Beside → List ℕ
-first_lines totals beside = if totals.pairs == 0 then no_pair_lines beside.talk beside.left_out else clean_lines beside.side totals
+first_lines totals beside = if totals.pairs == 0 then no_pair_lines beside.remedy else clean_lines beside.side totals
 
 -- notes behind an empty line; nothing where there are none
 abbrev pub notes_block : List (List ℕ) → List ℕ
@@ -350,6 +347,7 @@ beside_value told =
     record {
       times = told.lost.times.now;
       lost = map lost_value told.lost.rows.now;
+      remedy = told.remedy.now;
       events = map event_value told.events.now;
       facts = told.facts;
       side = told.side;
@@ -360,12 +358,13 @@ beside_value told =
       ending = told.ending;
     }
 
--- what is told beside the rows of this report, with these names
-abbrev pub beside_of : AskedValue → RecordingValue → ReportValue → List ℕ → List LeftOutValue → Beside
-beside_of asked recording report talking left_out =
+-- what is told beside the rows of this report, with this remedy and these names
+abbrev pub beside_of : AskedValue → RecordingValue → ReportValue → List ℕ → List ℕ → List LeftOutValue → Beside
+beside_of asked recording report remedy talking left_out =
     record {
       times = recording.times;
       lost = lost_of report;
+      remedy = remedy;
       events = events_of asked report;
       facts = note_facts asked recording report;
       side = side_facts report;
@@ -384,7 +383,9 @@ pub record IsCheckText (asked : AskedValue) (recording : RecordingValue) (report
   pub talking_by_topic : UnmatchedByTopic report.talk.talking talking
   pub left_out : List LeftOutValue
   pub left_out_by_topic : LeftOutByTopic report.talk.left_out left_out
-  pub is_text : IsTextBy (scope_of asked recording report) (beside_of asked recording report (talking_names talking) left_out) (map explanation_value rows) text
+  pub remedy : List ℕ
+  pub is_remedy : IsRemedyIn asked recording report remedy
+  pub is_text : IsTextBy (scope_of asked recording report) (beside_of asked recording report remedy (talking_names talking) left_out) (map explanation_value rows) text
 
 -- what `check` answers of what is asked of a recording, beside another one, if there is one: the text of its report, and the ending
 abbrev pub IsCheckedTextAs : AskedValue → Option RecordingValue → RecordingValue → List ℕ → Ending → Type 0

@@ -1,10 +1,13 @@
 ghost use Rattle.std.specs.Prelude.{◌≡◌, ◌++◌, OnOk, IfOk, map, flat_map, string_bytes};
+ghost use Rattle.rtps_audit.specs.Index.{IsIndexBy};
 ghost use Rattle.rtps_evidence.specs.Explanation.{explanation_value};
+ghost use Rattle.rtps_fragments.specs.RecordedSamples.{intake_as};
+ghost use Rattle.rtps_fragments.specs.declared.fragments.Fragments.TheVariants.{Read as ReadFragments};
 ghost use Rattle.rtps_parts.specs.Parts.{part_text};
 ghost use Rattle.rtps_report.specs.Asked.{asked_value};
 ghost use Rattle.rtps_report.specs.FullReport.{report_value};
 ghost use Rattle.rtps_report.specs.Talk.{left_out_value, talk_value};
-ghost use Rattle.rtps_check.specs.CheckText.{IsCheckJson, IsCheckText, IsTextBy, arrived_text, beside_value, clean_line as clean_line_lem, clean_lines, ending_text, first_lines, no_pair_remedy as no_pair_remedy_lem, notes_block, told_beside, told_notes as told_notes_lem, topics_text};
+ghost use Rattle.rtps_check.specs.CheckText.{IsCheckJson, IsCheckText, IsRemedyIn, IsTextBy, arrived_text, beside_value, clean_line as clean_line_lem, clean_lines, ending_text, first_lines, notes_block, told_beside, told_notes as told_notes_lem, topics_text};
 
 use crate::arrived_block::push_arrived_block;
 use crate::event_blocks::push_events;
@@ -16,8 +19,8 @@ use crate::unmatched_block::{left_by_topic, push_unmatched_block, unmatched_by_t
 use json::Writer;
 use rtps_evidence::Explanation;
 use rtps_lines::{
-    Judged, LostRows, NotedRows, causes_of, json_line, notes_of, push_check_members, push_last,
-    talking_names,
+    Judged, LostRows, NotedRows, causes_of, json_line, no_pair_remedy, notes_of,
+    push_check_members, push_last, talking_names,
 };
 use rtps_parts::{Part, Words, render, words_for};
 use rtps_report::{
@@ -35,6 +38,8 @@ struct Told<'r, 'a> {
     /// What is told of the other recording; None where there is none.
     side: Option<SideFacts>,
     rows: &'r [Explanation<'a>],
+    /// What to do where there is no pair to judge; nothing where there are some.
+    remedy: &'r str,
     /// The events that these rows belong to.
     events: &'r [Event],
     /// The names of the pairs that talk though they do not match.
@@ -64,24 +69,6 @@ fn clean_line(totals: &Totals) -> [Part<'static>; 4]
         Part::Share(totals.received, totals.numbers),
         Part::Text(words_for(totals.numbers, number_words)),
     ]
-}
-
-/// What to do where there is no pair to judge: the first case that fits.
-#[tactic(auto, unfolding(crate::specs::CheckText::no_pair_remedy))]
-fn no_pair_remedy(talk: &Talk<'_>, left_out: &[LeftOut<'_>]) -> &'static str
-    ensures { result.now ≡ no_pair_remedy_lem (talk_value talk.now) (map left_out_value left_out.now) }
-{
-    if !talk.unmatched.is_empty() {
-        "see below which writers and readers do not match"
-    } else if !talk.one_way.is_empty() {
-        "see below which participants never answer"
-    } else if !left_out.is_empty() {
-        "record where the datagrams of the readers and the writers pass, and switch off shared memory"
-    } else if talk.best_effort_total.pairs > 0 {
-        "all pairs that match are of best effort: they are counted below, and not judged"
-    } else {
-        "record from before the start, and see in rtps-audit list --any FILE what is announced"
-    }
 }
 
 /// Appends how many more numbers arrived, where there is another recording.
@@ -117,10 +104,9 @@ fn push_first(text: &mut String, totals: &Totals, told: &Told<'_, '_>) -> Result
     ensures { OnOk result (string_bytes text.new ≡ string_bytes text.old ++ first_lines totals.now (beside_value told.now)) }
 {
     if totals.pairs == 0 {
-        let remedy = no_pair_remedy(told.talk, told.left_out);
         let parts = [
             Part::Text("there is no pair to judge\n  -> "),
-            Part::Text(remedy),
+            Part::Text(told.remedy),
             Part::Text("\n"),
         ];
         render(text, &parts)
@@ -215,11 +201,25 @@ fn text_of(alloc: Global, told: &Told<'_, '_>) -> Result<String, AllocError>
     Ok(text)
 }
 
+/// What to do where a report has no pair to judge; nothing where it has some.
+fn remedy_of(alloc: Global, report: &FullReport<'_>) -> Result<String, AllocError>
+    requires { IsIndexBy (intake_as ReadFragments report.now.recording.now.datagrams) report.now.index }
+    ensures { IfOk result (λ text. IsRemedyIn (asked_value report.now.asked.now) report.now.recording.now (report_value report.now) (string_bytes text)) }
+{
+    if report.explained.rows.is_empty() {
+        no_pair_remedy(alloc, report)
+    } else {
+        Ok(String::new(alloc))
+    }
+}
+
 /// What `check` prints of a report.
 pub fn check_text(alloc: Global, report: &FullReport<'_>) -> Result<String, AllocError>
+    requires { IsIndexBy (intake_as ReadFragments report.now.recording.now.datagrams) report.now.index }
     ensures { IfOk result (λ text. IsCheckText (asked_value report.now.asked.now) report.now.recording.now (report_value report.now) (string_bytes text)) }
 {
     let rows = by_topic(alloc, &report.explained.rows)?;
+    let remedy = remedy_of(alloc, report)?;
     let events = events_of(alloc, report)?;
     let talking = unmatched_by_topic(alloc, &report.talk.talking)?;
     let names = talking_names(alloc, talking)?;
@@ -233,6 +233,7 @@ pub fn check_text(alloc: Global, report: &FullReport<'_>) -> Result<String, Allo
         facts: notes_on(report),
         side: facts_of_side(report),
         rows: &rows,
+        remedy: &remedy,
         events: &events,
         talking: &names,
         left_out: &left_out,

@@ -3,6 +3,7 @@ pub mod CheckMembers
 pub mod EventMembers
 pub mod EventText
 pub mod JsonText
+pub mod NoPairText
 pub mod Lines
 pub mod EndText
 pub mod Notes

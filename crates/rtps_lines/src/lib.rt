@@ -12,6 +12,7 @@ mod evidence_lines;
 mod fields;
 mod json_members;
 mod json_object;
+mod no_pair_text;
 mod notes;
 mod number_members;
 mod number_ranges;
@@ -39,6 +40,7 @@ pub use json_members::{
     Clock, push_count, push_guid, push_name, push_number, push_seconds, push_text, push_texts,
 };
 pub use json_object::{json_line, push_report};
+pub use no_pair_text::no_pair_remedy;
 pub use notes::{NotedRows, names_of, notes_of, number_words, topic_name};
 pub use number_ranges::{LostRows, push_lost_lines, push_more};
 pub use policy_values::{Naming, PolicyValue, words_of_policy};

@@ -1,7 +1,9 @@
 mod ActsInOrder
+mod AnyLemmas
 mod AskedLemmas
 mod BestEffortLemmas
 mod BestEffortSums
+mod EarlyLemmas
 mod EndLemmas
 mod EventLaws
 mod EventLemmas
@@ -11,8 +13,11 @@ mod KeptLemmas
 mod MatchLemmas
 mod NamingLemmas
 mod NamingWalkLemmas
+mod NoPairLemmas
 pub mod Offered
+mod OneNoPairLemmas
 mod OneReportLemmas
+mod OneSideLemmas
 mod OneTalkLemmas
 mod OrderLemmas
 mod ParticipantLemmas

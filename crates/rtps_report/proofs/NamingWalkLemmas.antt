@@ -12,7 +12,7 @@ length_read : (recording : List (Bor (List ℕ))) → length (datagrams_read (ma
 length_read recording = length-map (map (λ (datagram : Bor (List ℕ)). datagram.now) recording) acts_read_in ∙ length-map recording (λ (datagram : Bor (List ℕ)). datagram.now)
 
 -- as many datagrams are noted as are read
-length_so_far : (recording : List (Bor (List ℕ))) (place : ℕ) → place < length recording
+pub length_so_far : (recording : List (Bor (List ℕ))) (place : ℕ) → place < length recording
     → place ≡ length (datagrams_read (map (λ datagram. datagram.now) (take place recording)))
 length_so_far recording place within = let le : place ≤ length recording = omega arith in sym (length_read (take place recording) ∙ length-take-le place recording le)
 

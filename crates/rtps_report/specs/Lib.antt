@@ -21,7 +21,10 @@ pub mod Rows
 pub mod SideFacts
 pub mod Silences
 pub mod Stays
+pub mod Early
 pub mod Ends
+pub mod NoPair
+pub mod OneSides
 pub mod Talk
 pub mod Totals
 pub mod Twice

@@ -43,7 +43,7 @@ fn later_of_both(one: Option<u64>, other: Option<u64>) -> Option<u64>
 }
 
 /// Who sent a datagram of any length, by its header. None where that cannot be read.
-fn sender_of(datagram: &[u8]) -> Option<GuidPrefix>
+pub(crate) fn sender_of(datagram: &[u8]) -> Option<GuidPrefix>
     ensures { result ≡ sender_of_lem datagram.now }
 {
     match Items::open(datagram) {

@@ -34,7 +34,7 @@ fn fits_topic(pattern: &[u8], topic: &[u8]) -> bool
     fits(pattern, topic) || fits_followed(pattern, name.name, name.word.as_bytes())
 }
 
-fn fits_one(patterns: &[String], topic: &[u8]) -> bool
+pub(crate) fn fits_one(patterns: &[String], topic: &[u8]) -> bool
     ensures { result ≡ fits_one_lem (map string_bytes patterns.now) topic.now }
 {
     patterns.is_empty()
@@ -44,7 +44,7 @@ fn fits_one(patterns: &[String], topic: &[u8]) -> bool
 }
 
 /// Whether an end has a node whose name fits one of these patterns.
-fn has_node(patterns: &[String], node: Option<Node<'_>>) -> bool
+pub(crate) fn has_node(patterns: &[String], node: Option<Node<'_>>) -> bool
     ensures { result ≡ has_node_lem (map string_bytes patterns.now) (option_map node_value node.entry) }
 {
     match node {

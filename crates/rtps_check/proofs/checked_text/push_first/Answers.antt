@@ -1,6 +1,5 @@
-use Rattle.std.proofs.Common.{◌++◌, ◌∷◌, [], ◌∙◌, ◌==◌, ℕ, List, ap, codes, if◌then◌else◌, string_bytes, sym}
+use Rattle.std.proofs.Common.{◌++◌, ◌∙◌, ◌==◌, ℕ, ap, if◌then◌else◌, string_bytes, sym}
 use Rattle.std.proofs.lemmas.Result.{on_ok_weaker}
-use Rattle.std.specs.List.{concat}
 use Rattle.rtps_check.specs.CheckText.{beside_value, clean_lines, no_pair_lines}
 use Rattle.rtps_check.proofs.checked_text.push_first.Goals as goal
 
@@ -9,8 +8,6 @@ returns-then-totals-eq0 c =
     let old = string_bytes c.args.text.now in
     let totals = c.args.totals.now in
     let beside = beside_value c.args.told.now in
-    let lines : List ℕ → List ℕ = λ remedy. concat (codes "there is no pair to judge\n  -> " ∷ remedy ∷ codes "\n" ∷ []) in
     on_ok_weaker c.render.result
-    (λ told. told ∙ ap (λ remedy. old ++ lines remedy) c.no_pair_remedy-remedy.ensures
-    ∙ ap (λ (pairs : ℕ). old ++ (if pairs == 0 then no_pair_lines beside.talk beside.left_out else clean_lines beside.side totals)) (sym c.if-totals-eq0.true))
+    (λ told. told ∙ ap (λ (pairs : ℕ). old ++ (if pairs == 0 then no_pair_lines beside.remedy else clean_lines beside.side totals)) (sym c.if-totals-eq0.true))
     c.render.ensures

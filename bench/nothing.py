@@ -1,0 +1,114 @@
+"""Why a recording has no pair to judge, of the second implementation: what is told in the place of pairs, by the first cause that fits.
+
+- Best-effort pairs have numbers: they are counted, so the recording is not without a pair.
+- No datagram has a header of RTPS.
+- A participant speaks in an earlier datagram than the one in which it is announced, or is never announced. It speaks by acts whose source it is: those of
+  endpoints of users, which are not built in, and of those that announce endpoints. So the recording began in the middle.
+- No participant is announced.
+- All participants that are announced have one address. Where one of them, of Fast DDS, announces a locator of a kind from 16 on, the ends may use
+  shared memory.
+- Two participants are of two domains: the first one that has a domain, in their order, and the first behind it that has another.
+- Participants talk one way; or endpoints do not match; or pairs are left out; or there are pairs of best effort alone.
+- A topic that is asked for has writers and no reader, or readers and no writer: of endpoints that announced themselves in one way. Where nodes are
+  asked for, an end of the topic is of one of them.
+"""
+from talk import PARTICIPANT
+from told import topic_text
+from wording import grouped
+
+NAMED = 10      # so many topics are named
+
+NO_RTPS = 'nothing of RTPS is in this recording: see that it has the ports of DDS (udp, 7400 and above)'
+NOT_ANNOUNCED = 'no participant is announced'
+ONE_HOST = 'nothing of another host is in this recording'
+IN_MEMORY = 'both ends are on this host and use shared memory, which no capture has'
+NOT_ANSWERED = 'see below which participants never answer'
+NOT_MATCHING = 'see below which writers and readers do not match'
+NOT_SEEN = 'record where the datagrams of the readers and the writers pass, and switch off shared memory'
+BEST_EFFORT = 'all pairs that match are of best effort: they are counted below, and not judged'
+ELSE = 'see in rtps-audit list --any FILE what is announced'
+
+# ---- who speaks before it is announced
+
+# those that announce writers and readers
+DISCOVERY = b'\0\0\3\xc2', b'\0\0\3\xc7', b'\0\0\4\xc2', b'\0\0\4\xc7'
+BUILT_IN = 0xc0     # these two bits of an entity's kind, which is its last octet
+
+
+def speaks_for_it(act):
+    """whether an act is one of an endpoint that does not speak before its participant is announced"""
+    entity = act['reader'] if act['kind'] in ('acknack', 'nack_frag') else act['writer']
+    return entity[3] & BUILT_IN != BUILT_IN or entity in DISCOVERY
+
+
+def unannounced(talk):
+    """the participants that are never announced, or speak before they are"""
+    announced = {guid[:12]: place[0] for guid, (place, *_) in talk.announced.participants.items() if guid[12:] == PARTICIPANT}
+    never = len(talk.recording) + 1
+    return {act['source'] for i, acts in enumerate(talk.recording, 1) for act in acts
+            if speaks_for_it(act) and i < announced.get(act['source'], never)}
+
+
+def began_late(talk):
+    count = len(unannounced(talk))
+    if not count:
+        return None
+    speak = 'participant speaks before it is announced, or is' if count == 1 else 'participants speak before they are announced, or are'
+    return f'record from before the start: {grouped(count)} {speak} never announced'
+
+
+# ---- hosts, and domains
+
+
+def one_host(talk):
+    if not talk.announced.one_address():
+        return None
+    return IN_MEMORY if any(talk.announced.sharing.values()) else ONE_HOST
+
+
+def two_domains(talk):
+    domains = [(guid, talk.announced.participants[guid][1]) for guid in sorted(talk.announced.participants)]
+    known = [(guid, domain) for guid, domain in domains if domain is not None]
+    other = next(((guid, domain) for guid, domain in known if domain != known[0][1]), None)
+    if other is None:
+        return None
+    (one, domain), (guid, another) = known[0], other
+    return f'{talk.end(one).process_text()} is in domain {domain}, {talk.end(guid).process_text()} in domain {another}'
+
+
+# ---- topics
+
+
+def one_sided(talk):
+    """the topics that have writers alone, or readers alone"""
+    sides, nodes = {}, {}
+    for guid, side, topic, *_ in talk.settled:
+        sides.setdefault(topic, set()).add(side)
+        nodes.setdefault(topic, []).append(talk.who.node(guid))
+    alone = [(topic, *found) for topic, found in sorted(sides.items()) if len(found) == 1 and talk.asked.chooses(topic)
+             and any(talk.asked.chooses_nodes(node, None) for node in nodes[topic])]
+    told = [f"{topic_text(topic)} has a {side} and no {'reader' if side == 'writer' else 'writer'}" for topic, side in alone]
+    return ', '.join(told[:NAMED]) + (f' and {grouped(len(told) - NAMED)} more' if len(told) > NAMED else '') or None
+
+
+# ---- the first cause
+
+
+def cause(talk):
+    """what is told where there is no pair to judge"""
+    has_numbers = any(numbers for _, (_, numbers, _) in talk.best_effort_counts)
+    cases = [
+        lambda: has_numbers and BEST_EFFORT,
+        lambda: not talk.datagrams_by and NO_RTPS,
+        lambda: began_late(talk),
+        lambda: not talk.announced.participants and NOT_ANNOUNCED,
+        lambda: one_host(talk),
+        lambda: two_domains(talk),
+        # that discovery is not complete has its place here
+        lambda: talk.one_way and NOT_ANSWERED,
+        lambda: talk.unmatched and NOT_MATCHING,
+        lambda: talk.unobserved and NOT_SEEN,
+        lambda: talk.best_effort and BEST_EFFORT,
+        lambda: one_sided(talk),
+    ]
+    return next((told for told in (case() for case in cases) if told), ELSE)

@@ -1,0 +1,9 @@
+mod BoolLemmas
+mod OrderLemmas
+mod KeyLemmas
+mod BulletinLemmas
+mod BirthLemmas
+mod KnownLemmas
+mod LackingLemmas
+mod UntoldLemmas
+mod LawLemmas

@@ -1,0 +1,10 @@
+pub mod Layout
+pub mod Tellings
+pub mod Bulletins
+pub mod Visits
+pub mod Lives
+pub mod Meetings
+pub mod Recorded
+pub mod Lacking
+pub mod Untold
+pub mod Laws

@@ -1,0 +1,39 @@
+ghost use Rattle.std.specs.Prelude.{ℕ, ◌≡◌, ◌≤◌, ◌↔◌, MatchOption};
+ghost use Rattle.rtps_known.specs.Visits.{IsEndBetween, IsNeverInTime, min_known};
+
+use crate::layout::GRACE;
+
+/// When a participant is there: times in nanoseconds, from any start.
+#[derive(Clone, Copy)]
+pub struct Visit {
+    /// When it is announced first.
+    pub since: u64,
+    /// When it leaves; None where it does not.
+    pub left: Option<u64>,
+    /// When its last datagram came; None where that is not known.
+    pub last: Option<u64>,
+}
+
+/// The earlier of two times.
+fn earlier(time: u64, other: Option<u64>) -> u64
+    ensures { result ≡ min_known time other }
+{
+    match other {
+        Some(other) => time.min(other),
+        None => time,
+    }
+}
+
+/// Up to when something counts that one participant tells another: a second before either leaves, and before the last datagram of the other.
+/// None where that is not known, or they are announced later.
+pub(crate) fn end_between(one: Visit, other: Visit) -> Option<u64>
+    ensures { MatchOption result (IsNeverInTime one other) (IsEndBetween one other) }
+{
+    let gone = earlier(earlier(other.last?, one.left), other.left);
+    let end = gone.checked_sub(GRACE)?;
+    if one.since <= end && other.since <= end {
+        Some(end)
+    } else {
+        None
+    }
+}

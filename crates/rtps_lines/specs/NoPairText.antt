@@ -1,0 +1,97 @@
+-- Why there is no pair to judge, and what to do. own: one sentence, of the first cause that fits.
+use Rattle.std.specs.Prelude.{ℕ, ◌≡◌, ◌++◌, ◌-◌, ◌==◌, if◌then◌else◌, List, [], ◌∷◌, codes, decimal, flat_map, length, take}
+use Rattle.std.specs.List.{concat}
+use Rattle.rtps_discovery.specs.declared.endpoint.Side.{Side}
+use Rattle.rtps_discovery.specs.declared.endpoint.Side.TheVariants.{Writer, Reader}
+use Rattle.rtps_parts.specs.Parts.{WordsValue, amount, grouped}
+use Rattle.rtps_parts.specs.RosNames.{topic_text}
+use Rattle.rtps_report.specs.Asked.{AskedValue}
+use Rattle.rtps_report.specs.FullReport.{ReportValue}
+use Rattle.rtps_report.specs.NoPair.{IsNoPairOf}
+use Rattle.rtps_report.specs.OneSides.{OneSidedValue}
+use Rattle.rtps_report.specs.Recording.{RecordingValue}
+use Rattle.rtps_report.specs.Talk.{TalkValue}
+use Rattle.rtps_report.specs.declared.no_pair.InDomain.{InDomain}
+use Rattle.rtps_report.specs.declared.no_pair.NoPair.{NoPair}
+use Rattle.rtps_report.specs.declared.no_pair.NoPair.TheVariants.{Counted, NoRtps, Early, NoParticipant, OneHost, SharedMemory, TwoDomains, OneWay, Unmatched, LeftOut, BestEffort, OneSide, Unknown}
+use Rattle.rtps_lines.specs.EventText.{called}
+
+-- the words for participants that speak before they are announced
+abbrev pub early_words : WordsValue
+early_words =
+    record {
+      one = codes "participant speaks before it is announced, or is";
+      many = codes "participants speak before they are announced, or are";
+    }
+
+-- what is said of so many of them
+abbrev pub early_text : ℕ → List ℕ
+early_text early = concat (codes "record from before the start: " ∷ amount early early_words ∷ codes " never announced" ∷ [])
+
+-- a participant, and its domain
+abbrev pub domain_text : TalkValue → InDomain → List ℕ
+domain_text talk one = called talk one.participant.prefix ++ (codes " is in domain " ++ decimal one.domain)
+
+-- the same of another one
+abbrev pub other_text : TalkValue → InDomain → List ℕ
+other_text talk one = codes ", " ++ (called talk one.participant.prefix ++ (codes " in domain " ++ decimal one.domain))
+
+-- what a topic has, and what it lacks
+abbrev pub sides_text : Side → List ℕ
+sides_text Writer = codes " has a writer and no reader"
+sides_text Reader = codes " has a reader and no writer"
+
+-- a topic that has one side alone, by ROS 2
+abbrev pub side_text : OneSidedValue → List ℕ
+side_text one = topic_text one.topic ++ sides_text one.side
+
+-- the same behind another one
+abbrev pub next_text : OneSidedValue → List ℕ
+next_text one = codes ", " ++ side_text one
+
+-- so many topics are named
+abbrev pub NAMED_SIDES : ℕ
+NAMED_SIDES = 10
+
+-- the first of these, and the others behind a comma
+abbrev pub named_sides : List OneSidedValue → List ℕ
+named_sides [] = []
+named_sides (one ∷ others) = side_text one ++ flat_map next_text others
+
+-- how many more there are; nothing where there is none
+abbrev pub more_sides : ℕ → List ℕ
+more_sides more = if more == 0 then [] else concat (codes " and " ∷ grouped more ∷ codes " more" ∷ [])
+
+-- the topics that have one side alone
+abbrev pub one_sides_text : List OneSidedValue → List ℕ
+one_sides_text found = named_sides (take NAMED_SIDES found) ++ more_sides (length found - NAMED_SIDES)
+
+-- the sentence of a cause that is told in the same words always; nothing of the others
+unfoldable pub cause_sentence : NoPair → List ℕ
+cause_sentence Counted = codes "all pairs that match are of best effort: they are counted below, and not judged"
+cause_sentence NoRtps = codes "nothing of RTPS is in this recording: see that it has the ports of DDS (udp, 7400 and above)"
+cause_sentence (Early early) = []
+cause_sentence NoParticipant = codes "no participant is announced"
+cause_sentence SharedMemory = codes "both ends are on this host and use shared memory, which no capture has"
+cause_sentence OneHost = codes "nothing of another host is in this recording"
+cause_sentence (TwoDomains one other) = []
+cause_sentence OneWay = codes "see below which participants never answer"
+cause_sentence Unmatched = codes "see below which writers and readers do not match"
+cause_sentence LeftOut = codes "record where the datagrams of the readers and the writers pass, and switch off shared memory"
+cause_sentence BestEffort = codes "all pairs that match are of best effort: they are counted below, and not judged"
+cause_sentence OneSide = []
+cause_sentence Unknown = codes "see in rtps-audit list --any FILE what is announced"
+
+-- why there is no pair, and what to do
+abbrev pub no_pair_text : TalkValue → NoPair → List OneSidedValue → List ℕ
+no_pair_text talk (Early early) sides = early_text early
+no_pair_text talk (TwoDomains one other) sides = domain_text talk one ++ other_text talk other
+no_pair_text talk OneSide sides = one_sides_text sides
+no_pair_text talk cause sides = cause_sentence cause
+
+-- this is why there is no pair in a report, and what to do
+pub record IsRemedyOf (asked : AskedValue) (recording : RecordingValue) (report : ReportValue) (text : List ℕ) : Type 0 where
+  pub cause : NoPair
+  pub one_sides : List OneSidedValue
+  pub is_cause : IsNoPairOf asked recording report cause one_sides
+  pub is_text : text ≡ no_pair_text report.talk cause one_sides

@@ -1,0 +1,191 @@
+ghost use Rattle.std.specs.Prelude.{◌≡◌, ◌++◌, IfOk, OnOk, decimal, flat_map, map, take};
+ghost use Rattle.std.specs.String.{string_bytes};
+ghost use Rattle.rtps_audit.specs.Index.{IsIndexBy};
+ghost use Rattle.rtps_fragments.specs.RecordedSamples.{intake_as};
+ghost use Rattle.rtps_fragments.specs.declared.fragments.Fragments.TheVariants.{Read as ReadFragments};
+ghost use Rattle.rtps_parts.specs.Parts.{part_text, words_value};
+ghost use Rattle.rtps_report.specs.Asked.{asked_value};
+ghost use Rattle.rtps_report.specs.FullReport.{report_value};
+ghost use Rattle.rtps_report.specs.OneSides.{one_sided_value};
+ghost use Rattle.rtps_report.specs.Talk.{talk_value};
+ghost use Rattle.rtps_lines.specs.NoPairText.{IsRemedyOf, cause_sentence, domain_text, early_text, early_words as early_words_lem, more_sides, named_sides, next_text, no_pair_text, one_sides_text, other_text, side_text, sides_text};
+
+use crate::event_text::called;
+use rtps_discovery::Side;
+use rtps_parts::{Part, Words, render};
+use rtps_report::{FullReport, InDomain, NoPair, OneSided, Talk, WhyNoPair, no_pair_of};
+use std::alloc::{AllocError, Global};
+
+/// So many topics are named that have one side alone.
+const NAMED_SIDES: usize = 10;
+
+fn early_words() -> Words
+    ensures { words_value result ≡ early_words_lem }
+{
+    Words {
+        one: "participant speaks before it is announced, or is",
+        many: "participants speak before they are announced, or are",
+    }
+}
+
+fn push_early(text: &mut String, early: u64) -> Result<(), AllocError>
+    ensures { OnOk result (string_bytes text.new ≡ string_bytes text.old ++ early_text early) }
+{
+    let parts = [
+        Part::Text("record from before the start: "),
+        Part::Amount(early as u128, early_words()),
+        Part::Text(" never announced"),
+    ];
+    render(text, &parts)
+}
+
+fn push_domain(text: &mut String, talk: &Talk<'_>, one: InDomain) -> Result<(), AllocError>
+    ensures { OnOk result (string_bytes text.new ≡ string_bytes text.old ++ domain_text (talk_value talk.now) one) }
+{
+    let participant = called(talk, one.participant.prefix);
+    let domain = one.domain;
+    write!(text, "{participant} is in domain {domain}")
+}
+
+fn push_other(text: &mut String, talk: &Talk<'_>, one: InDomain) -> Result<(), AllocError>
+    ensures { OnOk result (string_bytes text.new ≡ string_bytes text.old ++ other_text (talk_value talk.now) one) }
+{
+    let participant = called(talk, one.participant.prefix);
+    let domain = one.domain;
+    write!(text, ", {participant} in domain {domain}")
+}
+
+fn push_domains(
+    text: &mut String,
+    talk: &Talk<'_>,
+    one: InDomain,
+    other: InDomain,
+) -> Result<(), AllocError>
+    ensures { OnOk result (string_bytes text.new ≡ string_bytes text.old ++ (domain_text (talk_value talk.now) one ++ other_text (talk_value talk.now) other)) }
+{
+    push_domain(text, talk, one)?;
+    push_other(text, talk, other)
+}
+
+fn sides_words(side: Side) -> &'static str
+    ensures { result.now ≡ sides_text side }
+{
+    match side {
+        Side::Writer => " has a writer and no reader",
+        Side::Reader => " has a reader and no writer",
+    }
+}
+
+fn push_side(text: &mut String, one: &OneSided<'_>) -> Result<(), AllocError>
+    ensures { OnOk result (string_bytes text.new ≡ string_bytes text.old ++ side_text (one_sided_value one.now)) }
+{
+    let parts = [
+        Part::TopicName(one.topic),
+        Part::Text(sides_words(one.side)),
+    ];
+    render(text, &parts)
+}
+
+fn push_next(text: &mut String, one: &OneSided<'_>) -> Result<(), AllocError>
+    ensures { OnOk result (string_bytes text.new ≡ string_bytes text.old ++ next_text (one_sided_value one.now)) }
+{
+    let parts = [
+        Part::Text(", "),
+        Part::TopicName(one.topic),
+        Part::Text(sides_words(one.side)),
+    ];
+    render(text, &parts)
+}
+
+fn push_named(text: &mut String, sides: &[OneSided<'_>]) -> Result<(), AllocError>
+    ensures { OnOk result (string_bytes text.new ≡ string_bytes text.old ++ named_sides (map one_sided_value sides.now)) }
+{
+    let Some((first, others)) = sides.split_first() else {
+        return Ok(());
+    };
+    push_side(text, first)?;
+    for other in others {
+        push_next(text, other)?;
+    }
+    Ok(())
+}
+
+fn push_more(text: &mut String, more: usize) -> Result<(), AllocError>
+    ensures { OnOk result (string_bytes text.new ≡ string_bytes text.old ++ more_sides more) }
+{
+    if more == 0 {
+        return Ok(());
+    }
+    let parts = [
+        Part::Text(" and "),
+        Part::Grouped(more as u128),
+        Part::Text(" more"),
+    ];
+    render(text, &parts)
+}
+
+/// Those that are named.
+fn first_sides<'s, 'a>(sides: &'s [OneSided<'a>]) -> &'s [OneSided<'a>]
+    ensures { map one_sided_value result.now ≡ take NAMED_SIDES (map one_sided_value sides.now) }
+{
+    let count = NAMED_SIDES.min(sides.len());
+    &sides[..count]
+}
+
+fn push_one_sides(text: &mut String, sides: &[OneSided<'_>]) -> Result<(), AllocError>
+    ensures { OnOk result (string_bytes text.new ≡ string_bytes text.old ++ one_sides_text (map one_sided_value sides.now)) }
+{
+    push_named(text, first_sides(sides))?;
+    push_more(text, sides.len().saturating_sub(NAMED_SIDES))
+}
+
+/// The sentence of a cause that is told in the same words always.
+#[tactic(auto, unfolding(crate::specs::NoPairText::cause_sentence))]
+fn sentence(cause: NoPair) -> &'static str
+    ensures { result.now ≡ cause_sentence cause }
+{
+    match cause {
+        NoPair::Counted | NoPair::BestEffort => {
+            "all pairs that match are of best effort: they are counted below, and not judged"
+        }
+        NoPair::NoRtps =>
+            "nothing of RTPS is in this recording: see that it has the ports of DDS (udp, 7400 and above)",
+        NoPair::NoParticipant => "no participant is announced",
+        NoPair::SharedMemory => {
+            "both ends are on this host and use shared memory, which no capture has"
+        }
+        NoPair::OneHost => "nothing of another host is in this recording",
+        NoPair::OneWay => "see below which participants never answer",
+        NoPair::Unmatched => "see below which writers and readers do not match",
+        NoPair::LeftOut =>
+            "record where the datagrams of the readers and the writers pass, and switch off shared memory",
+        NoPair::Unknown => "see in rtps-audit list --any FILE what is announced",
+        NoPair::Early(_) | NoPair::TwoDomains(_, _) | NoPair::OneSide => "",
+    }
+}
+
+/// Appends why there is no pair to judge, and what to do.
+fn push_no_pair(text: &mut String, talk: &Talk<'_>, why: &WhyNoPair<'_>) -> Result<(), AllocError>
+    ensures { OnOk result (string_bytes text.new
+        ≡ string_bytes text.old ++ no_pair_text (talk_value talk.now) why.now.cause (map one_sided_value why.now.one_sides.items)) }
+{
+    match why.cause {
+        NoPair::Early(early) => push_early(text, early),
+        NoPair::TwoDomains(one, other) => push_domains(text, talk, one, other),
+        NoPair::OneSide => push_one_sides(text, &why.one_sides),
+        other => text.push_str(sentence(other)),
+    }
+}
+
+/// Why there is no pair to judge in a report where there is none, and what to do.
+pub fn no_pair_remedy(alloc: Global, report: &FullReport<'_>) -> Result<String, AllocError>
+    requires { IsIndexBy (intake_as ReadFragments report.now.recording.now.datagrams) report.now.index }
+    ensures { IfOk result (λ text. IsRemedyOf (asked_value report.now.asked.now) report.now.recording.now (report_value report.now) (string_bytes text)) }
+{
+    let Ok(why) = no_pair_of(alloc, report) else {
+        return Err(AllocError);
+    };
+    let mut text = String::new(alloc);
+    push_no_pair(&mut text, &report.talk, &why)?;
+    Ok(text)
+}
