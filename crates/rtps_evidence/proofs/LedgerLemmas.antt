@@ -1,29 +1,22 @@
--- What is kept of what a pair said, at the start and with one act more.
-use Rattle.std.proofs.Common.{◌≡◌, ◌∙◌, ℕ, Bool, true, false, ◌||◌, cond, filter, List, [], ◌∷◌, ◌++◌, Option, Some, None, refl, ap, arith}
-use Rattle.std.specs.List.{list_any}
-use Rattle.std.specs.Option.{option_map}
+-- What is kept of what a pair said, with one act more.
+use Rattle.std.proofs.Common.{◌≡◌, ◌∙◌, ℕ, ◌==◌, ◌<◌, ◌≤◌, ◌⊎◌, ◌||◌, Bool, true, false, cond, filter, map, max, nat_le, nat_lt, not, List, [], ◌∷◌, ◌++◌, Option, Some, None, refl, ap, arith, inl, inr, sym}
+use Rattle.std.specs.List.{find, list_any}
+use Rattle.std.specs.Option.{option_map, option_or}
+use Rattle.std.proofs.lemmas.Bool.{cases_lt}
 use Rattle.std.proofs.lemmas.Bool.Decides.{nat_tests}
-use Rattle.std.proofs.lemmas.List.Folds.{list_any-append}
+use Rattle.std.proofs.lemmas.List.{map-append}
+use Rattle.std.proofs.lemmas.List.Folds.{find-append, list_any-append}
+use Rattle.rtps_ids.specs.declared.identity.Guid.{Guid}
+use Rattle.rtps_audit.specs.Delivery.{greatest, is_asked}
 use Rattle.rtps_audit.specs.Placed.{PlacedValue}
-use Rattle.rtps_discovery.specs.declared.matching.Pair.{Pair}
-use Rattle.rtps_evidence.specs.Requests.{met_among, new_request, requested}
-use Rattle.rtps_evidence.specs.Locations.{find_last, location_of}
-use Rattle.rtps_evidence.specs.Missed.{asks_for}
-use Rattle.rtps_evidence.specs.declared.location.Location.{Location}
-use Rattle.rtps_evidence.specs.declared.missed_numbers.Request.{Request}
+use Rattle.rtps_audit.proofs.Offered.{greatest-append}
+use Rattle.rtps_evidence.specs.Ledger.{IsAnnounced}
+use Rattle.rtps_evidence.specs.Locations.{announcement_at, announcement_of, number_said}
+use Rattle.rtps_evidence.specs.declared.last_announcement.Announced.{Announced}
+use Rattle.rtps_evidence.specs.declared.last_announcement.Announcement.{Announcement}
 
 or_no : (b : Bool) → (b || false) ≡ b
 or_no b = grind (arith, nat_tests)
-
--- before all acts nothing became of a request
-pub met_none : (since : Option Location) (pair : Pair) (n : ℕ) (request : Option Request) → option_map (met_among since pair n []) request ≡ request
-met_none since pair n None = refl
-met_none since pair n (Some request) =
-    ap (λ m. Some (record { place = request.place; is_met = m; is_again = request.is_again || false })) (or_no request.is_met) ∙ ap (λ a. Some (record { place = request.place; is_met = request.is_met; is_again = a })) (or_no request.is_again)
-
--- a number that does not lack has no request
-pub unasked : (since : Option Location) (pair : Pair) (n : ℕ) (acts asks : List PlacedValue) (lacks : ℕ → Bool) → lacks n ≡ false → option_map (met_among since pair n acts) (requested pair asks lacks n) ≡ None
-unasked since pair n acts asks lacks out = ap (λ b. option_map (met_among since pair n acts) (cond b (option_map (λ asking. new_request (location_of asking)) (find_last (asks_for pair.writer pair.reader n) asks)) None)) out
 
 -- one act more
 pub any_more : (test : PlacedValue → Bool) (acts : List PlacedValue) (x : PlacedValue) → list_any test (acts ++ x ∷ []) ≡ (list_any test acts || test x)
@@ -36,3 +29,72 @@ filter_more test (y ∷ ys) x b is = by (test y) (filter_more test ys x b is)
     by : (c : Bool) → filter test (ys ++ x ∷ []) ≡ filter test ys ++ cond b (x ∷ []) [] → cond c (y ∷ filter test (ys ++ x ∷ [])) (filter test (ys ++ x ∷ [])) ≡ cond c (y ∷ filter test ys) (filter test ys) ++ cond b (x ∷ []) []
     by true more = ap (λ l. y ∷ l) more
     by false more = more
+
+pub not_below : (below n : ℕ) → nat_le below n ≡ not (nat_lt n below)
+not_below below n = grind (arith, nat_tests)
+
+-- ---- what is announced, with one act more
+
+-- none says a number that is greater than all
+none_says : (writer : Guid) (n : ℕ) (acts : List PlacedValue) → greatest (map (number_said writer) acts) < n → find (λ placed. number_said writer placed == n) acts ≡ None
+none_says writer n [] lt = refl
+none_says writer n (x ∷ acts) lt =
+    let differs : (number_said writer x == n) ≡ false = grind (arith, nat_tests) in
+    ap (λ b. cond b (Some x) (find (λ placed. number_said writer placed == n) acts)) differs ∙ none_says writer n acts (omega arith)
+
+-- one says the greatest
+one_says : (writer : Guid) (n : ℕ) (acts : List PlacedValue) → 1 ≤ n → n ≡ greatest (map (number_said writer) acts) → (one : PlacedValue) × (find (λ placed. number_said writer placed == n) acts ≡ Some one)
+one_says writer n [] some is = absurd (omega arith)
+one_says writer n (x ∷ acts) some is = elim (cases_lt (number_said writer x) n) [
+  | inl lt ↦
+      let there = one_says writer n acts some (omega arith) in
+      let differs : (number_said writer x == n) ≡ false = grind (arith, nat_tests) in
+      (there.0, ap (λ b. cond b (Some x) (find (λ placed. number_said writer placed == n) acts)) differs ∙ there.1)
+  | inr ge ↦
+      let same : (number_said writer x == n) ≡ true = grind (arith, nat_tests) in
+      (x, ap (λ b. cond b (Some x) (find (λ placed. number_said writer placed == n) acts)) same)
+]
+
+greatest_more : (writer : Guid) (acts : List PlacedValue) (x : PlacedValue) → greatest (map (number_said writer) (acts ++ x ∷ [])) ≡ max (greatest (map (number_said writer) acts)) (number_said writer x)
+greatest_more writer acts x =
+    let both = ap greatest (map-append (number_said writer) acts (x ∷ [])) ∙ greatest-append (map (number_said writer) acts) (number_said writer x ∷ []) in
+    omega arith
+
+-- an act that says no more changes nothing
+pub announced_still : (writer : Guid) (acts : List PlacedValue) (x : PlacedValue) (old : Announced) → number_said writer x ≤ old.last → IsAnnounced writer acts old → IsAnnounced writer (acts ++ x ∷ []) old
+announced_still writer acts x old le is = record {
+  last = (let more = greatest_more writer acts x in let last = is.last in omega arith);
+  first = is.first ∙ sym (by (cases_lt 0 old.last));
+}
+  where
+    by : (0 < old.last) ⊎ (old.last ≤ 0) → announcement_of 1 writer old.last (acts ++ x ∷ []) ≡ announcement_of 1 writer old.last acts
+    by (inl some) =
+        let there = one_says writer old.last acts (omega arith) is.last in
+        let found = find-append (λ (placed : PlacedValue). number_said writer placed == old.last) acts (x ∷ [])
+        ∙ ap (λ o. option_or o (find (λ (placed : PlacedValue). number_said writer placed == old.last) (x ∷ []))) there.1 ∙ sym there.1 in
+        ap (λ o. cond (is_asked 1 old.last) (option_map (announcement_at old.last) o) None) found
+    by (inr none) =
+        let zero : is_asked 1 old.last ≡ false = grind (arith, nat_tests) in
+        ap (λ b. cond b (option_map (announcement_at old.last) (find (λ placed. number_said writer placed == old.last) (acts ++ x ∷ []))) None) zero
+        ∙ sym (ap (λ b. cond b (option_map (announcement_at old.last) (find (λ placed. number_said writer placed == old.last) acts)) None) zero)
+
+-- one that says more is the first that says so much
+pub announced_anew : (writer : Guid) (acts : List PlacedValue) (x : PlacedValue) (old new : Announced) → old.last < number_said writer x → IsAnnounced writer acts old
+    → new.last ≡ number_said writer x → new.first ≡ Some (announcement_at (number_said writer x) x) → IsAnnounced writer (acts ++ x ∷ []) new
+announced_anew writer acts x old new lt is last first =
+    let number = number_said writer x in
+    let yes : is_asked 1 number ≡ true = grind (arith, nat_tests) in
+    let same : (number_said writer x == number) ≡ true = grind (arith, nat_tests) in
+    let top = is.last in
+    let none = none_says writer number acts (omega arith) in
+    let found = find-append (λ (placed : PlacedValue). number_said writer placed == number) acts (x ∷ [])
+    ∙ ap (λ o. option_or o (find (λ (placed : PlacedValue). number_said writer placed == number) (x ∷ []))) none
+    ∙ ap (λ b. cond b (Some x) None) same in
+    record {
+      last = (let more = greatest_more writer acts x in omega arith);
+      first =
+          first
+          ∙ sym (ap (λ n. announcement_of 1 writer n (acts ++ x ∷ [])) last
+          ∙ ap (λ b. cond b (option_map (announcement_at number) (find (λ placed. number_said writer placed == number) (acts ++ x ∷ []))) None) yes
+          ∙ ap (option_map (announcement_at number)) found);
+    }

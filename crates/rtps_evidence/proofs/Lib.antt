@@ -5,7 +5,6 @@ pub mod MadeLemmas
 pub mod OriginLemmas
 pub mod Shown
 pub mod RowLemmas
-pub mod HeardLemmas
 pub mod OneSpan
 pub mod OneExplanation
 pub mod AnswerLemmas

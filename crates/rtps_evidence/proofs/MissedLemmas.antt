@@ -4,7 +4,6 @@ use Rattle.std.proofs.lemmas.Bool.Decides.{nat_tests}
 use Rattle.std.proofs.Common.{◌≡◌, ◌∙◌, ℕ, ◌+◌, ◌≤◌, ◌&&◌, ◌||◌, Bool, true, false, cond, not, filter, List, [], ◌∷◌, Option, Some, None, refl, ap, arith, rules}
 use Rattle.std.specs.List.{cons_option, find, list_any}
 use Rattle.std.specs.Option.{option_map}
-use Rattle.std.specs.Prelude.{if◌then◌else◌}
 use Rattle.std.proofs.lemmas.Bool.{and_parts}
 use Rattle.rtps_ids.specs.declared.identity.Guid.{Guid}
 use Rattle.rtps_discovery.specs.declared.matching.Pair.{Pair}
@@ -15,10 +14,9 @@ use Rattle.rtps_evidence.proofs.AskingLemmas.{requester_is_origin}
 use Rattle.rtps_coverage.specs.Counts.{count_in}
 use Rattle.rtps_coverage.specs.Stretches.{stretches_have}
 use Rattle.rtps_evidence.specs.Locations.{find_last, is_behind, location_of}
-use Rattle.rtps_evidence.specs.Missed.{AreMissed, again_behind, announces, asks_for, brings, brings_before, brings_behind, first_place, gone_behind, has_guid, is_asked_in_vain, is_missed, is_missed_for_good, is_unmet, is_wanting, missed_at, missed_by, place_announced}
-use Rattle.rtps_evidence.specs.Received.{is_received, least_in}
-use Rattle.rtps_evidence.specs.Requests.{is_in_vain, met_among, new_request, requested}
-use Rattle.rtps_evidence.specs.WriterSummary.{option_any}
+use Rattle.rtps_evidence.specs.Missed.{AreMissed, again_behind, announces, asks_for, brings, brings_before, brings_behind, first_place, gone_behind, has_guid, is_asked_in_vain, is_missed, is_missed_for_good, is_wanting, missed_at, missed_by, place_announced}
+use Rattle.rtps_evidence.specs.Received.{least_in}
+use Rattle.rtps_evidence.specs.Requests.{is_in_vain, met_among, new_request, option_any, requested}
 use Rattle.rtps_coverage.specs.declared.stretch.Stretch.{Stretch}
 use Rattle.rtps_evidence.specs.declared.first_missed.FirstMissed.{FirstMissed}
 use Rattle.rtps_evidence.specs.declared.teller.Teller.{Teller}
@@ -52,20 +50,18 @@ again_same place writer reader n placed = grind (arith, nat_tests, common_steps,
 pub last_asking_same : (writer reader : Guid) (n : ℕ) (placed : List PlacedValue) → find_last (asks_for writer reader n) (filter (is_from reader) placed) ≡ find_last (asks_for writer reader n) placed
 last_asking_same writer reader n placed = grind (arith, nat_tests, common_steps, filter_filter, requester_is_origin, and_parts)
 
--- the last request for a number that is lacking, behind what the writer's acts bring, tells whether it is asked for in vain
-pub unmet_by_request : (since : Option Location) (pair : Pair) (placed : List PlacedValue) (n : ℕ) (lacking : ℕ → Bool) → lacking n ≡ not (is_received pair.writer pair.reader placed n)
-    → option_any is_in_vain (option_map (met_among since pair n (filter (is_from pair.writer) placed)) (requested pair (filter (is_from pair.reader) placed) lacking n)) ≡ is_unmet since pair.writer pair.reader placed n
-unmet_by_request since pair placed n lacking known =
-    ap (λ o. option_any is_in_vain (option_map (met_among since pair n (filter (is_from pair.writer) placed)) (if lacking n then option_map (λ (asking : PlacedValue). new_request (location_of asking)) o else None))) (last_asking_same pair.writer pair.reader n placed)
-    ∙ by (lacking n) (find_last (asks_for pair.writer pair.reader n) placed)
-    ∙ ap (λ b. b && is_wanting since pair.writer pair.reader placed n) known
+-- the last request for a number, behind what the writer's acts bring, tells whether it is asked for in vain
+pub wanting_by_request : (since : Option Location) (pair : Pair) (placed : List PlacedValue) (n : ℕ)
+    → option_any is_in_vain (option_map (met_among since pair n (filter (is_from pair.writer) placed)) (requested pair (filter (is_from pair.reader) placed) n)) ≡ is_wanting since pair.writer pair.reader placed n
+wanting_by_request since pair placed n =
+    ap (λ o. option_any is_in_vain (option_map (met_among since pair n (filter (is_from pair.writer) placed)) (option_map (λ (asking : PlacedValue). new_request (location_of asking)) o))) (last_asking_same pair.writer pair.reader n placed)
+    ∙ by (find_last (asks_for pair.writer pair.reader n) placed)
   where
-    by : (b : Bool) (asking : Option PlacedValue)
-        → option_any is_in_vain (option_map (met_among since pair n (filter (is_from pair.writer) placed)) (if b then option_map (λ (asking : PlacedValue). new_request (location_of asking)) asking else None))
-        ≡ (b && is_asked_in_vain since pair.writer pair.reader placed n asking)
-    by false asking = refl
-    by true None = refl
-    by true (Some asking) =
+    by : (asking : Option PlacedValue)
+        → option_any is_in_vain (option_map (met_among since pair n (filter (is_from pair.writer) placed)) (option_map (λ (asking : PlacedValue). new_request (location_of asking)) asking))
+        ≡ is_asked_in_vain since pair.writer pair.reader placed n asking
+    by None = refl
+    by (Some asking) =
         ap (λ b. not b || list_any (brings_before since (location_of asking) pair.writer pair.reader n) (filter (is_from pair.writer) placed)) (brought_same (Some (location_of asking)) pair.writer pair.reader n placed)
         ∙ ap (λ b. not (list_any (brings_behind (Some (location_of asking)) pair.writer pair.reader n) placed) || b) (brought_same_before since (location_of asking) pair.writer pair.reader n placed)
 

@@ -15,8 +15,7 @@ use Rattle.rtps_audit.specs.Placed.{PlacedValue, placed_value}
 use Rattle.rtps_audit.specs.declared.placed.Placed.{Placed}
 use Rattle.rtps_evidence.specs.Locations.{find_last, is_before, is_behind, location_of}
 use Rattle.rtps_evidence.specs.Missed.{asks_for, brings, brings_before, brings_behind}
-use Rattle.rtps_evidence.specs.Requests.{is_in_vain, met_among, met_at, met_by, new_request, requested}
-use Rattle.rtps_evidence.specs.WriterSummary.{option_any}
+use Rattle.rtps_evidence.specs.Requests.{is_in_vain, met_among, met_at, met_by, new_request, option_any, requested}
 use Rattle.rtps_evidence.specs.declared.location.Location.{Location}
 use Rattle.rtps_evidence.specs.declared.missed_numbers.Request.{Request}
 
@@ -25,17 +24,11 @@ use Rattle.rtps_evidence.specs.declared.missed_numbers.Request.{Request}
 pub is_key : (a b : ℕ) → is_eq (nat_cmp a b) ≡ (a == b)
 is_key a b = grind (arith, nat_tests)
 
-pub put_one : (old new : Option Request) (x : Request) (number n : ℕ) (lacks : ℕ → Bool) → lacks number ≡ true → new ≡ cond (is_eq (nat_cmp number n)) (Some x) old → new ≡ cond ((number == n) && lacks n) (Some x) old
-put_one old new x number n lacks is put = grind (arith, nat_tests)
-
-pub put_none : (old : Option Request) (x : Request) (number n : ℕ) (lacks : ℕ → Bool) → lacks number ≡ false → old ≡ cond ((number == n) && lacks n) (Some x) old
-put_none old x number n lacks is = grind (arith, nat_tests)
-
 pub range_more : (lo i n : ℕ) → lo ≤ i → (nat_le lo n && nat_lt n (i + 1)) ≡ ((nat_le lo n && nat_lt n i) || (i == n))
 range_more lo i n le = grind (arith, nat_tests)
 
-pub none_so_far : (n : ℕ) (member lacks : Bool) (old : Option Request) (x : Request) → old ≡ cond ((member && nat_lt n 0) && lacks) (Some x) old
-none_so_far n member lacks old x = grind (arith, nat_tests)
+pub none_so_far : (n : ℕ) (member : Bool) (old : Option Request) (x : Request) → old ≡ cond (member && nat_lt n 0) (Some x) old
+none_so_far n member old x = grind (arith, nat_tests)
 
 -- ---- the requests of a reader's acts
 
@@ -66,9 +59,9 @@ last_of_more test xs x = ap (last_or None) (filtered xs) ∙ by (test x)
     by true = last_pushed None (filter test xs)
     by false = ap (last_or None) (same_list (filter test xs))
 
-pub requested_more : (pair : Pair) (xs : List PlacedValue) (x : PlacedValue) (lacks : ℕ → Bool) (n : ℕ)
-    → cond (asks_for pair.writer pair.reader n x && lacks n) (Some (new_request (location_of x))) (requested pair xs lacks n) ≡ requested pair (xs ++ x ∷ []) lacks n
-requested_more pair xs x lacks n = grind (arith, nat_tests, common_steps, last_of_more)
+pub requested_more : (pair : Pair) (xs : List PlacedValue) (x : PlacedValue) (n : ℕ)
+    → cond (asks_for pair.writer pair.reader n x) (Some (new_request (location_of x))) (requested pair xs n) ≡ requested pair (xs ++ x ∷ []) n
+requested_more pair xs x n = grind (arith, nat_tests, common_steps, last_of_more)
 
 -- ---- what a writer's acts bring
 

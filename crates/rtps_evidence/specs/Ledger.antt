@@ -1,13 +1,17 @@
--- What became of the numbers that a reader lacks, as far as a recording has come. own: what a pair said is gone through once, and what is kept
--- says at each place what the definitions say of the acts up to it.
-use Rattle.std.specs.Prelude.{ℕ, Bool, true, ◌≡◌, map, List}
+-- What one reader has of one writer, and what became of what it lacks, as far as a recording has come. own: what a pair said is gone through
+-- once, and what is kept says at each place what the definitions say of the acts up to it.
+use Rattle.std.specs.Prelude.{ℕ, ◌≡◌, map, List}
 use Rattle.std.specs.BTreeMap.{get}
 use Rattle.std.specs.List.{list_any}
 use Rattle.std.specs.Option.{option_map}
 use Rattle.std.specs.Ordering.{nat_cmp}
+use Rattle.rtps_ids.specs.declared.identity.Guid.{Guid}
+use Rattle.rtps_audit.specs.Delivery.{greatest}
 use Rattle.rtps_audit.specs.Placed.{PlacedValue, placed_value}
 use Rattle.rtps_audit.specs.Said.{datagrams_until}
 use Rattle.rtps_coverage.specs.Stretches.{stretches_have}
+use Rattle.rtps_evidence.specs.Claimed.{AreHeard}
+use Rattle.rtps_evidence.specs.Locations.{announcement_of, number_said}
 use Rattle.rtps_evidence.specs.Missed.{brings_behind}
 use Rattle.rtps_evidence.specs.Requests.{met_among, requested}
 use Rattle.rtps_evidence.specs.SilentNumbers.{AreSilent}
@@ -15,8 +19,14 @@ use Rattle.rtps_evidence.specs.Spans.{since_of}
 use Rattle.rtps_evidence.specs.Times.{end_of}
 use Rattle.rtps_evidence.specs.Waits.{longest, questions_of, waits_of}
 use Rattle.rtps_evidence.specs.declared.exchange.Exchange.{Exchange}
+use Rattle.rtps_evidence.specs.declared.last_announcement.Announced.{Announced}
 use Rattle.rtps_evidence.specs.declared.ledger.Ledger.{Ledger}
 use Rattle.rtps_evidence.specs.declared.waits.Waiting.{Waiting}
+
+-- the greatest number that the writer announces by these acts, or 0, and the first act that announces it, where it is one
+pub record IsAnnounced (writer : Guid) (acts : List PlacedValue) (announced : Announced) : Type 0 where
+  pub last : announced.last ≡ greatest (map (number_said writer) acts)
+  pub first : announced.first ≡ announcement_of 1 writer announced.last acts
 
 -- the longest wait by these acts of the writer, up to the end of what was said
 pub record IsLongest (exchange : Exchange) (acts : List PlacedValue) (waiting : Waiting) : Type 0 where
@@ -25,11 +35,13 @@ pub record IsLongest (exchange : Exchange) (acts : List PlacedValue) (waiting : 
       ≡ longest (waits_of exchange.times.now.of_datagrams (end_of (datagrams_until exchange.span.until exchange.times.now.of_datagrams)) exchange.said.answers.now
       (questions_of (since_of exchange.span) exchange.pair acts))
 
--- The ledger stands for these acts of the writer: of each number that the reader lacks it has what became of its last request, whether it
--- came since the reader is there, and how far it came with it in silence; and it has the longest wait.
-pub record Stands (exchange : Exchange) (lacks : ℕ → Bool) (acts : List PlacedValue) (ledger : Ledger) : Type 0 where
+-- The ledger stands for these acts of the writer: it has what was announced; of which numbers the reader heard; what became of its last
+-- request for each number; which numbers came since it is there; how far it came with each in silence; and the longest wait.
+pub record Stands (exchange : Exchange) (acts : List PlacedValue) (ledger : Ledger) : Type 0 where
+  pub announced : IsAnnounced exchange.pair.writer acts ledger.announced
+  pub heard : AreHeard exchange.said.answers.now exchange.pair acts ledger.heard
   pub requests : (n : ℕ) → get nat_cmp ledger.requests n
-      ≡ option_map (met_among (since_of exchange.span) exchange.pair n acts) (requested exchange.pair (map placed_value exchange.said.asks.now) lacks n)
-  pub brought : (n : ℕ) → lacks n ≡ true → stretches_have ledger.brought.items n ≡ list_any (brings_behind (since_of exchange.span) exchange.pair.writer exchange.pair.reader n) acts
-  pub silent : (n : ℕ) → lacks n ≡ true → AreSilent exchange acts ledger.silent
+      ≡ option_map (met_among (since_of exchange.span) exchange.pair n acts) (requested exchange.pair (map placed_value exchange.said.asks.now) n)
+  pub brought : (n : ℕ) → stretches_have ledger.brought.items n ≡ list_any (brings_behind (since_of exchange.span) exchange.pair.writer exchange.pair.reader n) acts
+  pub silent : AreSilent exchange acts ledger.silent
   pub wait : IsLongest exchange acts ledger.wait

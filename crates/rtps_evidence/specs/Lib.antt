@@ -25,7 +25,6 @@ pub mod Grounds
 pub mod Evidence
 pub mod Certificates
 pub mod Explanation
-pub mod WriterSummary
 pub mod Times
 pub mod Waits
 pub mod Ledger

@@ -9,14 +9,18 @@ use Rattle.rtps_evidence.specs.Missed.{asks_for, brings, brings_before, brings_b
 use Rattle.rtps_evidence.specs.declared.location.Location.{Location}
 use Rattle.rtps_evidence.specs.declared.missed_numbers.Request.{Request}
 
+-- it is there, and passes a test
+abbrev pub option_any : {X : Type 0} → (X → Bool) → Option X → Bool
+option_any test None = false
+option_any test (Some x) = test x
+
 -- a request of which nothing became yet
 abbrev pub new_request : Location → Request
 new_request place = record { place = place; is_met = false; is_again = false }
 
--- the last request for n by these acts of the reader, where it lacks n
-abbrev pub requested : Pair → List PlacedValue → (ℕ → Bool) → ℕ → Option Request
-requested pair asks lacks n =
-    if lacks n then option_map (λ asking. new_request (location_of asking)) (find_last (asks_for pair.writer pair.reader n) asks) else None
+-- the last request for n by these acts of the reader
+abbrev pub requested : Pair → List PlacedValue → ℕ → Option Request
+requested pair asks n = option_map (λ asking. new_request (location_of asking)) (find_last (asks_for pair.writer pair.reader n) asks)
 
 -- a request behind an act that brings its number
 abbrev pub met_at : Option Location → PlacedValue → Request → Request

@@ -80,7 +80,23 @@ pub(crate) fn without(
     Ok(left)
 }
 
-/// Of the numbers that are asked for: those that both have, as runs.
+/// Of the numbers that are asked for: those that both have. Other numbers may be among them.
+pub(crate) fn common(
+    alloc: Global,
+    numbers: &[Stretch],
+    others: &[Stretch],
+    asked: &AskedNumbers,
+) -> Result<Vec<Stretch>, Memory>
+    ensures { IfOk result (λ both. (n : ℕ) → asked.now.from ≤ n → n ≤ asked.now.last → stretches_have both.items n
+        ≡ (stretches_have numbers.now n && stretches_have others.now n)) }
+{
+    let mut copy = Vec::from_slice(alloc, others)?;
+    let outside = others_of(alloc, &mut copy, asked)?;
+    let both = without(alloc, numbers, &outside, asked)?;
+    Ok(both)
+}
+
+/// The same, as runs.
 fn common_runs(
     alloc: Global,
     numbers: &[Stretch],
@@ -89,9 +105,7 @@ fn common_runs(
 ) -> Result<Vec<Stretch>, Memory>
     ensures { IfOk result (λ runs. AreRunsOf (λ n. stretches_have numbers.now n && stretches_have others.now n) asked.now.from (asked.now.last + 1) runs.items) }
 {
-    let mut copy = Vec::from_slice(alloc, others)?;
-    let outside = others_of(alloc, &mut copy, asked)?;
-    let mut both = without(alloc, numbers, &outside, asked)?;
+    let mut both = common(alloc, numbers, others, asked)?;
     let runs = runs_of(alloc, &mut both, asked)?;
     Ok(runs)
 }

@@ -5,7 +5,6 @@
 mod acknowledgement;
 mod act_key;
 mod amount;
-mod brought;
 mod claimed;
 mod counted_answers;
 mod evidence;
@@ -52,9 +51,7 @@ mod waits;
 mod way;
 mod way_round;
 mod window;
-mod withdrawal;
 mod words;
-mod writer_summary;
 
 pub use acknowledgement::{Claim, acknowledges};
 pub use evidence::Evidence;

@@ -1,4 +1,4 @@
-ghost use Rattle.std.specs.Prelude.{ℕ, ◌≡◌, ◌==◌, ◌≤◌, ◌<◌, ◌^◌, ◌&&◌, nat_le, nat_lt, if◌then◌else◌, map, IfOk, OnOk, Some, None};
+ghost use Rattle.std.specs.Prelude.{ℕ, ◌≡◌, ◌==◌, ◌≤◌, ◌<◌, ◌^◌, ◌&&◌, nat_le, nat_lt, if◌then◌else◌, map, IfOk, OnOk, Some};
 ghost use Rattle.std.specs.BTreeMap.{get};
 ghost use Rattle.std.specs.Ordering.{nat_cmp};
 ghost use Rattle.std.specs.Option.{option_map};
@@ -7,18 +7,15 @@ ghost use Rattle.rtps_audit.specs.Placed.{placed_value};
 ghost use Rattle.rtps_coverage.specs.Stretches.{stretches_have};
 ghost use Rattle.rtps_evidence.specs.Locations.{location_of as location_of_lem};
 ghost use Rattle.rtps_evidence.specs.Missed.{asks_for};
-ghost use Rattle.rtps_evidence.specs.Requests.{is_in_vain as is_in_vain_lem, met_by, new_request as new_request_lem, requested};
-ghost use Rattle.rtps_coverage.specs.Rising.{AreRising};
-ghost use Rattle.rtps_evidence.specs.WriterSummary.{option_any};
+ghost use Rattle.rtps_evidence.specs.Requests.{is_in_vain as is_in_vain_lem, met_by, new_request as new_request_lem, option_any, requested};
 
-use crate::exchange::Exchange;
 use crate::listener::Listener;
 use crate::location::{Location, is_before, is_behind, location_of};
 use crate::said_to::said_to;
 use rtps_audit::Placed;
 use rtps_coverage::Stretch;
-use rtps_coverage::rising::end_at;
 use rtps_coverage::stretches::push;
+use rtps_discovery::Pair;
 use rtps_ids::Memory;
 use rtps_receiver::Numbers;
 use std::alloc::Global;
@@ -47,20 +44,15 @@ fn new_request(place: Location) -> Request
     }
 }
 
-/// Notes that a number is asked for at a place, where the reader lacks it. After `Memory` the requests are of no use.
+/// Notes that a number is asked for at a place. After `Memory` the requests are of no use.
 fn note_number(
     requests: &mut BTreeMap<u64, Request>,
     number: u64,
     place: Location,
-    lacking: &[Stretch],
 ) -> Result<(), Memory>
-    requires { AreRising lacking.now }
-    ensures { OnOk result ((n : ℕ) → get nat_cmp requests.new n
-        ≡ (if (number == n) && stretches_have lacking.now n then Some (new_request_lem place) else get nat_cmp requests.old n)) }
+    ensures { OnOk result ((n : ℕ) → get nat_cmp requests.new n ≡ (if number == n then Some (new_request_lem place) else get nat_cmp requests.old n)) }
 {
-    if number < end_at(lacking, number) {
-        requests.insert(number, new_request(place))?;
-    }
+    requests.insert(number, new_request(place))?;
     Ok(())
 }
 
@@ -69,16 +61,13 @@ fn note_range(
     requests: &mut BTreeMap<u64, Request>,
     numbers: &Range<u64>,
     place: Location,
-    lacking: &[Stretch],
 ) -> Result<(), Memory>
-    requires rising { AreRising lacking.now }
-    requires ordered { numbers.now.start ≤ numbers.now.end }
+    requires { numbers.now.start ≤ numbers.now.end }
     ensures { OnOk result ((n : ℕ) → get nat_cmp requests.new n
-        ≡ (if (nat_le numbers.now.start n && nat_lt n numbers.now.end) && stretches_have lacking.now n then Some (new_request_lem place)
-        else get nat_cmp requests.old n)) }
+        ≡ (if nat_le numbers.now.start n && nat_lt n numbers.now.end then Some (new_request_lem place) else get nat_cmp requests.old n)) }
 {
     for number in numbers.start..numbers.end {
-        note_number(requests, number, place, lacking)?;
+        note_number(requests, number, place)?;
     }
     Ok(())
 }
@@ -88,53 +77,46 @@ fn note_numbers(
     requests: &mut BTreeMap<u64, Request>,
     numbers: &Numbers<'_>,
     place: Location,
-    lacking: &[Stretch],
 ) -> Result<(), Memory>
-    requires { AreRising lacking.now }
     ensures { OnOk result ((n : ℕ) → get nat_cmp requests.new n
-        ≡ (if numbers_have numbers.now n && stretches_have lacking.now n then Some (new_request_lem place) else get nat_cmp requests.old n)) }
+        ≡ (if numbers_have numbers.now n then Some (new_request_lem place) else get nat_cmp requests.old n)) }
 {
     let mut at = 0;
     'apart: while let Some(range) = numbers.range_from(at) {
-        note_range(requests, &range, place, lacking)?;
+        note_range(requests, &range, place)?;
         at = range.end;
     }
     Ok(())
 }
 
-/// Notes which numbers the pair's reader asks its writer for by an act, of those that it lacks. After `Memory` the requests are
-/// of no use.
+/// Notes which numbers the pair's reader asks its writer for by an act. After `Memory` the requests are of no use.
 fn note_asking(
     requests: &mut BTreeMap<u64, Request>,
     placed: &Placed<'_>,
-    exchange: &Exchange<'_, '_>,
-    lacking: &[Stretch],
+    pair: Pair,
 ) -> Result<(), Memory>
-    requires { AreRising lacking.now }
     ensures { OnOk result ((n : ℕ) → get nat_cmp requests.new n
-        ≡ (if asks_for exchange.now.pair.writer exchange.now.pair.reader n (placed_value placed.now) && stretches_have lacking.now n
+        ≡ (if asks_for pair.writer pair.reader n (placed_value placed.now)
         then Some (new_request_lem (location_of_lem (placed_value placed.now))) else get nat_cmp requests.old n)) }
 {
-    if !placed.act.asks(exchange.pair.reader, exchange.pair.writer) {
+    if !placed.act.asks(pair.reader, pair.writer) {
         return Ok(());
     }
     let said = placed.act.said();
-    note_numbers(requests, &said.lacked, location_of(placed), lacking)
+    note_numbers(requests, &said.lacked, location_of(placed))
 }
 
-/// The last request for each number that the pair's reader asks for and lacks.
+/// The last request for each number that the pair's reader asks for by these acts.
 pub(crate) fn requests_of(
     alloc: Global,
-    exchange: &Exchange<'_, '_>,
-    lacking: &[Stretch],
+    asks: &[Placed<'_>],
+    pair: Pair,
 ) -> Result<BTreeMap<u64, Request>, Memory>
-    requires { AreRising lacking.now }
-    ensures { IfOk result (λ requests. (n : ℕ) → get nat_cmp requests n
-        ≡ requested exchange.now.pair (map placed_value exchange.now.said.asks.now) (stretches_have lacking.now) n) }
+    ensures { IfOk result (λ requests. (n : ℕ) → get nat_cmp requests n ≡ requested pair (map placed_value asks.now) n) }
 {
     let mut requests = BTreeMap::new(alloc);
-    for placed in exchange.said.asks {
-        note_asking(&mut requests, placed, exchange, lacking)?;
+    for placed in asks {
+        note_asking(&mut requests, placed, pair)?;
     }
     Ok(requests)
 }

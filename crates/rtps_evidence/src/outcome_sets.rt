@@ -41,7 +41,7 @@ impl<'n, 's> OutcomeSets<'n, 's> {
             ≡ is_unmet (since_of exchange.span) exchange.pair.writer exchange.pair.reader (placed_in recording) n)
             → ((n : ℕ) → asked.now.from ≤ n → n ≤ asked.now.last → stretches_have unreceived.entry.missed.now n
             ≡ is_missed (since_of exchange.span) exchange.pair.writer exchange.pair.reader (placed_in recording) n)
-            → Stands exchange (stretches_have unreceived.entry.numbers.now) (map placed_value exchange.said.acts.now) unreceived.entry.ledger.now
+            → Stands exchange (map placed_value exchange.said.acts.now) unreceived.entry.ledger.now
             → IfOk result (AreSets asked.now.from asked.now.last exchange.times.now.of_datagrams (since_of exchange.span) exchange.pair (placed_in recording)) }
     {
         let mut brought = Vec::from_slice(alloc, &unreceived.ledger.brought)?;

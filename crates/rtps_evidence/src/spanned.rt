@@ -48,7 +48,7 @@ impl Spanned {
             ≡ is_unmet (since_of exchange.now.span) exchange.now.pair.writer exchange.now.pair.reader (placed_in recording) n)
             → ((n : ℕ) → asked.now.from ≤ n → n ≤ asked.now.last → stretches_have unreceived.entry.missed.now n
             ≡ is_missed (since_of exchange.now.span) exchange.now.pair.writer exchange.now.pair.reader (placed_in recording) n)
-            → Stands exchange.now (stretches_have unreceived.entry.numbers.now) (map placed_value exchange.now.said.acts.now) unreceived.entry.ledger.now
+            → Stands exchange.now (map placed_value exchange.now.said.acts.now) unreceived.entry.ledger.now
             → IfOk result (λ spanned. IsBeside exchange.now.in_spans beside exchange.now.span exchange.now.pair all recording spanned.in_span
             × IsLostIn exchange.now.in_spans beside exchange.now.span exchange.now.pair all recording (lost_value spanned.lost)) }
     {

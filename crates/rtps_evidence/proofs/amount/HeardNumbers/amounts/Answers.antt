@@ -11,7 +11,7 @@ pub overflow_sub-result-2 : goal.overflow_sub-result-2
 overflow_sub-result-2 c = grind (arith, nat_tests, common_steps, count_others)
 
 pub returns : goal.returns
-returns c = λ writer reader acts is_gone heard.
+returns c = λ writer reader acts is_early is_gone heard.
     let first : c.get-first.result ≡ c.args.asked.now.from = c.get-first.ensures.value in
     let amounts = amounts_counted c.args.asked.now.from c.args.asked.now.last writer reader acts c.args.self.now.sent.items c.args.self.now.told.items c.in_ok-payloads.payloads c.in_ok-told.told heard.sent heard.told
     (subst (λ n. c.in_ok-payloads.payloads ≡ count_in (stretches_have c.args.self.now.sent.items) n (c.args.asked.now.last + 1)) first c.in_ok-payloads.ensures.count)

@@ -2,7 +2,7 @@ use Rattle.std.proofs.Common.{◌≡◌, ℕ, take}
 use Rattle.std.specs.List.{list_any}
 use Rattle.rtps_evidence.specs.Claimed.{claims_up_to}
 use Rattle.rtps_coverage.specs.Rising.{some_reaches}
-use Rattle.rtps_evidence.proofs.claimed.claims_of.Given as goal
+use Rattle.rtps_evidence.proofs.claimed.stretches_of.Given as goal
 
 -- the answers so far claim as far
 abbrev pub invariant-loop-answer : goal.invariant-loop-answer

@@ -1,0 +1,21 @@
+use Rattle.std.proofs.Common.{◌≡◌, ◌∙◌, ◌<◌, ◌≤◌, Some, ap, arith, sym, subst}
+use Rattle.rtps_audit.specs.Placed.{placed_value}
+use Rattle.rtps_evidence.specs.Locations.{announcement_at, number_said}
+use Rattle.rtps_evidence.proofs.LedgerLemmas.{announced_anew, announced_still}
+use Rattle.rtps_evidence.proofs.MadeLemmas.{announcement_made}
+use Rattle.rtps_evidence.proofs.last_announcement.Announced.with.Goals as goal
+
+pub returns-then-last : goal.returns-then-last
+returns-then-last c = λ acts is.
+    let x = placed_value c.args.placed.now in
+    let said = c.announced_number-last.ensures.value in
+    let le : number_said c.args.writer x ≤ c.args.self.now.last = omega arith in
+    announced_still c.args.writer acts x c.args.self.now le is
+
+pub returns-else-last : goal.returns-else-last
+returns-else-last c = λ acts is.
+    let x = placed_value c.args.placed.now in
+    let said = c.announced_number-last.ensures.value in
+    let lt : c.args.self.now.last < number_said c.args.writer x = omega arith in
+    announced_anew c.args.writer acts x c.args.self.now _ lt is said
+    (ap Some (announcement_made c.announced_number-last.result _ _ _ x c.cast_signed.ensures c.kind_of.ensures c.location_of.ensures ∙ ap (λ n. announcement_at n x) said))
