@@ -1,8 +1,8 @@
 -- What one reader has of one writer, and what became of what it lacks, as far as a recording has come. own: what a pair said is gone through
 -- once, and what is kept says at each place what the definitions say of the acts up to it.
-use Rattle.std.specs.Prelude.{ℕ, ◌≡◌, map, List}
+use Rattle.std.specs.Prelude.{ℕ, ◌≡◌, map, List, None}
 use Rattle.std.specs.BTreeMap.{get}
-use Rattle.std.specs.List.{list_any}
+use Rattle.std.specs.List.{last_or, list_any}
 use Rattle.std.specs.Option.{option_map}
 use Rattle.std.specs.Ordering.{nat_cmp}
 use Rattle.rtps_ids.specs.declared.identity.Guid.{Guid}
@@ -13,6 +13,7 @@ use Rattle.rtps_coverage.specs.Stretches.{stretches_have}
 use Rattle.rtps_evidence.specs.Claimed.{AreHeard}
 use Rattle.rtps_evidence.specs.Locations.{announcement_of, number_said}
 use Rattle.rtps_evidence.specs.Missed.{brings_behind}
+use Rattle.rtps_evidence.specs.Questions.{AreAsked, place_of}
 use Rattle.rtps_evidence.specs.Requests.{met_among, requested}
 use Rattle.rtps_evidence.specs.SilentNumbers.{AreSilent}
 use Rattle.rtps_evidence.specs.Spans.{since_of}
@@ -36,7 +37,8 @@ pub record IsLongest (exchange : Exchange) (acts : List PlacedValue) (waiting : 
       (questions_of (since_of exchange.span) exchange.pair acts))
 
 -- The ledger stands for these acts of the writer: it has what was announced; of which numbers the reader heard; what became of its last
--- request for each number; which numbers came since it is there; how far it came with each in silence; and the longest wait.
+-- request for each number; which numbers came since it is there; how far it came with each in silence; the longest wait; and how often it was
+-- asked since its last answer.
 pub record Stands (exchange : Exchange) (acts : List PlacedValue) (ledger : Ledger) : Type 0 where
   pub announced : IsAnnounced exchange.pair.writer acts ledger.announced
   pub heard : AreHeard exchange.said.answers.now exchange.pair acts ledger.heard
@@ -45,3 +47,4 @@ pub record Stands (exchange : Exchange) (acts : List PlacedValue) (ledger : Ledg
   pub brought : (n : ℕ) → stretches_have ledger.brought.items n ≡ list_any (brings_behind (since_of exchange.span) exchange.pair.writer exchange.pair.reader n) acts
   pub silent : AreSilent exchange acts ledger.silent
   pub wait : IsLongest exchange acts ledger.wait
+  pub asked : AreAsked (option_map place_of (last_or None exchange.said.answers.now)) exchange.pair.writer exchange.pair.reader acts ledger.asked

@@ -173,7 +173,7 @@ impl<'a> Evidence<'a> {
             not_received: received.not_received,
             missed: missed.count,
             first_missed: missed.first,
-            grounds: grounds_of(exchange, &verdict),
+            grounds: grounds_of(exchange, &ledger.asked, &verdict),
             in_span: spanned.in_span,
         };
         Ok(Found {

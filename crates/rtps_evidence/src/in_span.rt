@@ -19,7 +19,6 @@ use crate::last_announcement::Announced;
 use crate::location::Location;
 use crate::outcome::Outcomes;
 use crate::outcome_sets::OutcomeSets;
-use crate::questions::first_asked;
 use crate::waits::Wait;
 use crate::way::Way;
 use rtps_audit::{FirstAsked, Verdict};
@@ -141,7 +140,7 @@ impl InSpan {
             absent,
             lacking,
             wait: ledger.wait.told(),
-            waiting: first_asked(exchange.said.acts, exchange.said.answers, exchange.pair),
+            waiting: ledger.asked.first,
         })
     }
 

@@ -1,4 +1,4 @@
-ghost use Rattle.std.specs.Prelude.{ℕ, ◌≡◌, ◌≤◌, ◌++◌, ◌∷◌, [], map, IfOk, OnOk, List};
+ghost use Rattle.std.specs.Prelude.{ℕ, ◌≡◌, ◌≤◌, ◌<◌, ◌+◌, ◌^◌, ◌++◌, ◌∷◌, [], length, map, IfOk, OnOk, List};
 ghost use Rattle.rtps_receiver.specs.Values.{ActValue};
 ghost use Rattle.rtps_audit.specs.Placed.{PlacedValue, placed_in, placed_value};
 ghost use Rattle.rtps_audit.specs.Said.{IsSaid};
@@ -17,6 +17,7 @@ use crate::kinds::common;
 use crate::last_announcement::Announced;
 use crate::listener::number_behind;
 use crate::missed_numbers::{Request, in_vain, note_bringing, requests_of};
+use crate::questions::Questions;
 use crate::silence::SilentNumbers;
 use crate::waits::Waiting;
 use rtps_audit::Placed;
@@ -42,6 +43,7 @@ pub(crate) struct Ledger<'s> {
     /// The numbers that were told gone in silence.
     pub(crate) silent: SilentNumbers,
     pub(crate) wait: Waiting<'s>,
+    pub(crate) asked: Questions,
 }
 
 impl<'s> Ledger<'s> {
@@ -56,6 +58,7 @@ impl<'s> Ledger<'s> {
             brought: Vec::new(alloc),
             silent: SilentNumbers::new(alloc),
             wait: Waiting::new(exchange.said.answers),
+            asked: Questions::behind(exchange.said.answers),
         })
     }
 
@@ -67,12 +70,13 @@ impl<'s> Ledger<'s> {
         claims: &[Stretch],
     ) -> Result<(), Memory>
         requires { AreRising claims.now }
-        ensures { OnOk result ((acts : List PlacedValue) → AreClaims exchange.now.said.answers.now claims.now → Stands exchange.now acts self.old
+        ensures { OnOk result ((acts : List PlacedValue) → length acts + 1 < 2 ^ 64 → AreClaims exchange.now.said.answers.now claims.now → Stands exchange.now acts self.old
             → Stands exchange.now (acts ++ placed_value placed.now ∷ []) self.new) }
     {
         let listener = exchange.listener();
         self.announced = self.announced.with(placed, exchange.pair.writer);
         self.wait.hear(placed, exchange);
+        self.asked = self.asked.with(placed, exchange.pair);
         let claimed = end_at(claims, placed.datagram as u64);
         self.heard.note(placed, exchange.pair, claimed)?;
         note_bringing(&mut self.requests, placed, &listener)?;

@@ -1,11 +1,10 @@
 ghost use Rattle.std.specs.Prelude.{◌≡◌, find, slice_get, List, None};
 ghost use Rattle.rtps_audit.specs.Placed.{placed_value};
-ghost use Rattle.rtps_evidence.specs.Questions.{place_of as place_of_lem};
 ghost use Rattle.rtps_evidence.specs.Waits.{HasPassed, answered_at, answers_behind, is_told as is_told_lem, longer_of, told_of, wait_between as wait_between_lem};
 
 use crate::exchange::Exchange;
 use crate::location::{Location, location_of, precedes};
-use crate::questions::asks_behind;
+use crate::questions::{asks_behind, place_of};
 use crate::times::Times;
 use rtps_audit::{Answer, Placed};
 use std::marker::Model;
@@ -56,16 +55,6 @@ fn longer(one: Option<Wait>, other: Option<Wait>) -> Option<Wait>
         }
         (Some(one), None) => Some(one),
         (None, other) => other,
-    }
-}
-
-/// Where an answer stands.
-fn place_of(answer: &Answer) -> Location
-    ensures { result ≡ place_of_lem answer.now }
-{
-    Location {
-        datagram: answer.datagram as u64,
-        at: answer.at,
     }
 }
 

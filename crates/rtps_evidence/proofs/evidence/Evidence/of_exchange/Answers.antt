@@ -15,6 +15,7 @@ use Rattle.rtps_evidence.specs.Received.{AreReceived}
 use Rattle.rtps_evidence.specs.Spans.{since_of}
 use Rattle.rtps_evidence.specs.declared.evidence.Evidence.{Evidence}
 use Rattle.rtps_evidence.proofs.OriginLemmas.{amounts_same, announcement_same, last_same}
+use Rattle.rtps_evidence.proofs.QuestionLemmas.{questions_of_pair}
 use Rattle.rtps_evidence.proofs.evidence.Evidence.of_exchange.Goals as goal
 
 pub returns : goal.returns
@@ -77,7 +78,7 @@ returns c =
                 (amounts_same asked.from asked.last writer reader all c.in_ok-amounts.amounts (subst (λ l. AreAmounts asked.from asked.last writer reader l c.in_ok-amounts.amounts) is.acts amounts));
             received = subst (λ n. AreReceived asked.from n writer reader all c.in_ok-received.received) (last recording is) (c.in_ok-received.ensures recording is (lacking recording is));
             missed = subst (λ n. AreMissed there asked.from n since writer reader all c.in_ok-missed-2.missed) (last recording is) (c.in_ok-missed-2.ensures recording there is has (missed recording is));
-            grounds = c.grounds_of.ensures recording is;
+            grounds = c.grounds_of.ensures recording is (questions_of_pair pair all acts exchange.said.answers.now ledger.asked is.acts is.answers stands.asked);
           });
       beside = λ whole recording beside is judged there times.
           c.in_ok-spanned.ensures whole recording beside is there times (last recording is)

@@ -13,6 +13,7 @@ use Rattle.rtps_evidence.specs.Spans.{since_of}
 use Rattle.rtps_evidence.specs.Times.{end_of}
 use Rattle.rtps_evidence.specs.Waits.{longest, questions_of, told_of, told_wait, waits_of}
 use Rattle.rtps_evidence.proofs.AnswerLemmas.{bases_same}
+use Rattle.rtps_evidence.proofs.QuestionLemmas.{questions_of_pair}
 use Rattle.rtps_evidence.proofs.WaitLemmas.{questions_same}
 use Rattle.rtps_evidence.proofs.in_span.InSpan.of.Goals as goal
 
@@ -55,5 +56,5 @@ returns c = λ whole recording beside is there times last sets stands.
           ∙ ap (λ from. kept (lacking_of (is_held whole beside.other pair) has from (last_announced_from from (speech_by pair.writer pair.reader recording)) pair all))
           c.requires.from;
       wait = waited ∙ ap (λ t. told_wait exchange.span pair t recording) times;
-      waiting = c.first_asked.ensures recording is.acts is.answers;
+      waiting = (questions_of_pair pair all _ exchange.said.answers.now c.args.sets.now.unreceived.ledger.now.asked is.acts is.answers stands.asked).first;
     }

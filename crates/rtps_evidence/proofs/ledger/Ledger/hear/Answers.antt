@@ -26,7 +26,7 @@ returns c =
     let since = since_of exchange.span in
     let x = placed_value c.args.placed.now in
     let listener = c.listener-listener.result in
-    on_ok_weaker c.follow.result (λ follows acts claims so.
+    on_ok_weaker c.follow.result (λ follows acts few claims so.
     let unclaimed : (n : ℕ) → nat_le c.end_at-claimed.result n ≡ is_unclaimed answers n x =
     λ n. not_below c.end_at-claimed.result n ∙ ap not (c.end_at-claimed.ensures.reach n ∙ claims x.datagram n) in
     record {
@@ -60,4 +60,5 @@ returns c =
           ∙ sym (any_more (brings_behind since pair.writer pair.reader n) acts x);
       silent = follows acts so.silent;
       wait = c.hear.ensures acts so.wait;
+      asked = c.with-2.ensures _ acts few so.asked;
     }) c.follow.ensures
