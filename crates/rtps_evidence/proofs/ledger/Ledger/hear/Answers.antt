@@ -30,7 +30,7 @@ returns c =
     let unclaimed : (n : ℕ) → nat_le c.end_at-claimed.result n ≡ is_unclaimed answers n x =
     λ n. not_below c.end_at-claimed.result n ∙ ap not (c.end_at-claimed.ensures.reach n ∙ claims x.datagram n) in
     record {
-      announced = c.with.ensures acts so.announced;
+      announced = c.with-self.ensures acts so.announced;
       heard = record {
         told = λ n. c.in_ok-note.ensures.told n ∙ ap (λ b. b || tells pair.writer pair.reader n x) (so.heard.told n) ∙ sym (any_more (tells pair.writer pair.reader n) acts x);
         sent = λ n. c.in_ok-note.ensures.sent n ∙ ap (λ b. b || sends pair.writer pair.reader n x) (so.heard.sent n) ∙ sym (any_more (sends pair.writer pair.reader n) acts x);
@@ -60,5 +60,5 @@ returns c =
           ∙ sym (any_more (brings_behind since pair.writer pair.reader n) acts x);
       silent = follows acts so.silent;
       wait = c.hear.ensures acts so.wait;
-      asked = c.with-2.ensures _ acts few so.asked;
+      asked = c.with-self-2.ensures _ acts few so.asked;
     }) c.follow.ensures
