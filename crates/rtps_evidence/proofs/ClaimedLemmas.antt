@@ -1,11 +1,11 @@
 -- What is claimed up to a datagram, and what is received by that.
 use Rattle.std.proofs.lemmas.Grind.{common_steps}
-use Rattle.std.proofs.Common.{◌≡◌, ◌∙◌, ℕ, ◌<◌, ◌≤◌, ◌&&◌, ◌||◌, Bool, true, false, nat_le, nat_lt, not, max, map, filter, List, [], ◌∷◌, Option, Some, None, refl, sym, ap, arith, rules}
+use Rattle.std.proofs.Common.{◌≡◌, ◌∙◌, ℕ, ◌<◌, ◌≤◌, ◌&&◌, ◌||◌, Bool, true, false, nat_le, nat_lt, not, max, map, filter, List, [], ◌∷◌, ◌++◌, Option, Some, None, refl, sym, ap, arith, rules}
 use Rattle.std.specs.Prelude.{Contains, unwrap_or, if◌then◌else◌}
 use Rattle.std.specs.List.{cons_option, list_any}
 use Rattle.std.proofs.lemmas.Bool.{cases_lt, and_parts, not-true, false_from_ne_true}
 use Rattle.std.proofs.lemmas.Bool.Decides.{nat_tests}
-use Rattle.std.proofs.lemmas.List.Folds.{list_any-from_Any}
+use Rattle.std.proofs.lemmas.List.Folds.{list_any-append, list_any-from_Any}
 use Rattle.std.proofs.Math.Bool.{and-false}
 use Rattle.rtps_ids.specs.declared.identity.Guid.{Guid}
 use Rattle.rtps_discovery.specs.declared.matching.Pair.{Pair}
@@ -17,6 +17,8 @@ use Rattle.rtps_receiver.specs.Said.{natural}
 use Rattle.rtps_audit.specs.Speech.{base_for, word_of}
 use Rattle.rtps_audit.specs.declared.answer.Answer.{Answer}
 use Rattle.rtps_audit.proofs.Offered.{speaker_is_origin}
+use Rattle.rtps_coverage.specs.Stretches.{stretch_has, stretches_have}
+use Rattle.rtps_coverage.specs.declared.stretch.Stretch.{Stretch}
 use Rattle.rtps_evidence.specs.Claimed.{claims_up_to, is_unclaimed, sends_early, withdraws_early}
 use Rattle.rtps_evidence.specs.Locations.{base_said, sends}
 use Rattle.rtps_evidence.specs.Received.{claims, first_claiming, gone_before, is_certain_by, is_gone, is_received, sends_before, withdraws, withdraws_before}
@@ -158,6 +160,20 @@ lacking_same pair recording answers n same = by (first_claiming pair.writer pair
         ∙ ap (λ b. not b || list_any (withdraws_early answers pair n) its) (early_same (sends pair.writer pair.reader n) pair recording answers n claim same found (λ at is. sender pair.writer pair.reader n at is))
         ∙ ap (λ b. not (list_any (sends_before pair.writer pair.reader n claim.datagram) all) || b) (early_same (withdraws pair.writer pair.reader n) pair recording answers n claim same found (λ at is. withdrawer pair.writer pair.reader n at is))
         ∙ alone (list_any (sends_before pair.writer pair.reader n claim.datagram) all) (list_any (withdraws_before pair.writer pair.reader n claim.datagram) all)
+
+-- the same as stretches
+pub put_together : (rest gone lacking : List Stretch) (n lo hi : ℕ) (early told : Bool) → n < hi → lacking ≡ (rest ++ gone) ++ (let one : Stretch = record { lo = lo; hi = hi } in one) ∷ []
+    → stretches_have rest n ≡ not early → stretches_have gone n ≡ told → stretches_have lacking n ≡ ((not early || told) || not (nat_lt n lo))
+put_together rest gone lacking n lo hi early told lt is no_early its =
+    ap (λ l. stretches_have l n) is
+    ∙ list_any-append (stretch_has n) (rest ++ gone) ((let one : Stretch = record { lo = lo; hi = hi } in one) ∷ [])
+    ∙ ap (λ b. b || ((nat_le lo n && nat_lt n hi) || false)) (list_any-append (stretch_has n) rest gone)
+    ∙ ap (λ b. (b || stretches_have gone n) || ((nat_le lo n && nat_lt n hi) || false)) no_early
+    ∙ ap (λ b. (not early || b) || ((nat_le lo n && nat_lt n hi) || false)) its
+    ∙ ap (λ b. (not early || told) || b) unclaimed
+  where
+    unclaimed : ((nat_le lo n && nat_lt n hi) || false) ≡ not (nat_lt n lo)
+    unclaimed = grind (arith, nat_tests)
 
 -- the first act that tells a number gone is one that the writer says
 pub gone_same_before : (writer reader : Guid) (n datagram : ℕ) (placed : List PlacedValue) → gone_before writer reader n datagram (filter (is_from writer) placed) ≡ gone_before writer reader n datagram placed

@@ -5,15 +5,15 @@ use Rattle.rtps_evidence.proofs.LedgerLemmas.{announced_anew, announced_still}
 use Rattle.rtps_evidence.proofs.MadeLemmas.{announcement_made}
 use Rattle.rtps_evidence.proofs.last_announcement.Announced.with.Goals as goal
 
-pub returns-then-last : goal.returns-then-last
-returns-then-last c = λ acts is.
+pub returns-then-last-self : goal.returns-then-last-self
+returns-then-last-self c = λ acts is.
     let x = placed_value c.args.placed.now in
     let said = c.announced_number-last.ensures.value in
     let le : number_said c.args.writer x ≤ c.args.self.now.last = omega arith in
     announced_still c.args.writer acts x c.args.self.now le is
 
-pub returns-else-last : goal.returns-else-last
-returns-else-last c = λ acts is.
+pub returns : goal.returns
+returns c = λ acts is.
     let x = placed_value c.args.placed.now in
     let said = c.announced_number-last.ensures.value in
     let lt : c.args.self.now.last < number_said c.args.writer x = omega arith in

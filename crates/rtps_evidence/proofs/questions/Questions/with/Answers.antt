@@ -11,8 +11,8 @@ returns-then-not-asks_behind c = λ place acts few are.
     asked_still place pair.writer pair.reader acts x c.args.self.now
     (ap (λ p. questions_behind p pair.writer pair.reader x) (sym are.since) ∙ sym c.asks_behind.ensures ∙ c.if-not-asks_behind.true) are
 
-pub returns-else-not-asks_behind : goal.returns-else-not-asks_behind
-returns-else-not-asks_behind c = λ place acts few are.
+pub returns : goal.returns
+returns c = λ place acts few are.
     let pair = c.args.pair in
     let x = placed_value c.args.placed.now in
     asked_more place pair.writer pair.reader acts x c.args.self.now _ c.location_of-place.result
