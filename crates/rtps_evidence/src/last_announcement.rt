@@ -1,8 +1,4 @@
-ghost use Rattle.std.specs.Prelude.{◌≡◌, ◌-◌, ◌<◌, ◌^◌, ◌++◌, ◌∷◌, [], max, List};
-ghost use Rattle.rtps_ids.specs.declared.identity.Guid.{Guid as GuidValue};
-ghost use Rattle.rtps_audit.specs.Placed.{PlacedValue, placed_value};
-ghost use Rattle.rtps_evidence.specs.Ledger.{IsAnnounced};
-ghost use Rattle.rtps_evidence.specs.Locations.{announcement_of};
+ghost use Rattle.std.specs.Prelude.{◌<◌, ◌^◌};
 
 use crate::amount::AskedNumbers;
 use crate::location::{Kind, Location, kind_of, location_of};
@@ -30,6 +26,12 @@ pub(crate) struct Announced {
 }
 
 impl Announced {
+    ghost use Rattle.std.specs.Prelude.{◌≡◌, ◌-◌, ◌++◌, ◌∷◌, [], max, List};
+    ghost use Rattle.rtps_ids.specs.declared.identity.Guid.{Guid as GuidValue};
+    ghost use Rattle.rtps_audit.specs.Placed.{PlacedValue, placed_value};
+    ghost use Rattle.rtps_evidence.specs.Ledger.{IsAnnounced};
+    ghost use Rattle.rtps_evidence.specs.Locations.{announcement_of};
+
     /// Nothing was said.
     pub(crate) fn new() -> Announced
         ensures { (writer : GuidValue) → IsAnnounced writer [] result }

@@ -51,10 +51,11 @@ impl<'s> Ledger<'s> {
     fn new(alloc: Global, exchange: &Exchange<'s, '_>) -> Result<Ledger<'s>, Memory>
         ensures { IfOk result (Stands exchange.now []) }
     {
+        let requests = requests_of(alloc, exchange.said.asks, exchange.pair)?;
         Ok(Ledger {
             announced: Announced::new(),
             heard: HeardNumbers::new(alloc),
-            requests: requests_of(alloc, exchange.said.asks, exchange.pair)?,
+            requests,
             brought: Vec::new(alloc),
             silent: SilentNumbers::new(alloc),
             wait: Waiting::new(exchange.said.answers),
