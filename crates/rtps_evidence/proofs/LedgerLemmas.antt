@@ -57,7 +57,8 @@ one_says writer n (x ∷ acts) some is = elim (cases_lt (number_said writer x) n
 
 greatest_more : (writer : Guid) (acts : List PlacedValue) (x : PlacedValue) → greatest (map (number_said writer) (acts ++ x ∷ [])) ≡ max (greatest (map (number_said writer) acts)) (number_said writer x)
 greatest_more writer acts x =
-    let both = ap greatest (map-append (number_said writer) acts (x ∷ [])) ∙ greatest-append (map (number_said writer) acts) (number_said writer x ∷ []) in
+    let both : greatest (map (number_said writer) (acts ++ x ∷ [])) ≡ max (greatest (map (number_said writer) acts)) (max (number_said writer x) 0) =
+    ap greatest (map-append (number_said writer) acts (x ∷ [])) ∙ greatest-append (map (number_said writer) acts) (number_said writer x ∷ []) in
     omega arith
 
 -- an act that says no more changes nothing

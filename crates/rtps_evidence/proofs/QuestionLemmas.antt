@@ -1,12 +1,12 @@
 -- The last element that passes, and where the last answer stands; how often the reader was asked since then, one act more at a time.
 use Rattle.std.proofs.lemmas.Grind.{common_steps}
-use Rattle.std.proofs.Common.{◌≡◌, ◌∙◌, ℕ, ◌+◌, ◌-◌, ◌^◌, ◌<◌, ◌≤◌, ◌&&◌, Bool, true, false, cond, List, [], ◌∷◌, ◌++◌, append-nil, filter, get_or, length, map, min, take, Option, Some, None, refl, sym, ap, subst, arith, pos}
+use Rattle.std.proofs.Common.{◌≡◌, ◌∙◌, ℕ, ◌+◌, ◌-◌, ◌^◌, ◌<◌, ◌≤◌, ◌&&◌, Bool, true, false, cond, List, [], ◌∷◌, ◌++◌, filter, get_or, length, map, min, take, Option, Some, None, refl, sym, ap, subst, arith, pos}
 use Rattle.std.specs.Prelude.{is_some, if◌then◌else◌, slice_get, unwrap_or}
 use Rattle.std.specs.List.{cons_option, find, last_or}
 use Rattle.std.specs.Option.{option_map, option_or}
 use Rattle.std.proofs.lemmas.Bool.{and_parts}
 use Rattle.std.proofs.lemmas.Bool.Decides.{nat_tests}
-use Rattle.std.proofs.lemmas.List.{length-append, take_more}
+use Rattle.std.proofs.lemmas.List.{append-nil, length-append, take_more}
 use Rattle.std.proofs.lemmas.List.Folds.{find-append}
 use Rattle.rtps_ids.specs.declared.identity.Guid.{Guid}
 use Rattle.rtps_ids.specs.declared.identity.GuidPrefix.{GuidPrefix}
@@ -145,7 +145,7 @@ pub asked_still : (place : Option Location) (writer reader : Guid) (acts : List 
     → AreAsked place writer reader acts questions → AreAsked place writer reader (acts ++ x ∷ []) questions
 asked_still place writer reader acts x questions no are =
     let test = questions_behind place writer reader in
-    let same : filter test (acts ++ x ∷ []) ≡ filter test acts = filter_more test acts x false no ∙ append-nil in
+    let same : filter test (acts ++ x ∷ []) ≡ filter test acts = filter_more test acts x false no ∙ append-nil (filter test acts) in
     record {
       since = are.since;
       count = are.count ∙ sym (ap length same);
@@ -159,9 +159,9 @@ pub asked_more : (place : Option Location) (writer reader : Guid) (acts : List P
 asked_more place writer reader acts x old new here yes few at are since count first last =
     let test = questions_behind place writer reader in
     let more : filter test (acts ++ x ∷ []) ≡ filter test acts ++ x ∷ [] = filter_more test acts x true yes in
-    let size = ap length more ∙ length-append (filter test acts) (x ∷ []) in
+    let size : length (filter test (acts ++ x ∷ [])) ≡ length (filter test acts) + 1 = ap length more ∙ length-append (filter test acts) (x ∷ []) in
     let old_count = are.count in
-    let most = few_pass test acts in
+    let most : length (filter test acts) ≤ length acts = few_pass test acts in
     record {
       since = since ∙ are.since;
       count = omega arith;
