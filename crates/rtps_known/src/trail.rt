@@ -1,0 +1,88 @@
+//! Where a participant learned of a number of a built-in writer of endpoints, among steps.
+
+ghost use Rattle.std.specs.Prelude.{◌≡◌, ◌++◌, ◌∷◌, ◌<◌, ◌^◌, [], List, None, Some, cond, map};
+ghost use Rattle.std.specs.Option.{option_or};
+ghost use Rattle.rtps_known.specs.Learning.{claims as claims_lem, learned as learned_lem, seen_value};
+ghost use Rattle.rtps_known.specs.Places.{PlacedAct, place_of};
+ghost use Rattle.rtps_known.specs.Trails.{IsTrailOf};
+
+use crate::place::Place;
+use crate::step::{Inquiry, Step, asks, claims, hears};
+
+/// What is known of a number and a participant, after some steps.
+#[derive(Clone, Copy)]
+pub(crate) struct Trail {
+    /// Where it hears the number first.
+    pub(crate) first: Option<Place>,
+    /// The same behind where it asks for it last, and before it acknowledges it.
+    pub(crate) again: Option<Place>,
+    /// Whether it acknowledges it.
+    pub(crate) claimed: bool,
+}
+
+impl Trail {
+    /// That after one step more.
+    fn note(self, inquiry: Inquiry, step: &Step<'_>) -> Trail
+        requires { inquiry.number < 2 ^ 63 }
+        ensures { (acts : List PlacedAct) → IsTrailOf inquiry acts self → IsTrailOf inquiry (acts ++ seen_value step.now ∷ []) result }
+    {
+        if self.claimed || claims(inquiry, step) {
+            return Trail {
+                first: first_of(self.first, hears(inquiry, step), step.place),
+                again: self.again,
+                claimed: true,
+            };
+        }
+        let heard = hears(inquiry, step);
+        Trail {
+            first: first_of(self.first, heard, step.place),
+            again: if asks(inquiry, step) {
+                None
+            } else {
+                first_of(self.again, heard, step.place)
+            },
+            claimed: false,
+        }
+    }
+}
+
+/// A place, or else this one, where a condition holds.
+fn first_of(kept: Option<Place>, holds: bool, place: Place) -> Option<Place>
+    ensures { result ≡ option_or kept (cond holds (Some place) None) }
+{
+    if kept.is_none() && holds {
+        return Some(place);
+    }
+    kept
+}
+
+/// Where a participant learned of a number, among these steps.
+pub(crate) fn learned(steps: &[Step<'_>], inquiry: Inquiry) -> Option<Place>
+    requires { inquiry.number < 2 ^ 63 }
+    ensures { result ≡ learned_lem inquiry (map seen_value steps.now) }
+{
+    let mut trail = Trail {
+        first: None,
+        again: None,
+        claimed: false,
+    };
+    for step in steps {
+        trail = trail.note(inquiry, step);
+    }
+    match trail.again {
+        Some(place) => Some(place),
+        None => trail.first,
+    }
+}
+
+/// Where a participant acknowledges a number first, among these steps.
+pub(crate) fn claimed(steps: &[Step<'_>], inquiry: Inquiry) -> Option<Place>
+    ensures { result ≡ place_of (claims_lem inquiry) (map seen_value steps.now) }
+{
+    for step in steps {
+        if claims(inquiry, step) {
+            return Some(step.place);
+        }
+    }
+    None
+}
