@@ -1,10 +1,8 @@
 -- When a writer and a reader matched. DDSI-RTPS 2.5, 8.5 "Discovery Module" and 8.3.8.11 "InfoTimestamp". own: an endpoint matches once both
 -- participants know each other and each other's endpoint. A recording that began in the middle, or of one GUID with two lives, does not tell when.
 use Rattle.std.specs.Prelude.{ℕ, ◌≡◌, ◌+◌, ◌-◌, ◌*◌, ◌/◌, ◌^◌, ◌&&◌, ◌||◌, Bool, if◌then◌else◌, List, max, nat_le, nat_lt, not, Option, Some, None}
-use Rattle.std.specs.BTreeMap.{is_at}
 use Rattle.std.specs.BTreeSet.{contains}
 use Rattle.std.specs.List.{filter_map, list_any}
-use Rattle.std.specs.Map.{lookup}
 use Rattle.std.specs.Option.{option_map}
 use Rattle.rtps_ids.specs.declared.identity.EntityId.{EntityId}
 use Rattle.rtps_ids.specs.declared.identity.Guid.{Guid}
@@ -13,7 +11,6 @@ use Rattle.rtps_ids.specs.declared.identity.Stamp.{Stamp}
 use Rattle.rtps_receiver.specs.Speech.{entity_from, is_prefix}
 use Rattle.rtps_receiver.specs.Values.{ActValue}
 use Rattle.rtps_discovery.specs.Endpoint.{EndpointValue}
-use Rattle.rtps_discovery.specs.GuidOrder.{guid_cmp}
 use Rattle.rtps_discovery.specs.Notice.{announcement_of, endpoint_in, participant_in}
 use Rattle.rtps_policies.specs.Announcing.{first_of, participant_of}
 use Rattle.rtps_known.specs.Bulletins.{prefix_cmp}
@@ -141,10 +138,18 @@ matched acts writer reader = option_map (λ place. record { place = place; delay
 
 -- ---- what is kept
 
+-- what is kept of each endpoint is how it is announced first
+abbrev pub AreIssuesOf : List PlacedAct → List (Guid × Issue) → Type 0
+AreIssuesOf acts kept = (guid : Guid) → first_of guid kept ≡ first_of guid (filter_map issue_told acts)
+
+-- and of each participant where it is
+abbrev pub AreJoinedIn : List PlacedAct → List (Guid × Place) → Type 0
+AreJoinedIn acts kept = (guid : Guid) → first_of guid kept ≡ first_of guid (filter_map joining_told acts)
+
 -- what is kept is that of these acts
 pub record AreMatchesOf (acts : List PlacedAct) (matches : Matches) : Type 0 where
   pub spreads : AreSpreadsOf acts matches.spreads
-  pub issues : (guid : Guid) → lookup (is_at (guid_cmp guid)) matches.issues.entries ≡ first_of guid (filter_map issue_told acts)
-  pub joined : (guid : Guid) → lookup (is_at (guid_cmp guid)) matches.joined.entries ≡ first_of guid (filter_map joining_told acts)
+  pub issues : AreIssuesOf acts matches.issues.entries
+  pub joined : AreJoinedIn acts matches.joined.entries
   pub near : (prefix : GuidPrefix) → contains prefix_cmp matches.near prefix ≡ list_any (is_near prefix) acts
   pub ahead : (prefix : GuidPrefix) → contains prefix_cmp matches.ahead prefix ≡ list_any (is_ahead prefix) acts

@@ -6,7 +6,7 @@ ghost use Rattle.rtps_ids.specs.declared.identity.GuidPrefix.{GuidPrefix as Guid
 ghost use Rattle.rtps_receiver.specs.Values.{spoken_value};
 ghost use Rattle.rtps_discovery.specs.GuidOrder.{guid_cmp};
 ghost use Rattle.rtps_known.specs.Bulletins.{prefix_cmp};
-ghost use Rattle.rtps_known.specs.Matched.{AreMatchesOf, began_in_the_middle as began_lem, both_joined, claims_before as claims_before_lem, delay_of as delay_of_lem, fits as fits_lem, is_ahead, is_near, joined as joined_lem, learned_of, matched as matched_lem, met_before as met_before_lem, place_matched as place_matched_lem};
+ghost use Rattle.rtps_known.specs.Matched.{AreIssuesOf, AreJoinedIn, AreMatchesOf, began_in_the_middle as began_lem, both_joined, claims_before as claims_before_lem, delay_of as delay_of_lem, fits as fits_lem, is_ahead, is_near, joined as joined_lem, learned_of, matched as matched_lem, met_before as met_before_lem, place_matched as place_matched_lem};
 ghost use Rattle.rtps_known.specs.Places.{PlacedAct, precedes as precedes_lem};
 ghost use Rattle.rtps_known.specs.Spreads.{AreSpreadsOf, IsSpreadOf};
 ghost use Rattle.rtps_known.specs.Tellings.{holds};
@@ -68,12 +68,8 @@ impl<'a> Matches<'a> {
             → AreMatchesOf (acts ++ (record { act = spoken_value act.now; place = place }) ∷ []) self.new) }
     {
         note_spread(&mut self.spreads, self.alloc, act, place)?;
-        if let Some((guid, issue)) = issue_told(act, place) {
-            keep_first(&mut self.issues, guid, issue)?;
-        }
-        if let Some(guid) = announced_participant(act) {
-            keep_first(&mut self.joined, guid, place)?;
-        }
+        note_issue(&mut self.issues, act, place)?;
+        note_joined(&mut self.joined, act, place)?;
         note_clock(&mut self.near, &mut self.ahead, act, place)?;
         Ok(())
     }
@@ -244,6 +240,38 @@ fn take_spread<'a>(
         Some(spread) => spread,
         None => Spread::new(alloc),
     }
+}
+
+/// Keeps how an act announces an endpoint, unless it was announced before. After `Memory` nothing has changed.
+fn note_issue(
+    issues: &mut BTreeMap<Guid, Issue>,
+    act: &Spoken<'_>,
+    place: Place,
+) -> Result<(), Memory>
+    ensures { OnOk result ((acts : List PlacedAct) → AreIssuesOf acts issues.old.entries
+        → AreIssuesOf (acts ++ (record { act = spoken_value act.now; place = place }) ∷ []) issues.new.entries) }
+{
+    let Some((guid, issue)) = issue_told(act, place) else {
+        return Ok(());
+    };
+    keep_first(issues, guid, issue)?;
+    Ok(())
+}
+
+/// Keeps where an act announces a participant, unless it was announced before. After `Memory` nothing has changed.
+fn note_joined(
+    joined: &mut BTreeMap<Guid, Place>,
+    act: &Spoken<'_>,
+    place: Place,
+) -> Result<(), Memory>
+    ensures { OnOk result ((acts : List PlacedAct) → AreJoinedIn acts joined.old.entries
+        → AreJoinedIn (acts ++ (record { act = spoken_value act.now; place = place }) ∷ []) joined.new.entries) }
+{
+    let Some(guid) = announced_participant(act) else {
+        return Ok(());
+    };
+    keep_first(joined, guid, place)?;
+    Ok(())
 }
 
 /// Keeps how far a DATA came from its source time. After `Memory` it is of no use.

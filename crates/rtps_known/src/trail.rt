@@ -79,10 +79,9 @@ pub(crate) fn learned(steps: &[Step<'_>], inquiry: Inquiry) -> Option<Place>
 pub(crate) fn claimed(steps: &[Step<'_>], inquiry: Inquiry) -> Option<Place>
     ensures { result ≡ place_of (claims_lem inquiry) (map seen_value steps.now) }
 {
+    let mut found = None;
     for step in steps {
-        if claims(inquiry, step) {
-            return Some(step.place);
-        }
+        found = first_of(found, claims(inquiry, step), step.place);
     }
-    None
+    found
 }
