@@ -1,5 +1,5 @@
 -- One act more of what a participant hears, asks for and acknowledges.
-use Rattle.std.proofs.Common.{◌≡◌, ◌∙◌, Bool, true, false, ◌||◌, List, [], ◌∷◌, ◌++◌, Option, Some, None, ap, cond, not, refl, reverse, sym}
+use Rattle.std.proofs.Common.{◌≡◌, ◌∙◌, Bool, true, false, ◌||◌, List, [], ◌∷◌, ◌++◌, Option, Some, None, ap, ap₂, cond, not, refl, reverse, sym}
 use Rattle.std.specs.List.{find, list_any, take_while}
 use Rattle.std.specs.Option.{is_some, option_map, option_or}
 use Rattle.std.proofs.lemmas.Bool.{false≢true}
@@ -111,38 +111,24 @@ heard_more inquiry xs one =
 
 -- ---- what is known after one act more
 
-pub trail_claimed : (inquiry : Inquiry) (xs : List PlacedAct) (one : PlacedAct) (old new : Trail) → (old.claimed || claims inquiry one) ≡ true
-    → new.first ≡ option_or old.first (cond (hears inquiry one) (Some one.place) None) → new.again ≡ old.again → new.claimed ≡ true → IsTrailOf inquiry xs old
-    → IsTrailOf inquiry (xs ++ one ∷ []) new
-trail_claimed inquiry xs one old new some first again claimed were =
-    record {
-      first = first ∙ ap (λ o. option_or o (cond (hears inquiry one) (Some one.place) None)) were.first ∙ sym (place_more (hears inquiry) xs one);
-      again = again ∙ were.again ∙ by (list_any (claims inquiry) xs) (claims inquiry one) (sym (ap (λ b. b || claims inquiry one) were.claimed) ∙ some) ∙ sym (heard_more inquiry xs one);
-      claimed = claimed ∙ sym some ∙ ap (λ b. b || claims inquiry one) were.claimed ∙ sym (any_more (claims inquiry) xs one);
-    }
-  where
-    by : (was is : Bool) → (was || is) ≡ true
-        → heard_again inquiry xs ≡ again_with was is (asks inquiry one) (heard_again inquiry xs) (cond (hears inquiry one) (Some one.place) None)
-    by true is some = refl
-    by false true some = refl
-    by false false some = absurd (false≢true some)
-
-pub trail_open : (inquiry : Inquiry) (xs : List PlacedAct) (one : PlacedAct) (old new : Trail) → (old.claimed || claims inquiry one) ≡ false
+pub trail_more : (inquiry : Inquiry) (xs : List PlacedAct) (one : PlacedAct) (old new : Trail)
     → new.first ≡ option_or old.first (cond (hears inquiry one) (Some one.place) None)
-    → new.again ≡ cond (asks inquiry one) None (option_or old.again (cond (hears inquiry one) (Some one.place) None)) → new.claimed ≡ false → IsTrailOf inquiry xs old
-    → IsTrailOf inquiry (xs ++ one ∷ []) new
-trail_open inquiry xs one old new none first again claimed were =
-    let here : Option Place = cond (hears inquiry one) (Some one.place) None in
+    → new.again ≡ cond (old.claimed || claims inquiry one) old.again (cond (asks inquiry one) None (option_or old.again (cond (hears inquiry one) (Some one.place) None)))
+    → new.claimed ≡ (old.claimed || claims inquiry one) → IsTrailOf inquiry xs old → IsTrailOf inquiry (xs ++ one ∷ []) new
+trail_more inquiry xs one old new first again claimed were =
     record {
       first = first ∙ ap (λ o. option_or o here) were.first ∙ sym (place_more (hears inquiry) xs one);
-      again = again ∙ ap (λ o. cond (asks inquiry one) None (option_or o here)) were.again ∙ by (list_any (claims inquiry) xs) (claims inquiry one) (sym (ap (λ b. b || claims inquiry one) were.claimed) ∙ none)
-          ∙ sym (heard_more inquiry xs one);
-      claimed = claimed ∙ sym none ∙ ap (λ b. b || claims inquiry one) were.claimed ∙ sym (any_more (claims inquiry) xs one);
+      again = again ∙ ap₂ (λ (b : Bool) (o : Option Place). cond (b || claims inquiry one) o (cond (asks inquiry one) None (option_or o here))) were.claimed were.again
+          ∙ by (list_any (claims inquiry) xs) (claims inquiry one) ∙ sym (heard_more inquiry xs one);
+      claimed = claimed ∙ ap (λ b. b || claims inquiry one) were.claimed ∙ sym (any_more (claims inquiry) xs one);
     }
   where
-    by : (was is : Bool) → (was || is) ≡ false
-        → cond (asks inquiry one) None (option_or (heard_again inquiry xs) (cond (hears inquiry one) (Some one.place) None))
-        ≡ again_with was is (asks inquiry one) (heard_again inquiry xs) (cond (hears inquiry one) (Some one.place) None)
-    by true is none = absurd (false≢true (sym none))
-    by false true none = absurd (false≢true (sym none))
-    by false false none = refl
+    here : Option Place
+    here = cond (hears inquiry one) (Some one.place) None
+
+    by : (was is : Bool)
+        → cond (was || is) (heard_again inquiry xs) (cond (asks inquiry one) None (option_or (heard_again inquiry xs) here))
+        ≡ again_with was is (asks inquiry one) (heard_again inquiry xs) here
+    by true is = refl
+    by false true = refl
+    by false false = refl

@@ -1,6 +1,7 @@
 //! What an act has to do with a number of a built-in writer of endpoints, and with a participant that hears of it.
 
-ghost use Rattle.std.specs.Prelude.{◌≡◌, ◌<◌, ◌^◌};
+ghost use Rattle.std.specs.Prelude.{◌≡◌};
+ghost use Rattle.rtps_receiver.specs.Said.{said as said_lem};
 ghost use Rattle.rtps_receiver.specs.Values.{spoken_body_value, spoken_value};
 ghost use Rattle.rtps_known.specs.Learning.{asks as asks_lem, base_in, claims as claims_lem, hears as hears_lem, is_about as is_about_lem, seen_value, subject_in, writer_for};
 
@@ -138,14 +139,23 @@ pub(crate) fn hears(inquiry: Inquiry, step: &Step<'_>) -> bool
         && is_to
 }
 
+/// Whether an act asks for a number.
+fn lacks(act: &Spoken<'_>, number: u64) -> bool
+    ensures { result ≡ (said_lem (spoken_value act.now).body).lacked number }
+{
+    match act.said().lacked.range_from(number) {
+        Some(range) => range.start == number,
+        None => false,
+    }
+}
+
 /// Whether a participant asks for the number by an act.
 pub(crate) fn asks(inquiry: Inquiry, step: &Step<'_>) -> bool
-    requires { inquiry.number < 2 ^ 63 }
     ensures { result ≡ asks_lem inquiry (seen_value step.now) }
 {
     is_about(inquiry.writer, &step.act)
         && step.act.source == inquiry.prefix
-        && step.act.said().lacked.has(inquiry.number)
+        && lacks(&step.act, inquiry.number)
 }
 
 /// Whether a participant acknowledges the number by an act.

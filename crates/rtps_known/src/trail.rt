@@ -1,6 +1,6 @@
 //! Where a participant learned of a number of a built-in writer of endpoints, among steps.
 
-ghost use Rattle.std.specs.Prelude.{◌≡◌, ◌++◌, ◌∷◌, ◌<◌, ◌^◌, [], List, None, Some, cond, map};
+ghost use Rattle.std.specs.Prelude.{◌≡◌, ◌++◌, ◌∷◌, [], List, None, Some, cond, map};
 ghost use Rattle.std.specs.Option.{option_or};
 ghost use Rattle.rtps_known.specs.Learning.{claims as claims_lem, learned as learned_lem, seen_value};
 ghost use Rattle.rtps_known.specs.Places.{PlacedAct, place_of};
@@ -23,27 +23,35 @@ pub(crate) struct Trail {
 impl Trail {
     /// That after one step more.
     fn note(self, inquiry: Inquiry, step: &Step<'_>) -> Trail
-        requires { inquiry.number < 2 ^ 63 }
         ensures { (acts : List PlacedAct) → IsTrailOf inquiry acts self → IsTrailOf inquiry (acts ++ seen_value step.now ∷ []) result }
     {
-        if self.claimed || claims(inquiry, step) {
-            return Trail {
-                first: first_of(self.first, hears(inquiry, step), step.place),
-                again: self.again,
-                claimed: true,
-            };
-        }
         let heard = hears(inquiry, step);
+        let claiming = claims(inquiry, step);
+        let claimed = self.claimed || claiming;
+        let asked = asks(inquiry, step);
+        let first = first_of(self.first, heard, step.place);
+        let behind = first_of(self.again, heard, step.place);
         Trail {
-            first: first_of(self.first, heard, step.place),
-            again: if asks(inquiry, step) {
-                None
-            } else {
-                first_of(self.again, heard, step.place)
-            },
-            claimed: false,
+            first,
+            again: again_of(self.again, claimed, asked, behind),
+            claimed,
         }
     }
+}
+
+/// Where a number is heard behind where it is asked for last, and before it is acknowledged.
+fn again_of(
+    again: Option<Place>,
+    claimed: bool,
+    asked: bool,
+    behind: Option<Place>,
+) -> Option<Place>
+    ensures { result ≡ cond claimed again (cond asked None behind) }
+{
+    if claimed {
+        return again;
+    }
+    if asked { None } else { behind }
 }
 
 /// A place, or else this one, where a condition holds.
@@ -58,7 +66,6 @@ fn first_of(kept: Option<Place>, holds: bool, place: Place) -> Option<Place>
 
 /// Where a participant learned of a number, among these steps.
 pub(crate) fn learned(steps: &[Step<'_>], inquiry: Inquiry) -> Option<Place>
-    requires { inquiry.number < 2 ^ 63 }
     ensures { result ≡ learned_lem inquiry (map seen_value steps.now) }
 {
     let mut trail = Trail {
