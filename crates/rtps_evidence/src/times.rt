@@ -146,6 +146,13 @@ impl Times {
         self.frames.get(datagram as usize - 1).copied()
     }
 
+    /// The time of the first frame of the capture that has one. None of a text, and where no frame has a time.
+    pub fn of_first_frame(&self) -> Option<u64>
+        ensures { result ≡ self.now.start }
+    {
+        self.start
+    }
+
     /// The greatest time of a frame of the capture. None of a text, and where no frame has a time.
     pub fn of_last_frame(&self) -> Option<u64>
         ensures { result ≡ self.now.end }

@@ -30,3 +30,6 @@ pub mod Totals
 pub mod Twice
 pub mod Vocabulary
 pub mod Ways
+pub mod Visits
+pub mod NotTold
+pub mod TwoLives

@@ -36,14 +36,17 @@ use Rattle.rtps_report.specs.ActsRead.{datagrams_read}
 use Rattle.rtps_report.specs.Asked.{AskedValue}
 use Rattle.rtps_report.specs.BestEfforts.{AreSumsOf, BestEffortValue, CountedValue, HeldValue, arrived_among, best_effort_value, held_among, held_value, total_of}
 use Rattle.rtps_report.specs.Ends.{EndValue, end_kept, end_of, recorded_in}
+use Rattle.rtps_report.specs.NotTold.{AreNotToldIn, NotToldValue, not_told_value}
 use Rattle.rtps_report.specs.Participants.{participant_told}
 use Rattle.rtps_report.specs.Recording.{RecordingValue}
 use Rattle.rtps_report.specs.Rows.{Choice, chosen_by, is_named_by}
+use Rattle.rtps_report.specs.TwoLives.{AreTwoLivesIn}
 use Rattle.rtps_report.specs.Ways.{ways_of_counted}
 use Rattle.rtps_report.specs.declared.participant.Participant.{Participant}
 use Rattle.rtps_report.specs.declared.talk.Heard.{Heard}
 use Rattle.rtps_report.specs.declared.talk.LeftOut.{LeftOut}
 use Rattle.rtps_report.specs.declared.talk.Talk.{Talk}
+use Rattle.rtps_report.specs.declared.two_lives.TwoLives.{TwoLives}
 use Rattle.rtps_report.specs.declared.ways.Ways.{Ways}
 
 -- a match that is left out, and its topic
@@ -57,7 +60,8 @@ left_out_value one = record { topic = one.topic.now; pair = one.pair }
 
 -- who does not talk: by what each end is known, the node of each endpoint, the nodes of each participant, why pairs are silent, which writers and readers do not match, which of them talk all the
 -- same, which matches are left out, who talks one way, the pairs of best effort by topic, those of them that are held against another
--- recording, what arrived of these by topic, by how many pairs of best effort the two recordings are which way round, and the participants
+-- recording, what arrived of these by topic, by how many pairs of best effort the two recordings are which way round, the participants, who was
+-- never told of whose endpoints, and who has two lives
 pub record TalkValue : Type 0 where
   pub ends : Guid → EndValue
   pub node : Guid → Option NodeValue
@@ -74,6 +78,8 @@ pub record TalkValue : Type 0 where
   pub held_total : BestEffortValue
   pub ways : Ways
   pub participants : List Participant
+  pub not_told : List NotToldValue
+  pub lives : List TwoLives
 
 -- that of the code, as a value
 abbrev pub talk_value : Talk → TalkValue
@@ -94,6 +100,8 @@ talk_value talk =
       held_total = best_effort_value talk.held_total;
       ways = talk.ways;
       participants = talk.participants.items;
+      not_told = map not_told_value talk.not_told.items;
+      lives = talk.lives.items;
     }
 
 -- ---- pairs that do not match
@@ -215,6 +223,8 @@ pub record IsTalkOf (asked : AskedValue) (other : Option OtherRecording) (record
   pub best_effort : AreBestEffortIn asked other (intake_as Read recording) (traffic_of recording) directory.endpoints talk
   pub participants : talk.participants
       ≡ map (participant_told (intake_as Read recording) recording times) directory.participants
+  pub not_told : AreNotToldIn (intake_as Read recording) recording times.of_datagrams directory.endpoints talk.not_told
+  pub lives : AreTwoLivesIn recording times.of_datagrams talk.lives
 
 -- the same of a recording with its times
 abbrev pub IsTalkAs : AskedValue → Option OtherRecording → RecordingValue → TalkValue → Type 0
