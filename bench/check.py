@@ -8,9 +8,10 @@ order. A report is that of `report.Report`: it has rows (`spans.Row`), who talks
 import arrived
 import kinds
 import nothing
+from policies import address_text
 from times import behind, order_notes, timed_line, wait_line
-from told import (best_effort_shares, best_effort_totals, one_way_lines, talk_notes, topic_text, type_text, unmatched_amount,
-                  unmatched_lines)
+from told import (best_effort_shares, best_effort_totals, discovery_reasons, lives_lines, not_told_lines, one_way_lines, talk_notes, topic_text,
+                  type_text, unmatched_amount, unmatched_lines)
 from wording import amount, grouped, in_pairs, of
 
 KINDS = 'received', 'arrived', 'missed', 'unsent', 'unanswered', 'likely', 'unconfirmed'
@@ -19,8 +20,15 @@ KINDS = 'received', 'arrived', 'missed', 'unsent', 'unanswered', 'likely', 'unco
 
 # name, verdict, what fits, what to do
 ADVICE = [
+    ('two_lives', 'two have one GUID', 'a participant of the pair has two lives under one GUID',
+     'two processes use the GUID of a participant of this pair, as after a copied disk image or a restart: the pair is a mixture of both'),
     ('silent_reader', 'a process ended', "the reader's participant is silent", "the reader's process ended without leaving, or was cut off: see what it did"),
     ('silent_writer', 'a process ended', "the writer's participant is silent", "the writer's process ended without leaving, or was cut off: see what it did"),
+    ('nothing_back', 'discovery is not complete',
+     "`acknowledged nothing`, the reader's participant was not told of endpoints of the writer's, and never answers it",
+     'nothing comes back from ADDRESS: a firewall, or another interface'),
+    ('not_announced', 'discovery is not complete', "`acknowledged nothing`, and the reader's participant was not told of endpoints of the writer's",
+     'its announcements are lost on the way: look at large announcements in IP fragments, and at multicast'),
     ('lost', 'a link was down', 'with `--arrived`: numbers that were sent are `not arrived`, and not only a tail',
      "it was sent and did not reach the reader's host: look at the network; raise the history depth, so that the writer still has what is "
      'asked for again'),
@@ -131,12 +139,22 @@ def case_of(row, counts):
     return 'unsent' if row.counts['unsent'] else 'unanswered'
 
 
+def barrier_advice(address):
+    """what to do where a participant was not told of endpoints of another: nothing comes back from this address, if there is one"""
+    return SENTENCES['nothing_back'].replace('ADDRESS', address_text(address)) if address else SENTENCES['not_announced']
+
+
 def advice_of(row, counts):
-    """what to do for a row that is not clean. A reader that is silent is told first, then a writer, and then nothing else"""
+    """what to do for a row that is not clean. Two lives are told first, then a reader that is silent, then a writer, and then that the reader was never
+    told of the writer"""
+    if row.is_mixture:
+        return SENTENCES['two_lives']
     silent = dict(row.silences)
     for side in ('reader', 'writer'):
         if side in silent:
             return f"{SENTENCES[f'silent_{side}']} at {row.times.second(silent[side])} s"
+    if row.is_not_told and row.evidence()['acknowledged'] is None:
+        return barrier_advice(row.barrier)
     return SENTENCES[case_of(row, counts)]
 
 
@@ -380,7 +398,7 @@ def because(report):
     """why the recording is not clean"""
     rows, talk = report.rows, report.talk
     reasons = pair_reasons(report) + row_reasons(rows) + (uncertain(rows) if report.asked.certain else [])
-    reasons += ([unmatched_amount(talk)] if talk.unmatched else []) + (report.sides.reasons() if report.sides else [])
+    reasons += ([unmatched_amount(talk)] if talk.unmatched else []) + discovery_reasons(talk) + (report.sides.reasons() if report.sides else [])
     return reasons + best_effort_reasons(report) + few(rows, report.asked.expect or 0) + unread(report.counts, 'unsettled', 'pieces', 'cut', 'links')
 
 
@@ -413,5 +431,6 @@ def check_lines(report):
     lost_here = sides.lines(lambda guid: talk.end(guid).text(), topic_text) if sides else []
     return [*first_lines(report), *block(table(report.rows) if report.rows else []),
             *(line for event in report.events for line in event_lines(event, report)), *tail_lines(report),
-            *block(unmatched_lines(talk)), *block(one_way_lines(talk)), *block(lost_here), *block(note_lines(report)),
+            *block(unmatched_lines(talk)), *block(not_told_lines(talk, barrier_advice)), *block(lives_lines(talk)), *block(one_way_lines(talk)),
+            *block(lost_here), *block(note_lines(report)),
             *block([ending(report)])]

@@ -76,8 +76,9 @@ class Untold:
 class Known:
     """what a recording says of it. `prefixes` has the one in the header of each datagram, or None"""
 
-    def __init__(self, recording, vendors, prefixes, times):
-        self.recording, self.times, life = recording, times, Life(recording)
+    def __init__(self, recording, vendors, prefixes, times, life=None):
+        life = life or Life(recording)
+        self.recording, self.times = recording, times
         self.acts = [(times.of(i), act) for i, acts in enumerate(recording, 1) for act in acts]
         self.announced, self.namings = Announced(life.announced), set(named_by(recording))
         sent = datagrams_by(prefixes)
@@ -105,6 +106,13 @@ class Known:
                 told = first.setdefault((act['source'], act['number']), act['time'])
                 if told != act['time']:
                     found.setdefault((act['source'], act['number']), (told, act['time']))
+        return found
+
+    def lives_by_participant(self):
+        """of each participant with two lives the source times of the least number that has two, in seconds and parts of 2^32"""
+        found = {}
+        for (prefix, _), sent in sorted(self.lives.items()):
+            found.setdefault(prefix, sent)
         return found
 
     # ---- what is told

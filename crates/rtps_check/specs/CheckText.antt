@@ -12,6 +12,7 @@ use Rattle.rtps_evidence.specs.Times.{TimesValue}
 use Rattle.rtps_report.specs.Vocabulary.{CompleteGrounds, ConflictGrounds, Counts, EvidenceValue, Explanation, explanation_value, ExplanationValue, FirstMissed, GroundsValue, InSpan, OpenGrounds, Outcomes, SentValue, UnfoundedGrounds}
 use Rattle.rtps_report.specs.declared.findings.Ending.TheVariants.{Clean}
 use Rattle.rtps_report.specs.declared.findings.Ending.{Ending}
+use Rattle.rtps_report.specs.declared.findings.TalkFacts.{TalkFacts}
 use Rattle.rtps_report.specs.declared.advice.Scope.{Scope}
 use Rattle.rtps_report.specs.declared.totals.Totals.{Totals}
 use Rattle.rtps_parts.specs.Parts.{amount, share, words_for, grouped}
@@ -26,7 +27,6 @@ use Rattle.rtps_report.specs.RowFacts.{is_clean_tail, is_late, is_noted, is_tail
 use Rattle.rtps_report.specs.SideFacts.{side_facts}
 use Rattle.rtps_report.specs.Silences.{silences_of}
 use Rattle.rtps_report.specs.BestEfforts.{HeldValue, numbers_told}
-use Rattle.rtps_report.specs.declared.best_effort.BestEffortNumbers.{BestEffortNumbers}
 use Rattle.rtps_report.specs.declared.side_facts.SideFacts.{SideFacts}
 use Rattle.rtps_report.specs.declared.silences.Silences.{Silences}
 use Rattle.rtps_evidence.specs.declared.waits.Wait.{Wait}
@@ -50,6 +50,7 @@ use Rattle.rtps_lines.specs.CheckMembers.{check_members}
 use Rattle.rtps_lines.specs.JsonText.{IsJsonLine, object_of}
 use Rattle.rtps_report.specs.Findings.{ending_as}
 use Rattle.rtps_check.specs.ArrivedText.{AreByTopic as LossyByTopic, is_lossy, lossy_lines}
+use Rattle.rtps_check.specs.DiscoveryText.{lives_block, not_told_block}
 use Rattle.rtps_check.specs.TalkText.{AreByTopic as UnmatchedByTopic, AreLeftByTopic as LeftOutByTopic, ended, one_way_block, unmatched_lines}
 use Rattle.rtps_check.specs.declared.checked_text.Told.{Told}
 use Rattle.rtps_check.specs.declared.sections.RowTelling.{RowTelling}
@@ -334,6 +335,10 @@ ending_text scope beside totals rows =
 abbrev pub told_beside : Scope → Beside → RowTold
 told_beside scope beside = record { scope = scope; talk = beside.talk; lost = beside.lost; times = beside.times }
 
+-- who was never told of what, who has two lives, and who talks one way
+abbrev pub discovery_text : Beside → List ℕ
+discovery_text beside = not_told_block beside.talk ++ (lives_block beside.times beside.talk ++ one_way_block beside.talk)
+
 -- the text of what is told, of rows by topic: those that do not match stand by topic, too, and so do those of best effort of which not all
 -- numbers arrived
 pub record IsTextBy (scope : Scope) (beside : Beside) (rows : List ExplanationValue) (text : List ℕ) : Type 0 where
@@ -344,7 +349,7 @@ pub record IsTextBy (scope : Scope) (beside : Beside) (rows : List ExplanationVa
   pub is_text : let totals = totals_of scope rows in text ≡ first_lines totals beside
       ++ (topics_text (told_beside scope beside) beside.events totals rows
       ++ (unmatched_lines beside.talk.ends unmatched
-      ++ (one_way_block beside.talk ++ (lossy_lines beside.talk.ends lossy ++ ending_text scope beside totals rows))))
+      ++ (discovery_text beside ++ (lossy_lines beside.talk.ends lossy ++ ending_text scope beside totals rows))))
 
 -- what the code knows of it, as a value
 abbrev pub beside_value : Told → Beside
@@ -415,5 +420,5 @@ IsCleanWithoutReasons asked scope rows ending = (ending ≡ Clean) ↔ (causes_o
 
 -- Whatever is asked of whatever rows, a run ends clean exactly where it gives no reason. own: a job that ends unclean has to say why.
 abbrev pub TellsWhyUnclean : Type 0
-TellsWhyUnclean = (unmatched : ℕ) (best_effort : BestEffortNumbers) (order : Order) (asked : AskedValue) (unread : Bool) (rows : List ExplanationValue) (counts : Counts) (recording : RecordingValue)
-    → IsCleanWithoutReasons asked (record { from = asked.from; tail = asked.tail; unread = unread }) rows (ending_as asked (facts_with unmatched best_effort order asked rows counts recording))
+TellsWhyUnclean = (talk : TalkFacts) (order : Order) (asked : AskedValue) (unread : Bool) (rows : List ExplanationValue) (counts : Counts) (recording : RecordingValue)
+    → IsCleanWithoutReasons asked (record { from = asked.from; tail = asked.tail; unread = unread }) rows (ending_as asked (facts_with talk order asked rows counts recording))

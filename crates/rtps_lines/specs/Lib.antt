@@ -1,5 +1,7 @@
 pub mod Causes
+pub mod AddressMembers
 pub mod CheckMembers
+pub mod DiscoveryMembers
 pub mod EventMembers
 pub mod EventText
 pub mod JsonText

@@ -4,6 +4,7 @@
 
 mod causes;
 mod check_members;
+mod discovery_members;
 mod end_members;
 mod end_text;
 mod event_members;
@@ -24,16 +25,17 @@ mod talk_members;
 mod talk_notes;
 mod way_notes;
 
-pub use causes::{Judged, causes_of, push_last, unmatched_words};
+pub use causes::{Judged, causes_of, endpoint_words, lives_words, push_last, unmatched_words};
 pub use check_members::{push_check_members, push_report_last};
+pub use discovery_members::sent_second;
 pub use end_text::{EndText, PairedText};
-pub use event_text::push_event_text;
+pub use event_text::{ParticipantText, called, push_event_text};
 pub use evidence_lines::{
     AcknowledgedLine, AnnouncedLine, AskedLine, ClaimedLine, QuestionsLine, ToldLine, VerdictText,
     WaitText, push_sent,
 };
 pub use fields::{
-    AdviceText, PlaceComma, PlaceText, SecondText, durability_name, kind_name, push_decimal,
+    AdviceText, BarrierText, PlaceComma, PlaceText, SecondText, SecondsText, durability_name, kind_name, push_decimal,
     push_field, push_payload, reliability_name, side_name,
 };
 pub use json_members::{

@@ -297,7 +297,7 @@ fn heard_advice(scope: Scope, evidence: &Evidence<'_>, times: &Times) -> Advice
 
 impl Barrier {
     /// What to do for a pair that it stands between.
-    fn advice(self) -> Advice
+    pub fn advice(self) -> Advice
         ensures { result ≡ advice_at self }
     {
         match self {
