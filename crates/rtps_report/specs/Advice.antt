@@ -170,9 +170,9 @@ address_in advice = None
 
 -- in one sentence; of a participant that ended, without the time of its last datagram; where nothing comes back, without what stands behind `from`
 unfoldable pub sentence_of : Advice → List ℕ
+sentence_of TwoLives = codes "two processes use the GUID of a participant of this pair, as after a copied disk image or a restart: the pair is a mixture of both"
 sentence_of (ReaderEnded last) = codes "the reader's process ended without leaving, or was cut off: see what it did"
 sentence_of (WriterEnded last) = codes "the writer's process ended without leaving, or was cut off: see what it did"
-sentence_of TwoLives = codes "two processes use the GUID of a participant of this pair, as after a copied disk image or a restart: the pair is a mixture of both"
 sentence_of (NothingBack address) = codes "nothing comes back from"
 sentence_of NotAnnounced = codes "its announcements are lost on the way: look at large announcements in IP fragments, and at multicast"
 sentence_of Lost = codes "it was sent and did not reach the reader's host: look at the network; raise the history depth, so that the writer still has what is asked for again"

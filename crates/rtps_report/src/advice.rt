@@ -371,12 +371,12 @@ impl Advice {
         ensures { result.now ≡ sentence_of self }
     {
         match self {
+            Advice::TwoLives =>
+                "two processes use the GUID of a participant of this pair, as after a copied disk image or a restart: the pair is a mixture of both",
             Advice::ReaderEnded(_) =>
                 "the reader's process ended without leaving, or was cut off: see what it did",
             Advice::WriterEnded(_) =>
                 "the writer's process ended without leaving, or was cut off: see what it did",
-            Advice::TwoLives =>
-                "two processes use the GUID of a participant of this pair, as after a copied disk image or a restart: the pair is a mixture of both",
             Advice::NothingBack(_) => "nothing comes back from",
             Advice::NotAnnounced =>
                 "its announcements are lost on the way: look at large announcements in IP fragments, and at multicast",
