@@ -24,9 +24,6 @@ ADVICE = [
      'two processes use the GUID of a participant of this pair, as after a copied disk image or a restart: the pair is a mixture of both'),
     ('silent_reader', 'a process ended', "the reader's participant is silent", "the reader's process ended without leaving, or was cut off: see what it did"),
     ('silent_writer', 'a process ended', "the writer's participant is silent", "the writer's process ended without leaving, or was cut off: see what it did"),
-    ('nothing_back', 'discovery is not complete',
-     "`acknowledged nothing`, the reader's participant was not told of endpoints of the writer's, and never answers it",
-     'nothing comes back from ADDRESS: a firewall, or another interface'),
     ('not_announced', 'discovery is not complete', "`acknowledged nothing`, and the reader's participant was not told of endpoints of the writer's",
      'its announcements are lost on the way: look at large announcements in IP fragments, and at multicast'),
     ('lost', 'a link was down', 'with `--arrived`: numbers that were sent are `not arrived`, and not only a tail',
@@ -139,9 +136,9 @@ def case_of(row, counts):
     return 'unsent' if row.counts['unsent'] else 'unanswered'
 
 
-def barrier_advice(address):
+def not_told_advice(address):
     """what to do where a participant was not told of endpoints of another: nothing comes back from this address, if there is one"""
-    return SENTENCES['nothing_back'].replace('ADDRESS', address_text(address)) if address else SENTENCES['not_announced']
+    return f'nothing comes back from {address_text(address)}: a firewall, or another interface' if address else SENTENCES['not_announced']
 
 
 def advice_of(row, counts):
@@ -154,7 +151,7 @@ def advice_of(row, counts):
         if side in silent:
             return f"{SENTENCES[f'silent_{side}']} at {row.times.second(silent[side])} s"
     if row.is_not_told and row.evidence()['acknowledged'] is None:
-        return barrier_advice(row.barrier)
+        return SENTENCES['not_announced']
     return SENTENCES[case_of(row, counts)]
 
 
@@ -431,6 +428,6 @@ def check_lines(report):
     lost_here = sides.lines(lambda guid: talk.end(guid).text(), topic_text) if sides else []
     return [*first_lines(report), *block(table(report.rows) if report.rows else []),
             *(line for event in report.events for line in event_lines(event, report)), *tail_lines(report),
-            *block(unmatched_lines(talk)), *block(not_told_lines(talk, barrier_advice)), *block(lives_lines(talk)), *block(one_way_lines(talk)),
+            *block(unmatched_lines(talk)), *block(not_told_lines(talk, not_told_advice)), *block(lives_lines(talk)), *block(one_way_lines(talk)),
             *block(lost_here), *block(note_lines(report)),
             *block([ending(report)])]

@@ -96,7 +96,7 @@ def rules_of_discovery(found, advice):
         'not told of a writer': any(one.named[PUBLICATIONS] for one in talk.not_told), 'not told of a reader': any(one.named[SUBSCRIPTIONS] for one in talk.not_told),
         'several were not told': len({one.dest for one in talk.not_told}) > 1, 'one was not told of several': len(talk.not_told) > len({one.dest for one in talk.not_told}),
         'two lives': bool(talk.lives), 'a row of two lives': any('a mixture of both' in one for one in advice),
-        'nothing comes back': any('nothing comes back' in one for one in advice), 'lost on the way': any('lost on the way' in one for one in advice),
+        'nothing comes back': any(talk.address_behind(one.source, one.dest) for one in talk.not_told), 'lost on the way': any('lost on the way' in one for one in advice),
     }
 
 

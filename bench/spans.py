@@ -98,9 +98,8 @@ class Row:
         self.lines = reference.evidence_lines(self.delivery, self.verdict)
         # where there are times, the longest that the reader let the writer wait, and whose participants are silent
         self.silences = talk.silences(self.w, self.r)
-        # whether it is of two lives, and the reader's participant was never told of endpoints of the writer's, and why
+        # whether it is of two lives, and the reader's participant was never told of endpoints of the writer's
         self.is_mixture, self.is_not_told = talk.is_mixture(w, r), talk.is_not_told(w, r)
-        self.barrier = talk.barrier(self.w[:12], self.r[:12])
         questions, answers = [place for place, _ in self.delivery.questions], [place for place, _ in self.delivery.answers]
         self.wait = longest_wait(self.times, questions, answers, len(self.datagrams))
         # how many of the numbers that are asked for stand before the first of the row

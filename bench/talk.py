@@ -212,8 +212,8 @@ class Talk:
 
     # ---- discovery
 
-    def barrier(self, source, dest):
-        """why the second was not told of endpoints of the first: the address from which nothing comes back, or None, where they are lost on the way"""
+    def address_behind(self, source, dest):
+        """the address of the second of two participants, if the first names it and nothing comes back, or None"""
         return self.announced.address(dest + PARTICIPANT) if self.is_one_way(source, dest) else None
 
     def is_not_told(self, w, r):

@@ -109,7 +109,7 @@ def not_told_lines(talk, advice):
         return []
     lines = ['discovery is not complete']
     for one in talk.not_told:
-        lines += not_told_block(talk, one) + ['  -> ' + advice(talk.barrier(one.source, one.dest))]
+        lines += not_told_block(talk, one) + ['  -> ' + advice(talk.address_behind(one.source, one.dest))]
     return lines
 
 

@@ -6,11 +6,11 @@ use Rattle.rtps_evidence.specs.Times.{TimesValue}
 use Rattle.rtps_lines.specs.Causes.{endpoint_words, lives_words}
 use Rattle.rtps_lines.specs.DiscoveryMembers.{sent_second}
 use Rattle.rtps_lines.specs.EventText.{called}
-use Rattle.rtps_lines.specs.Lines.{barrier_text, seconds_text}
+use Rattle.rtps_lines.specs.Lines.{not_told_advice, seconds_text}
 use Rattle.rtps_parts.specs.Parts.{amount}
 use Rattle.rtps_parts.specs.RosNames.{topic_text}
 use Rattle.rtps_report.specs.NotTold.{NotToldValue, TopicEndValue}
-use Rattle.rtps_report.specs.Silences.{barrier_of}
+use Rattle.rtps_report.specs.Silences.{address_behind}
 use Rattle.rtps_report.specs.Talk.{TalkValue}
 use Rattle.rtps_report.specs.declared.two_lives.TwoLives.{TwoLives}
 use Rattle.rtps_check.specs.TalkText.{ended}
@@ -38,7 +38,7 @@ abbrev pub not_told_lines : TalkValue → NotToldValue → List ℕ
 not_told_lines talk one =
     end_lines talk one (codes " was never told of the writer of ") one.writers
     ++ (end_lines talk one (codes " was never told of the reader of ") one.readers
-    ++ (unnamed_line talk one ++ concat (codes "  -> " ∷ barrier_text (barrier_of talk one.from one.to) ∷ codes "\n" ∷ [])))
+    ++ (unnamed_line talk one ++ concat (codes "  -> " ∷ not_told_advice (address_behind talk one.from one.to) ∷ codes "\n" ∷ [])))
 
 -- those of all, behind an empty line; nothing where there is none
 abbrev pub not_told_by : TalkValue → List NotToldValue → List ℕ

@@ -4,7 +4,7 @@ ghost use Rattle.rtps_report.specs.Talk.{talk_value};
 ghost use Rattle.rtps_check.specs.DiscoveryText.{end_line, end_lines, not_told_block, not_told_lines, unnamed_line};
 
 use crate::unmatched_block::end_by;
-use rtps_lines::{BarrierText, called, endpoint_words};
+use rtps_lines::{NotToldAdvice, called, endpoint_words};
 use rtps_parts::{Part, render};
 use rtps_report::{NotTold, Talk, TopicEnd};
 use std::alloc::AllocError;
@@ -74,7 +74,8 @@ fn push_not_told(text: &mut String, one: &NotTold<'_>, talk: &Talk<'_>) -> Resul
     push_ends(text, one, writer, (&one.writers, talk))?;
     push_ends(text, one, reader, (&one.readers, talk))?;
     push_unnamed(text, one, talk)?;
-    writeln!(text, "  -> {}", BarrierText(talk.barrier(one.from, one.to)))
+    let address = talk.address_behind(one.from, one.to);
+    writeln!(text, "  -> {}", NotToldAdvice(address))
 }
 
 /// Appends who was never told of which endpoints, if someone was not.

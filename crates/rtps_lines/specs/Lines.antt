@@ -14,9 +14,9 @@ use Rattle.rtps_evidence.specs.declared.location.Kind.TheVariants.{Data, Heartbe
 use Rattle.rtps_evidence.specs.declared.times.Seconds.{Seconds}
 use Rattle.rtps_evidence.specs.declared.waits.Wait.{Wait}
 use Rattle.rtps_evidence.specs.Times.{TimesValue, frame_of, second_of, seconds_of, time_of}
-use Rattle.rtps_report.specs.Advice.{address_in, advice_at, ended_in, sentence_of}
+use Rattle.rtps_report.specs.Advice.{ended_in, sentence_of}
 use Rattle.rtps_report.specs.declared.advice.Advice.{Advice}
-use Rattle.rtps_report.specs.declared.silences.Barrier.{Barrier}
+use Rattle.rtps_report.specs.declared.advice.Advice.TheVariants.{NotAnnounced}
 use Rattle.rtps_report.specs.declared.silences.Silences.{Silences}
 use Rattle.rtps_discovery.specs.declared.endpoint.Side.{Side}
 use Rattle.rtps_discovery.specs.declared.endpoint.Side.TheVariants.{Writer, Reader}
@@ -174,18 +174,14 @@ abbrev pub ended_text : TimesValue → Option ℕ → List ℕ
 ended_text times None = []
 ended_text times (Some datagram) = at_second (second_in times datagram)
 
--- from which address nothing comes back, and what that may be; nothing where there is none
-unfoldable pub back_text : Option Address → List ℕ
-back_text None = []
-back_text (Some address) = codes " " ++ (address_text address ++ codes ": a firewall, or another interface")
+-- what to do where a participant was not told of endpoints of another: nothing comes back from this address, if there is one
+unfoldable pub not_told_advice : Option Address → List ℕ
+not_told_advice None = sentence_of NotAnnounced
+not_told_advice (Some address) = codes "nothing comes back from " ++ (address_text address ++ codes ": a firewall, or another interface")
 
 -- what to do for a pair, in one sentence
 abbrev pub advice_text : TimesValue → Advice → List ℕ
-advice_text times advice = sentence_of advice ++ (ended_text times (ended_in advice) ++ back_text (address_in advice))
-
--- what to do where a participant was not told of endpoints of another
-abbrev pub barrier_text : Barrier → List ℕ
-barrier_text barrier = sentence_of (advice_at barrier) ++ back_text (address_in (advice_at barrier))
+advice_text times advice = sentence_of advice ++ ended_text times (ended_in advice)
 
 -- the participant of a writer or a reader says nothing since this datagram, and does not leave
 abbrev pub silence_line : TimesValue → Side → ℕ → List ℕ

@@ -4,7 +4,7 @@
 ghost use Rattle.std.specs.Prelude.{◌≡◌, ◌++◌, codes, OnOk, Some};
 ghost use Rattle.std.specs.String.{string_bytes};
 ghost use Rattle.rtps_wire.specs.Values.{payload_value};
-ghost use Rattle.rtps_lines.specs.Lines.{advice_text, back_text, barrier_text, ended_text, hosted_text, kind_text, payload_text, place_comma, place_text, second_text, seconds_text, frame_behind, second_behind};
+ghost use Rattle.rtps_lines.specs.Lines.{advice_text, not_told_advice, ended_text, hosted_text, kind_text, payload_text, place_comma, place_text, second_text, seconds_text, frame_behind, second_behind};
 ghost use Rattle.rtps_lines.specs.QosNames.{durability_text, reliability_text, side_text};
 
 use itoa::{Buffer, Integer};
@@ -12,7 +12,7 @@ use rtps_discovery::{Durability, Reliability, Side};
 use rtps_evidence::{Kind, Location, Seconds, Times};
 use rtps_ids::Guid;
 use rtps_policies::Address;
-use rtps_report::{Advice, Barrier};
+use rtps_report::Advice;
 use rtps_wire::Payload;
 use std::alloc::AllocError;
 use std::fmt;
@@ -104,33 +104,22 @@ impl fmt::Display for EndedText<'_> {
     }
 }
 
-/// From which address nothing comes back, and what that may be; nothing where there is none.
+/// What to do where a participant was not told of endpoints of another: nothing comes back from this address, if there is one.
 #[derive(Drop)]
-struct BackText(Option<Address>);
+pub struct NotToldAdvice(pub Option<Address>);
 
-impl fmt::Display for BackText {
-    ghost output = { λ text. Some (back_text text.0) };
+impl fmt::Display for NotToldAdvice {
+    ghost output = { λ text. Some (not_told_advice text.0) };
 
-    #[tactic(auto, unfolding(crate::specs::Lines::back_text))]
+    #[tactic(auto, unfolding(crate::specs::Lines::not_told_advice))]
     fn fmt<W: fmt::Write>(&self, f: &mut fmt::Formatter<W>) -> fmt::Result {
         match self.0 {
-            Some(address) => write!(f, " {address}: a firewall, or another interface"),
-            None => Ok(()),
+            Some(address) => write!(
+                f,
+                "nothing comes back from {address}: a firewall, or another interface"
+            ),
+            None => write!(f, "{}", Advice::NotAnnounced.sentence()),
         }
-    }
-}
-
-/// What to do where a participant was not told of endpoints of another, in one sentence.
-#[derive(Drop)]
-pub struct BarrierText(pub Barrier);
-
-impl fmt::Display for BarrierText {
-    ghost output = { λ text. Some (barrier_text text.0) };
-
-    fn fmt<W: fmt::Write>(&self, f: &mut fmt::Formatter<W>) -> fmt::Result {
-        let advice = self.0.advice();
-        let back = BackText(advice.silent_address());
-        write!(f, "{}{back}", advice.sentence())
     }
 }
 
@@ -143,8 +132,7 @@ impl fmt::Display for AdviceText<'_> {
 
     fn fmt<W: fmt::Write>(&self, f: &mut fmt::Formatter<W>) -> fmt::Result {
         let ended = EndedText(self.0, self.1.ended_in());
-        let back = BackText(self.1.silent_address());
-        write!(f, "{}{ended}{back}", self.1.sentence())
+        write!(f, "{}{ended}", self.1.sentence())
     }
 }
 

@@ -35,7 +35,7 @@ pub use evidence_lines::{
     WaitText, push_sent,
 };
 pub use fields::{
-    AdviceText, BarrierText, PlaceComma, PlaceText, SecondText, SecondsText, durability_name, kind_name, push_decimal,
+    AdviceText, NotToldAdvice, PlaceComma, PlaceText, SecondText, SecondsText, durability_name, kind_name, push_decimal,
     push_field, push_payload, reliability_name, side_name,
 };
 pub use json_members::{

@@ -11,10 +11,7 @@ use Rattle.rtps_evidence.specs.Times.{TimesValue, time_of}
 use Rattle.rtps_report.specs.Reported.{number_of}
 use Rattle.rtps_report.specs.RowFacts.{is_held_in, is_joined_in, is_tail, left_in, outcomes_of, row_from}
 use Rattle.rtps_report.specs.declared.advice.Advice.{Advice}
-use Rattle.rtps_report.specs.declared.advice.Advice.TheVariants.{TwoLives, ReaderEnded, WriterEnded, NothingBack, NotAnnounced, Lost, MissedUnsent, MissedAgain, MissedOnce, Unsent, Unanswered, Tail, OpenUnread, OpenUntold, Left, NotAsked, JustAsked, NeverAnswered, Silent, Alike, Unlike, Relayed, UnfoundedUnread, Late, Unannounced, BeganLate, Lacking}
-use Rattle.rtps_policies.specs.declared.host.Address.{Address}
-use Rattle.rtps_report.specs.declared.silences.Barrier.{Barrier}
-use Rattle.rtps_report.specs.declared.silences.Barrier.TheVariants.{NothingBack as BarrierBack, OnTheWay as BarrierOnTheWay}
+use Rattle.rtps_report.specs.declared.advice.Advice.TheVariants.{TwoLives, ReaderEnded, WriterEnded, NotAnnounced, Lost, MissedUnsent, MissedAgain, MissedOnce, Unsent, Unanswered, Tail, OpenUnread, OpenUntold, Left, NotAsked, JustAsked, NeverAnswered, Silent, Alike, Unlike, Relayed, UnfoundedUnread, Late, Unannounced, BeganLate, Lacking}
 use Rattle.rtps_report.specs.declared.silences.Silences.{Silences}
 
 -- of a pair whose participants are silent since these datagrams: first of its reader, then of its writer
@@ -27,21 +24,14 @@ ended_by None None = None
 abbrev pub ended_advice : Silences → Option Advice
 ended_advice silences = ended_by silences.reader silences.writer
 
--- of a pair that a barrier stands between
-abbrev pub advice_at : Barrier → Advice
-advice_at (BarrierBack address) = NothingBack address
-advice_at BarrierOnTheWay = NotAnnounced
-
--- of a pair of which nothing is acknowledged, where a barrier may stand between the two
-abbrev pub barrier_advice : Option Barrier → Bool → Option Advice
-barrier_advice None acknowledged = None
-barrier_advice (Some barrier) true = None
-barrier_advice (Some barrier) false = Some (advice_at barrier)
+-- of a pair of which nothing is acknowledged, where the reader's participant was not told of endpoints of the writer's
+abbrev pub not_told_advice : Bool → Bool → Option Advice
+not_told_advice is_not_told acknowledged = if is_not_told && not acknowledged then Some NotAnnounced else None
 
 -- of a pair by its participants alone: one has two lives, or is silent, or the reader's was not told of endpoints of the writer's
 abbrev pub participant_advice : Silences → Bool → Option Advice
 participant_advice silences acknowledged =
-    if silences.is_twice then Some TwoLives else option_or (ended_advice silences) (barrier_advice silences.barrier acknowledged)
+    if silences.is_twice then Some TwoLives else option_or (ended_advice silences) (not_told_advice silences.is_not_told acknowledged)
 
 -- of a pair with missed numbers, by the least of them
 abbrev pub missed_advice : FirstMissed → Advice
@@ -163,17 +153,11 @@ ended_in (ReaderEnded last) = Some last
 ended_in (WriterEnded last) = Some last
 ended_in advice = None
 
--- the address from which nothing comes back, where the advice is of that
-abbrev pub address_in : Advice → Option Address
-address_in (NothingBack address) = Some address
-address_in advice = None
-
--- in one sentence; of a participant that ended, without the time of its last datagram; where nothing comes back, without what stands behind `from`
+-- in one sentence; of a participant that ended, without the time of its last datagram
 unfoldable pub sentence_of : Advice → List ℕ
 sentence_of TwoLives = codes "two processes use the GUID of a participant of this pair, as after a copied disk image or a restart: the pair is a mixture of both"
 sentence_of (ReaderEnded last) = codes "the reader's process ended without leaving, or was cut off: see what it did"
 sentence_of (WriterEnded last) = codes "the writer's process ended without leaving, or was cut off: see what it did"
-sentence_of (NothingBack address) = codes "nothing comes back from"
 sentence_of NotAnnounced = codes "its announcements are lost on the way: look at large announcements in IP fragments, and at multicast"
 sentence_of Lost = codes "it was sent and did not reach the reader's host: look at the network; raise the history depth, so that the writer still has what is asked for again"
 sentence_of MissedUnsent = codes "the reader asked for it and the recording has none: it was lost before this recording, or record at the writer's side"

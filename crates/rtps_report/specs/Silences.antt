@@ -14,8 +14,6 @@ use Rattle.rtps_report.specs.NotTold.{is_not_told_of}
 use Rattle.rtps_report.specs.Talk.{TalkValue}
 use Rattle.rtps_report.specs.TwoLives.{lives_twice}
 use Rattle.rtps_report.specs.declared.participant.Participant.{Participant}
-use Rattle.rtps_report.specs.declared.silences.Barrier.{Barrier}
-use Rattle.rtps_report.specs.declared.silences.Barrier.TheVariants.{NothingBack, OnTheWay}
 use Rattle.rtps_report.specs.declared.silences.Silences.{Silences}
 use Rattle.rtps_report.specs.declared.presence.Stay.{Stay}
 
@@ -43,33 +41,20 @@ silence_among participants guid = silent_since (find (has_guid guid) participant
 abbrev pub is_one_way : List OneWay → GuidPrefix → GuidPrefix → Bool
 is_one_way found source dest = list_any (λ one. is_prefix one.naming.source source && is_prefix one.naming.dest dest) found
 
--- why a participant was not told, of which nothing comes back from this address
-abbrev pub barrier_by : Option Address → Barrier
-barrier_by (Some address) = NothingBack address
-barrier_by None = OnTheWay
-
 -- from where nothing comes back of two participants, of which the one names the other; None where something does
 abbrev pub address_behind : TalkValue → Guid → Guid → Option Address
 address_behind talk from to = if is_one_way talk.one_way from.prefix to.prefix then (talk.ends to).address else None
 
--- why the second was not told of endpoints of the first
-abbrev pub barrier_of : TalkValue → Guid → Guid → Barrier
-barrier_of talk from to = barrier_by (address_behind talk from to)
-
--- the same, where it was not told of some
-abbrev pub barrier_between : TalkValue → Guid → Guid → Option Barrier
-barrier_between talk from to = if is_not_told_of talk.not_told from to then Some (barrier_of talk from to) else None
-
 -- ---- of a pair
 
--- since when the participants of the writer and the reader of a pair are silent, why that of the reader was not told of endpoints of the other, and
+-- since when the participants of the writer and the reader of a pair are silent, whether that of the reader was not told of endpoints of the other, and
 -- whether one has two lives
 abbrev pub silences_of : TalkValue → Pair → Silences
 silences_of talk pair =
     record {
       writer = silence_among talk.participants (participant_of pair.writer.prefix);
       reader = silence_among talk.participants (participant_of pair.reader.prefix);
-      barrier = barrier_between talk (participant_of pair.writer.prefix) (participant_of pair.reader.prefix);
+      is_not_told = is_not_told_of talk.not_told (participant_of pair.writer.prefix) (participant_of pair.reader.prefix);
       is_twice = lives_twice talk.lives (participant_of pair.writer.prefix) || lives_twice talk.lives (participant_of pair.reader.prefix);
     }
 

@@ -3,16 +3,15 @@ ghost use Rattle.std.specs.Option.{option_map};
 ghost use Rattle.rtps_evidence.specs.Explanation.{evidence_value};
 ghost use Rattle.rtps_evidence.specs.Locations.{sent_value};
 ghost use Rattle.rtps_wire.specs.Values.{payload_value};
-ghost use Rattle.rtps_report.specs.Advice.{address_in, advice_at, advice_by, advice_of as advice_of_lem, are_alike as are_alike_lem, asked_advice as asked_advice_lem, came_last as came_last_lem, complete_advice as complete_advice_lem, conflict_advice as conflict_advice_lem, is_above as is_above_lem, ended_advice, ended_in as ended_in_lem, is_first_sent as is_first_sent_lem, is_last_second as is_last_second_lem, is_lost as is_lost_lem, loss_advice as loss_advice_lem, missed_advice as missed_advice_lem, participant_advice, sentence_of, stand_together as stand_together_lem, unanswered_advice as unanswered_advice_lem, unasked_advice as unasked_advice_lem, unfounded_advice as unfounded_advice_lem, untold_open_advice as untold_open_advice_lem};
+ghost use Rattle.rtps_report.specs.Advice.{advice_by, advice_of as advice_of_lem, are_alike as are_alike_lem, asked_advice as asked_advice_lem, came_last as came_last_lem, complete_advice as complete_advice_lem, conflict_advice as conflict_advice_lem, is_above as is_above_lem, ended_advice, ended_in as ended_in_lem, is_first_sent as is_first_sent_lem, is_last_second as is_last_second_lem, is_lost as is_lost_lem, loss_advice as loss_advice_lem, missed_advice as missed_advice_lem, participant_advice, sentence_of, stand_together as stand_together_lem, unanswered_advice as unanswered_advice_lem, unasked_advice as unasked_advice_lem, unfounded_advice as unfounded_advice_lem, untold_open_advice as untold_open_advice_lem};
 
 use crate::row_facts::{
     is_held, is_joined, is_tail, left_at, natural, number_of, outcomes_of, row_from,
 };
-use crate::silences::{Barrier, Silences};
+use crate::silences::Silences;
 use rtps_evidence::{
     Announcement, Claim, Evidence, FirstMissed, Grounds, Location, Sent, Teller, Times,
 };
-use rtps_policies::Address;
 use rtps_wire::Payload;
 
 /// How many nanoseconds a second has.
@@ -38,8 +37,6 @@ pub enum Advice {
     ReaderEnded(u64),
     /// The writer's participant is.
     WriterEnded(u64),
-    /// Nothing is acknowledged, the reader's participant was not told of endpoints of the writer's, and nothing comes back from it, at this address.
-    NothingBack(Address),
     /// Nothing is acknowledged, and the reader's participant was not told of endpoints of the writer's.
     NotAnnounced,
     /// Of a pair that is held: numbers that were sent did not arrive, and not only a tail.
@@ -295,18 +292,6 @@ fn heard_advice(scope: Scope, evidence: &Evidence<'_>, times: &Times) -> Advice
     }
 }
 
-impl Barrier {
-    /// What to do for a pair that it stands between.
-    pub fn advice(self) -> Advice
-        ensures { result ≡ advice_at self }
-    {
-        match self {
-            Barrier::NothingBack(address) => Advice::NothingBack(address),
-            Barrier::OnTheWay => Advice::NotAnnounced,
-        }
-    }
-}
-
 impl Silences {
     /// What to do for a pair of which one of the two participants is silent.
     fn ended(self) -> Option<Advice>
@@ -326,10 +311,10 @@ impl Silences {
         if self.is_twice {
             return Some(Advice::TwoLives);
         }
-        match (self.ended(), self.barrier) {
-            (Some(advice), _) => Some(advice),
-            (None, Some(barrier)) if !acknowledged => Some(barrier.advice()),
-            _ => None,
+        match self.ended() {
+            Some(advice) => Some(advice),
+            None if self.is_not_told && !acknowledged => Some(Advice::NotAnnounced),
+            None => None,
         }
     }
 }
@@ -355,17 +340,7 @@ impl Advice {
         }
     }
 
-    /// The address from which nothing comes back, where the advice is of that.
-    pub fn silent_address(self) -> Option<Address>
-        ensures { result ≡ address_in self }
-    {
-        match self {
-            Advice::NothingBack(address) => Some(address),
-            _ => None,
-        }
-    }
-
-    /// In one sentence; of a participant that ended, without the time of its last datagram; where nothing comes back, without what stands behind `from`.
+    /// In one sentence; of a participant that ended, without the time of its last datagram.
     #[tactic(auto, unfolding(crate::specs::Advice::sentence_of))]
     pub fn sentence(self) -> &'static str
         ensures { result.now ≡ sentence_of self }
@@ -377,7 +352,6 @@ impl Advice {
                 "the reader's process ended without leaving, or was cut off: see what it did",
             Advice::WriterEnded(_) =>
                 "the writer's process ended without leaving, or was cut off: see what it did",
-            Advice::NothingBack(_) => "nothing comes back from",
             Advice::NotAnnounced =>
                 "its announcements are lost on the way: look at large announcements in IP fragments, and at multicast",
             Advice::Lost =>

@@ -69,7 +69,7 @@ pub use rtps_audit::{Unwatched, Watch};
 pub use rtps_evidence::{Seconds, Times};
 pub use rtps_fragments::{Fragments, Samples};
 pub use side_facts::{SideFacts, facts_of_side};
-pub use silences::{Barrier, Silences};
+pub use silences::Silences;
 pub use talk::{LeftOut, Talk};
 pub use topics::{by_topic, topics_of};
 pub use two_lives::TwoLives;

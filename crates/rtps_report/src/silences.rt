@@ -1,6 +1,6 @@
 ghost use Rattle.std.specs.Prelude.{◌≡◌};
 ghost use Rattle.std.specs.List.{find};
-ghost use Rattle.rtps_report.specs.Silences.{address_behind as address_behind_lem, are_heard as are_heard_lem, barrier_between as barrier_between_lem, barrier_by as barrier_by_lem, barrier_of, has_guid, is_one_way as is_one_way_lem, silence_among as silence_among_lem, silent_since as silent_since_lem, silences_of};
+ghost use Rattle.rtps_report.specs.Silences.{address_behind as address_behind_lem, are_heard as are_heard_lem, has_guid, is_one_way as is_one_way_lem, silence_among as silence_among_lem, silent_since as silent_since_lem, silences_of};
 ghost use Rattle.rtps_report.specs.Talk.{talk_value};
 
 use crate::not_told::is_not_told_of;
@@ -11,15 +11,6 @@ use rtps_discovery::Pair;
 use rtps_ids::{Guid, GuidPrefix};
 use rtps_policies::{Address, OneWay, participant_of};
 
-/// Why a participant was not told of endpoints of another.
-#[derive(Clone, Copy)]
-pub enum Barrier {
-    /// It never names that one, though that one names it; its address is this.
-    NothingBack(Address),
-    /// It does, or its address is not another one: announcements are lost on the way.
-    OnTheWay,
-}
-
 /// What is known of the participants of a pair's writer and reader, beside what the two say of its numbers.
 #[derive(Clone, Copy)]
 pub struct Silences {
@@ -27,8 +18,8 @@ pub struct Silences {
     pub writer: Option<u64>,
     /// Since which datagram that of the reader is.
     pub reader: Option<u64>,
-    /// Why that of the reader was not told of endpoints of the other; None where it was told of all.
-    pub barrier: Option<Barrier>,
+    /// Whether that of the reader was not told of endpoints of the other.
+    pub is_not_told: bool,
     /// Whether one of the two has two lives under one GUID.
     pub is_twice: bool,
 }
@@ -78,41 +69,13 @@ fn is_one_way(found: &[OneWay], source: GuidPrefix, dest: GuidPrefix) -> bool
     false
 }
 
-/// Why a participant was not told, of which nothing comes back from this address.
-fn barrier_by(address: Option<Address>) -> Barrier
-    ensures { result ≡ barrier_by_lem address }
-{
-    match address {
-        Some(address) => Barrier::NothingBack(address),
-        None => Barrier::OnTheWay,
-    }
-}
-
 impl Talk<'_> {
     /// From where nothing comes back of two participants, of which the one names the other; None where something does.
-    fn address_behind(&self, from: Guid, to: Guid) -> Option<Address>
+    pub fn address_behind(&self, from: Guid, to: Guid) -> Option<Address>
         ensures { result ≡ address_behind_lem (talk_value self.now) from to }
     {
         if is_one_way(&self.one_way, from.prefix, to.prefix) {
             self.end(to).address
-        } else {
-            None
-        }
-    }
-
-    /// Why a participant was not told of endpoints of another.
-    pub fn barrier(&self, from: Guid, to: Guid) -> Barrier
-        ensures { result ≡ barrier_of (talk_value self.now) from to }
-    {
-        barrier_by(self.address_behind(from, to))
-    }
-
-    /// The same, where it was not told of some.
-    fn barrier_between(&self, from: Guid, to: Guid) -> Option<Barrier>
-        ensures { result ≡ barrier_between_lem (talk_value self.now) from to }
-    {
-        if is_not_told_of(&self.not_told, from, to) {
-            Some(self.barrier(from, to))
         } else {
             None
         }
@@ -134,7 +97,7 @@ impl Talk<'_> {
         Silences {
             writer: silence_among(&self.participants, writer),
             reader: silence_among(&self.participants, reader),
-            barrier: self.barrier_between(writer, reader),
+            is_not_told: is_not_told_of(&self.not_told, writer, reader),
             is_twice: lives_twice(&self.lives, writer) || lives_twice(&self.lives, reader),
         }
     }
