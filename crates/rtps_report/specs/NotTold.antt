@@ -7,7 +7,7 @@ use Rattle.rtps_ids.specs.declared.identity.Guid.{Guid}
 use Rattle.rtps_ids.specs.declared.identity.GuidPrefix.{GuidPrefix}
 use Rattle.rtps_audit.specs.Intake.{Intake, acts_together}
 use Rattle.rtps_audit.specs.Placed.{is_guid}
-use Rattle.rtps_discovery.specs.Directory.{Entries, settled_at}
+use Rattle.rtps_discovery.specs.Directory.{DirectoryValue, Entries, settled_at}
 use Rattle.rtps_evidence.specs.Explanation.{topic_of}
 use Rattle.rtps_known.specs.Untold.{AreUntoldIn}
 use Rattle.rtps_known.specs.declared.untold.Untold.{Untold}
@@ -64,12 +64,12 @@ not_told_by entries untold =
 
 -- who was never told of what in a recording, of which the datagrams came then: by all its acts, fragments among them, and by when participants
 -- are there
-pub record AreNotToldIn (intake : Intake) (recording : List (List ℕ)) (times : List (Option ℕ)) (entries : Entries) (found : List NotToldValue) : Type 0 where
+pub record AreNotToldIn (intake : Intake) (recording : List (List ℕ)) (times : List (Option ℕ)) (directory : DirectoryValue) (found : List NotToldValue) : Type 0 where
   pub visits : BTreeMap GuidPrefix Visit
-  pub are_visits : AreVisitsIn intake recording times visits
+  pub are_visits : AreVisitsIn intake recording times directory.participants visits
   pub untold : List Untold
   pub are_untold : AreUntoldIn (timed_acts recording times) (record { announcing = acts_together intake.announcing; visits = visits }) untold
-  pub is_found : found ≡ map (not_told_by entries) untold
+  pub is_found : found ≡ map (not_told_by directory.endpoints) untold
 
 -- ---- how many
 

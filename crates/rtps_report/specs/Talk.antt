@@ -223,7 +223,7 @@ pub record IsTalkOf (asked : AskedValue) (other : Option OtherRecording) (record
   pub best_effort : AreBestEffortIn asked other (intake_as Read recording) (traffic_of recording) directory.endpoints talk
   pub participants : talk.participants
       ≡ map (participant_told (intake_as Read recording) recording times) directory.participants
-  pub not_told : AreNotToldIn (intake_as Read recording) recording times.of_datagrams directory.endpoints talk.not_told
+  pub not_told : AreNotToldIn (intake_as Read recording) recording times.of_datagrams directory talk.not_told
   pub lives : AreTwoLivesIn recording times.of_datagrams talk.lives
 
 -- the same of a recording with its times

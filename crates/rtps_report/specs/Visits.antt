@@ -1,11 +1,13 @@
 -- When a participant is there. DDSI-RTPS 2.5, 8.5.3 "The Simple Participant Discovery Protocol". own: from its first announcement on; up to its leaving,
 -- if it leaves, and its last datagram. It counts only where the times of the first two are known.
-use Rattle.std.specs.Prelude.{ℕ, ◌≡◌, Bool, true, false, List, Option, Some, None}
+use Rattle.std.specs.Prelude.{ℕ, ◌≡◌, Bool, true, false, if◌then◌else◌, List, Option, Some, None}
 use Rattle.std.specs.BTreeMap.{BTreeMap, get}
+use Rattle.std.specs.List.{list_any}
 use Rattle.std.specs.Option.{option_map}
+use Rattle.rtps_ids.specs.declared.identity.Guid.{Guid}
 use Rattle.rtps_ids.specs.declared.identity.GuidPrefix.{GuidPrefix}
 use Rattle.rtps_audit.specs.Intake.{Intake}
-use Rattle.rtps_audit.specs.Placed.{placed_in}
+use Rattle.rtps_audit.specs.Placed.{is_guid, placed_in}
 use Rattle.rtps_evidence.specs.Times.{time_of}
 use Rattle.rtps_evidence.specs.declared.location.Location.{Location}
 use Rattle.rtps_known.specs.declared.visit.Visit.{Visit}
@@ -29,20 +31,25 @@ visit_by (Some since) (Some left) last = Some (record { since = since; left = le
 visit_by (Some since) None last = None
 visit_by None left last = None
 
--- when a participant is there that is announced first at this place
-abbrev pub visit_at : Intake → List (List ℕ) → List (Option ℕ) → GuidPrefix → Option Location → Option Visit
-visit_at intake recording times prefix place =
-    visit_by (place_time times place) (left_time times (left_of intake (participant_of prefix))) (latest_of recording times prefix)
+-- when a participant of this prefix is there
+abbrev pub visit_in : Intake → List (List ℕ) → List (Option ℕ) → GuidPrefix → Option Visit
+visit_in intake recording times prefix =
+    visit_by (place_time times (place_of (participant_of prefix) (placed_in intake.announcing))) (left_time times (left_of intake (participant_of prefix)))
+    (latest_of recording times prefix)
 
--- when a participant is there
-abbrev pub visit_of : Intake → List (List ℕ) → List (Option ℕ) → GuidPrefix → Option Visit
-visit_of intake recording times prefix = visit_at intake recording times prefix (place_of (participant_of prefix) (placed_in intake.announcing))
+-- the same, where it is among those that are announced
+abbrev pub visit_of : Intake → List (List ℕ) → List (Option ℕ) → List Guid → GuidPrefix → Option Visit
+visit_of intake recording times announced prefix = if list_any (is_guid (participant_of prefix)) announced then visit_in intake recording times prefix else None
 
--- these are the visits of all participants
-abbrev pub AreVisitsIn : Intake → List (List ℕ) → List (Option ℕ) → BTreeMap GuidPrefix Visit → Type 0
-AreVisitsIn intake recording times visits = (prefix : GuidPrefix) → get prefix_cmp visits prefix ≡ visit_of intake recording times prefix
+-- these are the visits of those that are announced
+abbrev pub AreVisitsIn : Intake → List (List ℕ) → List (Option ℕ) → List Guid → BTreeMap GuidPrefix Visit → Type 0
+AreVisitsIn intake recording times announced visits = (prefix : GuidPrefix) → get prefix_cmp visits prefix ≡ visit_of intake recording times announced prefix
 
 -- ---- the same of the code
+
+-- the participant of a prefix is this one
+abbrev pub is_participant : GuidPrefix → Guid → Bool
+is_participant prefix guid = is_guid (participant_of prefix) guid
 
 -- what is kept of a participant, with one visit more, if that is known and of the participant
 abbrev pub visit_with : Bool → Option Visit → Option Visit → Option Visit

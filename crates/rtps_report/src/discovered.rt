@@ -55,19 +55,21 @@ fn attend(
         ≡ map (participant_told intake (map (λ datagram. datagram.now) heard.now.datagrams.now) heard.now.times.now) heard.now.directory.now.participants) }
     ensures visits { IfOk result (λ attending. (intake : Intake) → IsIndexBy intake heard.now.index.now
         → map placed_value heard.now.announcements.now ≡ announcements_in intake.announcing
-        → AreVisitsIn intake (map (λ datagram. datagram.now) heard.now.datagrams.now) heard.now.times.now.of_datagrams attending.visits) }
+        → IsAnnouncedBy (acts_together intake.announcing) announced.now
+        → AreVisitsIn intake (map (λ datagram. datagram.now) heard.now.datagrams.now) heard.now.times.now.of_datagrams heard.now.directory.now.participants attending.visits) }
 {
     let joined = joined_of(alloc, heard.announcements)?;
     let presences = Presences::of(alloc, heard.datagrams, heard.times)?;
     let seen = Seen {
         joined: &joined,
         presences: &presences,
-        index: heard.index,
         times: heard.times,
     };
+    let participants = participants_of(alloc, announced, heard, seen)?;
+    let visits = visits_of(alloc, &participants, seen)?;
     Ok(Attending {
-        participants: participants_of(alloc, announced, heard, seen)?,
-        visits: visits_of(alloc, seen)?,
+        participants,
+        visits,
     })
 }
 
@@ -99,7 +101,7 @@ pub(crate) fn discovered_in<'a>(
     ensures not_told { IfOk result (λ found. (intake : Intake) → IsIndexBy intake heard.now.index.now
         → map placed_value heard.now.announcements.now ≡ announcements_in intake.announcing
         → IsAnnouncedBy (acts_together intake.announcing) announced.now
-        → AreNotToldIn intake (map (λ datagram. datagram.now) heard.now.datagrams.now) heard.now.times.now.of_datagrams heard.now.directory.now.endpoints
+        → AreNotToldIn intake (map (λ datagram. datagram.now) heard.now.datagrams.now) heard.now.times.now.of_datagrams heard.now.directory.now
         (map not_told_value found.not_told.items)) }
     ensures lives { IfOk result (λ found. AreTwoLivesIn (map (λ datagram. datagram.now) heard.now.datagrams.now) heard.now.times.now.of_datagrams found.lives.items) }
 {

@@ -317,7 +317,7 @@ pub(crate) fn participants_of(
     alloc: Global,
     announced: &Announced<'_>,
     heard: &Heard<'_, '_, '_, '_>,
-    seen: Seen<'_, '_>,
+    seen: Seen<'_>,
 ) -> Result<Vec<Participant>, Memory>
     ensures { IfOk result (λ participants. (intake : Intake) → IsIndexBy intake heard.now.index.now
         → AreJoined (placed_in intake.announcing) seen.joined.now

@@ -1,31 +1,43 @@
-ghost use Rattle.std.specs.Prelude.{ℕ, ◌≡◌, IfOk, List, Option, OnOk, Some, map};
+ghost use Rattle.std.specs.Prelude.{ℕ, ◌≡◌, IfOk, List, Option, OnOk, map};
 ghost use Rattle.std.specs.BTreeMap.{get};
+ghost use Rattle.rtps_ids.specs.declared.identity.Guid.{Guid as GuidOf};
 ghost use Rattle.rtps_ids.specs.declared.identity.GuidPrefix.{GuidPrefix as GuidPrefixOf};
-ghost use Rattle.rtps_audit.specs.Index.{IsIndexBy};
+ghost use Rattle.rtps_receiver.specs.Speech.{is_prefix};
+ghost use Rattle.rtps_discovery.specs.GuidOrder.{guid_cmp};
 ghost use Rattle.rtps_audit.specs.Intake.{Intake};
 ghost use Rattle.rtps_audit.specs.Placed.{placed_in};
-ghost use Rattle.rtps_evidence.specs.Spans.{left_in as left_in_lem};
-ghost use Rattle.rtps_evidence.specs.Times.{time_of};
-ghost use Rattle.rtps_receiver.specs.Speech.{is_prefix};
-ghost use Rattle.rtps_report.specs.Participants.{AreJoined};
+ghost use Rattle.rtps_report.specs.Participants.{AreJoined, participant_told};
 ghost use Rattle.rtps_report.specs.Stays.{ArePresencesOf, latest_of, prefix_cmp};
-ghost use Rattle.rtps_report.specs.Visits.{AreVisitsIn, left_time as left_time_lem, visit_by, visit_with};
+ghost use Rattle.rtps_report.specs.Visits.{AreVisitsIn, is_participant, left_time as left_time_lem, place_time as place_time_lem, visit_by, visit_with};
 
+use crate::participant::Participant;
 use crate::presence::Presences;
-use rtps_audit::Index;
-use rtps_evidence::{Location, Times, left_in};
+use rtps_evidence::{Location, Times};
 use rtps_ids::{Guid, GuidPrefix, Memory};
 use rtps_known::Visit;
 use rtps_policies::participant_of;
 use std::alloc::Global;
 use std::collections::BTreeMap;
 
+/// When the datagram of a place came, where there is a place.
+fn place_time(times: &Times, place: Option<Location>) -> Option<u64>
+    ensures { result ≡ place_time_lem times.now.of_datagrams place }
+{
+    match place {
+        Some(place) => times.of_datagram(place.datagram),
+        None => None,
+    }
+}
+
 /// When a participant leaves: in no datagram, or then. None where that is not known.
 fn left_time(times: &Times, left: Option<u64>) -> Option<Option<u64>>
     ensures { result ≡ left_time_lem times.now.of_datagrams left }
 {
     match left {
-        Some(datagram) => Some(Some(times.of_datagram(datagram)?)),
+        Some(datagram) => match times.of_datagram(datagram) {
+            Some(time) => Some(Some(time)),
+            None => None,
+        },
         None => Some(None),
     }
 }
@@ -34,33 +46,30 @@ fn left_time(times: &Times, left: Option<u64>) -> Option<Option<u64>>
 fn visit(since: Option<u64>, left: Option<Option<u64>>, last: Option<u64>) -> Option<Visit>
     ensures { result ≡ visit_by since left last }
 {
-    Some(Visit {
-        since: since?,
-        left: left?,
-        last,
-    })
+    match (since, left) {
+        (Some(since), Some(left)) => Some(Visit { since, left, last }),
+        (Some(_), None) => None,
+        (None, _) => None,
+    }
 }
 
-/// Where participants are announced, what they say, when they are heard, and when that was.
+/// Where participants are announced first, when they are heard, and when datagrams came.
 #[derive(Clone, Copy)]
-pub(crate) struct Seen<'r, 'a> {
+pub(crate) struct Seen<'r> {
     pub(crate) joined: &'r BTreeMap<Guid, Location>,
     pub(crate) presences: &'r Presences,
-    pub(crate) index: &'r Index<'a>,
     pub(crate) times: &'r Times,
 }
 
-/// When a participant is there that is announced first at this place; None where that is not known.
-fn visit_from(seen: Seen<'_, '_>, guid: Guid, place: Location) -> Option<Visit>
-    ensures { (intake : Intake) (recording : List (List ℕ)) → IsIndexBy intake seen.index.now
-        → ArePresencesOf recording seen.times.now.of_datagrams seen.presences.now
-        → result ≡ visit_by (time_of seen.times.now.of_datagrams place.datagram)
-        (left_time_lem seen.times.now.of_datagrams (left_in_lem (Some place) guid (placed_in intake.acts)))
-        (latest_of recording seen.times.now.of_datagrams guid.prefix) }
+/// When a participant is there; None where that is not known.
+fn visit_for(seen: Seen<'_>, participant: &Participant) -> Option<Visit>
+    ensures { (recording : List (List ℕ)) → ArePresencesOf recording seen.times.now.of_datagrams seen.presences.now
+        → result ≡ visit_by (place_time_lem seen.times.now.of_datagrams (get guid_cmp seen.joined.now participant.now.guid))
+        (left_time_lem seen.times.now.of_datagrams participant.now.left) (latest_of recording seen.times.now.of_datagrams participant.now.guid.prefix) }
 {
-    let since = seen.times.of_datagram(place.datagram);
-    let left = left_time(seen.times, left_in(seen.index, guid, place));
-    visit(since, left, seen.presences.latest(guid.prefix))
+    let since = place_time(seen.times, seen.joined.get(&participant.guid).copied());
+    let left = left_time(seen.times, participant.left);
+    visit(since, left, seen.presences.latest(participant.guid.prefix))
 }
 
 /// Keeps a visit of a participant, if there is one. After `Memory` the visits are of no use.
@@ -78,20 +87,39 @@ fn keep_visit(
     Ok(())
 }
 
-/// When each participant is there of which that is known.
+/// Keeps when one of these is there, if that is known. After `Memory` the visits are of no use.
+fn note_visit(
+    visits: &mut BTreeMap<GuidPrefix, Visit>,
+    seen: Seen<'_>,
+    participant: &Participant,
+) -> Result<(), Memory>
+    ensures { OnOk result ((recording : List (List ℕ)) → ArePresencesOf recording seen.times.now.of_datagrams seen.presences.now
+        → (other : GuidPrefixOf) → get prefix_cmp visits.new other
+        ≡ visit_with (is_participant other participant.now.guid) (visit_by (place_time_lem seen.times.now.of_datagrams (get guid_cmp seen.joined.now participant.now.guid))
+        (left_time_lem seen.times.now.of_datagrams participant.now.left) (latest_of recording seen.times.now.of_datagrams participant.now.guid.prefix))
+        (get prefix_cmp visits.old other)) }
+{
+    if participant.guid != participant_of(participant.guid.prefix) {
+        return Ok(());
+    }
+    let visit = visit_for(seen, participant);
+    keep_visit(visits, participant.guid.prefix, visit)
+}
+
+/// When each of these participants is there of which that is known.
 pub(crate) fn visits_of(
     alloc: Global,
-    seen: Seen<'_, '_>,
+    participants: &[Participant],
+    seen: Seen<'_>,
 ) -> Result<BTreeMap<GuidPrefix, Visit>, Memory>
-    ensures { IfOk result (λ visits. (intake : Intake) (recording : List (List ℕ)) → IsIndexBy intake seen.index.now
+    ensures { IfOk result (λ visits. (intake : Intake) (recording : List (List ℕ)) (announced : List GuidOf)
         → ArePresencesOf recording seen.times.now.of_datagrams seen.presences.now → AreJoined (placed_in intake.announcing) seen.joined.now
-        → AreVisitsIn intake recording seen.times.now.of_datagrams visits) }
+        → participants.now ≡ map (participant_told intake recording seen.times.now) announced
+        → AreVisitsIn intake recording seen.times.now.of_datagrams announced visits) }
 {
     let mut visits = BTreeMap::new(alloc);
-    for (guid, place) in seen.joined.iter() {
-        if *guid == participant_of(guid.prefix) {
-            keep_visit(&mut visits, guid.prefix, visit_from(seen, *guid, *place))?;
-        }
+    for participant in participants {
+        note_visit(&mut visits, seen, participant)?;
     }
     Ok(visits)
 }
