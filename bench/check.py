@@ -150,7 +150,7 @@ def advice_of(row, counts):
     for side in ('reader', 'writer'):
         if side in silent:
             return f"{SENTENCES[f'silent_{side}']} at {row.times.second(silent[side])} s"
-    if row.is_not_told and row.evidence()['acknowledged'] is None:
+    if row.is_not_told and row.evidence()['acknowledged'] is None and not row.is_tail():
         return SENTENCES['not_announced']
     return SENTENCES[case_of(row, counts)]
 

@@ -3,6 +3,7 @@ mod AnyLemmas
 mod AskedLemmas
 mod BestEffortLemmas
 mod BestEffortSums
+mod DiscoveryLemmas
 mod EarlyLemmas
 mod EndLemmas
 mod EventLaws

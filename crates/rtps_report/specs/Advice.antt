@@ -24,14 +24,18 @@ ended_by None None = None
 abbrev pub ended_advice : Silences → Option Advice
 ended_advice silences = ended_by silences.reader silences.writer
 
--- of a pair of which nothing is acknowledged, where the reader's participant was not told of endpoints of the writer's
+-- the reader of a row knows its writer: it acknowledged a number of the row, or all before it
+abbrev pub is_known : EvidenceValue → Bool
+is_known evidence = is_some evidence.acknowledgement || is_tail evidence
+
+-- of a pair whose reader does not know the writer, where its participant was not told of endpoints of the writer's
 abbrev pub not_told_advice : Bool → Bool → Option Advice
-not_told_advice is_not_told acknowledged = if is_not_told && not acknowledged then Some NotAnnounced else None
+not_told_advice is_not_told known = if is_not_told && not known then Some NotAnnounced else None
 
 -- of a pair by its participants alone: one has two lives, or is silent, or the reader's was not told of endpoints of the writer's
 abbrev pub participant_advice : Silences → Bool → Option Advice
-participant_advice silences acknowledged =
-    if silences.is_twice then Some TwoLives else option_or (ended_advice silences) (not_told_advice silences.is_not_told acknowledged)
+participant_advice silences known =
+    if silences.is_twice then Some TwoLives else option_or (ended_advice silences) (not_told_advice silences.is_not_told known)
 
 -- of a pair with missed numbers, by the least of them
 abbrev pub missed_advice : FirstMissed → Advice
@@ -145,7 +149,7 @@ advice_by times scope evidence (UnfoundedGrounds teller claim) = unfounded_advic
 -- what to do for a pair, of whose participants this is known
 abbrev pub advice_of : TimesValue → Silences → Scope → EvidenceValue → Advice
 advice_of times silences scope evidence =
-    unwrap_or (participant_advice silences (is_some evidence.acknowledgement)) (advice_by times scope evidence evidence.grounds)
+    unwrap_or (participant_advice silences (is_known evidence)) (advice_by times scope evidence evidence.grounds)
 
 -- the last datagram of the participant that ended, where the advice is of one
 abbrev pub ended_in : Advice → Option ℕ

@@ -3,7 +3,7 @@ ghost use Rattle.std.specs.Option.{option_map};
 ghost use Rattle.rtps_evidence.specs.Explanation.{evidence_value};
 ghost use Rattle.rtps_evidence.specs.Locations.{sent_value};
 ghost use Rattle.rtps_wire.specs.Values.{payload_value};
-ghost use Rattle.rtps_report.specs.Advice.{advice_by, advice_of as advice_of_lem, are_alike as are_alike_lem, asked_advice as asked_advice_lem, came_last as came_last_lem, complete_advice as complete_advice_lem, conflict_advice as conflict_advice_lem, is_above as is_above_lem, ended_advice, ended_in as ended_in_lem, is_first_sent as is_first_sent_lem, is_last_second as is_last_second_lem, is_lost as is_lost_lem, loss_advice as loss_advice_lem, missed_advice as missed_advice_lem, participant_advice, sentence_of, stand_together as stand_together_lem, unanswered_advice as unanswered_advice_lem, unasked_advice as unasked_advice_lem, unfounded_advice as unfounded_advice_lem, untold_open_advice as untold_open_advice_lem};
+ghost use Rattle.rtps_report.specs.Advice.{advice_by, advice_of as advice_of_lem, are_alike as are_alike_lem, asked_advice as asked_advice_lem, came_last as came_last_lem, complete_advice as complete_advice_lem, conflict_advice as conflict_advice_lem, is_above as is_above_lem, ended_advice, ended_in as ended_in_lem, is_first_sent as is_first_sent_lem, is_known as is_known_lem, is_last_second as is_last_second_lem, is_lost as is_lost_lem, loss_advice as loss_advice_lem, missed_advice as missed_advice_lem, participant_advice, sentence_of, stand_together as stand_together_lem, unanswered_advice as unanswered_advice_lem, unasked_advice as unasked_advice_lem, unfounded_advice as unfounded_advice_lem, untold_open_advice as untold_open_advice_lem};
 
 use crate::row_facts::{
     is_held, is_joined, is_tail, left_at, natural, number_of, outcomes_of, row_from,
@@ -37,7 +37,7 @@ pub enum Advice {
     ReaderEnded(u64),
     /// The writer's participant is.
     WriterEnded(u64),
-    /// Nothing is acknowledged, and the reader's participant was not told of endpoints of the writer's.
+    /// The reader acknowledged nothing, and its participant was not told of endpoints of the writer's.
     NotAnnounced,
     /// Of a pair that is held: numbers that were sent did not arrive, and not only a tail.
     Lost,
@@ -304,26 +304,33 @@ impl Silences {
         }
     }
 
-    /// What to do for a pair by its participants alone, of which something is acknowledged or not.
-    fn advice(self, acknowledged: bool) -> Option<Advice>
-        ensures { result ≡ participant_advice self acknowledged }
+    /// What to do for a pair by its participants alone, of which the reader knows the writer or not.
+    fn advice(self, known: bool) -> Option<Advice>
+        ensures { result ≡ participant_advice self known }
     {
         if self.is_twice {
             return Some(Advice::TwoLives);
         }
         match self.ended() {
             Some(advice) => Some(advice),
-            None if self.is_not_told && !acknowledged => Some(Advice::NotAnnounced),
+            None if self.is_not_told && !known => Some(Advice::NotAnnounced),
             None => None,
         }
     }
+}
+
+/// Whether the reader of a row knows its writer: it acknowledged a number of the row, or all before it.
+fn is_known(evidence: &Evidence<'_>) -> bool
+    ensures { result ≡ is_known_lem (evidence_value evidence.now) }
+{
+    evidence.acknowledgement.is_some() || is_tail(evidence)
 }
 
 /// What to do for a pair, of whose participants this is known.
 pub fn advice_of(scope: Scope, evidence: &Evidence<'_>, silences: Silences, times: &Times) -> Advice
     ensures { result ≡ advice_of_lem times.now silences scope (evidence_value evidence.now) }
 {
-    match silences.advice(evidence.acknowledgement.is_some()) {
+    match silences.advice(is_known(evidence)) {
         Some(advice) => advice,
         None => heard_advice(scope, evidence, times),
     }
