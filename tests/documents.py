@@ -21,7 +21,7 @@ from program import ROOT, Counts, file_of
 
 # Each page, and the most lines that it may have.
 PAGES = {'README.md': 130, 'CONTRIBUTING.md': 120, 'CHANGELOG.md': None, 'docs/GUIDE.md': 250, 'docs/ARCHITECTURE.md': None,
-         'docs/JSON.md': None, 'docs/BOTH_SIDES.md': None, 'docs/PROOFS.md': None, 'docs/PERFORMANCE.md': None, 'docs/DECISIONS.md': 120}
+         'docs/JSON.md': None, 'docs/NOT_THERE.md': None, 'docs/BOTH_SIDES.md': None, 'docs/PROOFS.md': None, 'docs/PERFORMANCE.md': None, 'docs/DECISIONS.md': 120}
 EXAMPLES = sorted(name for name in os.listdir(os.path.join(ROOT, 'examples')) if name.endswith(('.rec', '.pcap')))
 COMMANDS = 'bin/rtps-audit ', 'grep '
 ANSWERS = re.compile(r'(pairs?|announced|acknowledged|payloads|received|missed|number|claimed|datagrams) ["0-9a-z]|[0-9,]+ of [0-9,]+ pairs? |topic +pairs|(not )?clean(:|$)|\{"pairs"|[0-9a-f]{24}\.[0-9a-f]{8} ')
@@ -110,7 +110,8 @@ def rows_of(page):
 
 
 def advice(tests):
-    """what to do: the guide has each sentence behind what happened and what one sees of it, and the sentences are those of the definition"""
+    """what to do: the guide has each sentence behind what happened and what one sees of it, and the sentences are those of the definition. Those of no pair
+    stand in a page of their own"""
     sys.path.insert(0, os.path.join(ROOT, 'bench'))
     import check
     import nothing
@@ -118,9 +119,10 @@ def advice(tests):
     rows = rows_of(guide)
     for name, *row in check.ADVICE:
         tests.holds(f'the guide tells what to do for {name}', True, row in rows)
+    seen = [row[0] for row in rows_of(file_of('docs', 'NOT_THERE.md').decode())]
     for name, sentence in vars(nothing).items():
         if name.isupper() and isinstance(sentence, str):
-            tests.holds(f'the guide has the sentence {name}', True, any(sentence in cell for row in rows for cell in row))
+            tests.holds(f'NOT_THERE.md has the sentence {name}', True, sentence in seen)
     sentences = re.findall(r'^sentence_of .* = codes "(.*)"$', definition, re.MULTILINE)
     tests.holds('the sentences are those of the definition', [sentence for *_, sentence in check.ADVICE], sentences)
 

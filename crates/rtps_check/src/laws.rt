@@ -6,7 +6,7 @@ ghost use Rattle.rtps_report.specs.Laws.{HasOneText};
 ghost use Rattle.rtps_report.specs.Recording.{RecordingValue};
 ghost use Rattle.rtps_check.specs.CheckText.{IsCheckedJsonAs, IsCheckedTextAs, TellsWhyUnclean};
 
-use rtps_report::laws::one_full_report;
+use rtps_report::laws::{one_full_report, one_no_pair};
 
 /// `check`, as JSON too, ends clean exactly where it gives no reason.
 pub fn unclean_has_a_reason()
@@ -19,6 +19,7 @@ pub fn one_text()
     ensures { (asked : AskedValue) (other : Option RecordingValue) → HasOneText (IsCheckedTextAs asked other) }
 {
     one_full_report();
+    one_no_pair();
 }
 
 /// What `check --json` prints of a recording, and how its run ends, is decided by the recording, by the other one beside it, if there is

@@ -16,6 +16,7 @@ mod NamingLemmas
 mod NamingWalkLemmas
 mod NoPairLemmas
 pub mod Offered
+mod OneNoPairLemmas
 mod OneReportLemmas
 mod OneSideLemmas
 mod OneTalkLemmas

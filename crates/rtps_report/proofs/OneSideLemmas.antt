@@ -1,10 +1,13 @@
 -- The first topic of endpoints, and the topics of those that are left.
-use Rattle.std.proofs.Common.{◌≡◌, ◌+◌, ◌-◌, ◌<◌, ◌∷◌, ◌++◌, [], ◌∙◌, ℕ, Bool, true, false, List, add-one, ap, append_assoc, arith, drop, drop-drop, get_or, if◌then◌else◌, length, map, refl, suc, sym, take}
+use Rattle.std.proofs.Common.{◌≡◌, ◌+◌, ◌-◌, ◌<◌, ◌∷◌, ◌++◌, [], ◌∙◌, ℕ, Bool, true, false, List, Option, Some, None, add-one, ap, append-nil, append_assoc, arith, drop, drop-drop, get_or, if◌then◌else◌, length, map, refl, suc, sym, take}
 use Rattle.std.proofs.Math.Seq.{drop-cons, drop-length}
-use Rattle.std.proofs.lemmas.List.{drop-map, take-map}
+use Rattle.std.specs.List.{cons_option, filter_map}
+use Rattle.std.specs.Option.{option_map}
+use Rattle.std.proofs.lemmas.List.{drop-map, map-append, take-map}
 use Rattle.rtps_discovery.specs.Endpoint.{EndpointValue, endpoint_value}
 use Rattle.rtps_discovery.specs.declared.endpoint.Endpoint.{Endpoint}
-use Rattle.rtps_report.specs.OneSides.{have_one_topic, joined, topics_of}
+use Rattle.rtps_report.specs.OneSides.{OneSidedValue, have_one_topic, joined, one_sided_value, topics_of}
+use Rattle.rtps_report.specs.declared.one_side.OneSided.{OneSided}
 
 -- how many of the endpoints behind a one are of its topic
 pub front_of : EndpointValue → List EndpointValue → ℕ
@@ -84,13 +87,32 @@ pub front_at_end : (ends : List Endpoint) (one : Endpoint) → front_at ends (le
 unfolding front_at front_of
 front_at_end ends one = ap (λ left. front_of (endpoint_value one) (map endpoint_value left)) (drop-length ends)
 
--- a step of the loop over topics: the first of the ends that are left goes to the end of those that are known
-pub topic_more : (ends rest topic : List Endpoint) (start size : ℕ) (known all : List (List EndpointValue)) → rest ≡ drop start ends
+-- a topic that may be one-sided goes to the end of those that are known
+onto : (known : List OneSidedValue) (one : Option OneSidedValue) (left : List OneSidedValue) → (known ++ cons_option one []) ++ left ≡ known ++ cons_option one left
+onto known (Some one) left = append_assoc known (one ∷ []) left
+onto known None left = append_assoc known [] left
+
+-- a step of the loop over topics: the first of the ends that are left is added, if it is one-sided
+pub side_more : (P : List EndpointValue → Option OneSidedValue) (ends rest topic : List Endpoint) (start size : ℕ) (known more all : List OneSidedValue) → rest ≡ drop start ends
     → topics_of (map endpoint_value rest) ≡ map endpoint_value (take size rest) ∷ topics_of (map endpoint_value (drop size rest))
-    → topic ≡ take size rest → known ++ topics_of (map endpoint_value (drop start ends)) ≡ all
-    → (known ++ map endpoint_value topic ∷ []) ++ topics_of (map endpoint_value (drop (start + size) ends)) ≡ all
-topic_more ends rest topic start size known all is first same before =
-    append_assoc known (map endpoint_value topic ∷ []) (topics_of (map endpoint_value (drop (start + size) ends)))
-    ∙ ap (λ left. known ++ map endpoint_value topic ∷ topics_of (map endpoint_value left)) (sym (drop-drop size start ends) ∙ ap (drop size) (sym is))
-    ∙ ap (λ one. known ++ map endpoint_value one ∷ topics_of (map endpoint_value (drop size rest))) same
-    ∙ ap (λ topics. known ++ topics) (sym first) ∙ ap (λ left. known ++ topics_of (map endpoint_value left)) is ∙ before
+    → topic ≡ take size rest → more ≡ known ++ cons_option (P (map endpoint_value topic)) []
+    → known ++ filter_map P (topics_of (map endpoint_value (drop start ends))) ≡ all
+    → more ++ filter_map P (topics_of (map endpoint_value (drop (start + size) ends))) ≡ all
+side_more P ends rest topic start size known more all is first same added before =
+    let left : List OneSidedValue = filter_map P (topics_of (map endpoint_value (drop (start + size) ends))) in
+    ap (λ (those : List OneSidedValue). those ++ left) added ∙ onto known (P (map endpoint_value topic)) left
+    ∙ ap (λ (one : List Endpoint). known ++ cons_option (P (map endpoint_value one)) left) same
+    ∙ ap (λ (those : List Endpoint). known ++ cons_option (P (map endpoint_value (take size rest))) (filter_map P (topics_of (map endpoint_value those)))) (sym (drop-drop size start ends) ∙ ap (drop size) (sym is))
+    ∙ ap (λ (topics : List (List EndpointValue)). known ++ filter_map P topics) (sym first)
+    ∙ ap (λ (those : List Endpoint). known ++ filter_map P (topics_of (map endpoint_value those))) is ∙ before
+
+-- those that are found, with one that is found or not
+pub one_added : (which : Option OneSidedValue) (one : OneSided) (found : Option OneSided) (old new : List OneSided) → found ≡ Some one → option_map one_sided_value found ≡ which
+    → new ≡ old ++ one ∷ [] → map one_sided_value new ≡ map one_sided_value old ++ cons_option which []
+one_added which one found old new is value added =
+    ap (map one_sided_value) added ∙ map-append one_sided_value old (one ∷ [])
+    ∙ ap (λ (those : Option OneSidedValue). map one_sided_value old ++ cons_option those []) (sym (ap (option_map one_sided_value) is) ∙ value)
+
+pub none_added : (which : Option OneSidedValue) (found : Option OneSided) (old : List OneSidedValue) → found ≡ None → option_map one_sided_value found ≡ which → old ≡ old ++ cons_option which []
+none_added which found old is value =
+    sym (append-nil old) ∙ ap (λ (those : Option OneSidedValue). old ++ cons_option those []) (sym (ap (option_map one_sided_value) is) ∙ value)

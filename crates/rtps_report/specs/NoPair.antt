@@ -76,3 +76,9 @@ no_pair_by recording early talk one_side =
 pub record IsNoPairOf (asked : AskedValue) (recording : RecordingValue) (report : ReportValue) (cause : NoPair) (one_sides : List OneSidedValue) : Type 0 where
   pub sides : AreOneSidesIn asked recording.datagrams report.talk one_sides
   pub is_cause : cause ≡ no_pair_by recording.datagrams (early_of recording.datagrams) report.talk (not (length one_sides == 0))
+
+-- of what is told of a recording there is one such cause, and one list of these topics
+abbrev pub HasOneNoPair : Type 0
+HasOneNoPair =
+    (asked : AskedValue) (recording : RecordingValue) (one other : ReportValue) (cause last : NoPair) (sides others : List OneSidedValue) → one.talk ≡ other.talk
+    → IsNoPairOf asked recording one cause sides → IsNoPairOf asked recording other last others → (cause ≡ last) × (sides ≡ others)

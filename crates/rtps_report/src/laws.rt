@@ -2,6 +2,7 @@
 
 ghost use Rattle.rtps_report.specs.Events.{EventsAreWhole};
 ghost use Rattle.rtps_report.specs.Laws.{AuditedRowsAreExact, EachMatchIsTold, ExplainedRowsAreExact, HasOneFullReport, ReportedRowsAreExact, ReportedUnansweredIsByItsWords};
+ghost use Rattle.rtps_report.specs.NoPair.{HasOneNoPair};
 ghost use Rattle.rtps_report.specs.Patterns.{FitsAsFilled};
 
 use rtps_audit::laws::first_datagrams_say_the_same;
@@ -40,6 +41,13 @@ pub fn one_full_report()
     ensures { HasOneFullReport }
 {
     pairs_have_one_explanation();
+    one_map();
+}
+
+/// Why there is no pair to judge, where there is none, is decided by the recording, by what is asked, and by what is told of who does not talk.
+pub fn one_no_pair()
+    ensures { HasOneNoPair }
+{
     one_map();
 }
 

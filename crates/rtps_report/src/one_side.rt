@@ -1,5 +1,5 @@
-ghost use Rattle.std.specs.Prelude.{◌≡◌, ◌<◌, ◌≤◌, ◌∷◌, ◌-◌, IfOk, drop, length, map, slice_index_or, take};
-ghost use Rattle.std.specs.List.{list_all, list_any};
+ghost use Rattle.std.specs.Prelude.{◌≡◌, ◌<◌, ◌≤◌, ◌∷◌, ◌++◌, ◌-◌, [], IfOk, OnOk, drop, length, map, slice_index_or, take};
+ghost use Rattle.std.specs.List.{cons_option, list_all, list_any};
 ghost use Rattle.std.specs.Option.{option_map};
 ghost use Rattle.rtps_audit.specs.Index.{IsIndexBy};
 ghost use Rattle.rtps_discovery.specs.Endpoint.{endpoint_value};
@@ -137,6 +137,23 @@ fn one_side<'a>(
     }
 }
 
+/// Adds a topic of which these are all endpoints, if they are asked for and are on one side.
+#[tactic(auto, using(crate::proofs::OneSideLemmas::none_added))]
+fn push_one_side<'a>(
+    found: &mut Vec<OneSided<'a>>,
+    talk: &Talk<'_>,
+    asked: &Asked<'_>,
+    endpoints: &[Endpoint<'a>],
+) -> Result<(), Memory>
+    ensures { OnOk result (map one_sided_value found.new.items
+        ≡ map one_sided_value found.old.items ++ cons_option (one_side_lem (asked_value asked.now) (talk_value talk.now).node (map endpoint_value endpoints.now)) []) }
+{
+    if let Some(one) = one_side(talk, asked, endpoints) {
+        found.push(one)?;
+    }
+    Ok(())
+}
+
 /// The topics of which endpoints that stand by topic are on one side.
 fn one_sides_among<'a>(
     alloc: Global,
@@ -152,10 +169,7 @@ fn one_sides_among<'a>(
     'topics: while start < endpoints.len() {
         let rest = endpoints.split_at(start).1;
         let size = front_len(rest);
-        match one_side(talk, asked, rest.split_at(size).0) {
-            Some(one) => found.push(one)?,
-            None => {}
-        }
+        push_one_side(&mut found, talk, asked, rest.split_at(size).0)?;
         start += size;
     }
     Ok(found)

@@ -30,10 +30,11 @@ returns c =
     let talking = map (λ (one : Bor Unmatched). unmatched_value one.now) c.in_ok-talking.talking.items in
     let left_out = map left_out_value c.in_ok-left_out.left_out.items in
     let text = string_bytes c.in_ok-text.text in
-    let IsText = λ (scope : Scope) (lost : List LostValue) (happened : List EventValue) (times : TimesValue) (facts : NoteFacts) (side : Option SideFacts) (all : List Explanation) (talk : List ℕ) (left : List LeftOut).
+    let IsText = λ (scope : Scope) (lost : List LostValue) (remedy : List ℕ) (happened : List EventValue) (times : TimesValue) (facts : NoteFacts) (side : Option SideFacts) (all : List Explanation) (talk : List ℕ) (left : List LeftOut).
     IsTextBy scope (record {
       times = times;
       lost = lost;
+      remedy = remedy;
       events = happened;
       facts = facts;
       side = side;
@@ -51,9 +52,11 @@ returns c =
     let happened = events_of asked (report_value report) in
     let kept = map lost_value c.deref-4.result.now in
     let own = c.deref-5.result.now in
-    let known = map event_value c.deref-6.result.now in
-    let those = c.deref-7.result.now in
-    let these = c.deref-8.result.now in
+    let remedy = string_bytes c.in_ok-remedy.remedy in
+    let told = c.deref-6.result.now in
+    let known = map event_value c.deref-7.result.now in
+    let those = c.deref-8.result.now in
+    let these = c.deref-9.result.now in
     record {
       rows = rows;
       rows_by_topic = subst (λ all. AreByTopic all rows) c.deref.ensures.value c.in_ok-rows.ensures;
@@ -61,13 +64,16 @@ returns c =
       talking_by_topic = subst (λ (all : List Unmatched). UnmatchedByTopic (map unmatched_value all) talking) c.deref-2.ensures.value c.in_ok-talking.ensures;
       left_out = left_out;
       left_out_by_topic = subst (λ (all : List LeftOut). AreLeftByTopic (map left_out_value all) left_out) c.deref-3.ensures.value c.in_ok-left_out.ensures;
-      is_text = subst (λ left. IsText scope lost happened times facts side rows (talking_names talking) left) c.deref-8.ensures.value
-          (subst (λ talk. IsText scope lost happened times facts side rows talk these) (c.deref-7.ensures ∙ c.in_ok-names.ensures)
-          (subst (λ all. IsText scope lost all times facts side rows those these) (ap (map event_value) c.deref-6.ensures.value ∙ c.in_ok-events.ensures)
-          (subst (λ all. IsText scope lost known times facts side all those these) c.deref-5.ensures.value
-          (subst (λ beside. IsText scope lost known times facts beside own those these) c.facts_of_side.ensures
-          (subst (λ weak. IsText scope lost known times weak c.facts_of_side.result own those these) c.notes_on.ensures
-          (subst (λ all. IsText scope lost known all c.notes_on.result c.facts_of_side.result own those these) c.times.ensures
-          (subst (λ (some : List LostNumbers). IsText scope (map lost_value some) known c.times.result.now c.notes_on.result c.facts_of_side.result own those these) c.deref-4.ensures.value
-          (subst (λ first. IsText first kept known c.times.result.now c.notes_on.result c.facts_of_side.result own those these) c.scope_of.ensures c.in_ok-text.ensures))))))));
+      remedy = remedy;
+      is_remedy = c.in_ok-remedy.ensures;
+      is_text = subst (λ left. IsText scope lost remedy happened times facts side rows (talking_names talking) left) c.deref-9.ensures.value
+          (subst (λ talk. IsText scope lost remedy happened times facts side rows talk these) (c.deref-8.ensures ∙ c.in_ok-names.ensures)
+          (subst (λ all. IsText scope lost remedy all times facts side rows those these) (ap (map event_value) c.deref-7.ensures.value ∙ c.in_ok-events.ensures)
+          (subst (λ what. IsText scope lost what known times facts side rows those these) c.deref-6.ensures
+          (subst (λ all. IsText scope lost told known times facts side all those these) c.deref-5.ensures.value
+          (subst (λ beside. IsText scope lost told known times facts beside own those these) c.facts_of_side.ensures
+          (subst (λ weak. IsText scope lost told known times weak c.facts_of_side.result own those these) c.notes_on.ensures
+          (subst (λ all. IsText scope lost told known all c.notes_on.result c.facts_of_side.result own those these) c.times.ensures
+          (subst (λ (some : List LostNumbers). IsText scope (map lost_value some) told known c.times.result.now c.notes_on.result c.facts_of_side.result own those these) c.deref-4.ensures.value
+          (subst (λ first. IsText first kept told known c.times.result.now c.notes_on.result c.facts_of_side.result own those these) c.scope_of.ensures c.in_ok-text.ensures)))))))));
     }

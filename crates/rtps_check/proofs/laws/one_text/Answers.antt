@@ -1,4 +1,4 @@
-use Rattle.std.proofs.Common.{◌≡◌, ◌++◌, ◌∙◌, ℕ, List, ap, ap₂, filter, map, refl, subst, sym}
+use Rattle.std.proofs.Common.{◌≡◌, ◌++◌, ◌∙◌, ℕ, suc, List, [], ◌∷◌, ap, ap₂, filter, length, map, refl, subst, sym}
 use Rattle.std.specs.Cmp.{IsTotalOrder}
 use Rattle.std.specs.Cmp.Lexicographic.{slice_cmp}
 use Rattle.std.specs.Ordering.{nat_cmp, ordering_then}
@@ -14,6 +14,7 @@ use Rattle.rtps_report.specs.ByTopic.{AreByTopic}
 use Rattle.rtps_report.specs.Events.{events_by}
 use Rattle.rtps_report.specs.FullReport.{ReportValue}
 use Rattle.rtps_report.specs.Laws.{AreSame}
+use Rattle.rtps_report.specs.NoPair.{HasOneNoPair}
 use Rattle.rtps_report.specs.NoteFacts.{facts_by, is_unread, note_facts, scope_of}
 use Rattle.rtps_report.specs.Recording.{RecordingValue}
 use Rattle.rtps_report.specs.SideFacts.{facts_if, side_facts}
@@ -21,9 +22,10 @@ use Rattle.rtps_report.specs.Talk.{LeftOutValue}
 use Rattle.rtps_report.specs.Totals.{totals_of}
 use Rattle.rtps_report.specs.declared.advice.Scope.{Scope}
 use Rattle.rtps_report.proofs.Offered.{same_talk}
+use Rattle.rtps_lines.specs.NoPairText.{no_pair_text}
 use Rattle.rtps_lines.specs.Notes.{talking_names}
 use Rattle.rtps_check.specs.ArrivedText.{AreByTopic as LossyByTopic, is_lossy, lossy_lines}
-use Rattle.rtps_check.specs.CheckText.{Beside, IsCheckText, IsTextBy, beside_of, ending_text, first_lines, told_beside, topics_text}
+use Rattle.rtps_check.specs.CheckText.{Beside, IsCheckText, IsRemedyBy, IsTextBy, beside_of, ending_text, first_lines, told_beside, topics_text}
 use Rattle.rtps_check.specs.TalkText.{AreByTopic as UnmatchedByTopic, AreLeftByTopic, one_way_block, unmatched_lines}
 use Rattle.rtps_report.proofs.Offered.{sorted_once, sorted_same}
 use Rattle.rtps_check.proofs.laws.one_text.Goals as goal
@@ -76,9 +78,18 @@ text_by_once scope beside rows one other is also =
 abbrev Told : Type 0
 Told = Scope × Beside × List ExplanationValue
 
-text_once : (asked : AskedValue) (recording : RecordingValue) (one other : ReportValue) (text last : List ℕ) → AreSame one other
+remedy_once : HasOneNoPair → (asked : AskedValue) (recording : RecordingValue) (rows others : List Explanation) (one other : ReportValue) (text last : List ℕ) → one.talk ≡ other.talk
+    → map explanation_value rows ≡ map explanation_value others → IsRemedyBy rows asked recording one text → IsRemedyBy others asked recording other last → text ≡ last
+remedy_once unique asked recording [] [] one other text last talk same is also =
+    let told = unique asked recording one other is.cause also.cause is.one_sides also.one_sides talk is.is_cause also.is_cause in
+    is.is_text ∙ (λ i. no_pair_text (talk i) (told.0 i) (told.1 i)) ∙ sym also.is_text
+remedy_once unique asked recording [] (row ∷ others) one other text last talk same is also = absurd (let clash : 0 ≡ suc (length (map explanation_value others)) = ap length same in cc)
+remedy_once unique asked recording (row ∷ rows) [] one other text last talk same is also = absurd (let clash : suc (length (map explanation_value rows)) ≡ 0 = ap length same in cc)
+remedy_once unique asked recording (row ∷ rows) (next ∷ others) one other text last talk same is also = is ∙ sym also
+
+text_once : HasOneNoPair → (asked : AskedValue) (recording : RecordingValue) (one other : ReportValue) (text last : List ℕ) → AreSame one other
     → IsCheckText asked recording one text → IsCheckText asked recording other last → text ≡ last
-text_once asked recording one other text last same is also =
+text_once unique asked recording one other text last same is also =
     let rows : map explanation_value is.rows ≡ map explanation_value also.rows =
     rows_once one.explained.rows.items other.explained.rows.items is.rows also.rows is.rows_by_topic also.rows_by_topic same.rows in
     let talking : is.talking ≡ also.talking = unmatched_once one.talk.talking other.talk.talking is.talking also.talking same.talk.talking is.talking_by_topic also.talking_by_topic in
@@ -89,15 +100,16 @@ text_once asked recording one other text last same is also =
     ap₂ (λ (rows : List ExplanationValue) (counts : Counts). facts_by rows (scope_by counts) counts recording) same.rows same.counts in
     let side : side_facts one ≡ side_facts other = λ i. facts_if (same.rows i) (same.order i) (same.arrived i) in
     let talk = same_talk one.talk other.talk same.talk in
-    let beside : beside_of asked recording one (talking_names is.talking) is.left_out ≡ beside_of asked recording other (talking_names also.talking) also.left_out =
-    λ i. record (beside_of asked recording one (talking_names is.talking) is.left_out) { lost = same.lost i; events = events_by asked (talk i) (same.lost i) (same.rows i); facts = facts i; side = side i; talking = talking_names (talking i); left_out = left_out i; talk = talk i; ending = same.ending i } in
-    let told : Told = (scope_of asked recording one, beside_of asked recording one (talking_names is.talking) is.left_out, map explanation_value is.rows) in
-    let told' : Told = (scope_of asked recording other, beside_of asked recording other (talking_names also.talking) also.left_out, map explanation_value also.rows) in
+    let remedy : is.remedy ≡ also.remedy = remedy_once unique asked recording one.explained.rows.items other.explained.rows.items one other is.remedy also.remedy talk same.rows is.is_remedy also.is_remedy in
+    let beside : beside_of asked recording one is.remedy (talking_names is.talking) is.left_out ≡ beside_of asked recording other also.remedy (talking_names also.talking) also.left_out =
+    λ i. record (beside_of asked recording one is.remedy (talking_names is.talking) is.left_out) { lost = same.lost i; remedy = remedy i; events = events_by asked (talk i) (same.lost i) (same.rows i); facts = facts i; side = side i; talking = talking_names (talking i); left_out = left_out i; talk = talk i; ending = same.ending i } in
+    let told : Told = (scope_of asked recording one, beside_of asked recording one is.remedy (talking_names is.talking) is.left_out, map explanation_value is.rows) in
+    let told' : Told = (scope_of asked recording other, beside_of asked recording other also.remedy (talking_names also.talking) also.left_out, map explanation_value also.rows) in
     let path : told ≡ told' = λ i. (scope i, beside i, rows i) in
-    text_by_once (scope_of asked recording other) (beside_of asked recording other (talking_names also.talking) also.left_out) (map explanation_value also.rows) text last
+    text_by_once (scope_of asked recording other) (beside_of asked recording other also.remedy (talking_names also.talking) also.left_out) (map explanation_value also.rows) text last
     (subst (λ (by : Told). IsTextBy by.0 by.1 by.2 text) path is.is_text) also.is_text
 
 pub returns : goal.returns
 returns c = λ asked theirs recording one other ending last is also.
     let same = c.one_full_report.ensures asked theirs recording is.report also.report is.is_report also.is_report in
-    (text_once asked recording is.report also.report one other same is.is_text also.is_text, is.ends ∙ same.ending ∙ sym also.ends)
+    (text_once c.one_no_pair.ensures asked recording is.report also.report one other same is.is_text also.is_text, is.ends ∙ same.ending ∙ sym also.ends)
