@@ -16,6 +16,7 @@ mod NamingLemmas
 mod NamingWalkLemmas
 mod NoPairLemmas
 pub mod Offered
+mod NotToldOnce
 mod OneReportLemmas
 mod OneSideLemmas
 mod OneTalkLemmas
@@ -31,3 +32,4 @@ mod StayLemmas
 mod TalkLemmas
 mod TalkParts
 mod TopicLemmas
+mod TwoLivesOnce
