@@ -17,6 +17,7 @@ mod NamingWalkLemmas
 mod NoPairLemmas
 pub mod Offered
 mod OneNoPairLemmas
+mod NotToldOnce
 mod OneReportLemmas
 mod OneSideLemmas
 mod OneTalkLemmas
@@ -32,3 +33,4 @@ mod StayLemmas
 mod TalkLemmas
 mod TalkParts
 mod TopicLemmas
+mod TwoLivesOnce

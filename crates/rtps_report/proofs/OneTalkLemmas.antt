@@ -36,6 +36,7 @@ use Rattle.rtps_policies.specs.declared.one_way.OneWay.{OneWay}
 use Rattle.rtps_report.specs.Asked.{AskedValue}
 use Rattle.rtps_report.specs.BestEfforts.{AreSumsOf, BestEffortValue, CountedValue, HeldValue, arrived_among, held_among, sum_of, total_of}
 use Rattle.rtps_report.specs.Laws.{TellSame}
+use Rattle.rtps_report.specs.NotTold.{AreNotToldIn, NotToldValue}
 use Rattle.rtps_report.specs.Participants.{participant_told}
 use Rattle.rtps_report.specs.Recording.{RecordingValue}
 use Rattle.rtps_report.specs.Talk.{AreCounted, IsTalkAs, IsTalkOf, LeftOutValue, TalkValue, choice_of, is_counted, is_left_out, left_out_of, talks, traffic_of, unfit_in}
@@ -48,7 +49,10 @@ use Rattle.rtps_who.specs.Samples.{NodeValue}
 use Rattle.rtps_report.specs.Ends.{EndValue, end_of, recorded_in}
 use Rattle.rtps_policies.specs.declared.silence.Silence.{Silence}
 use Rattle.rtps_report.specs.declared.participant.Participant.{Participant}
+use Rattle.rtps_report.specs.declared.two_lives.TwoLives.{TwoLives}
 use Rattle.rtps_report.specs.declared.ways.Ways.{Ways}
+use Rattle.rtps_report.proofs.NotToldOnce.{not_told_once}
+use Rattle.rtps_report.proofs.TwoLivesOnce.{two_lives_once}
 use Rattle.rtps_report.proofs.SameLists.{same_keys, same_members}
 
 -- ---- pairs of best effort
@@ -174,6 +178,9 @@ talk_once unique asked theirs recording times one other is also =
       held_total = is.best_effort.is_held_total ∙ ap (λ those. total_of (arrived_among those)) counted ∙ sym also.best_effort.is_held_total;
       ways = is.best_effort.are_ways ∙ ap ways_of_counted counted ∙ sym also.best_effort.are_ways;
       participants = is.participants ∙ ap (λ (d : DirectoryValue). map (participant_told intake recording times) d.participants) same ∙ sym also.participants;
+      not_told = not_told_once intake recording times.of_datagrams also.directory one.not_told other.not_told
+          (subst (λ (d : DirectoryValue). AreNotToldIn intake recording times.of_datagrams d one.not_told) same is.not_told) also.not_told;
+      lives = two_lives_once recording times.of_datagrams one.lives other.lives is.lives also.lives;
     }
 
 pub one_talk : HasOneMap → (asked : AskedValue) (theirs : Option OtherRecording) (recording : RecordingValue) (one other : TalkValue) → IsTalkAs asked theirs recording one
@@ -183,8 +190,8 @@ one_talk unique asked theirs recording one other is also =
 
 -- what is told of who does not talk, by its parts
 abbrev talk_of : (Guid → EndValue) → (Guid → Option NodeValue) → (GuidPrefix → List NodeValue) → (Pair → Silence) → List UnmatchedValue → List UnmatchedValue → List LeftOutValue → List OneWay → List BestEffortValue → BestEffortValue
-    → List HeldValue → List BestEffortValue → BestEffortValue → Ways → List Participant → TalkValue
-talk_of ends node nodes silence unmatched talking left_out one_way best_effort total held held_sums held_total ways participants =
+    → List HeldValue → List BestEffortValue → BestEffortValue → Ways → List Participant → List NotToldValue → List TwoLives → TalkValue
+talk_of ends node nodes silence unmatched talking left_out one_way best_effort total held held_sums held_total ways participants not_told lives =
     record {
       ends = ends;
       node = node;
@@ -201,6 +208,8 @@ talk_of ends node nodes silence unmatched talking left_out one_way best_effort t
       held_total = held_total;
       ways = ways;
       participants = participants;
+      not_told = not_told;
+      lives = lives;
     }
 
 -- what tells the same is the same
@@ -212,4 +221,4 @@ same_talk one other same =
     let silence : one.silence ≡ other.silence = fun_ext same.silence in
     λ i.
     talk_of (ends i) (node i) (nodes i) (silence i) (same.unmatched i) (same.talking i) (same.left_out i) (same.one_way i) (same.best_effort i) (same.best_effort_total i) (same.held i) (same.held_sums i)
-    (same.held_total i) (same.ways i) (same.participants i)
+    (same.held_total i) (same.ways i) (same.participants i) (same.not_told i) (same.lives i)

@@ -41,7 +41,7 @@ returns-clause-talks c = λ other is.
     let talk : Talk = record {
       announced = c.in_ok-announced.announced;
       who = c.in_ok-who.who;
-      namings = c.in_ok-namings.namings;
+      namings = c.in_ok-participants.field-0.namings;
       unfit = c.in_ok-unfit_of.field-0;
       unmatched = c.in_ok-parted.parted.silent;
       talking = c.in_ok-parted.parted.talking;
@@ -53,16 +53,18 @@ returns-clause-talks c = λ other is.
       held_sums = c.in_ok-talk-3.field-0;
       held_total = c.total_of-talk-2.result;
       ways = c.ways_of_counted-talk.result;
-      participants = c.in_ok-participants.participants;
+      participants = c.in_ok-participants.field-0.participants;
+      not_told = c.in_ok-participants.field-0.not_told;
+      lives = c.in_ok-participants.field-0.lives;
     } in
     let kept : IsKeptOf asked intake traffic entries talk =
     kept_is asked intake traffic entries talk (map unmatched_value unfit) same
-    (subst (λ (items : List Unmatched). AreUnfit (map unmatched_value items) c.in_ok-unfit_of.field-0) c.deref.ensures.value c.in_ok-unfit_of.ensures) c.in_ok-namings.ensures parted.1 who in
+    (subst (λ (items : List Unmatched). AreUnfit (map unmatched_value items) c.in_ok-unfit_of.field-0) c.deref.ensures.value c.in_ok-unfit_of.ensures) c.in_ok-participants.ensures.namings parted.1 who in
     talk_is asked other recording heard.times.now heard.directory.now talk counted is.directory announced who kept
     (parted.0 ∙ ap (filter (λ (one : UnmatchedValue). not (talks intake (pair_of one)))) same)
     (c.in_ok-talk.ensures ∙ ap (λ (those : List Match). map (left_out_of entries) (filter (is_left_out_of talk.unfit talk.namings (chosen_by asked (node_in talk.who)) entries) those)) (c.deref-2.ensures.value ∙ c.in_ok-matched.ensures)
     ∙ ap (λ (chosen : Choice). map (left_out_of entries) (filter (is_left_out_of talk.unfit talk.namings chosen entries) (matches_among (settled_in entries)))) choice)
-    (c.in_ok-one_way_namings.ensures traffic announced c.in_ok-namings.ensures)
+    (c.in_ok-one_way_namings.ensures traffic announced c.in_ok-participants.ensures.namings)
     (subst (λ (chosen : Choice). AreCounted asked other intake entries (filter (is_counted_of talk.unfit talk.namings chosen entries) (matches_among (settled_in entries))) counted) choice
     (subst (λ (those : List Match). AreCounted asked other intake entries (filter (is_counted_of talk.unfit talk.namings (chosen_by asked (node_in talk.who)) entries) those) counted) (c.deref-3.ensures.value ∙ c.in_ok-matched.ensures)
     (c.in_ok-counted.ensures intake other is.index is.beside)))
@@ -72,7 +74,8 @@ returns-clause-talks c = λ other is.
     (subst (λ (counted : List CountedValue). AreSumsOf counted (map best_effort_value c.in_ok-talk-3.field-0.items)) arrived c.in_ok-talk-3.ensures)
     (c.total_of-talk-2.ensures ∙ ap (λ (items : List Counted). total_of (map counted_value items)) c.deref-8.ensures.value ∙ ap total_of arrived)
     (c.ways_of_counted-talk.ensures ∙ ap (λ (items : List Counted). ways_of_counted (map counted_value items)) c.deref-5.ensures.value)
-    (c.in_ok-participants.ensures intake is.index is.announcements announced)
+    (c.in_ok-participants.ensures.participants intake is.index is.announcements announced) (c.in_ok-participants.ensures.not_told intake is.index is.announcements announced)
+    c.in_ok-participants.ensures.lives
 
 pub returns-clause-kept : goal.returns-clause-kept
 returns-clause-kept c = λ other is.
@@ -87,5 +90,5 @@ returns-clause-kept c = λ other is.
     let choice = choice_kept asked intake entries c.in_ok-who.who (node_is (recorded_in intake entries) c.in_ok-who.who who) in
     kept_is asked intake traffic entries _ (map unmatched_value c.in_ok-unfit.unfit.items)
     (c.in_ok-unfit.ensures traffic announced ∙ ap (λ (chosen : Choice). unfit_in chosen traffic entries) choice)
-    (subst (λ (items : List Unmatched). AreUnfit (map unmatched_value items) c.in_ok-unfit_of.field-0) c.deref.ensures.value c.in_ok-unfit_of.ensures) c.in_ok-namings.ensures
+    (subst (λ (items : List Unmatched). AreUnfit (map unmatched_value items) c.in_ok-unfit_of.field-0) c.deref.ensures.value c.in_ok-unfit_of.ensures) c.in_ok-participants.ensures.namings
     (c.in_ok-parted.ensures intake is.index).1 who
