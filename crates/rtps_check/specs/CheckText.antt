@@ -4,7 +4,7 @@
 -- recording is clean, or why not. A pair that is not clean has the lines of `why` that explain it, and in a last
 -- line what to do; those that lack only a tail share a line, since a system that is stopped while it publishes leaves one with each.
 -- Other programs read the outcome and its reasons without taking lines apart.
-use Rattle.std.specs.Prelude.{ℕ, ◌≡◌, ◌++◌, ◌==◌, if◌then◌else◌, nat_lt, List, [], ◌∷◌, Bool, codes, filter, map, ℤ, decimal, length, Option, None, Some, flat_map, ◌↔◌, true}
+use Rattle.std.specs.Prelude.{ℕ, ◌≡◌, ◌++◌, ◌==◌, if◌then◌else◌, List, [], ◌∷◌, Bool, codes, filter, map, ℤ, decimal, length, Option, None, Some, flat_map, ◌↔◌, true}
 use Rattle.std.specs.List.{concat}
 use Rattle.rtps_evidence.specs.Explanation.{lost_at}
 use Rattle.rtps_evidence.specs.Kinds.{LostValue, lost_value}
@@ -70,11 +70,6 @@ arrived_text (Some side) totals = concat (codes ", " ∷ grouped totals.arrived 
 -- the line of both
 abbrev pub clean_lines : Option SideFacts → Totals → List ℕ
 clean_lines side totals = clean_line totals ++ (arrived_text side totals ++ codes "\n")
-
--- something, where there are some
-abbrev pub where_some : {X : Type 0} → List X → List ℕ → List ℕ → List ℕ
-where_some [] text other = other
-where_some (x ∷ xs) text other = text
 
 -- that there is no pair, and what to do
 abbrev pub no_pair_lines : List ℕ → List ℕ

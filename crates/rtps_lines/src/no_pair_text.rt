@@ -55,6 +55,18 @@ fn push_other(text: &mut String, talk: &Talk<'_>, one: InDomain) -> Result<(), A
     write!(text, ", {participant} in domain {domain}")
 }
 
+fn push_domains(
+    text: &mut String,
+    talk: &Talk<'_>,
+    one: InDomain,
+    other: InDomain,
+) -> Result<(), AllocError>
+    ensures { OnOk result (string_bytes text.new ≡ string_bytes text.old ++ (domain_text (talk_value talk.now) one ++ other_text (talk_value talk.now) other)) }
+{
+    push_domain(text, talk, one)?;
+    push_other(text, talk, other)
+}
+
 fn sides_words(side: Side) -> &'static str
     ensures { result.now ≡ sides_text side }
 {
@@ -153,10 +165,7 @@ fn push_no_pair(text: &mut String, talk: &Talk<'_>, why: &WhyNoPair<'_>) -> Resu
 {
     match why.cause {
         NoPair::Early(early) => push_early(text, early),
-        NoPair::TwoDomains(one, other) => {
-            push_domain(text, talk, one)?;
-            push_other(text, talk, other)
-        }
+        NoPair::TwoDomains(one, other) => push_domains(text, talk, one, other),
         NoPair::OneSide => push_one_sides(text, &why.one_sides),
         other => text.push_str(sentence(other)),
     }

@@ -1,5 +1,5 @@
 -- Of a recording there is one cause for which it has no pair.
-use Rattle.std.proofs.Common.{◌≡◌, ◌∙◌, ◌==◌, ℕ, Bool, List, ap, ap₂, length, map, not, refl, sym}
+use Rattle.std.proofs.Common.{◌≡◌, ◌∙◌, ◌==◌, ℕ, List, ap, ap₂, length, map, not, refl, sym}
 use Rattle.std.specs.Cmp.Lexicographic.{slice_cmp}
 use Rattle.std.specs.Ordering.{nat_cmp}
 use Rattle.std.proofs.lemmas.Cmp.{nat_list_cmp_total}
@@ -12,7 +12,6 @@ use Rattle.rtps_report.specs.Early.{early_of}
 use Rattle.rtps_report.specs.NoPair.{HasOneNoPair, no_pair_by}
 use Rattle.rtps_report.specs.OneSides.{AreByTopic, AreOneSidesIn, OneSidedValue, one_sides_among}
 use Rattle.rtps_report.specs.Talk.{TalkValue, traffic_of}
-use Rattle.rtps_report.specs.declared.no_pair.NoPair.{NoPair}
 use Rattle.rtps_report.proofs.OrderLemmas.{sorted_once}
 
 -- the same endpoint of this topic

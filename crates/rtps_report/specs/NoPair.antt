@@ -1,6 +1,6 @@
 -- Why there is no pair to judge. own: it is asked before anything else why a topic is not there, and the causes hide one another: what is said of the recording comes first,
 -- then of participants, then of endpoints. The first cause that fits is told.
-use Rattle.std.specs.Prelude.{ℕ, ◌≡◌, Bool, true, false, if◌then◌else◌, ◌==◌, is_some, length, List, [], ◌∷◌, Option, Some, None, nat_eq, nat_lt, not}
+use Rattle.std.specs.Prelude.{ℕ, ◌≡◌, Bool, if◌then◌else◌, ◌==◌, is_some, length, List, [], ◌∷◌, Option, Some, None, nat_eq, nat_lt, not}
 use Rattle.std.specs.List.{filter_map, find, list_any}
 use Rattle.std.specs.Option.{option_map}
 use Rattle.rtps_report.specs.Asked.{AskedValue}

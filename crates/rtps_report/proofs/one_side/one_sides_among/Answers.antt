@@ -1,4 +1,4 @@
-use Rattle.std.proofs.Common.{◌+◌, ap, arith, length, length-drop, map}
+use Rattle.std.proofs.Common.{ap, arith, length, length-drop, map}
 use Rattle.rtps_discovery.specs.Endpoint.{endpoint_value}
 use Rattle.rtps_report.specs.Asked.{asked_value}
 use Rattle.rtps_report.specs.OneSides.{one_side, one_sided_value, one_sides_among}
