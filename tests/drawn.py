@@ -4,8 +4,8 @@
     tests/drawn.py [--seconds N] [--seed S] PROGRAM
 
 Each comparison of bench/ that is named in the head of its script, as `NAME.py [WORD] PROGRAM [COUNT [SEED]]`, is run for N seconds. Without
---seconds these are 60, or fewer where six minutes are too short for all; as many comparisons run side by side as there are processors. A
-comparison is run again and again on a few recordings. The seeds of its runs are S000, S001 and so on, where S is the day, such as 20261129,
+--seconds all of them together take less than a minute; as many run side by side as there are processors. A comparison is run again and again
+on a few recordings. The seeds of its runs are S000, S001 and so on, where S is the day, such as 20261129,
 if it is not given. So a line that tells what failed is a command that shows it again.
 
 What failed is kept in a folder, whose path is printed: what each failing run said, the recordings in which the two differ, and of these
@@ -26,8 +26,8 @@ import program
 BENCH = os.path.join(program.ROOT, 'bench')
 # so many recordings a run, and so many lines that are shown of one that failed
 COUNT, MOST_LINES = 10, 5
-# how long all may take, in seconds, and one
-ALL, EACH = 360, 60
+# how long all may take, in seconds, but for their last runs
+ALL = 45
 
 
 def comparisons():
@@ -88,7 +88,7 @@ def asked():
 
 def main():
     words, found, processors = asked(), list(comparisons()), len(os.sched_getaffinity(0))
-    seconds = words.seconds or min(EACH, ALL * processors / len(found))
+    seconds = words.seconds or ALL / -(-len(found) // processors)
     room = tempfile.mkdtemp(prefix=f'rtps_drawn_{words.seed}_')
     print(f'drawn: seed {words.seed}, {seconds:.0f} s for each of {len(found)} comparisons')
     counts = program.Counts()
