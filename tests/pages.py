@@ -45,7 +45,8 @@ TALKING = 'each_reason_of_silence.rec', 'best_effort_pairs_by_topic.rec', 'reaso
 HELD = sorted(name.removesuffix('.arrived.rec') for name in os.listdir(os.path.join(ROOT, 'tests', 'rows')) if name.endswith('.arrived.rec'))
 MADE_HELD = 'lost_on_the_way', 'lost_of_many'
 BOTH_SIDES = *HELD, *MADE_HELD
-# The most octets of a page of an example and of one of 90,000 pairs.
+# The most octets of a page of an example and of one of 90,000 pairs. The constant parts alone are some 114,000: style and scripts of the picture,
+# the events and the charts.
 EXAMPLE_SIZE, MANY_SIZE = 125_000, 95_000_000
 PROBE = file_of('tests', 'page_probe.js').decode()
 # So many pairs of a page are chosen one after another.
@@ -537,9 +538,12 @@ class PageTests(Counts):
             self.holds(f'{name}: the outcome', [f'✗ {word}', reasons], [self.text(tab, '#outcome'), tab.evaluate("textsOf(document, '#because li')")])
             self.holds(f'{name}: what is received', received, self.text(tab, '#received'))
             tab.close()
-        tab = self.open('unmatched')
-        self.holds('no pair: what to do', ' '.join(self.parts('unmatched')[0].split('\n')[:2]).replace('   -> ', ': '), self.text(tab, '#shown'))
-        self.leave('unmatched', tab)
+        for name in ('unmatched', 'none'):
+            tab = self.open(name)
+            lines = [line.strip().removeprefix('-> ') for line in self.parts(name)[0].split('\n\n')[0].split('\n')]
+            self.holds(f'{name}: no pair, and why', lines, tab.evaluate("textsOf(document, '.no-pair > *')"))
+            self.holds(f'{name}: no pair, and no table of them', True, tab.evaluate("document.getElementById('pairs').hidden"))
+            self.leave(name, tab)
 
     def asked(self):
         """the options that were given"""
@@ -576,6 +580,7 @@ class PageTests(Counts):
             self.holds(f'{name}: what to look at', {key: counted(n) for key, n in wanted.items()}, shown)
             heads = [one['head'] for one in tab.evaluate('eventsShown()')]
             self.holds(f'{name}: the events in their order', [[head_of(event)] for event in events], heads[:len(events)])
+            self.holds(f'{name}: there is a part for them', not events and not wanted and bool(self.rows(name)), tab.evaluate("document.getElementById('happened').hidden"))
             tab.close()
 
     @staticmethod
@@ -670,7 +675,7 @@ class PageTests(Counts):
             strips = tab.evaluate('stripsShown()')
             self.holds(f'{name}: the strips', [topic_name(rows[0]['topic']) for rows in order[:20]], [strip['topic'] for strip in strips])
             for rows, strip in zip(order, strips):
-                wanted = {kind for row in rows for kind, lost in row['numbers'].items() if any(has_place(values, one['sent']) for one in lost['ranges'])
+                wanted = {kind for row in rows for kind, lost in row['numbers'].items() if any(one['sent'] is None or has_place(values, one['sent']) for one in lost['ranges'])
                           and (row['outcomes'].get('arrived') is None) == (kind != 'not_arrived')}
                 wanted |= {'leaves' for row in rows if row['until'] is not None and has_place(values, {'time': row.get('until_time')})}
                 wanted |= {'joins' for row in rows if values['joined'][values['pairs'].index(row)] is not None}
@@ -732,11 +737,36 @@ class PageTests(Counts):
                 'unobserved': [one['because'] for one in values['unobserved']],
                 'best-effort': [f"{counted(one['recorded'])} of {counted(one['numbers'])}" for one in values['best_effort']],
                 'not-arrived': [lacking_wanted(one) for one in lacking_pairs(values)],
+                'alone': alone_wanted(values),
             }
             self.holds(f'{name}: who does not talk', wanted, {kind: tab.evaluate(f"talkShown('{kind}')") for kind in wanted})
-            for section, kinds in {'talk': ('unmatched', 'talking', 'one-way', 'unobserved'), 'best-effort': ('best-effort', 'not-arrived')}.items():
+            for section, kinds in {'talk': ('unmatched', 'talking', 'one-way', 'alone', 'unobserved'), 'best-effort': ('best-effort', 'not-arrived')}.items():
                 self.holds(f'{name}: there is a part for it', any(wanted[kind] for kind in kinds), not tab.evaluate(f"document.getElementById('{section}').hidden"))
             self.leave(name, tab)
+
+    def not_told(self):
+        """what discovery has not told, two lives, and pairs that matched late, in words that are written out here"""
+        text, values = self.parts('robot')
+        (w, r), late = [values['pairs'][0][side] for side in ('writer', 'reader')], {'datagram': 12, 'at': 20, 'time': 12.345, 'frame': 13}
+        here, there = (f'{guid[:24]}.000001c1' for guid in (w, r))
+        given = {
+            'untold': [{'from': here, 'to': there, 'writers': [w, f'{w[:24]}.00000f03'], 'readers': [f'{w[:24]}.00000304'], 'unnamed': 2}],
+            'lives': [{'participant': here, 'address': '10.0.0.1', 'sent': [12.5, 1764000000.25]}],
+            'late': [{'topic': values['pairs'][0]['topic'], 'writer': w, 'reader': r, 'seconds': 8.1, 'matched': late}],
+        }
+        self.made['not_told'] = text, values | given
+        tab = self.open('not_told', '#pair-1')
+        wanted = {
+            'untold': [f'writer of /odomwriter of {w[:24]}.00000f03reader of /cmd_vel2 without a name here'], 'lives': ['12.500 s and 2025-11-24 16:00:00.250 UTC'],
+            'late': ['8.100 s after both were there, in datagram 12, octet 20, frame 13, 12.345 s'],
+        }
+        self.holds('told: each has its table', wanted, {kind: tab.evaluate(f"talkShown('{kind}')") for kind in wanted})
+        self.holds('told: who is not told of whose', ['P2 /amcl', 'P1 /base_driver'], tab.evaluate("textsOf(document, 'table.untold tbody tr > :nth-child(-n+2)')"))
+        self.holds('told: it is said with the pair', f"The two matched {wanted['late'][0]}.", tab.evaluate("textsOf(document, '.rests-on li').at(-1)"))
+        order = ['untold', 'lives', 'late', 'unmatched', 'alone']
+        tab.evaluate("document.querySelectorAll('.talk-fold').forEach(openFold)")
+        self.holds('told: their order', order, tab.evaluate("[...document.querySelectorAll('table.talk')].map((table) => table.classList[1])"))
+        self.leave('not_told', tab)
 
     # ---- seconds, and what arrived
 
@@ -797,6 +827,7 @@ class PageTests(Counts):
         """in words that are written out here"""
         wanted = {
             'a_reader_that_acknowledged_nothing_and_all_arrived': 'The reader never acknowledged sample 1, but all numbers are received or arrived.',
+            # Each kind of the row is told: by the other recording 4-6 and 8-1499 did not come, and by this one alone they were never sent.
             'lost_on_the_way': 'The reader may lack samples 3 to 1500: they are announced, and the reader never acknowledged them. '
                                'Unsent 4-6, 8-1499. Not arrived 3-6, 8-1499.',
         }
@@ -896,6 +927,7 @@ class PageTests(Counts):
     def keyboard(self):
         tab = self.open('robot')
         seen, reached = [], None
+        # In front of the pairs stand the bar, a strip for each topic, the pairs that events name, folds, kinds, filter, order and heads.
         for _ in range(100):
             tab.press('Tab')
             found = tab.evaluate('focused()')
@@ -1108,6 +1140,15 @@ def many_text(values):
     return f"{''.join(map(recorded.text_of, values['pairs']))}\nnot clean: {'; '.join(values['because'])}\n"
 
 
+def alone_wanted(values):
+    """what the page shows of topics that have writers alone, or readers alone: the last cell of each"""
+    sides = {}
+    for one in values['endpoints']:
+        sides.setdefault(one['topic'], {'writer': 0, 'reader': 0})[one['side']] += 1
+    alone = sorted((topic.startswith(('rq/', 'rr/')), topic, found['reader']) for topic, found in sides.items() if 0 in found.values())
+    return [counted(readers) for _, _, readers in alone]
+
+
 def more_of(text):
     """the number of `and N more` at the end of a text, or 0"""
     found = re.search(r'and ([\d,]+) more$', text)
@@ -1158,7 +1199,7 @@ def is_heard(act, reader):
 
 WITHOUT_BROWSER = 'constants', 'pages_of_the_program', 'text_of_a_page', 'data_of_check', 'rows_with_charts'
 IN_BROWSER = (
-    'each_row', 'working_copy', 'outcome', 'asked', 'first_screen', 'topics_to_look_at', 'chosen_pairs', 'participants', 'talk', 'seconds',
+    'each_row', 'working_copy', 'outcome', 'asked', 'first_screen', 'topics_to_look_at', 'chosen_pairs', 'participants', 'talk', 'not_told', 'seconds',
     'head', 'pictures_of_topics', 'folds', 'bar', 'heights', 'both_sides_shown', 'all_arrived', 'hostile_names',
     'without_scripts', 'filters', 'orders', 'clicks', 'keyboard', 'charts', 'pointer', 'charts_left_out', 'contrast', 'widths', 'paper', 'opened_on_paper',
     'more_rows', 'many_pairs',

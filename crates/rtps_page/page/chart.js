@@ -12,16 +12,19 @@ const POINT = 'Point at a dot to read it.';
 
 // At most so many lost numbers of a kind are marked.
 const MOST_LOST = 5000;
+// So many numbers that did not arrive are looked up.
+const MOST_ARRIVED = 100000;
 
 // What is drawn of a row: dots for DATA to its reader, bands for numbers that are told gone to it, steps for what HEARTBEATs announce
-// and for what the reader acknowledged, a mark for each number that is lost, dots for those that another recording has, and marks for the
-// numbers and the datagram that its verdict is about.
+// and for what the reader acknowledged, a sign where the reader asks for a number, a mark for each number that is lost, dots for those that
+// another recording has, and marks for the numbers and the datagram that its verdict is about. A sample in pieces is one dot.
 function marksOf(report, row, axis) {
   const acts = report.actsOf(row).map((entry) => entryParts(entry, axis));
   const to = namesOf(row.reader);
   const heard = acts.filter(({ named }) => to.includes(named));
   const answers = report.basesOf(row).map(([datagram, at, base]) => ({ x: axis.at(datagram), y: Number(base) - 1, at }));
-  const dots = dotsOf(heard.filter(({ what }) => what === 'data'));
+  const sent = heard.filter(({ what }) => what === 'data' || what === 'piece');
+  const dots = dotsOf(sent);
   const announced = stepsOf(acts.filter(({ what }) => what === 'announced').map(({ x, numbers: [last] }) => ({ x, y: Number(last) })));
   const told = stepsOf(acts.filter(({ what }) => what !== 'gone').map(({ x, numbers: [last] }) => ({ x, y: Number(last) })));
   return {
@@ -30,7 +33,8 @@ function marksOf(report, row, axis) {
     announced,
     answers,
     acknowledged: stepsOf(answers),
-    lost: lostMarks(row, dots, told, axis),
+    asked: report.asksOf(row).flatMap(([datagram, , numbers]) => numbers.map((number) => ({ x: axis.at(datagram), y: Number(number) }))),
+    lost: lostMarks(row, sent.map(({ x, numbers: [number] }) => ({ x, y: Number(number) })), told, axis),
     arrived: arrivedDots(row, dots),
     numbers: markedNumbers(row),
     datagrams: row.verdict === 'unfounded' ? [{ x: axis.at(row.datagram), label: `datagram ${row.datagram}` }] : [],
@@ -38,8 +42,8 @@ function marksOf(report, row, axis) {
 }
 
 // Each number of a row that is lost: where it was sent first to the reader, or, where it never was, where the writer first told of it.
-function lostMarks({ numbers }, dots, told, axis) {
-  const sent = firstOf(dots);
+function lostMarks({ numbers }, sendings, told, axis) {
+  const sent = firstOf(sendings);
   return Object.keys(LOST_WORDS).filter((kind) => numbers[kind]).flatMap((kind) => (
     eachNumber(numbers[kind].ranges, MOST_LOST).map((number) => {
       const dot = sent.get(number);
@@ -64,12 +68,14 @@ function eachNumber(ranges, most) {
   return numbers;
 }
 
-// Of a row that is held against another recording: where each number was sent first of which this one is certain that it came, or that has it.
+// Of a row that is held against another recording: where each number was sent first that did not lack there. Where more ranges lack than the
+// data tells, up to the last one that it tells.
 function arrivedDots(row, dots) {
-  if (!isHeld(row) || row.numbers.not_arrived?.more > 0) return [];
-  const lacking = row.numbers.not_arrived?.ranges || [];
-  const isLacking = (y) => lacking.some(({ first, last }) => y >= first && y <= last);
-  return [...firstOf(dots).values()].filter(({ y }) => y >= row.from && !isLacking(y)).map(({ x, y }) => ({ x, y }));
+  if (!isHeld(row)) return [];
+  const { ranges, more } = row.numbers.not_arrived || { ranges: [], more: 0 };
+  const lacking = new Set(eachNumber(ranges, MOST_ARRIVED));
+  const end = more > 0 || lacking.size === MOST_ARRIVED ? Math.max(...lacking) : Infinity;
+  return [...firstOf(dots).values()].filter(({ y }) => y >= row.from && y <= end && !lacking.has(y)).map(({ x, y }) => ({ x, y }));
 }
 
 // What stands to the right: the seconds of datagrams, where each that is drawn has one; or else their numbers. It has the word for
@@ -101,7 +107,7 @@ const within = ([first, last], room, [low, high]) => (first > last ? [low, high]
 
 // The parts of an entry: where it stands, what it says, of which numbers, and whom it names.
 function entryParts([datagram, at, what, ...rest], axis) {
-  const count = what === 'gone' ? 2 : 1;
+  const count = what === 'gone' || what === 'piece' ? 2 : 1;
   return { x: axis.at(datagram), datagram, at, what, numbers: rest.slice(0, count), named: rest[count] };
 }
 
@@ -110,14 +116,22 @@ function markedNumbers({ verdict, number, first_missed: missed }) {
   return missed && missed.number !== number ? [...found, { y: Number(missed.number), label: `missed ${missed.number}` }] : found;
 }
 
-// Each DATA as a dot; it is sent again where an earlier one has its number.
+// Each DATA as a dot, and each sample in pieces where it is complete. It is sent again where an earlier one has its number, or where one of its
+// pieces was sent twice.
 function dotsOf(entries) {
-  const seen = new Set();
-  return entries.map(({ x, datagram, at, numbers: [number] }) => {
-    const again = seen.has(number);
-    seen.add(number);
-    return { x, y: Number(number), number, datagram, at, again };
-  });
+  const [seen, pieces, twice] = [new Set(), new Set(), new Set()];
+  const dots = [];
+  for (const { x, what, datagram, at, numbers: [number, piece] } of entries) {
+    if (what === 'piece') {
+      const name = `${number} ${piece}`;
+      if (pieces.has(name)) twice.add(number);
+      pieces.add(name);
+    } else {
+      dots.push({ x, y: Number(number), number, datagram, at, again: seen.has(number) || twice.has(number) });
+      seen.add(number);
+    }
+  }
+  return dots;
 }
 
 // From a datagram on these numbers are told gone. Of those that follow on what is gone already, the new ones alone.
@@ -175,10 +189,10 @@ class Chart {
 
   // Everything, with some room above.
   extent() {
-    const { dots, bands, announced, acknowledged, numbers, lost } = this.marks;
+    const { dots, bands, announced, acknowledged, asked, numbers, lost } = this.marks;
     let top = 1;
     for (const { y, high } of [...announced, ...acknowledged, ...numbers, ...bands, ...lost]) top = Math.max(top, y ?? high);
-    for (const { y } of dots) top = Math.max(top, y);
+    for (const marks of [dots, asked]) for (const { y } of marks) top = Math.max(top, y);
     return { x0: this.axis.low, x1: this.axis.high, y0: 0, y1: top * 1.06 + 1 };
   }
 
@@ -191,10 +205,11 @@ class Chart {
   }
 
   description(row) {
-    const { dots, answers, lost } = this.marks;
+    const { dots, answers, asked, lost } = this.marks;
     const again = dots.filter((dot) => dot.again).length;
+    const asks = asked.length > 0 ? `${plural(asked.length, 'number')} asked for, ` : '';
     return `Chart of ${this.axis.name.toLowerCase()} and numbers: ${plural(dots.length, 'DATA', 'DATA')} to this reader, ${counted(again)} of them sent again, `
-      + `${plural(answers.length, 'answer')} of the reader, ${plural(lost.length, 'mark')} of lost numbers, and a line at ${row.verdict} ${row.number}.`;
+      + `${plural(answers.length, 'answer')} of the reader, ${asks}${plural(lost.length, 'mark')} of lost numbers, and a line at ${row.verdict} ${row.number}.`;
   }
 
   controls() {
@@ -366,6 +381,7 @@ class Chart {
     this.drawSteps(this.marks.acknowledged, '--acknowledged', 3.5);
     this.drawAnswers();
     this.drawMarks();
+    this.drawAsked();
     this.drawDots();
     this.drawLost();
     this.drawArrived();
@@ -496,6 +512,23 @@ class Chart {
     }
   }
 
+  // Each number that the reader asks for, as a triangle that stands on its tip; of those that fall on one pixel, one.
+  drawAsked() {
+    const pen = this.penOf('--ink', 1.25);
+    const drawn = new Set();
+    for (const mark of this.marks.asked.filter((mark) => this.isInSight(mark))) {
+      const [x, y] = [Math.round(this.pixelX(mark.x)), Math.round(this.pixelY(mark.y))];
+      if (drawn.has(x * CHART_HEIGHT + y)) continue;
+      drawn.add(x * CHART_HEIGHT + y);
+      pen.beginPath();
+      pen.moveTo(x - 4, y - 4);
+      pen.lineTo(x + 4, y - 4);
+      pen.lineTo(x, y + 3);
+      pen.closePath();
+      pen.stroke();
+    }
+  }
+
   // Each number that is lost as a red cross; of those that fall on one pixel, one. Where it was never sent, it stands in a box.
   drawLost() {
     const lost = this.marks.lost.filter((mark) => this.isInSight(mark));
@@ -556,10 +589,11 @@ class Chart {
 
 // ---- the legend
 
-function legend({ lost, arrived }) {
+function legend({ asked, lost, arrived }) {
   return make('ul', { class: 'legend' },
     legendItem('DATA to this reader', drawn('circle', { class: 'sent', cx: 12, cy: 7, r: 4 })),
     legendItem('sent again', drawn('circle', { class: 'again', cx: 12, cy: 7, r: 4.5 })),
+    asked.length > 0 && legendItem('asked for by the reader', drawn('path', { class: 'asked', d: 'M8 3h8l-4 7z' })),
     lost.length > 0 && legendItem('lost: missed, unsent, unanswered or not arrived', drawn('path', { class: 'cross', d: 'M8 3l8 8m0-8l-8 8' })),
     lost.some(({ isSent }) => !isSent) && legendItem('lost, and never sent here', drawn('path', { class: 'cross', d: 'M9 4l6 6m0-6l-6 6M6 1h12v12H6z' })),
     arrived.length > 0 && legendItem('received, or in the other recording', drawn('circle', { class: 'came', cx: 12, cy: 10, r: 2.5 })),

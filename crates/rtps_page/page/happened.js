@@ -31,8 +31,9 @@ function eventsOf({ data, rows }) {
 
 function showHappened(report, section) {
   const events = eventsOf(report);
-  section.hidden = events.length === 0;
-  if (section.hidden) return;
+  section.hidden = events.length === 0 && report.rows.length > 0;
+  if (report.rows.length === 0) section.append(noPairPart());
+  if (events.length === 0) return;
   const list = make('div', { class: 'events' });
   section.append(list);
   inParts(section, 'event', events, EVENTS_SHOWN, (some) => {
@@ -40,6 +41,12 @@ function showHappened(report, section) {
     list.append(...shown);
     return shown;
   });
+}
+
+// Where there is no pair, the first lines of the text: that there is none, and why, or what to do.
+function noPairPart() {
+  const [what, ...why] = firstLines();
+  return make('div', { class: 'event no-pair' }, make('h3', null, what), ...why.map((line) => make('p', { class: 'advice' }, line)));
 }
 
 function eventPart(report, { text, rows }) {

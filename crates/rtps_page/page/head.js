@@ -81,6 +81,9 @@ const lastLine = memo(() => {
   return text.slice(text.lastIndexOf('\n') + 1);
 });
 
+// The lines in front of the first empty one, without what marks them in a text.
+const firstLines = () => document.querySelector('#text pre').textContent.split('\n\n')[0].split('\n').map((line) => line.replace(/^ *(-> )?/, '')).filter(Boolean);
+
 // Its word, in its colour; what else the line says, where that are no reasons.
 function showOutcome({ data }, place) {
   const [word, ...rest] = lastLine().split(': ');

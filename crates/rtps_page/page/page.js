@@ -2,7 +2,7 @@
 // Shows the report, and goes where the address says.
 
 function start() {
-  const report = new Report(valueOf(document.getElementById('data').textContent));
+  const report = reportOf(document.getElementById('data').textContent);
   showHead(report);
   document.getElementById('page').hidden = false;
   const picture = new Picture(report, document.getElementById('picture'));

@@ -17,7 +17,7 @@ function pairDetail(report, row) {
       ...manyRanges(row),
       row.advice !== null && make('p', { class: 'advice' }, row.advice),
       make('h4', null, 'What it rests on'),
-      make('ul', { class: 'rests-on' }, ...evidenceSentences(row).map((sentence) => make('li', null, sentence))),
+      make('ul', { class: 'rests-on' }, ...[...evidenceSentences(row), ...lateSentences(report.lateOf(row))].map((sentence) => make('li', null, sentence))),
       makeFold({ class: 'names' }, ['GUIDs and names of DDS'], () => [nameList(row)]),
       placeHelp(row)),
     make('div', { class: 'detail-chart' }, chartOf(report, row)));

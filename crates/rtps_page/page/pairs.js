@@ -21,11 +21,10 @@ function countColumn(name, meaning, isBad, numberOf) {
     const count = numberOf(row);
     return count === null ? '–' : marked(count, isBad(row));
   };
-  const sums = new Map();
-  const sum = (group) => entryOf(sums, group, () => sumOf(group.rows, (row) => numberOf(row) || 0));
+  const sum = ({ sums }) => sums[name];
   return {
     name, head: name[0].toUpperCase() + name.slice(1), meaning, class: 'count', compare: byCount((row) => numberOf(row) || 0), cell, isAmount: true, sum,
-    total: (group) => marked(sum(group), group.rows.some(isBad)),
+    total: (group) => marked(sum(group), isAbove(sum(group), 0) && group.rows.some(isBad)),
   };
 }
 
@@ -55,7 +54,12 @@ const columnsOf = ({ data: { options } }) => [
   placeColumn('acknowledged', 'Acknowledged below', 'below', 'the reader acknowledged all numbers below this one'),
 ];
 
-const WORST_FIRST = { name: 'worst', head: 'Worst first', compare: worse };
+// Rows of one key are equally bad: a number, or of very large amounts a text.
+function worseKey({ clean, lost, rank, isPlumbing }) {
+  const rest = rank * 4 + Number(clean) * 2 + Number(isPlumbing);
+  return typeof lost === 'number' && lost < 1e12 ? lost * 64 + rest : `${lost} ${rest}`;
+}
+const WORST_FIRST = { name: 'worst', head: 'Worst first', compare: worse, keyOf: worseKey };
 const BY_TOPIC = { name: 'topic', head: 'Topic', compare: (a, b) => byText('topic')(a, b) || worse(a, b) };
 const BY_TYPE = { name: 'type', head: 'Type', compare: (a, b) => byText('type')(a, b) || worse(a, b) };
 
@@ -66,6 +70,13 @@ function verdictCell(report, row) {
     row.datagram !== undefined && make('span', { class: 'in-datagram' }, ` in datagram ${row.datagram}`),
     bad.flatMap((name) => [' ', badge('missed', `${name} ${counted(row.outcomes[name])}`)]),
     row.clean && [' ', badge('clean', 'clean')]);
+}
+
+// Rows by a key, each list in their order.
+function alike(rows, keyOf) {
+  const found = new Map();
+  for (const row of rows) entryOf(found, keyOf(row), () => []).push(row);
+  return found;
 }
 
 // How much of a topic is open: nothing, the pairs that are not clean, or all.
@@ -89,12 +100,20 @@ class Pairs {
 
   sort() {
     const direction = this.isDown ? -1 : 1;
-    this.sorted = [...this.report.rows].sort((a, b) => direction * this.order.compare(a, b) || a.at - b.at);
+    const { rows } = this.report;
+    const { compare, keyOf } = this.order;
+    this.sorted = keyOf
+      ? [...alike(rows, keyOf).values()].sort(([a], [b]) => direction * compare(a, b)).flat()
+      : [...rows].sort((a, b) => direction * compare(a, b) || a.at - b.at);
   }
 
-  // Whether a row has a word: in the names of its topic and type, in those of its writer and reader, or in its verdict.
+  // Whether a row has a word: in the names of its topic and type, in those of its writer and reader, or in its verdict. What many rows have
+  // is looked at once.
   hasWord(word) {
     const has = (...texts) => texts.some((text) => typeof text === 'string' && text.toLowerCase().includes(word));
+    const seen = new Map([[null, false], [undefined, false]]);
+    const hasText = (text) => entryOf(seen, text, () => has(text));
+    const isNumber = /^\d+$/.test(word);
     const { groups, data } = this.report;
     const found = new Set(groups.filter(({ topic, type }) => has(topic, type, rosTopic(topic), rosType(type))));
     for (const { guid } of data.endpoints) {
@@ -102,8 +121,8 @@ class Pairs {
       const { address, host, process, name } = participant.announced || {};
       if (has(guid, participant.name, ...participant.nodes, address, host, process, name)) found.add(guid);
     }
-    return ({ group, writer, reader, verdict, kind, number, writer_node: sender, reader_node: receiver }) => (
-      found.has(group) || found.has(writer) || found.has(reader) || has(verdict, kind, sender, receiver, String(number)));
+    return (row) => found.has(row.group) || found.has(row.writer) || found.has(row.reader) || hasText(row.verdict) || hasText(row.kind)
+      || hasText(row.writer_node) || hasText(row.reader_node) || (isNumber && String(row.number).includes(word));
   }
 
   matching() {
@@ -157,7 +176,7 @@ class Pairs {
       makeButton({ class: 'open-all' }, 'Open all', () => this.openAll(ALL)), makeButton(null, 'Fold', () => this.openAll(null)));
     const wide = make('div', { class: 'wide' }, this.table);
     const words = this.explanation();
-    tools.hidden = wide.hidden = words.hidden = this.report.rows.length === 0;
+    document.getElementById('pairs').hidden = this.report.rows.length === 0;
     document.getElementById('pairs').append(this.kindButtons(), tools, this.status, wide, this.more, words);
   }
 
@@ -174,7 +193,7 @@ class Pairs {
 
   // A button for each kind that there is, which shows these alone.
   kindButtons() {
-    const countOf = (kind) => this.report.rows.filter((row) => row.kind === kind).length;
+    const countOf = (kind) => this.report.groups.reduce((sum, { kinds }) => sum + kinds[KINDS.indexOf(kind)], 0);
     this.buttons = KINDS.filter(countOf).map((kind) => makeButton({ class: `badge ${kind}`, 'aria-pressed': 'false' },
       `${counted(countOf(kind))} ${KIND_WORDS[kind]}`, (button) => {
         this.toggleKind(kind);
@@ -237,8 +256,6 @@ class Pairs {
 
   statusText(found, open, shown) {
     const all = this.report.rows.length;
-    // The first lines of the text say what to do where there is none.
-    if (all === 0) return document.querySelector('#text pre').textContent.split('\n\n')[0].replace(/\s+/g, ' ').replaceAll(' -> ', ': ');
     const folded = found - open;
     const some = shown < open ? `; the first ${counted(shown)} are shown` : '';
     return `${partOf(found, all, 'pair')}${some}${folded > 0 ? `; ${counted(folded)} ${folded === 1 ? 'is' : 'are'} folded` : ''}.`;

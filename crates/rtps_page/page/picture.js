@@ -6,6 +6,7 @@ const MOST_STRIPS = 20;
 // How high a strip is, and how wide a column, in pixels. What falls on one column is one mark.
 const STRIP_HEIGHT = 32;
 const COLUMN = 2;
+const LEAST_BAND = 3;
 // At most so many marks of a topic are drawn, and so many of its numbers are looked up.
 const MOST_MARKS = 2000;
 const MOST_LOOKED_UP = 20000;
@@ -47,7 +48,7 @@ class Picture {
     const kinds = Object.keys(MARK_WORDS).filter((kind) => strips.some(({ points }) => points[kind].length > 0));
     this.section.append(
       make('p', { class: 'hint' }, `Each strip is a topic with reliable pairs, the worst first${more > 0 ? `; ${plural(more, 'more topic')} of less weight ${more === 1 ? 'has' : 'have'} none` : ''}. `
-        + `To the right runs the recording, in ${this.axis.word === 's' ? 'seconds' : 'datagrams'}. A lost number stands where it was first sent. A strip leads to its pairs.`),
+        + `To the right runs the recording, in ${this.axis.word === 's' ? 'seconds' : 'datagrams'}. A lost number stands where it was first sent, or, where it never was, where the writer first told of it. A strip leads to its pairs.`),
       pictureLegend(kinds),
       make('div', { class: 'strips' }, ...strips.map((strip) => this.strip(strip)),
         make('div', { class: 'strip axis-line' }, make('span', { class: 'strip-name' }, this.axis.word === 's' ? 'seconds' : 'datagrams'), this.scale, make('span', { class: 'strip-words' }))));
@@ -89,7 +90,7 @@ class Picture {
     const band = [...bandRuns(columns(samples)), ...spans.map(([from, to]) => [this.pixel(from), this.pixel(to)])];
     place.replaceChildren(
       drawn('path', { class: 'grid', d: grid }),
-      drawn('path', { class: 'samples', d: band.map(([from, to]) => `M${from} 8h${Math.max(COLUMN, to - from)}v8H${from}z`).join('') }),
+      drawn('path', { class: 'samples', d: band.map(([from, to]) => `M${from} 8h${Math.max(LEAST_BAND, to - from)}v8H${from}z`).join('') }),
       ...Object.entries(MARK_FORMS).map(([kind, form]) => drawn('path', { class: `mark ${kind}`, d: columns(points[kind]).slice(0, MOST_MARKS).map(form).join('') })));
   }
 }
@@ -113,17 +114,16 @@ function bandRuns(columns) {
 function stripWords(group, points) {
   const kinds = LOST_KINDS.map((kind) => [kind, lostCount(group, kind)]).filter(([, count]) => isAbove(count, 0));
   const words = kinds.map(([kind, count]) => make('b', { class: 'lost-words' }, `${counted(count)} ${MARK_WORDS[kind]}`)).flatMap((word, at) => (at > 0 ? [', ', word] : [word]));
-  const placeless = points.placeless > 0 && `, ${counted(points.placeless)} never sent here`;
-  return words.length > 0 ? [...words, placeless] : [group.clean ? 'clean' : 'not clean'];
+  const unsent = points.neverSent > 0 && `, ${counted(points.neverSent)} of them never sent here`;
+  return words.length > 0 ? [...words, unsent] : [group.clean ? 'clean' : 'not clean'];
 }
 
 const LOST_KINDS = ['missed', 'unsent', 'unanswered', 'not_arrived'];
 
 // How many numbers of a kind a topic has; what did not arrive is told of rows that are held, and no other kind of these.
-function lostCount({ rows }, kind) {
-  const held = rows.filter(isHeld);
+function lostCount({ sums, held }, kind) {
   if (kind === 'not_arrived') return sumOf(held, lostOf);
-  return sumOf(held.length === 0 ? rows : rows.filter((row) => !isHeld(row)), ({ outcomes }) => outcomes[kind]);
+  return differenceOf(sums[kind], sumOf(held, ({ outcomes }) => outcomes[kind]));
 }
 
 // ---- where what a strip shows stands on the axis
@@ -131,66 +131,108 @@ function lostCount({ rows }, kind) {
 function stripPoints(report, group) {
   const points = Object.fromEntries(Object.keys(MARK_FORMS).map((kind) => [kind, []]));
   const left = { numbers: MOST_LOOKED_UP };
-  points.placeless = 0;
+  points.neverSent = 0;
   for (const row of group.rows) {
-    if (Object.keys(row.numbers).length > 0) addLost(report, row, points, left);
+    if (row.lost !== 0) addLost(report, row, points, left);
     addReader(report, row, points);
   }
   return { points, samples: samplesOf(report, group), spans: spansOf(report, group) };
 }
 
-// Where the numbers of a row that are lost were sent first: each of a range, where the chart of the row has them, or else the first.
+// Where the numbers of a row that are lost were sent first: each of a range, where the chart of the row has them, or else the first. Those that
+// were never sent stand where the writer first told of them. That unsent numbers were not is known by their word.
 function addLost(report, row, points, left) {
   const sendings = report.sendingsOf(row);
   for (const kind of LOST_KINDS.filter((kind) => row.numbers[kind] && (kind === 'not_arrived' || !isHeld(row)))) {
-    for (const { first, last, sent } of row.numbers[kind].ranges) {
-      for (const x of rangePoints(report, { first, last, sent }, sendings, left)) {
-        if (x === null) points.placeless += 1;
-        else points[kind].push(x);
-      }
+    for (const range of row.numbers[kind].ranges) {
+      const places = range.sent ? sentPlaces(report, range, sendings, left) : toldPlaces(report, row, range, left);
+      if (!range.sent && kind !== 'unsent') points.neverSent += Number(range.last) - Number(range.first) + 1;
+      for (const x of places) if (x !== null && x !== undefined) points[kind].push(x);
     }
   }
 }
 
-function rangePoints(report, { first, last, sent }, sendings, left) {
-  const place = sent ? report.onAxis(sent) : null;
+function sentPlaces(report, { first, last, sent }, sendings, left) {
+  const place = report.onAxis(sent);
   const found = [place];
   for (let number = first + 1; number <= last && left.numbers > 0; number += 1) {
     const entry = sendings(number);
     left.numbers -= 1;
-    if (entry) found.push(report.isTimed ? report.secondOf(entry[0]) ?? place : entry[0]);
+    if (entry) found.push(report.placeOf(entry[0]) ?? place);
   }
   return found;
+}
+
+// By what its writer says, where the page has that; else by the place at which the row says that the last number is announced.
+function toldPlaces(report, row, { first, last }, left) {
+  const told = report.tellingsOf(row);
+  if (told === null) return [row.announced ? report.onAxis(row.announced) : null];
+  const found = [];
+  for (let number = Number(first); number <= Number(last) && left.numbers > 0; number += 1) {
+    left.numbers -= 1;
+    const entry = firstFrom(told, number);
+    if (entry) found.push(report.placeOf(entry[0]));
+  }
+  return found;
+}
+
+// The first of rising steps, each a datagram and a number, that has a number or a greater one.
+function firstFrom(steps, number) {
+  let [low, high] = [0, steps.length];
+  while (low < high) {
+    const middle = (low + high) >> 1;
+    if (steps[middle][1] >= number) high = middle;
+    else low = middle + 1;
+  }
+  return steps[low];
 }
 
 // Where its reader joins, leaves, and where a participant of its two falls silent.
 function addReader(report, row, points) {
   const joined = report.data.joined?.[row.at];
-  const add = (kind, x) => x !== null && x !== undefined && points[kind].push(x);
-  if (joined) add('joins', report.onAxis({ datagram: joined[0], time: joined[2] }));
-  if (row.until !== null) add('leaves', report.onAxis({ datagram: row.until, time: row.until_time }));
+  if (joined) addPoint(points.joins, report.isTimed ? joined[2] : joined[0]);
+  if (row.until !== null) addPoint(points.leaves, report.onAxis({ datagram: row.until, time: row.until_time }));
   for (const guid of report.hasSilent ? [row.reader, row.writer] : []) {
     const announced = report.participantOf(guid)?.announced;
-    if (announced?.silent) add('silent', report.onAxis({ datagram: announced.last, time: announced.last_time }));
+    if (announced?.silent) addPoint(points.silent, report.onAxis({ datagram: announced.last, time: announced.last_time }));
   }
+}
+
+// A place that is on the axis.
+function addPoint(points, x) {
+  if (x !== null && x !== undefined) points.push(x);
 }
 
 // Where samples of a topic are sent, by the writers that have a chart.
 function samplesOf(report, { rows }) {
   const writers = [...new Set(rows.map(({ writer }) => writer))].filter((writer) => report.acts.has(writer));
-  return writers.flatMap((writer) => report.acts.get(writer).filter(([, , what]) => what === 'data').map(([datagram]) => (
-    report.isTimed ? report.secondOf(datagram) : datagram))).filter((x) => x !== undefined);
+  return writers.flatMap((writer) => report.acts.get(writer).filter(([, , what]) => IS_SENDING.has(what)).map(([datagram]) => report.placeOf(datagram)))
+    .filter((x) => x !== undefined);
 }
 
 // From where to where those are heard of that have none, as far as their rows tell.
 function spansOf(report, { rows }) {
   const spans = new Map();
-  for (const row of rows.filter(({ writer }) => !report.acts.has(writer))) {
-    const places = [row.announced, row.told, row.claimed, row.acknowledged].filter(Boolean).map((place) => report.onAxis(place)).filter((x) => x !== null);
-    const span = entryOf(spans, row.writer, () => [Infinity, -Infinity]);
-    [span[0], span[1]] = [Math.min(span[0], ...places), Math.max(span[1], ...places)];
+  let [writer, span] = [null, null];
+  for (const row of rows) {
+    // Rows of one writer mostly stand together.
+    if (row.writer !== writer) {
+      writer = row.writer;
+      span = report.acts.has(writer) ? null : entryOf(spans, writer, () => [Infinity, -Infinity]);
+    }
+    if (span !== null) widen(span, report, row);
   }
   return [...spans.values()].filter(([from, to]) => from <= to);
+}
+
+// A span, so that the places of a row lie in it.
+function widen(span, report, { announced, told, claimed, acknowledged }) {
+  for (const place of [announced, told, claimed, acknowledged]) {
+    const x = place ? report.onAxis(place) : null;
+    if (x === null) continue;
+    span[0] = Math.min(span[0], x);
+    span[1] = Math.max(span[1], x);
+  }
 }
 
 function pictureLegend(kinds) {

@@ -26,14 +26,17 @@ function isRounded({ number, announced, acknowledged, from }) {
   return isLarge(number) || isLarge(from) || (announced !== null && isLarge(announced.number)) || (acknowledged !== null && isLarge(acknowledged.below));
 }
 
-// The value of a text of JSON. Where a number is too large, each such becomes a string of its digits; what stands in a string
+// The report of a text of JSON. Where a number is too large, each such becomes a string of its digits; what stands in a string
 // stays as it is.
-function valueOf(text) {
-  const value = JSON.parse(text);
-  const isShort = !isLarge(value.options.from) && !isLarge(value.options.expect) && !isLarge(value.options.tail) && !value.pairs.some(isRounded);
-  const largeOfBestEffort = [...value.best_effort, ...(value.arrived || [])].some(({ numbers, not_arrived: named = [] }) => [numbers, ...named].some(isLarge));
-  if (isShort && !largeOfBestEffort) return value;
-  return JSON.parse(text.replace(STRING_OR_LARGE, (found) => (found[0] === '"' ? found : `"${found}"`)));
+function reportOf(text) {
+  const report = new Report(JSON.parse(text));
+  if (!report.isRounded) return report;
+  return new Report(JSON.parse(text.replace(STRING_OR_LARGE, (found) => (found[0] === '"' ? found : `"${found}"`))));
+}
+
+// Whether a number that stands in no row was rounded.
+function isRoundedElsewhere({ options: { from, expect, tail }, best_effort: bestEffort, arrived = [] }) {
+  return [from, expect, tail].some(isLarge) || [...bestEffort, ...arrived].some(({ numbers, not_arrived: named = [] }) => [numbers, ...named].some(isLarge));
 }
 
 // Compares two integers, each a number, a BigInt or a string of digits.
@@ -68,16 +71,13 @@ const partOf = (n, all, noun) => (n === all ? plural(all, noun) : `${counted(n)}
 // How many numbers are asked about: those from the first one on, up to the last one that is announced.
 const askedAbout = ({ payloads, gone, untold }) => added(added(payloads, gone), untold);
 
-// How many more numbers of a row arrived, by another recording.
-const arrivedOf = ({ outcomes }) => outcomes.arrived || 0;
-
 // Whether a row is held against another recording.
 const isHeld = ({ outcomes: { arrived = null } }) => arrived !== null;
 
 // How many numbers of a row are lost, or look so: of one that is held all that did not arrive.
-function lostOf(row) {
-  const names = isHeld(row) ? ['likely', 'missed', 'unsent', 'unanswered', 'unconfirmed'] : LOST;
-  return names.reduce((sum, name) => added(sum, row.outcomes[name]), 0);
+function lostOf({ outcomes }) {
+  const lost = added(added(outcomes.missed, outcomes.unsent), outcomes.unanswered);
+  return (outcomes.arrived ?? null) === null ? lost : added(added(lost, outcomes.likely), outcomes.unconfirmed);
 }
 
 const prefixOf = (guid) => guid.slice(0, 24);
@@ -104,25 +104,27 @@ class Report {
   constructor(data) {
     this.data = data;
     this.rows = data.pairs;
-    this.groups = groupsOf(this.rows);
+    this.groups = groupsOf(this.rows, data.options.from);
+    this.isRounded = isRoundedElsewhere(data) || this.groups.some(({ isRounded }) => isRounded);
     this.acts = new Map(data.writers.map(({ guid, acts }) => [guid, acts]));
     this.endpointOf = new Map(data.endpoints.map((endpoint) => [endpoint.guid, endpoint]));
     this.participants = participantsOf(data);
-    this.times = new Map((data.times || []).map(([datagram, ...rest]) => [datagram, rest]));
+    this.times = new Map((data.times || []).map((entry) => [entry[0], entry]));
     this.isTimed = data.times !== undefined;
     this.hasSilent = data.participants.some(({ silent }) => silent);
     this.bases = null;
     this.numbered = new Map();
+    this.told = new Map();
   }
 
   // the second of a datagram that a chart has, or undefined where it has none
   secondOf(datagram) {
-    return this.times.get(datagram)?.[0];
+    return this.times.get(datagram)?.[1];
   }
 
   // its frame, or undefined
   frameOf(datagram) {
-    return this.times.get(datagram)?.[1];
+    return this.times.get(datagram)?.[2];
   }
 
   // What the recording's axis has: seconds, where there are times, or else datagrams.
@@ -136,6 +138,11 @@ class Report {
     const { begin = null, end = null } = this.data.recording || {};
     const last = this.data.participants.reduce((most, { last_time: time }) => Math.max(most, time || 0), 0);
     return Math.max(last, begin !== null && end !== null ? (end - begin) / 1000 : 0);
+  }
+
+  // where a datagram of a chart stands on it; undefined where it has no time
+  placeOf(datagram) {
+    return this.isTimed ? this.secondOf(datagram) : datagram;
   }
 
   // where a place stands on it; null where it has no time
@@ -154,6 +161,12 @@ class Report {
     return this.bases.get(writer + reader);
   }
 
+  // which numbers the reader of a row asked for, and where; none where the page does not tell it
+  asksOf({ writer, reader }) {
+    this.asks ||= new Map(this.data.answers.map((answer) => [answer.writer + answer.reader, answer.asks || []]));
+    return this.asks.get(writer + reader);
+  }
+
   // what the writer of a row said, to whichever reader
   actsOf({ writer }) {
     return this.acts.get(writer);
@@ -163,47 +176,112 @@ class Report {
   sendingsOf({ writer, reader }) {
     const byNumber = entryOf(this.numbered, writer, () => dataByNumber(this.acts.get(writer) || []));
     const to = namesOf(reader);
-    return (number) => (byNumber.get(number) || []).find((entry) => to.includes(entry[4]));
+    return (number) => (byNumber.get(number) || []).find((entry) => to.includes(entry[entry[2] === 'piece' ? 5 : 4]));
+  }
+
+  // where the writer of a row first tells of greater and greater numbers, each a datagram and a number; null where it has no chart
+  tellingsOf({ writer }) {
+    return entryOf(this.told, writer, () => (this.acts.has(writer) ? risingOf(this.acts.get(writer)) : null));
   }
 
   participantOf(guid) {
     return this.participants.get(prefixOf(guid));
+  }
+
+  // that the two ends of a row matched late, or undefined
+  lateOf({ writer, reader }) {
+    return (this.data.late || []).find((late) => late.writer === writer && late.reader === reader);
   }
 }
 
 // The names by which an entry is for a reader: it names nobody, or the reader, its participant or its entity.
 const namesOf = (reader) => [undefined, reader, prefixOf(reader), entityOf(reader)];
 
+// Entries by which a writer sends a number: a DATA, or what completes a sample in pieces, and a piece.
+const IS_SENDING = new Set(['data', 'piece']);
+
 function dataByNumber(acts) {
   const found = new Map();
-  for (const entry of acts) if (entry[2] === 'data') entryOf(found, entry[3], () => []).push(entry);
+  for (const entry of acts) if (IS_SENDING.has(entry[2])) entryOf(found, entry[3], () => []).push(entry);
   return found;
 }
 
-// The rows by topic and type, in the order of their first row. Each row gets its place, its kind, how bad it is, and its group.
-function groupsOf(rows) {
+// Of what a writer sends or announces each number that is above all before it.
+function risingOf(acts) {
+  const steps = [];
+  let last = 0;
+  for (const [datagram, , what, number] of acts) {
+    if (what === 'gone' || number <= last) continue;
+    steps.push([datagram, Number(number)]);
+    last = number;
+  }
+  return steps;
+}
+
+// What a row has that lost no numbers.
+const NO_NUMBERS = Object.freeze({});
+
+// The rows by topic and type, in the order of their first row. Each row gets its place, its kind, how bad it is, and its group. There can be very
+// many: all that is said of them together is counted here, so that one goes through them once.
+function groupsOf(rows, first) {
   const topics = new Map();
-  for (const [at, row] of rows.entries()) {
-    const { topic, type } = row;
-    row.group = entryOf(entryOf(topics, topic, () => new Map()), type, () => ({ topic, type, rows: [] }));
-    const kind = kindOf(row);
-    row.numbers ||= {};
-    Object.assign(row, { at, kind, rank: KINDS.indexOf(kind), lost: lostOf(row), isPlumbing: PLUMBING.includes(topic) });
-    row.group.rows.push(row);
+  let group = null;
+  for (let at = 0; at < rows.length; at += 1) {
+    const row = rows[at];
+    if (group === null || row.topic !== group.topic || row.type !== group.type) {
+      group = entryOf(entryOf(topics, row.topic, () => new Map()), row.type, () => emptyGroup(row));
+    }
+    judgeRow(row, at, group);
+    addRow(group, row, first);
   }
   const groups = [...topics.values()].flatMap((types) => [...types.values()]);
-  groups.forEach(judgeGroup);
+  groups.forEach((one, at) => Object.assign(one, { at, clean: one.bad === 0 }));
   return groups;
 }
 
-// How bad a topic is: as its rows together.
-function judgeGroup(group, at) {
-  const { rows } = group;
-  const bad = rows.filter(({ clean }) => !clean).length;
-  Object.assign(group, {
-    at, bad, clean: bad === 0, lost: sumOf(rows, ({ lost }) => lost), rank: rows.reduce((least, { rank }) => Math.min(least, rank), KINDS.length),
-    isPlumbing: rows[0].isPlumbing,
-  });
+function judgeRow(row, at, group) {
+  row.at = at;
+  row.group = group;
+  row.kind = kindOf(row);
+  row.rank = KINDS.indexOf(row.kind);
+  row.lost = lostOf(row);
+  row.isPlumbing = group.isPlumbing;
+  row.numbers ||= NO_NUMBERS;
+}
+
+// A topic of which no row is known yet. It is as bad as its rows together.
+function emptyGroup({ topic, type }) {
+  return {
+    topic, type, rows: [], bad: 0, lost: 0, rank: KINDS.length, isPlumbing: PLUMBING.includes(topic), isRounded: false, held: [],
+    kinds: KINDS.map(() => 0),
+    sums: { received: 0, arrived: 0, likely: 0, missed: 0, unsent: 0, unanswered: 0, unconfirmed: 0, before: 0, proved: 0, asked: 0 },
+  };
+}
+
+function addRow(group, row, first) {
+  const { sums } = group;
+  group.rows.push(row);
+  group.bad += Number(!row.clean);
+  group.lost = added(group.lost, row.lost);
+  group.rank = Math.min(group.rank, row.rank);
+  group.kinds[row.rank] += 1;
+  group.isRounded ||= isRounded(row);
+  if (isHeld(row)) group.held.push(row);
+  addOutcomes(sums, row.outcomes);
+  sums.before = added(sums.before, differenceOf(row.from, first));
+  sums.proved = added(sums.proved, row.received);
+  sums.asked = added(sums.asked, askedAbout(row));
+}
+
+// Each by its name, which is quicker than by a list of names.
+function addOutcomes(sums, { received, arrived, likely, missed, unsent, unanswered, unconfirmed }) {
+  sums.received = added(sums.received, received);
+  sums.arrived = added(sums.arrived, arrived || 0);
+  sums.likely = added(sums.likely, likely);
+  sums.missed = added(sums.missed, missed);
+  sums.unsent = added(sums.unsent, unsent);
+  sums.unanswered = added(sums.unanswered, unanswered);
+  sums.unconfirmed = added(sums.unconfirmed, unconfirmed);
 }
 
 // Participants by their prefixes, in order, each with a short name, what it announced, its endpoints and its nodes.

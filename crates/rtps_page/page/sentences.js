@@ -63,6 +63,9 @@ const evidenceSentences = (row) => [
   ...spanSentences(row), ...commonSentences(row), ...receivedSentences(row), ...OWN_SENTENCES[row.verdict](row), ...waitSentences(row), ...silenceSentences(row),
 ];
 
+// That the two ends of a row matched late, where that is told.
+const lateSentences = (late) => (late === undefined ? [] : [`The two matched ${lateText(late)}.`]);
+
 function spanSentences({ from, until, until_time: time, until_frame: frame, outcomes }) {
   const kinds = OUTCOMES.filter((name) => outcomes[name] > 0).map((name) => `${counted(outcomes[name])} ${name}`);
   const left = until === null ? '' : `, until datagram ${until}${frameText(frame)}${secondText(time)}, in which the reader left`;
@@ -128,11 +131,11 @@ function askedSentence({ asked_since: count, last_asked: last }) {
 const payloadText = ({ payload, octets }) => (payload === 'absent' ? 'no payload' : `${payload === 'key' ? 'a key' : 'a sample'} of ${plural(octets, 'octet')}`);
 
 // How many pairs are clean, how many numbers are surely received, and how many more arrived.
-function receivedSentence({ rows, data }) {
+function receivedSentence({ rows, groups, data }) {
   if (rows.length === 0) return '';
-  const good = rows.filter(({ clean }) => clean).length;
-  const [received, asked] = [sumOf(rows, (row) => row.received), sumOf(rows, askedAbout)];
-  const more = data.arrived ? `, ${counted(sumOf(rows, arrivedOf))} more arrived` : '';
+  const good = rows.length - groups.reduce((sum, { bad }) => sum + bad, 0);
+  const [received, asked, arrived] = ['proved', 'asked', 'arrived'].map((name) => sumOf(groups, ({ sums }) => sums[name]));
+  const more = data.arrived ? `, ${counted(arrived)} more arrived` : '';
   return `${counted(good)} of ${plural(rows.length, 'pair')} ${rows.length === 1 ? 'is' : 'are'} clean. The recording proves `
     + `${counted(received)} of ${plural(asked, 'number')} received${more}.`;
 }

@@ -6,7 +6,7 @@ pub(crate) const HEAD: &str = "\
 <html lang=\"en\">\n\
 <head>\n\
 <meta charset=\"utf-8\">\n\
-<meta http-equiv=\"Content-Security-Policy\" content=\"default-src 'none'; style-src 'sha256-x5mCFzLBw6mDDnANZYsShwXqLgmZYiMkz7r19lxqiTQ='; script-src 'sha256-hpmW3mDyoQhB9f0WRZW6RarG+nvTxqFH2yl+nJ5/Zek=' 'sha256-Vt2ps2WP+rieCsB70BV2OBsqUS0AI8cp2d9wvXog9RA=' 'sha256-ITctgU4SinAQQYsXVflAZKVj6OUeisokZHBS2nZUUoI=' 'sha256-/5wxXKH2ehqdl6c93p/yZVbTa5TCEF07mY4w7cGAMf8=' 'sha256-k364WrA0Djjk2DTS0JWCEjxlKYWCcF1boSLToYSsl0w=' 'sha256-Fvj5UUctYjHTySJUsB6o+6Bk01Tfc/apGUpw1p0sTYY=' 'sha256-L/u27wn/Pk8O6WtK37Ce0RrO4fWUdMQ1eo5LiWFLnAc=' 'sha256-Ae+JMN5dbwBqygf1JAXc4k64fFnqFp9oYemvem1ozkI=' 'sha256-0I3mV6U631dfGFiRLLnjV8b8RM5KqJxkChga9c6eak8=' 'sha256-o4XRL8aUxU93JEPeOMEitUmPrvzYuAlitCKcKRiRePg=' 'sha256-LkKM7w0jClpO1HpYYDW21GdB9nzQrd7o1c9O4NfMl6c=' 'sha256-Ng/qG/jczhEehaLvFM9UoDXYY2suV6XApjDWWpgKjqI=' 'sha256-uvj8D2CsPVn8abqL+tKLZ9PrBdOnwiCB8dfcyJYwoS0='; base-uri 'none'; form-action 'none'\">\n\
+<meta http-equiv=\"Content-Security-Policy\" content=\"default-src 'none'; style-src 'sha256-EseMbammGylegBxk8jCNIG/Y+qVwTO9Z1GFH+sgg35c='; script-src 'sha256-hpmW3mDyoQhB9f0WRZW6RarG+nvTxqFH2yl+nJ5/Zek=' 'sha256-R9Xk4sjcmSM2pzw0muQ5pic9bATqz5C85RDxy/d33cY=' 'sha256-ITctgU4SinAQQYsXVflAZKVj6OUeisokZHBS2nZUUoI=' 'sha256-0Ic07IyjN2XDWJx8ud6piX9l/xdS8hFAqJ759Fk9QXY=' 'sha256-nzGEYvzDKKZYZJA/DM7XyA16Ls/k6Nl4xNWS6IHdY/Q=' 'sha256-8p8Dxbx6TBoqoOH/9nx1shdrfyDNuF/MbP2cxU8WwtI=' 'sha256-IDKn87SsjoB7KFxDOA98+C9PAwaZUG5nSecNhajfn5Y=' 'sha256-2ELIcGH5E1pJxmMUXa4vBYSAMFL1BCId//7q11HXGjY=' 'sha256-YKfXUCxjsA2JhKMB27DqdbmQs5lIqI42dpn8+zc7Guo=' 'sha256-kVdnEU2vVvmrVFvfoaOWgyjH7vn7mLhAiHHOsUb7jwM=' 'sha256-vUTO7+SZpcIXDB4FdSR9w04wk6uI0AQVhjGcRbSvPEY=' 'sha256-Ng/qG/jczhEehaLvFM9UoDXYY2suV6XApjDWWpgKjqI=' 'sha256-IjGLpaISxDclr2jdlmOVqEAUYmkIIBwBDOBlxE3KRO8='; base-uri 'none'; form-action 'none'\">\n\
 <meta name=\"viewport\" content=\"width=device-width, initial-scale=1\">\n\
 <meta name=\"color-scheme\" content=\"light dark\">\n\
 <meta name=\"referrer\" content=\"no-referrer\">\n\
@@ -180,7 +180,7 @@ td p:last-child { margin-bottom: 0; }\n\
 .topics th:nth-child(1) { width: 22%; }\n\
 .topics th:nth-child(2) { width: 44%; }\n\
 .topics .which { padding: 0; list-style: none; font-size: 0.88rem; }\n\
-.advice::first-letter, .notes b::first-letter, .todo::first-letter, #because li::first-letter { text-transform: uppercase; }\n\
+.no-pair h3::first-letter, .advice::first-letter, .notes b::first-letter, .todo::first-letter, #because li::first-letter { text-transform: uppercase; }\n\
 .topics .advice { font-weight: 600; }\n\
 .todo { display: block; }\n\
 .pairs thead th { white-space: normal; min-width: 64px; }\n\
@@ -271,6 +271,7 @@ touch-action: pan-y;\n\
 .strips ~ .legend svg, #picture .legend svg { vertical-align: -7px; }\n\
 .legend .sent { fill: var(--data); }\n\
 .legend .again { fill: none; stroke: var(--data); stroke-width: 1.5; }\n\
+.legend .asked { fill: none; stroke: var(--ink); stroke-width: 1.25; }\n\
 .legend .band { fill: var(--band); stroke: var(--band-edge); }\n\
 .legend .announced { fill: none; stroke: var(--announced); stroke-width: 1.25; }\n\
 .legend .acknowledged { fill: none; stroke: var(--acknowledged); stroke-width: 3.5; }\n\
@@ -427,12 +428,13 @@ const isLarge = (n) => n > Number.MAX_SAFE_INTEGER;\n\
 function isRounded({ number, announced, acknowledged, from }) {\n\
 return isLarge(number) || isLarge(from) || (announced !== null && isLarge(announced.number)) || (acknowledged !== null && isLarge(acknowledged.below));\n\
 }\n\
-function valueOf(text) {\n\
-const value = JSON.parse(text);\n\
-const isShort = !isLarge(value.options.from) && !isLarge(value.options.expect) && !isLarge(value.options.tail) && !value.pairs.some(isRounded);\n\
-const largeOfBestEffort = [...value.best_effort, ...(value.arrived || [])].some(({ numbers, not_arrived: named = [] }) => [numbers, ...named].some(isLarge));\n\
-if (isShort && !largeOfBestEffort) return value;\n\
-return JSON.parse(text.replace(STRING_OR_LARGE, (found) => (found[0] === '\"' ? found : `\"${found}\"`)));\n\
+function reportOf(text) {\n\
+const report = new Report(JSON.parse(text));\n\
+if (!report.isRounded) return report;\n\
+return new Report(JSON.parse(text.replace(STRING_OR_LARGE, (found) => (found[0] === '\"' ? found : `\"${found}\"`))));\n\
+}\n\
+function isRoundedElsewhere({ options: { from, expect, tail }, best_effort: bestEffort, arrived = [] }) {\n\
+return [from, expect, tail].some(isLarge) || [...bestEffort, ...arrived].some(({ numbers, not_arrived: named = [] }) => [numbers, ...named].some(isLarge));\n\
 }\n\
 function compareNumbers(a, b) {\n\
 if (typeof a === 'number' && typeof b === 'number') return a - b;\n\
@@ -450,11 +452,10 @@ const counted = (n) => String(n).replace(/\\B(?=(\\d{3})+$)/g, ',');\n\
 const plural = (n, noun, nouns = `${noun}s`) => `${counted(n)} ${String(n) === '1' ? noun : nouns}`;\n\
 const partOf = (n, all, noun) => (n === all ? plural(all, noun) : `${counted(n)} of ${plural(all, noun)}`);\n\
 const askedAbout = ({ payloads, gone, untold }) => added(added(payloads, gone), untold);\n\
-const arrivedOf = ({ outcomes }) => outcomes.arrived || 0;\n\
 const isHeld = ({ outcomes: { arrived = null } }) => arrived !== null;\n\
-function lostOf(row) {\n\
-const names = isHeld(row) ? ['likely', 'missed', 'unsent', 'unanswered', 'unconfirmed'] : LOST;\n\
-return names.reduce((sum, name) => added(sum, row.outcomes[name]), 0);\n\
+function lostOf({ outcomes }) {\n\
+const lost = added(added(outcomes.missed, outcomes.unsent), outcomes.unanswered);\n\
+return (outcomes.arrived ?? null) === null ? lost : added(added(lost, outcomes.likely), outcomes.unconfirmed);\n\
 }\n\
 const prefixOf = (guid) => guid.slice(0, 24);\n\
 const entityOf = (guid) => guid.slice(24);\n\
@@ -473,21 +474,23 @@ class Report {\n\
 constructor(data) {\n\
 this.data = data;\n\
 this.rows = data.pairs;\n\
-this.groups = groupsOf(this.rows);\n\
+this.groups = groupsOf(this.rows, data.options.from);\n\
+this.isRounded = isRoundedElsewhere(data) || this.groups.some(({ isRounded }) => isRounded);\n\
 this.acts = new Map(data.writers.map(({ guid, acts }) => [guid, acts]));\n\
 this.endpointOf = new Map(data.endpoints.map((endpoint) => [endpoint.guid, endpoint]));\n\
 this.participants = participantsOf(data);\n\
-this.times = new Map((data.times || []).map(([datagram, ...rest]) => [datagram, rest]));\n\
+this.times = new Map((data.times || []).map((entry) => [entry[0], entry]));\n\
 this.isTimed = data.times !== undefined;\n\
 this.hasSilent = data.participants.some(({ silent }) => silent);\n\
 this.bases = null;\n\
 this.numbered = new Map();\n\
+this.told = new Map();\n\
 }\n\
 secondOf(datagram) {\n\
-return this.times.get(datagram)?.[0];\n\
+return this.times.get(datagram)?.[1];\n\
 }\n\
 frameOf(datagram) {\n\
-return this.times.get(datagram)?.[1];\n\
+return this.times.get(datagram)?.[2];\n\
 }\n\
 axis() {\n\
 this.range ||= this.isTimed ? { word: 's', low: 0, high: this.seconds() } : { word: 'datagram', low: 0, high: this.data.datagrams };\n\
@@ -497,6 +500,9 @@ seconds() {\n\
 const { begin = null, end = null } = this.data.recording || {};\n\
 const last = this.data.participants.reduce((most, { last_time: time }) => Math.max(most, time || 0), 0);\n\
 return Math.max(last, begin !== null && end !== null ? (end - begin) / 1000 : 0);\n\
+}\n\
+placeOf(datagram) {\n\
+return this.isTimed ? this.secondOf(datagram) : datagram;\n\
 }\n\
 onAxis({ datagram, time = null }) {\n\
 return this.isTimed ? time : datagram;\n\
@@ -508,45 +514,99 @@ basesOf({ writer, reader }) {\n\
 this.bases ||= new Map(this.data.answers.map((answer) => [answer.writer + answer.reader, answer.bases]));\n\
 return this.bases.get(writer + reader);\n\
 }\n\
+asksOf({ writer, reader }) {\n\
+this.asks ||= new Map(this.data.answers.map((answer) => [answer.writer + answer.reader, answer.asks || []]));\n\
+return this.asks.get(writer + reader);\n\
+}\n\
 actsOf({ writer }) {\n\
 return this.acts.get(writer);\n\
 }\n\
 sendingsOf({ writer, reader }) {\n\
 const byNumber = entryOf(this.numbered, writer, () => dataByNumber(this.acts.get(writer) || []));\n\
 const to = namesOf(reader);\n\
-return (number) => (byNumber.get(number) || []).find((entry) => to.includes(entry[4]));\n\
+return (number) => (byNumber.get(number) || []).find((entry) => to.includes(entry[entry[2] === 'piece' ? 5 : 4]));\n\
+}\n\
+tellingsOf({ writer }) {\n\
+return entryOf(this.told, writer, () => (this.acts.has(writer) ? risingOf(this.acts.get(writer)) : null));\n\
 }\n\
 participantOf(guid) {\n\
 return this.participants.get(prefixOf(guid));\n\
 }\n\
+lateOf({ writer, reader }) {\n\
+return (this.data.late || []).find((late) => late.writer === writer && late.reader === reader);\n\
+}\n\
 }\n\
 const namesOf = (reader) => [undefined, reader, prefixOf(reader), entityOf(reader)];\n\
+const IS_SENDING = new Set(['data', 'piece']);\n\
 function dataByNumber(acts) {\n\
 const found = new Map();\n\
-for (const entry of acts) if (entry[2] === 'data') entryOf(found, entry[3], () => []).push(entry);\n\
+for (const entry of acts) if (IS_SENDING.has(entry[2])) entryOf(found, entry[3], () => []).push(entry);\n\
 return found;\n\
 }\n\
-function groupsOf(rows) {\n\
+function risingOf(acts) {\n\
+const steps = [];\n\
+let last = 0;\n\
+for (const [datagram, , what, number] of acts) {\n\
+if (what === 'gone' || number <= last) continue;\n\
+steps.push([datagram, Number(number)]);\n\
+last = number;\n\
+}\n\
+return steps;\n\
+}\n\
+const NO_NUMBERS = Object.freeze({});\n\
+function groupsOf(rows, first) {\n\
 const topics = new Map();\n\
-for (const [at, row] of rows.entries()) {\n\
-const { topic, type } = row;\n\
-row.group = entryOf(entryOf(topics, topic, () => new Map()), type, () => ({ topic, type, rows: [] }));\n\
-const kind = kindOf(row);\n\
-row.numbers ||= {};\n\
-Object.assign(row, { at, kind, rank: KINDS.indexOf(kind), lost: lostOf(row), isPlumbing: PLUMBING.includes(topic) });\n\
-row.group.rows.push(row);\n\
+let group = null;\n\
+for (let at = 0; at < rows.length; at += 1) {\n\
+const row = rows[at];\n\
+if (group === null || row.topic !== group.topic || row.type !== group.type) {\n\
+group = entryOf(entryOf(topics, row.topic, () => new Map()), row.type, () => emptyGroup(row));\n\
+}\n\
+judgeRow(row, at, group);\n\
+addRow(group, row, first);\n\
 }\n\
 const groups = [...topics.values()].flatMap((types) => [...types.values()]);\n\
-groups.forEach(judgeGroup);\n\
+groups.forEach((one, at) => Object.assign(one, { at, clean: one.bad === 0 }));\n\
 return groups;\n\
 }\n\
-function judgeGroup(group, at) {\n\
-const { rows } = group;\n\
-const bad = rows.filter(({ clean }) => !clean).length;\n\
-Object.assign(group, {\n\
-at, bad, clean: bad === 0, lost: sumOf(rows, ({ lost }) => lost), rank: rows.reduce((least, { rank }) => Math.min(least, rank), KINDS.length),\n\
-isPlumbing: rows[0].isPlumbing,\n\
-});\n\
+function judgeRow(row, at, group) {\n\
+row.at = at;\n\
+row.group = group;\n\
+row.kind = kindOf(row);\n\
+row.rank = KINDS.indexOf(row.kind);\n\
+row.lost = lostOf(row);\n\
+row.isPlumbing = group.isPlumbing;\n\
+row.numbers ||= NO_NUMBERS;\n\
+}\n\
+function emptyGroup({ topic, type }) {\n\
+return {\n\
+topic, type, rows: [], bad: 0, lost: 0, rank: KINDS.length, isPlumbing: PLUMBING.includes(topic), isRounded: false, held: [],\n\
+kinds: KINDS.map(() => 0),\n\
+sums: { received: 0, arrived: 0, likely: 0, missed: 0, unsent: 0, unanswered: 0, unconfirmed: 0, before: 0, proved: 0, asked: 0 },\n\
+};\n\
+}\n\
+function addRow(group, row, first) {\n\
+const { sums } = group;\n\
+group.rows.push(row);\n\
+group.bad += Number(!row.clean);\n\
+group.lost = added(group.lost, row.lost);\n\
+group.rank = Math.min(group.rank, row.rank);\n\
+group.kinds[row.rank] += 1;\n\
+group.isRounded ||= isRounded(row);\n\
+if (isHeld(row)) group.held.push(row);\n\
+addOutcomes(sums, row.outcomes);\n\
+sums.before = added(sums.before, differenceOf(row.from, first));\n\
+sums.proved = added(sums.proved, row.received);\n\
+sums.asked = added(sums.asked, askedAbout(row));\n\
+}\n\
+function addOutcomes(sums, { received, arrived, likely, missed, unsent, unanswered, unconfirmed }) {\n\
+sums.received = added(sums.received, received);\n\
+sums.arrived = added(sums.arrived, arrived || 0);\n\
+sums.likely = added(sums.likely, likely);\n\
+sums.missed = added(sums.missed, missed);\n\
+sums.unsent = added(sums.unsent, unsent);\n\
+sums.unanswered = added(sums.unanswered, unanswered);\n\
+sums.unconfirmed = added(sums.unconfirmed, unconfirmed);\n\
 }\n\
 function participantsOf(data) {\n\
 const announced = new Map([...data.endpoints, ...data.participants].map(({ guid }) => [prefixOf(guid), null]));\n\
@@ -715,6 +775,7 @@ return `${first}${isAbove(last, first) ? `-${last}` : ''}${moment && ` (${moment
 const evidenceSentences = (row) => [\n\
 ...spanSentences(row), ...commonSentences(row), ...receivedSentences(row), ...OWN_SENTENCES[row.verdict](row), ...waitSentences(row), ...silenceSentences(row),\n\
 ];\n\
+const lateSentences = (late) => (late === undefined ? [] : [`The two matched ${lateText(late)}.`]);\n\
 function spanSentences({ from, until, until_time: time, until_frame: frame, outcomes }) {\n\
 const kinds = OUTCOMES.filter((name) => outcomes[name] > 0).map((name) => `${counted(outcomes[name])} ${name}`);\n\
 const left = until === null ? '' : `, until datagram ${until}${frameText(frame)}${secondText(time)}, in which the reader left`;\n\
@@ -766,11 +827,11 @@ if (!last) return 'The writer did not ask for an answer since the reader’s las
 return `The writer asked ${plural(count, 'time')} for an answer since the reader’s last one, last in ${placeText(last)}.`;\n\
 }\n\
 const payloadText = ({ payload, octets }) => (payload === 'absent' ? 'no payload' : `${payload === 'key' ? 'a key' : 'a sample'} of ${plural(octets, 'octet')}`);\n\
-function receivedSentence({ rows, data }) {\n\
+function receivedSentence({ rows, groups, data }) {\n\
 if (rows.length === 0) return '';\n\
-const good = rows.filter(({ clean }) => clean).length;\n\
-const [received, asked] = [sumOf(rows, (row) => row.received), sumOf(rows, askedAbout)];\n\
-const more = data.arrived ? `, ${counted(sumOf(rows, arrivedOf))} more arrived` : '';\n\
+const good = rows.length - groups.reduce((sum, { bad }) => sum + bad, 0);\n\
+const [received, asked, arrived] = ['proved', 'asked', 'arrived'].map((name) => sumOf(groups, ({ sums }) => sums[name]));\n\
+const more = data.arrived ? `, ${counted(arrived)} more arrived` : '';\n\
 return `${counted(good)} of ${plural(rows.length, 'pair')} ${rows.length === 1 ? 'is' : 'are'} clean. The recording proves `\n\
 + `${counted(received)} of ${plural(asked, 'number')} received${more}.`;\n\
 }\n\
@@ -835,6 +896,7 @@ const lastLine = memo(() => {\n\
 const text = document.querySelector('#text pre').textContent.trimEnd();\n\
 return text.slice(text.lastIndexOf('\\n') + 1);\n\
 });\n\
+const firstLines = () => document.querySelector('#text pre').textContent.split('\\n\\n')[0].split('\\n').map((line) => line.replace(/^ *(-> )?/, '')).filter(Boolean);\n\
 function showOutcome({ data }, place) {\n\
 const [word, ...rest] = lastLine().split(': ');\n\
 const isClean = data.status === 'clean';\n\
@@ -895,6 +957,7 @@ make('dt', null, name.replaceAll('_', ' ')), make('dd', { class: 'count' }, coun
 const MOST_STRIPS = 20;\n\
 const STRIP_HEIGHT = 32;\n\
 const COLUMN = 2;\n\
+const LEAST_BAND = 3;\n\
 const MOST_MARKS = 2000;\n\
 const MOST_LOOKED_UP = 20000;\n\
 const BAND_GAP = 8;\n\
@@ -928,7 +991,7 @@ const more = report.groups.length - groups.length;\n\
 const kinds = Object.keys(MARK_WORDS).filter((kind) => strips.some(({ points }) => points[kind].length > 0));\n\
 this.section.append(\n\
 make('p', { class: 'hint' }, `Each strip is a topic with reliable pairs, the worst first${more > 0 ? `; ${plural(more, 'more topic')} of less weight ${more === 1 ? 'has' : 'have'} none` : ''}. `\n\
-+ `To the right runs the recording, in ${this.axis.word === 's' ? 'seconds' : 'datagrams'}. A lost number stands where it was first sent. A strip leads to its pairs.`),\n\
++ `To the right runs the recording, in ${this.axis.word === 's' ? 'seconds' : 'datagrams'}. A lost number stands where it was first sent, or, where it never was, where the writer first told of it. A strip leads to its pairs.`),\n\
 pictureLegend(kinds),\n\
 make('div', { class: 'strips' }, ...strips.map((strip) => this.strip(strip)),\n\
 make('div', { class: 'strip axis-line' }, make('span', { class: 'strip-name' }, this.axis.word === 's' ? 'seconds' : 'datagrams'), this.scale, make('span', { class: 'strip-words' }))));\n\
@@ -964,7 +1027,7 @@ const columns = (values) => [...new Set(values.map((x) => Math.floor(this.pixel(
 const band = [...bandRuns(columns(samples)), ...spans.map(([from, to]) => [this.pixel(from), this.pixel(to)])];\n\
 place.replaceChildren(\n\
 drawn('path', { class: 'grid', d: grid }),\n\
-drawn('path', { class: 'samples', d: band.map(([from, to]) => `M${from} 8h${Math.max(COLUMN, to - from)}v8H${from}z`).join('') }),\n\
+drawn('path', { class: 'samples', d: band.map(([from, to]) => `M${from} 8h${Math.max(LEAST_BAND, to - from)}v8H${from}z`).join('') }),\n\
 ...Object.entries(MARK_FORMS).map(([kind, form]) => drawn('path', { class: `mark ${kind}`, d: columns(points[kind]).slice(0, MOST_MARKS).map(form).join('') })));\n\
 }\n\
 }\n\
@@ -983,21 +1046,20 @@ return runs;\n\
 function stripWords(group, points) {\n\
 const kinds = LOST_KINDS.map((kind) => [kind, lostCount(group, kind)]).filter(([, count]) => isAbove(count, 0));\n\
 const words = kinds.map(([kind, count]) => make('b', { class: 'lost-words' }, `${counted(count)} ${MARK_WORDS[kind]}`)).flatMap((word, at) => (at > 0 ? [', ', word] : [word]));\n\
-const placeless = points.placeless > 0 && `, ${counted(points.placeless)} never sent here`;\n\
-return words.length > 0 ? [...words, placeless] : [group.clean ? 'clean' : 'not clean'];\n\
+const unsent = points.neverSent > 0 && `, ${counted(points.neverSent)} of them never sent here`;\n\
+return words.length > 0 ? [...words, unsent] : [group.clean ? 'clean' : 'not clean'];\n\
 }\n\
 const LOST_KINDS = ['missed', 'unsent', 'unanswered', 'not_arrived'];\n\
-function lostCount({ rows }, kind) {\n\
-const held = rows.filter(isHeld);\n\
+function lostCount({ sums, held }, kind) {\n\
 if (kind === 'not_arrived') return sumOf(held, lostOf);\n\
-return sumOf(held.length === 0 ? rows : rows.filter((row) => !isHeld(row)), ({ outcomes }) => outcomes[kind]);\n\
+return differenceOf(sums[kind], sumOf(held, ({ outcomes }) => outcomes[kind]));\n\
 }\n\
 function stripPoints(report, group) {\n\
 const points = Object.fromEntries(Object.keys(MARK_FORMS).map((kind) => [kind, []]));\n\
 const left = { numbers: MOST_LOOKED_UP };\n\
-points.placeless = 0;\n\
+points.neverSent = 0;\n\
 for (const row of group.rows) {\n\
-if (Object.keys(row.numbers).length > 0) addLost(report, row, points, left);\n\
+if (row.lost !== 0) addLost(report, row, points, left);\n\
 addReader(report, row, points);\n\
 }\n\
 return { points, samples: samplesOf(report, group), spans: spansOf(report, group) };\n\
@@ -1005,47 +1067,79 @@ return { points, samples: samplesOf(report, group), spans: spansOf(report, group
 function addLost(report, row, points, left) {\n\
 const sendings = report.sendingsOf(row);\n\
 for (const kind of LOST_KINDS.filter((kind) => row.numbers[kind] && (kind === 'not_arrived' || !isHeld(row)))) {\n\
-for (const { first, last, sent } of row.numbers[kind].ranges) {\n\
-for (const x of rangePoints(report, { first, last, sent }, sendings, left)) {\n\
-if (x === null) points.placeless += 1;\n\
-else points[kind].push(x);\n\
+for (const range of row.numbers[kind].ranges) {\n\
+const places = range.sent ? sentPlaces(report, range, sendings, left) : toldPlaces(report, row, range, left);\n\
+if (!range.sent && kind !== 'unsent') points.neverSent += Number(range.last) - Number(range.first) + 1;\n\
+for (const x of places) if (x !== null && x !== undefined) points[kind].push(x);\n\
 }\n\
 }\n\
 }\n\
-}\n\
-function rangePoints(report, { first, last, sent }, sendings, left) {\n\
-const place = sent ? report.onAxis(sent) : null;\n\
+function sentPlaces(report, { first, last, sent }, sendings, left) {\n\
+const place = report.onAxis(sent);\n\
 const found = [place];\n\
 for (let number = first + 1; number <= last && left.numbers > 0; number += 1) {\n\
 const entry = sendings(number);\n\
 left.numbers -= 1;\n\
-if (entry) found.push(report.isTimed ? report.secondOf(entry[0]) ?? place : entry[0]);\n\
+if (entry) found.push(report.placeOf(entry[0]) ?? place);\n\
 }\n\
 return found;\n\
 }\n\
+function toldPlaces(report, row, { first, last }, left) {\n\
+const told = report.tellingsOf(row);\n\
+if (told === null) return [row.announced ? report.onAxis(row.announced) : null];\n\
+const found = [];\n\
+for (let number = Number(first); number <= Number(last) && left.numbers > 0; number += 1) {\n\
+left.numbers -= 1;\n\
+const entry = firstFrom(told, number);\n\
+if (entry) found.push(report.placeOf(entry[0]));\n\
+}\n\
+return found;\n\
+}\n\
+function firstFrom(steps, number) {\n\
+let [low, high] = [0, steps.length];\n\
+while (low < high) {\n\
+const middle = (low + high) >> 1;\n\
+if (steps[middle][1] >= number) high = middle;\n\
+else low = middle + 1;\n\
+}\n\
+return steps[low];\n\
+}\n\
 function addReader(report, row, points) {\n\
 const joined = report.data.joined?.[row.at];\n\
-const add = (kind, x) => x !== null && x !== undefined && points[kind].push(x);\n\
-if (joined) add('joins', report.onAxis({ datagram: joined[0], time: joined[2] }));\n\
-if (row.until !== null) add('leaves', report.onAxis({ datagram: row.until, time: row.until_time }));\n\
+if (joined) addPoint(points.joins, report.isTimed ? joined[2] : joined[0]);\n\
+if (row.until !== null) addPoint(points.leaves, report.onAxis({ datagram: row.until, time: row.until_time }));\n\
 for (const guid of report.hasSilent ? [row.reader, row.writer] : []) {\n\
 const announced = report.participantOf(guid)?.announced;\n\
-if (announced?.silent) add('silent', report.onAxis({ datagram: announced.last, time: announced.last_time }));\n\
+if (announced?.silent) addPoint(points.silent, report.onAxis({ datagram: announced.last, time: announced.last_time }));\n\
 }\n\
+}\n\
+function addPoint(points, x) {\n\
+if (x !== null && x !== undefined) points.push(x);\n\
 }\n\
 function samplesOf(report, { rows }) {\n\
 const writers = [...new Set(rows.map(({ writer }) => writer))].filter((writer) => report.acts.has(writer));\n\
-return writers.flatMap((writer) => report.acts.get(writer).filter(([, , what]) => what === 'data').map(([datagram]) => (\n\
-report.isTimed ? report.secondOf(datagram) : datagram))).filter((x) => x !== undefined);\n\
+return writers.flatMap((writer) => report.acts.get(writer).filter(([, , what]) => IS_SENDING.has(what)).map(([datagram]) => report.placeOf(datagram)))\n\
+.filter((x) => x !== undefined);\n\
 }\n\
 function spansOf(report, { rows }) {\n\
 const spans = new Map();\n\
-for (const row of rows.filter(({ writer }) => !report.acts.has(writer))) {\n\
-const places = [row.announced, row.told, row.claimed, row.acknowledged].filter(Boolean).map((place) => report.onAxis(place)).filter((x) => x !== null);\n\
-const span = entryOf(spans, row.writer, () => [Infinity, -Infinity]);\n\
-[span[0], span[1]] = [Math.min(span[0], ...places), Math.max(span[1], ...places)];\n\
+let [writer, span] = [null, null];\n\
+for (const row of rows) {\n\
+if (row.writer !== writer) {\n\
+writer = row.writer;\n\
+span = report.acts.has(writer) ? null : entryOf(spans, writer, () => [Infinity, -Infinity]);\n\
+}\n\
+if (span !== null) widen(span, report, row);\n\
 }\n\
 return [...spans.values()].filter(([from, to]) => from <= to);\n\
+}\n\
+function widen(span, report, { announced, told, claimed, acknowledged }) {\n\
+for (const place of [announced, told, claimed, acknowledged]) {\n\
+const x = place ? report.onAxis(place) : null;\n\
+if (x === null) continue;\n\
+span[0] = Math.min(span[0], x);\n\
+span[1] = Math.max(span[1], x);\n\
+}\n\
 }\n\
 function pictureLegend(kinds) {\n\
 const sign = (shape) => drawn('svg', { viewBox: '0 0 24 32', width: '18', height: '24', 'aria-hidden': 'true' }, shape);\n\
@@ -1075,8 +1169,9 @@ return others.length > 0 ? [...events, { text: head, rows: others }] : events;\n
 }\n\
 function showHappened(report, section) {\n\
 const events = eventsOf(report);\n\
-section.hidden = events.length === 0;\n\
-if (section.hidden) return;\n\
+section.hidden = events.length === 0 && report.rows.length > 0;\n\
+if (report.rows.length === 0) section.append(noPairPart());\n\
+if (events.length === 0) return;\n\
 const list = make('div', { class: 'events' });\n\
 section.append(list);\n\
 inParts(section, 'event', events, EVENTS_SHOWN, (some) => {\n\
@@ -1084,6 +1179,10 @@ const shown = some.map((event) => eventPart(report, event));\n\
 list.append(...shown);\n\
 return shown;\n\
 });\n\
+}\n\
+function noPairPart() {\n\
+const [what, ...why] = firstLines();\n\
+return make('div', { class: 'event no-pair' }, make('h3', null, what), ...why.map((line) => make('p', { class: 'advice' }, line)));\n\
 }\n\
 function eventPart(report, { text, rows }) {\n\
 const body = make('tbody', null);\n\
@@ -1122,16 +1221,54 @@ make('span', { class: 'ends' }, `: ${endText(report, row.writer, row.writer_node
 const TALK_LINES = [10, 200];\n\
 function showTalk(report) {\n\
 const section = document.getElementById('talk');\n\
-const { unmatched, talking, one_way: oneWay, unobserved } = report.data;\n\
-section.hidden = [unmatched, talking, oneWay, unobserved].every((items) => items.length === 0);\n\
+const { untold = [], lives = [], late = [], unmatched, talking, one_way: oneWay, unobserved } = report.data;\n\
+const alone = aloneTopics(report);\n\
+section.hidden = [untold, lives, late, unmatched, talking, oneWay, alone, unobserved].every((items) => items.length === 0);\n\
 const ends = endsOf(report);\n\
+talkTable(section, 'untold', 'Participants that were not told of endpoints', ['Participant that was not told', 'Whose endpoints', 'Which endpoints'], untold,\n\
+({ from, to, ...which }) => [endpointName(report, to), endpointName(report, from), untoldLines(report, which)]);\n\
+talkTable(section, 'lives', 'Participants with two lives under one GUID', ['Participant', 'Announced at'], lives,\n\
+({ participant, address, sent }) => [livingName(report, participant, address), [sent.map(sourceTime).join(' and ')]]);\n\
+talkTable(section, 'late', 'Pairs that matched late', ['Topic', 'Writer', 'Reader', 'Matched'], late,\n\
+(one) => [...ends(one), [lateText(one)]]);\n\
 talkTable(section, 'unmatched', 'Endpoints that do not match', ['Topic', 'Writer', 'Reader', 'What does not fit'], unmatched,\n\
 (one) => [...ends(one), unfitLines(one)]);\n\
 talkTable(section, 'talking', 'Endpoints that would not match by the standard, and talk', ['Topic', 'Writer', 'Reader', 'What does not fit'], talking,\n\
 (one) => [...ends(one), [one.because.map(spaced).join(', ')]]);\n\
 talkTable(section, 'one-way', 'Participants that talk one way', ['Participant that never answers', 'Who names it', 'Datagrams'], oneWay,\n\
 ({ from, to, named }) => [endpointName(report, to), endpointName(report, from), [counted(named)]]);\n\
+showAlone(section, alone);\n\
 showLeftOut(section, unobserved, ends);\n\
+}\n\
+function untoldLines(report, { writers, readers, unnamed }) {\n\
+const line = (side) => (guid) => {\n\
+const endpoint = report.endpointOf.get(guid);\n\
+return make('div', null, `${side} of `, endpoint ? oneName('b', shownTopic(endpoint.topic)) : guidText(guid));\n\
+};\n\
+return [...writers.map(line('writer')), ...readers.map(line('reader')), isAbove(unnamed, 0) && make('div', null, `${counted(unnamed)} without a name here`)];\n\
+}\n\
+function livingName(report, guid, address) {\n\
+const isThere = report.participantOf(guid) !== undefined;\n\
+return [...endpointName(report, guid), !isThere && address !== null && ` at ${address}`];\n\
+}\n\
+const sourceTime = (seconds) => (seconds < 1e8 ? `${seconds.toFixed(3)} s` : `${momentText(Math.round(seconds * 1000), 0)} UTC`);\n\
+const lateText = ({ seconds, matched }) => `${seconds.toFixed(3)} s after both were there, in ${placeText(matched)}`;\n\
+function aloneTopics({ data: { endpoints } }) {\n\
+const topics = new Map();\n\
+for (const { topic, side } of endpoints) entryOf(topics, topic, () => ({ topic, writer: 0, reader: 0 }))[side] += 1;\n\
+const isService = ({ topic }) => /^r[qr]\\//.test(topic);\n\
+return [...topics.values()].filter(({ writer, reader }) => writer === 0 || reader === 0)\n\
+.sort((a, b) => Number(isService(a)) - Number(isService(b)) || byText('topic')(a, b));\n\
+}\n\
+function showAlone(section, alone) {\n\
+if (alone.length === 0) return;\n\
+const written = alone.filter(({ reader }) => reader === 0).length;\n\
+const words = [[written, 'no reader'], [alone.length - written, 'no writer']].filter(([count]) => count > 0).map(([count, what]) => `${counted(count)} with ${what}`);\n\
+section.append(makeFold({ class: 'talk-fold' }, [make('b', null, plural(alone.length, 'topic with one side alone', 'topics with one side alone')), `: ${words.join(', ')}`], () => {\n\
+const part = make('div', null);\n\
+talkTable(part, 'alone', null, ['Topic', 'Writers', 'Readers'], alone, ({ topic, writer, reader }) => [topicName(topic), [counted(writer)], [counted(reader)]]);\n\
+return [part];\n\
+}));\n\
 }\n\
 const endsOf = (report) => ({ topic, writer, reader }) => (\n\
 [[oneName('b', shownTopic(topic))], endpointBriefly(report, writer), endpointBriefly(report, reader)]);\n\
@@ -1166,10 +1303,11 @@ const [offer, request] = [offered[at], requested[at]].map((text) => (policy === 
 return make('div', null, `${spaced(policy)}: offers ${offer}; asks for ${request}`);\n\
 });\n\
 }\n\
+const CAPTIONS = { alone: 'Topics with one side alone', unobserved: 'Pairs that are left out', 'best-effort': 'Pairs of best effort' };\n\
 function talkTable(section, name, head, heads, items, cellsOf) {\n\
 if (items.length === 0) return;\n\
 const body = make('tbody', null);\n\
-const table = make('table', { class: `talk ${name}` }, make('caption', { class: 'hidden' }, head ?? section.querySelector('h2')?.textContent ?? 'Pairs'), tableHead(...heads), body);\n\
+const table = make('table', { class: `talk ${name}` }, make('caption', { class: 'hidden' }, head ?? CAPTIONS[name]), tableHead(...heads), body);\n\
 const part = make('div', { class: 'talk-part' }, head !== null && make('h3', null, head), make('div', { class: 'wide' }, table));\n\
 section.append(part);\n\
 inParts(part, 'line', items, TALK_LINES, (some) => {\n\
@@ -1188,12 +1326,14 @@ const MANY_DOTS = 3000;\n\
 const MANY_ANSWERS = 150;\n\
 const POINT = 'Point at a dot to read it.';\n\
 const MOST_LOST = 5000;\n\
+const MOST_ARRIVED = 100000;\n\
 function marksOf(report, row, axis) {\n\
 const acts = report.actsOf(row).map((entry) => entryParts(entry, axis));\n\
 const to = namesOf(row.reader);\n\
 const heard = acts.filter(({ named }) => to.includes(named));\n\
 const answers = report.basesOf(row).map(([datagram, at, base]) => ({ x: axis.at(datagram), y: Number(base) - 1, at }));\n\
-const dots = dotsOf(heard.filter(({ what }) => what === 'data'));\n\
+const sent = heard.filter(({ what }) => what === 'data' || what === 'piece');\n\
+const dots = dotsOf(sent);\n\
 const announced = stepsOf(acts.filter(({ what }) => what === 'announced').map(({ x, numbers: [last] }) => ({ x, y: Number(last) })));\n\
 const told = stepsOf(acts.filter(({ what }) => what !== 'gone').map(({ x, numbers: [last] }) => ({ x, y: Number(last) })));\n\
 return {\n\
@@ -1202,14 +1342,15 @@ bands: bandsOf(heard.filter(({ what }) => what === 'gone')),\n\
 announced,\n\
 answers,\n\
 acknowledged: stepsOf(answers),\n\
-lost: lostMarks(row, dots, told, axis),\n\
+asked: report.asksOf(row).flatMap(([datagram, , numbers]) => numbers.map((number) => ({ x: axis.at(datagram), y: Number(number) }))),\n\
+lost: lostMarks(row, sent.map(({ x, numbers: [number] }) => ({ x, y: Number(number) })), told, axis),\n\
 arrived: arrivedDots(row, dots),\n\
 numbers: markedNumbers(row),\n\
 datagrams: row.verdict === 'unfounded' ? [{ x: axis.at(row.datagram), label: `datagram ${row.datagram}` }] : [],\n\
 };\n\
 }\n\
-function lostMarks({ numbers }, dots, told, axis) {\n\
-const sent = firstOf(dots);\n\
+function lostMarks({ numbers }, sendings, told, axis) {\n\
+const sent = firstOf(sendings);\n\
 return Object.keys(LOST_WORDS).filter((kind) => numbers[kind]).flatMap((kind) => (\n\
 eachNumber(numbers[kind].ranges, MOST_LOST).map((number) => {\n\
 const dot = sent.get(number);\n\
@@ -1230,10 +1371,11 @@ for (let number = Number(first); number <= Number(last) && numbers.length < most
 return numbers;\n\
 }\n\
 function arrivedDots(row, dots) {\n\
-if (!isHeld(row) || row.numbers.not_arrived?.more > 0) return [];\n\
-const lacking = row.numbers.not_arrived?.ranges || [];\n\
-const isLacking = (y) => lacking.some(({ first, last }) => y >= first && y <= last);\n\
-return [...firstOf(dots).values()].filter(({ y }) => y >= row.from && !isLacking(y)).map(({ x, y }) => ({ x, y }));\n\
+if (!isHeld(row)) return [];\n\
+const { ranges, more } = row.numbers.not_arrived || { ranges: [], more: 0 };\n\
+const lacking = new Set(eachNumber(ranges, MOST_ARRIVED));\n\
+const end = more > 0 || lacking.size === MOST_ARRIVED ? Math.max(...lacking) : Infinity;\n\
+return [...firstOf(dots).values()].filter(({ y }) => y >= row.from && y <= end && !lacking.has(y)).map(({ x, y }) => ({ x, y }));\n\
 }\n\
 function axisOf(report, row) {\n\
 const drawn = [...report.actsOf(row), ...report.basesOf(row)].map(([datagram]) => datagram);\n\
@@ -1257,7 +1399,7 @@ window: 0.02, step: 0.001, text: shortSecond,\n\
 const endsOfAll = (values) => [values.reduce((a, b) => Math.min(a, b), Infinity), values.reduce((a, b) => Math.max(a, b), -Infinity)];\n\
 const within = ([first, last], room, [low, high]) => (first > last ? [low, high] : [Math.max(low, first - room), Math.min(high, last + room)]);\n\
 function entryParts([datagram, at, what, ...rest], axis) {\n\
-const count = what === 'gone' ? 2 : 1;\n\
+const count = what === 'gone' || what === 'piece' ? 2 : 1;\n\
 return { x: axis.at(datagram), datagram, at, what, numbers: rest.slice(0, count), named: rest[count] };\n\
 }\n\
 function markedNumbers({ verdict, number, first_missed: missed }) {\n\
@@ -1265,12 +1407,19 @@ const found = [{ y: Number(number), label: `${verdict} ${number}` }];\n\
 return missed && missed.number !== number ? [...found, { y: Number(missed.number), label: `missed ${missed.number}` }] : found;\n\
 }\n\
 function dotsOf(entries) {\n\
-const seen = new Set();\n\
-return entries.map(({ x, datagram, at, numbers: [number] }) => {\n\
-const again = seen.has(number);\n\
+const [seen, pieces, twice] = [new Set(), new Set(), new Set()];\n\
+const dots = [];\n\
+for (const { x, what, datagram, at, numbers: [number, piece] } of entries) {\n\
+if (what === 'piece') {\n\
+const name = `${number} ${piece}`;\n\
+if (pieces.has(name)) twice.add(number);\n\
+pieces.add(name);\n\
+} else {\n\
+dots.push({ x, y: Number(number), number, datagram, at, again: seen.has(number) || twice.has(number) });\n\
 seen.add(number);\n\
-return { x, y: Number(number), number, datagram, at, again };\n\
-});\n\
+}\n\
+}\n\
+return dots;\n\
 }\n\
 function bandsOf(entries) {\n\
 const bands = [];\n\
@@ -1317,10 +1466,10 @@ make('figcaption', { id: `chart-help-${row.at + 1}` }, `${this.axis.name} to the
 this.listen();\n\
 }\n\
 extent() {\n\
-const { dots, bands, announced, acknowledged, numbers, lost } = this.marks;\n\
+const { dots, bands, announced, acknowledged, asked, numbers, lost } = this.marks;\n\
 let top = 1;\n\
 for (const { y, high } of [...announced, ...acknowledged, ...numbers, ...bands, ...lost]) top = Math.max(top, y ?? high);\n\
-for (const { y } of dots) top = Math.max(top, y);\n\
+for (const marks of [dots, asked]) for (const { y } of marks) top = Math.max(top, y);\n\
 return { x0: this.axis.low, x1: this.axis.high, y0: 0, y1: top * 1.06 + 1 };\n\
 }\n\
 ownSpan() {\n\
@@ -1330,10 +1479,11 @@ const low = [...dots, ...answers, ...announced].reduce((least, { y }) => Math.mi
 return this.within([x0, x1, Math.max(0, low - 2), this.all.y1]);\n\
 }\n\
 description(row) {\n\
-const { dots, answers, lost } = this.marks;\n\
+const { dots, answers, asked, lost } = this.marks;\n\
 const again = dots.filter((dot) => dot.again).length;\n\
+const asks = asked.length > 0 ? `${plural(asked.length, 'number')} asked for, ` : '';\n\
 return `Chart of ${this.axis.name.toLowerCase()} and numbers: ${plural(dots.length, 'DATA', 'DATA')} to this reader, ${counted(again)} of them sent again, `\n\
-+ `${plural(answers.length, 'answer')} of the reader, ${plural(lost.length, 'mark')} of lost numbers, and a line at ${row.verdict} ${row.number}.`;\n\
++ `${plural(answers.length, 'answer')} of the reader, ${asks}${plural(lost.length, 'mark')} of lost numbers, and a line at ${row.verdict} ${row.number}.`;\n\
 }\n\
 controls() {\n\
 const acts = [\n\
@@ -1472,6 +1622,7 @@ this.drawSteps(this.marks.announced, '--announced', 1.25);\n\
 this.drawSteps(this.marks.acknowledged, '--acknowledged', 3.5);\n\
 this.drawAnswers();\n\
 this.drawMarks();\n\
+this.drawAsked();\n\
 this.drawDots();\n\
 this.drawLost();\n\
 this.drawArrived();\n\
@@ -1586,6 +1737,21 @@ if (dot.again) pen.stroke();\n\
 else pen.fill();\n\
 }\n\
 }\n\
+drawAsked() {\n\
+const pen = this.penOf('--ink', 1.25);\n\
+const drawn = new Set();\n\
+for (const mark of this.marks.asked.filter((mark) => this.isInSight(mark))) {\n\
+const [x, y] = [Math.round(this.pixelX(mark.x)), Math.round(this.pixelY(mark.y))];\n\
+if (drawn.has(x * CHART_HEIGHT + y)) continue;\n\
+drawn.add(x * CHART_HEIGHT + y);\n\
+pen.beginPath();\n\
+pen.moveTo(x - 4, y - 4);\n\
+pen.lineTo(x + 4, y - 4);\n\
+pen.lineTo(x, y + 3);\n\
+pen.closePath();\n\
+pen.stroke();\n\
+}\n\
+}\n\
 drawLost() {\n\
 const lost = this.marks.lost.filter((mark) => this.isInSight(mark));\n\
 const pen = this.penOf('--mark', 2.25);\n\
@@ -1636,10 +1802,11 @@ pen.fillText(text, x, y);\n\
 pen.restore();\n\
 }\n\
 }\n\
-function legend({ lost, arrived }) {\n\
+function legend({ asked, lost, arrived }) {\n\
 return make('ul', { class: 'legend' },\n\
 legendItem('DATA to this reader', drawn('circle', { class: 'sent', cx: 12, cy: 7, r: 4 })),\n\
 legendItem('sent again', drawn('circle', { class: 'again', cx: 12, cy: 7, r: 4.5 })),\n\
+asked.length > 0 && legendItem('asked for by the reader', drawn('path', { class: 'asked', d: 'M8 3h8l-4 7z' })),\n\
 lost.length > 0 && legendItem('lost: missed, unsent, unanswered or not arrived', drawn('path', { class: 'cross', d: 'M8 3l8 8m0-8l-8 8' })),\n\
 lost.some(({ isSent }) => !isSent) && legendItem('lost, and never sent here', drawn('path', { class: 'cross', d: 'M9 4l6 6m0-6l-6 6M6 1h12v12H6z' })),\n\
 arrived.length > 0 && legendItem('received, or in the other recording', drawn('circle', { class: 'came', cx: 12, cy: 10, r: 2.5 })),\n\
@@ -1663,7 +1830,7 @@ make('p', { class: 'lead' }, verdictSentence(row)),\n\
 ...manyRanges(row),\n\
 row.advice !== null && make('p', { class: 'advice' }, row.advice),\n\
 make('h4', null, 'What it rests on'),\n\
-make('ul', { class: 'rests-on' }, ...evidenceSentences(row).map((sentence) => make('li', null, sentence))),\n\
+make('ul', { class: 'rests-on' }, ...[...evidenceSentences(row), ...lateSentences(report.lateOf(row))].map((sentence) => make('li', null, sentence))),\n\
 makeFold({ class: 'names' }, ['GUIDs and names of DDS'], () => [nameList(row)]),\n\
 placeHelp(row)),\n\
 make('div', { class: 'detail-chart' }, chartOf(report, row)));\n\
@@ -1720,11 +1887,10 @@ const cell = (report, row) => {\n\
 const count = numberOf(row);\n\
 return count === null ? '–' : marked(count, isBad(row));\n\
 };\n\
-const sums = new Map();\n\
-const sum = (group) => entryOf(sums, group, () => sumOf(group.rows, (row) => numberOf(row) || 0));\n\
+const sum = ({ sums }) => sums[name];\n\
 return {\n\
 name, head: name[0].toUpperCase() + name.slice(1), meaning, class: 'count', compare: byCount((row) => numberOf(row) || 0), cell, isAmount: true, sum,\n\
-total: (group) => marked(sum(group), group.rows.some(isBad)),\n\
+total: (group) => marked(sum(group), isAbove(sum(group), 0) && group.rows.some(isBad)),\n\
 };\n\
 }\n\
 const isLost = (name, row) => LOST.includes(name) || (name === 'likely' && isHeld(row));\n\
@@ -1747,7 +1913,11 @@ countColumn('before', 'numbers of before the reader joined', () => false, ({ fro
 placeColumn('announced', 'Last announced', 'number', 'the last number that the writer announced'),\n\
 placeColumn('acknowledged', 'Acknowledged below', 'below', 'the reader acknowledged all numbers below this one'),\n\
 ];\n\
-const WORST_FIRST = { name: 'worst', head: 'Worst first', compare: worse };\n\
+function worseKey({ clean, lost, rank, isPlumbing }) {\n\
+const rest = rank * 4 + Number(clean) * 2 + Number(isPlumbing);\n\
+return typeof lost === 'number' && lost < 1e12 ? lost * 64 + rest : `${lost} ${rest}`;\n\
+}\n\
+const WORST_FIRST = { name: 'worst', head: 'Worst first', compare: worse, keyOf: worseKey };\n\
 const BY_TOPIC = { name: 'topic', head: 'Topic', compare: (a, b) => byText('topic')(a, b) || worse(a, b) };\n\
 const BY_TYPE = { name: 'type', head: 'Type', compare: (a, b) => byText('type')(a, b) || worse(a, b) };\n\
 function verdictCell(report, row) {\n\
@@ -1757,6 +1927,11 @@ make('span', { class: 'pair-name' }, `Pair ${row.at + 1} `), badge(row.verdict, 
 row.datagram !== undefined && make('span', { class: 'in-datagram' }, ` in datagram ${row.datagram}`),\n\
 bad.flatMap((name) => [' ', badge('missed', `${name} ${counted(row.outcomes[name])}`)]),\n\
 row.clean && [' ', badge('clean', 'clean')]);\n\
+}\n\
+function alike(rows, keyOf) {\n\
+const found = new Map();\n\
+for (const row of rows) entryOf(found, keyOf(row), () => []).push(row);\n\
+return found;\n\
 }\n\
 const [FOLDED, BAD, ALL] = ['folded', 'bad', 'all'];\n\
 class Pairs {\n\
@@ -1773,10 +1948,17 @@ this.render();\n\
 }\n\
 sort() {\n\
 const direction = this.isDown ? -1 : 1;\n\
-this.sorted = [...this.report.rows].sort((a, b) => direction * this.order.compare(a, b) || a.at - b.at);\n\
+const { rows } = this.report;\n\
+const { compare, keyOf } = this.order;\n\
+this.sorted = keyOf\n\
+? [...alike(rows, keyOf).values()].sort(([a], [b]) => direction * compare(a, b)).flat()\n\
+: [...rows].sort((a, b) => direction * compare(a, b) || a.at - b.at);\n\
 }\n\
 hasWord(word) {\n\
 const has = (...texts) => texts.some((text) => typeof text === 'string' && text.toLowerCase().includes(word));\n\
+const seen = new Map([[null, false], [undefined, false]]);\n\
+const hasText = (text) => entryOf(seen, text, () => has(text));\n\
+const isNumber = /^\\d+$/.test(word);\n\
 const { groups, data } = this.report;\n\
 const found = new Set(groups.filter(({ topic, type }) => has(topic, type, rosTopic(topic), rosType(type))));\n\
 for (const { guid } of data.endpoints) {\n\
@@ -1784,8 +1966,8 @@ const participant = this.report.participantOf(guid);\n\
 const { address, host, process, name } = participant.announced || {};\n\
 if (has(guid, participant.name, ...participant.nodes, address, host, process, name)) found.add(guid);\n\
 }\n\
-return ({ group, writer, reader, verdict, kind, number, writer_node: sender, reader_node: receiver }) => (\n\
-found.has(group) || found.has(writer) || found.has(reader) || has(verdict, kind, sender, receiver, String(number)));\n\
+return (row) => found.has(row.group) || found.has(row.writer) || found.has(row.reader) || hasText(row.verdict) || hasText(row.kind)\n\
+|| hasText(row.writer_node) || hasText(row.reader_node) || (isNumber && String(row.number).includes(word));\n\
 }\n\
 matching() {\n\
 const tests = this.words.map((word) => this.hasWord(word));\n\
@@ -1828,7 +2010,7 @@ make('label', { for: 'order' }, 'Order'), this.select, makeButton(null, 'Reverse
 makeButton({ class: 'open-all' }, 'Open all', () => this.openAll(ALL)), makeButton(null, 'Fold', () => this.openAll(null)));\n\
 const wide = make('div', { class: 'wide' }, this.table);\n\
 const words = this.explanation();\n\
-tools.hidden = wide.hidden = words.hidden = this.report.rows.length === 0;\n\
+document.getElementById('pairs').hidden = this.report.rows.length === 0;\n\
 document.getElementById('pairs').append(this.kindButtons(), tools, this.status, wide, this.more, words);\n\
 }\n\
 heads() {\n\
@@ -1840,7 +2022,7 @@ const said = this.columns.filter(({ meaning }) => meaning).flatMap(({ head, mean
 return make('p', { class: 'hint words' }, ...said, '.');\n\
 }\n\
 kindButtons() {\n\
-const countOf = (kind) => this.report.rows.filter((row) => row.kind === kind).length;\n\
+const countOf = (kind) => this.report.groups.reduce((sum, { kinds }) => sum + kinds[KINDS.indexOf(kind)], 0);\n\
 this.buttons = KINDS.filter(countOf).map((kind) => makeButton({ class: `badge ${kind}`, 'aria-pressed': 'false' },\n\
 `${counted(countOf(kind))} ${KIND_WORDS[kind]}`, (button) => {\n\
 this.toggleKind(kind);\n\
@@ -1891,7 +2073,6 @@ this.showChosen();\n\
 }\n\
 statusText(found, open, shown) {\n\
 const all = this.report.rows.length;\n\
-if (all === 0) return document.querySelector('#text pre').textContent.split('\\n\\n')[0].replace(/\\s+/g, ' ').replaceAll(' -> ', ': ');\n\
 const folded = found - open;\n\
 const some = shown < open ? `; the first ${counted(shown)} are shown` : '';\n\
 return `${partOf(found, all, 'pair')}${some}${folded > 0 ? `; ${counted(folded)} ${folded === 1 ? 'is' : 'are'} folded` : ''}.`;\n\
@@ -2079,7 +2260,7 @@ make('td', { class: 'in-pairs' }, pairs));\n\
 </script>\n\
 <script>'use strict';\n\
 function start() {\n\
-const report = new Report(valueOf(document.getElementById('data').textContent));\n\
+const report = reportOf(document.getElementById('data').textContent);\n\
 showHead(report);\n\
 document.getElementById('page').hidden = false;\n\
 const picture = new Picture(report, document.getElementById('picture'));\n\
