@@ -5,7 +5,7 @@
 is refused. The mode ANY is what `--any` reads. PLAIN is the same with less: classic files of Ethernet or raw IP, and of their
 frames the whole packets of IPv4 that stand right behind the link's header.
 
-It is written for clearness, by whole lists: frames first, then what each of them has, then the packets of each key.
+It is written for clearness, by whole lists: frames first, then what each of them has, then the packets of each key, as long as it is remembered.
 """
 from typing import NamedTuple, Optional
 
@@ -23,6 +23,7 @@ PASSED = (0, 43, 60)          # IPv6: hop-by-hop options, routing, destination o
 FRAGMENT, UDP = 44, 17
 MOST_CAPTURED = 262144        # octets of a frame: a length above it is damage
 MOST_OF_PACKET = 65535
+MOST_OTHERS = 64              # keys of the same hosts behind the last piece of one that is forgotten
 SECOND = 10 ** 9
 BAD_CAPTURE, TOO_MANY = 'bad capture', 'too many datagrams'
 
@@ -218,6 +219,10 @@ class Key(NamedTuple):
     destination: bytes
     identification: bytes
 
+    @property
+    def hosts(self):
+        return self.version, self.source, self.destination
+
 
 class Piece(NamedTuple):
     """A fragment of an IP packet: its octets from `start` on. The last one has no `more`."""
@@ -349,9 +354,32 @@ def is_summed(source, destination, octets):
     return big(header + octets + bytes(len(octets) % 2)) % 0xffff == 0
 
 
+def remembered(arrivals):
+    """the pieces of one key between which it is not forgotten, of all pieces of the same hosts. A key is forgotten once pieces of so many other
+    keys stand behind its last piece; then it is as if the file ended there, and what comes later begins anew"""
+    keys, last, runs = [piece.key for _, piece in arrivals], {}, {}
+    for place, (number, piece) in enumerate(arrivals):
+        runs_of_key = runs.setdefault(piece.key, [])
+        if piece.key not in last or are_many(keys, last[piece.key] + 1, place):
+            runs_of_key.append([])
+        runs_of_key[-1].append((number, piece))
+        last[piece.key] = place
+    return [run for runs_of_key in runs.values() for run in runs_of_key]
+
+
+def are_many(keys, begin, end):
+    """from one place to another stand so many different keys that one which stands before and behind them is forgotten"""
+    different = set()
+    for place in range(begin, end):
+        different.add(keys[place])
+        if len(different) == MOST_OTHERS:
+            return True
+    return False
+
+
 def packets_of(arrivals):
-    """of the pieces of one key, each with the number of its frame: the packets by the frame that completes them, and the frames
-    of pieces that are of no packet and no repeats"""
+    """of the pieces of one key that is not forgotten between them, each with the number of its frame: the packets by the frame that completes
+    them, and the frames of pieces that are of no packet and no repeats"""
     making, given, packets, ignored = [], [], {}, []
 
     def drop_oldest():
@@ -430,13 +458,16 @@ def read_frames(frames, mode):
             reading.cut += 1
         else:
             if isinstance(found, Piece):
-                pieces.setdefault(found.key, []).append((number, found))
+                pieces.setdefault(found.key.hosts, []).append((number, found))
             else:
                 given[number] = found
     for arrivals in pieces.values():
-        packets, ignored = packets_of(arrivals) if mode == ANY else ({}, arrivals)
-        given |= {number: datagram_of(octets) for number, octets in packets.items()}
-        reading.pieces += len(ignored)
+        for run in remembered(arrivals) if mode == ANY else ():
+            packets, ignored = packets_of(run)
+            given |= {number: datagram_of(octets) for number, octets in packets.items()}
+            reading.pieces += len(ignored)
+        if mode == PLAIN:
+            reading.pieces += len(arrivals)
     for number in sorted(given):
         reading.datagrams.append(given[number])
         reading.times.append(frames[number].time)

@@ -120,6 +120,23 @@ def some_packets_in_pieces(rng):
             for key in rng.choices(keys, k=rng.randrange(1, 6))]
 
 
+def some_crowd(rng):
+    """pieces of many packets of one version, between one host and another or two, in turns: about 64 other keys stand between two pieces of one"""
+    version, parts = rng.choice([4, 4, 6]), rng.choice([2, 2, 3, 4])
+    sources = [{4: HOST, 6: HOST_6}[version], SOURCES[version]][:rng.choice([1, 1, 2])]
+    identifications = rng.choice([10 ** 4, 10 ** 4, 66, 65, 64, 130])
+    # Of each key that comes in this time about so many pieces come.
+    apart = len(sources) * (64 // parts + rng.choice([-6, -2, -1, 0, 0, 1, 2, 6, 30]))
+    haste = rng.choice([0, 0, 1, 3])
+    placed = []
+    for number in range(rng.choice([70, 140, 260])):
+        pieces = some_pieces(rng, (version, rng.choice(sources), number % identifications), some_payload(rng))
+        for place, piece in enumerate(pieces):
+            for _ in range(rng.choice([1, 1, 1, 1, 2]) if rng.random() < 0.97 else 0):
+                placed.append((number + place * apart + haste * rng.random(), len(placed), piece))
+    return [piece for _, _, piece in sorted(placed)]
+
+
 def some_traffic(rng):
     """packets with their versions, in the order in which they come"""
     if rng.random() < 0.1:

@@ -23,7 +23,7 @@ from capture_writer import (ETHERNET, HOST, block, capture, cooked_1, cooked_2, 
                             interface, old, packet, packet_6, pcapng, record, section, simple, start, summed, tagged, udp, udp_4, udp_6)
 from captures import BASE, DATAGRAM, FRAMED, HEADER, SHOWN, audited, with_octets
 from program import ROOT, file_of, text_of
-from random_captures import some_capture
+from random_captures import SOURCES, some_capture, some_crowd
 
 ANY = ('--any',)
 DAMAGED = 'rtps-audit: FILE: frame {} is damaged, or two captures are in one file (mergecap joins them)\n'
@@ -136,6 +136,51 @@ def pieces_of_other_sizes(tests):
             sent = [piece for place, piece in enumerate(thirds(first)) if place != lacking] + thirds(second)
             agreed(tests, f'{len(first)} octets without piece {lacking}, then {len(second)}', capture(sent), (1, 1, 2))
     print('pieces of packets of two sizes: 6')
+
+
+# ---- a key is forgotten once pieces of 64 other keys of the same hosts stand behind its last piece
+
+def others(count, first=1000, times=1, source=HOST):
+    """the first piece of so many other packets, so many times"""
+    return [fragment(SUMMED, 0, 40, first + number, source=source) for _ in range(times) for number in range(count)]
+
+
+def forgotten(tests):
+    (f1, f2), good = halves(SUMMED), packet(DATAGRAM)
+    whole = [piece for number in range(64) for piece in halves(SUMMED, 2000 + number)]
+    sixes = [fragment_6(SUMMED_6, 0, 40, number) for number in range(64)]
+    known = {
+        '63 others': ([f1] + others(63) + [f2], 1, 63),
+        '64 others': ([f1] + others(64) + [f2], 0, 66),
+        '64 others of another source': ([f1] + others(64, source=SOURCES[4]) + [f2], 1, 64),
+        '64 others over IPv6': ([f1] + sixes + [f2], 1, 64),
+        '63 others, and 64 of another source': ([f1] + others(63) + others(64, source=SOURCES[4]) + [f2], 1, 127),
+        '64 packets that are given': ([f1] + whole + [f2], 64, 2),
+        '64 packets in one frame': ([f1] + [good] * 64 + [f2], 65, 0),
+        '63 others, each three times': ([f1] + others(63, times=3) + [f2], 1, 63),
+        '32 others twice, then 32 more': ([f1] + others(32, times=2) + others(32, 3000) + [f2], 0, 66),
+        '63 others, a piece again, 63 others': ([f1] + others(63) + [f1] + others(63, 3000) + [f2], 1, 126),
+        'the other piece behind 63 others, and its copy behind 63 more': ([f1] + others(63) + [f2] + others(63, 3000) + [f2], 1, 126),
+        'a copy of the last piece behind 63 others': ([f1, f2] + others(63) + [f2], 1, 63),
+        'a copy of the last piece behind 64 others': ([f1, f2] + others(64) + [f2], 1, 65),
+        'copies of both behind 64 others': ([f1, f2] + others(64) + [f1, f2], 2, 64),
+        'both behind 64 others, the first one before them, too': ([f1] + others(64) + [f1, f2], 1, 65),
+        'the first one behind 64 others twice, and its other piece': ([f1] + others(64) + [f1, f1, f2], 1, 65),
+        'forgotten twice': ([f1] + others(64) + [f1] + others(64) + [f2], 0, 131),
+        '64 keys in turn': ([half for place in (0, 1) for half in (halves(SUMMED, number)[place] for number in range(64))], 64, 0),
+        '65 keys in turn': ([half for place in (0, 1) for half in (halves(SUMMED, number)[place] for number in range(65))], 0, 130),
+    }
+    for name, (frames, datagrams, ignored) in known.items():
+        agreed(tests, name, capture(frames), (datagrams, 0, ignored))
+        tests.agrees(name, capture(frames), ('json',), ANY)
+    print(f'what is forgotten: {len(known)}')
+
+
+def crowds(tests):
+    rng = random.Random(57)
+    for i in range(60):
+        tests.agrees(f'crowd {i}', capture(some_crowd(rng)), ('show', 'json'), ANY)
+    print('crowds: 60')
 
 
 def counts_of(tests, octets):
@@ -323,7 +368,7 @@ def random_fragments(tests):
     for i in range(6):
         kept = [some_fragments(rng, key) for key in range(300)]
         if i % 2:
-            places = sorted((rng.random(), key, at) for key, frames in enumerate(kept) for at in range(len(frames)))
+            places = sorted((key + 12 * rng.random(), key, at) for key, frames in enumerate(kept) for at in range(len(frames)))
             left = [iter(frames) for frames in kept]
             frames = [next(left[key]) for _, key, _ in places]
         else:
@@ -420,5 +465,5 @@ def compare_datagrams(tests, name):
 
 
 if __name__ == '__main__':
-    sys.exit(program.main(__doc__, (rows, pieces, pieces_of_other_sizes, recorded_twice, links, damage, cut_and_changed, orders, unread,
+    sys.exit(program.main(__doc__, (rows, pieces, pieces_of_other_sizes, recorded_twice, forgotten, crowds, links, damage, cut_and_changed, orders, unread,
                                      random_fragments, random_captures, limits, hints, stored)))

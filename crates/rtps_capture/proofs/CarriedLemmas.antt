@@ -1,15 +1,17 @@
 -- What was read so far is sound, frame by frame: what is kept came in fragments, and what was given was carried.
 use Rattle.std.proofs.Common.{◌≡◌, ℕ, ◌+◌, ◌-◌, ◌≤◌, Bool, true, false, List, [], ◌∷◌, ◌++◌, length, drop, take, refl, sym, ap, ap₂, subst, ◌∙◌, inl, append_assoc, append-nil, arith}
-use Rattle.std.specs.Prelude.{IfSome, None, Option, Some, Ok, Err, Result, nat_lt, if◌then◌else◌, option_map, option_to_list, slice_range}
+use Rattle.std.specs.Prelude.{IfSome, None, Option, Some, Ok, Err, Result, nat_eq, nat_lt, if◌then◌else◌, option_map, option_to_list, slice_range}
+use Rattle.std.specs.List.{AllByRecursion}
 use Rattle.std.specs.Ordering.{is_eq}
+use Rattle.std.proofs.lemmas.Bool.Decides.{nat_tests}
 use Rattle.std.proofs.Math.Seq.{drop-append-add}
 use Rattle.std.proofs.lemmas.List.{length-append}
-use Rattle.std.proofs.lemmas.Cmp.{eq_by_cmp_equiv}
-use Rattle.rtps_capture.specs.Capture.{Answer, Collected, all_noted, answer_of, answered, capture_read, collected, contents_in, noted, nothing, opened_read, timed, with_contents, with_frame, with_link, with_rest}
+use Rattle.rtps_capture.specs.Capture.{Answer, Collected, all_noted, answer_of, answered, capture_read, collected, contents_in, noted, nothing, opened_read, remembered, timed, with_contents, with_frame, with_link, with_rest}
 use Rattle.rtps_capture.specs.Frames.{Unread as UnreadPart, frames_left, opened}
-use Rattle.rtps_capture.specs.Assembly.{Joined, key_cmp, taken_piece}
+use Rattle.rtps_capture.specs.Assembly.{Joined, taken_piece}
 use Rattle.rtps_capture.specs.Packets.{moved_range}
 use Rattle.rtps_capture.specs.Pieces.{piece_of}
+use Rattle.rtps_capture.specs.Recent.{hosts_cmp, hosts_of, is_of, making_in, recent_with, without}
 use Rattle.rtps_capture.specs.Sent.{AllWereCarried, StandsAmong, WasCarried, contents_among}
 use Rattle.rtps_capture.specs.declared.capture.CaptureFault.{CaptureFault}
 use Rattle.rtps_capture.specs.declared.capture.CaptureFault.TheVariants as fault
@@ -22,12 +24,16 @@ use Rattle.rtps_capture.specs.declared.byte_range.ByteRange.{ByteRange}
 use Rattle.rtps_capture.specs.declared.packet.Contents.{Contents}
 use Rattle.rtps_capture.specs.declared.packet.Contents.TheVariants as contents
 use Rattle.rtps_capture.specs.declared.fragment.Fragment.{Fragment}
+use Rattle.rtps_capture.specs.declared.assembly.KeyedMaking.{KeyedMaking}
+use Rattle.rtps_capture.specs.declared.assembly.Making.{Making}
+use Rattle.rtps_capture.specs.declared.fragment.FragmentHosts.{FragmentHosts}
 use Rattle.rtps_capture.specs.declared.fragment.FragmentKey.{FragmentKey}
-use Rattle.rtps_capture.proofs.AssemblyLemmas.{key_total}
+use Rattle.rtps_capture.specs.declared.layout.packet.TheConstants as packet_4
 use Rattle.rtps_capture.proofs.ComingLemmas.{slice_range-append}
 use Rattle.rtps_capture.proofs.Offered.{or_fault_ok}
 use Rattle.rtps_capture.proofs.PacketLemmas.{Ends, in_file}
-use Rattle.rtps_capture.proofs.SentLemmas.{AreOf, IsOf, JoinedSound, change_key, taken_sound}
+use Rattle.rtps_capture.proofs.RecentLemmas.{all_take, all_without, hosts_same}
+use Rattle.rtps_capture.proofs.SentLemmas.{AreOf, IsOf, JoinedSound, taken_sound}
 
 -- a datagram stands in the file and what is behind it, and was carried
 abbrev pub IsSound : List ℕ → List Contents → List ℕ → ByteRange → Type 0
@@ -38,8 +44,39 @@ abbrev pub AreSound : List ℕ → List Contents → List ℕ → List ByteRange
 AreSound file frames behind [] = Unit {0}
 AreSound file frames behind (range ∷ ranges) = IsSound file frames behind range × AreSound file frames behind ranges
 
+-- the key of these hosts with this identification
+abbrev pub key_of : FragmentHosts → ℕ → FragmentKey
+key_of hosts identification = record { identification = identification; version = hosts.version; source = hosts.source; destination = hosts.destination }
+
+-- what waits of a key of these hosts came in fragments of it
+abbrev pub IsRecent : List ℕ → List Contents → FragmentHosts → KeyedMaking → Type 0
+IsRecent file frames hosts one = AreOf file frames (key_of hosts one.identification) one.making.making
+
+abbrev pub AreRecent : List ℕ → List Contents → FragmentHosts → List KeyedMaking → Type 0
+AreRecent file frames hosts recent = AllByRecursion (IsRecent file frames hosts) recent
+
+number_same : (a b : ℕ) → nat_eq a b ≡ true → a ≡ b
+number_same a b is = grind (arith, nat_tests)
+
+-- so did what waits of one of them, or nothing does
+making_sound : (file : List ℕ) (frames : List Contents) (hosts : FragmentHosts) (identification : ℕ) (recent : List KeyedMaking) → AreRecent file frames hosts recent
+    → AreOf file frames (key_of hosts identification) (making_in recent identification).making
+making_sound file frames hosts identification [] all = tt
+making_sound file frames hosts identification (one ∷ recent) all = by (is_of identification one) refl (making_sound file frames hosts identification recent all.1)
+  where
+    by : (here : Bool) → is_of identification one ≡ here → AreOf file frames (key_of hosts identification) (making_in recent identification).making
+        → AreOf file frames (key_of hosts identification) (if here then one.making else making_in recent identification).making
+    by true is rest = subst (λ (n : ℕ). AreOf file frames (key_of hosts n) one.making.making) (number_same one.identification identification is) all.0
+    by false is rest = rest
+
+with_sound : (file : List ℕ) (frames : List Contents) (hosts : FragmentHosts) (identification : ℕ) (making : Making) (recent : List KeyedMaking)
+    → AreOf file frames (key_of hosts identification) making.making → AreRecent file frames hosts recent → AreRecent file frames hosts (recent_with identification making recent)
+with_sound file frames hosts identification making recent one all =
+    all_take (IsRecent file frames hosts) packet_4.MOST_KEPT (record { identification = identification; making = making } ∷ without (is_of identification) recent)
+    (one, all_without (IsRecent file frames hosts) (is_of identification) recent all)
+
 pub record Sound (file : List ℕ) (frames : List Contents) (so_far : Collected) : Type 0 where
-  pub keys : (key : FragmentKey) → AreOf file frames key (so_far.making key).making
+  pub keys : (hosts : FragmentHosts) → AreRecent file frames hosts (so_far.recent hosts)
   pub carried : AreSound file frames so_far.behind so_far.datagrams
 
 -- what stands there stays, whatever comes behind it
@@ -87,29 +124,36 @@ given_behind file frames behind packet (Some range) gives =
 fragment_sound : (file : List ℕ) (frames : List Contents) (time : Option ℕ) (so_far : Collected) (fragment : Fragment) → StandsAmong frames (contents.Fragment fragment)
     → Sound file frames so_far → Sound file frames (with_contents file time so_far (contents.Fragment fragment))
 fragment_sound file frames time so_far fragment stands sound = record {
-  keys = λ other. by other (is_eq (key_cmp fragment.key other)) refl;
+  keys = λ other. by other (is_eq (hosts_cmp (hosts_of fragment.key) other)) refl;
   carried = with_option file frames (so_far.behind ++ joined.packet) so_far.datagrams (option_map (moved_range (length file + length so_far.behind)) joined.taken.datagram)
       (grown file frames so_far.behind joined.packet so_far.datagrams sound.carried)
       (given_behind file frames so_far.behind joined.packet joined.taken.datagram left.gives);
 }
   where
     joined : Joined
-    joined = taken_piece file fragment.key (so_far.making fragment.key) (piece_of fragment)
+    joined = taken_piece file fragment.key (remembered so_far fragment.key) (piece_of fragment)
 
     one : IsOf file frames fragment.key (piece_of fragment)
     one = record {
       fragment = fragment;
-      same_key = (eq_by_cmp_equiv key_total).refl fragment.key;
+      same_key = refl;
       stands = stands;
       is = refl;
     }
 
     left : JoinedSound file frames fragment.key joined
-    left = taken_sound file frames fragment.key (so_far.making fragment.key) (piece_of fragment) (sound.keys fragment.key) one
+    left =
+        taken_sound file frames fragment.key (remembered so_far fragment.key) (piece_of fragment)
+        (making_sound file frames (hosts_of fragment.key) fragment.key.identification (so_far.recent (hosts_of fragment.key)) (sound.keys (hosts_of fragment.key))) one
 
-    by : (other : FragmentKey) (here : Bool) → is_eq (key_cmp fragment.key other) ≡ here
-        → AreOf file frames other (if here then joined.making else so_far.making other).making
-    by other true is = change_key file frames fragment.key other joined.making.making is left.are
+    new : List KeyedMaking
+    new = recent_with fragment.key.identification joined.making (so_far.recent (hosts_of fragment.key))
+
+    by : (other : FragmentHosts) (here : Bool) → is_eq (hosts_cmp (hosts_of fragment.key) other) ≡ here
+        → AreRecent file frames other (if here then new else so_far.recent other)
+    by other true is =
+        subst (λ (hosts : FragmentHosts). AreRecent file frames hosts new) (hosts_same (hosts_of fragment.key) other is)
+        (with_sound file frames (hosts_of fragment.key) fragment.key.identification joined.making (so_far.recent (hosts_of fragment.key)) left.are (sound.keys (hosts_of fragment.key)))
     by other false is = sound.keys other
 
 contents_sound : (file : List ℕ) (frames : List Contents) (time : Option ℕ) (so_far : Collected) (contents : Contents) → StandsAmong frames contents → Ends (length file) contents

@@ -7,8 +7,10 @@ pub mod Offered
 pub mod PacketLemmas
 pub mod PassedLemmas
 pub mod PieceLemmas
+pub mod RecentLemmas
 pub mod FoundLemmas
 pub mod KeptLemmas
 pub mod SentLemmas
 pub mod GivenLemmas
 pub mod TimeLemmas
+pub mod ForgettingLemmas

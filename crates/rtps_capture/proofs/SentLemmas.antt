@@ -2,10 +2,8 @@
 use Rattle.std.proofs.Common.{◌≡◌, ℕ, ◌+◌, ◌-◌, ◌≤◌, Bool, true, false, List, [], ◌∷◌, ◌++◌, length, drop, take, refl, sym, ap, ap₂, subst, ◌∙◌, inr, arith}
 use Rattle.std.specs.Prelude.{IfSome, ◌&&◌, not, nat_le, nat_eq, if◌then◌else◌, slice_range, None, Option, Some}
 use Rattle.std.specs.List.{AllByRecursion}
-use Rattle.std.specs.Ordering.{is_eq}
 use Rattle.std.proofs.lemmas.Bool.Decides.{nat_tests}
-use Rattle.std.proofs.lemmas.Cmp.{eq_by_cmp_equiv}
-use Rattle.rtps_capture.specs.Assembly.{Joined, datagram_of_whole, given_with, has_right_datagram, key_cmp, packet_of, taken_piece, udp_length}
+use Rattle.rtps_capture.specs.Assembly.{Joined, datagram_of_whole, given_with, has_right_datagram, packet_of, taken_piece, udp_length}
 use Rattle.rtps_capture.specs.Checksum.{is_right}
 use Rattle.rtps_capture.specs.Packets.{fragment_size}
 use Rattle.rtps_capture.specs.Pieces.{fills, in_order, joined, left_for, piece_octets, piece_of, pieces_with}
@@ -18,13 +16,13 @@ use Rattle.rtps_capture.specs.declared.packet.Contents.TheVariants as contents
 use Rattle.rtps_capture.specs.declared.fragment.Fragment.{Fragment}
 use Rattle.rtps_capture.specs.declared.fragment.FragmentKey.{FragmentKey}
 use Rattle.rtps_capture.specs.declared.pieces.Piece.{Piece}
-use Rattle.rtps_capture.proofs.AssemblyLemmas.{key_total, taken_cases, with_piece}
+use Rattle.rtps_capture.proofs.AssemblyLemmas.{taken_cases, with_piece}
 use Rattle.rtps_capture.proofs.PieceLemmas.{all_in_order, all_left}
 
 -- a piece is a fragment of this key that stands in a frame
 pub record IsOf (file : List ℕ) (frames : List Contents) (key : FragmentKey) (piece : Piece) : Type 0 where
   pub fragment : Fragment
-  pub same_key : is_eq (key_cmp fragment.key key) ≡ true
+  pub same_key : fragment.key ≡ key
   pub stands : StandsAmong frames (contents.Fragment fragment)
   pub is : piece ≡ piece_of fragment
 
@@ -94,21 +92,6 @@ together file frames key at first (next ∷ pieces) all is =
       on = goes_on at one.fragment rest.fragments (subst (λ (p : Piece). GoOn p.end rest.fragments) one.is rest.on) (ap (λ (p : Piece). p.start) (sym one.is) ∙ start);
       octets = ap₂ (λ (a b : List ℕ). a ++ b) (octets_of file frames key first one) rest.octets;
     }
-
--- a key that is equal to another has the same fragments
-pub change_key : (file : List ℕ) (frames : List Contents) (key other : FragmentKey) (pieces : List Piece) → is_eq (key_cmp key other) ≡ true
-    → AreOf file frames key pieces → AreOf file frames other pieces
-change_key file frames key other [] same all = tt
-change_key file frames key other (piece ∷ pieces) same all =
-    let one = all.0 in (
-      record {
-        fragment = one.fragment;
-        same_key = (eq_by_cmp_equiv key_total).congr one.fragment.key key other one.same_key ∙ same;
-        stands = one.stands;
-        is = one.is;
-      },
-      change_key file frames key other pieces same all.1,
-    )
 
 -- where the datagram stands of a packet that is put together
 payload_there : (key : FragmentKey) (octets : List ℕ) (range : ByteRange) → datagram_of_whole key octets ≡ Some range

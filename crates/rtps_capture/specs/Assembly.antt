@@ -3,12 +3,8 @@
 -- own: a packet gives its datagram at the frame that completes it, if its UDP header is right and its checksum is: an identification that
 -- came again could join the parts of two packets. Where it is not, the oldest piece goes, and the packet waits for more. A piece that
 -- equals one of the packet in the making changes nothing; one that equals one of the last packet given is not counted as ignored, since a
--- frame may be recorded twice.
+-- frame may be recorded twice. A key is forgotten with all that it has (`specs/Recent.antt`).
 use Rattle.std.specs.Prelude.{ℕ, ◌≡◌, ◌≤◌, ◌&&◌, not, nat_le, Bool, false, if◌then◌else◌, List, [], length, count_by, drop, take, Option, Some, None}
-use Rattle.std.specs.Option.{unwrap_or}
-use Rattle.std.specs.Ordering.{nat_cmp, ordering_then, is_eq}
-use Rattle.std.specs.declared.cmp.Ordering.{Ordering}
-use Rattle.std.specs.BTreeMap.{BTreeMap, get}
 use Rattle.rtps_ids.specs.declared.order.Order.TheVariants.{Big}
 use Rattle.rtps_capture.specs.Checksum.{is_right}
 use Rattle.rtps_capture.specs.OctetNumbers.{two_at}
@@ -79,22 +75,6 @@ unfoldable pub taken_piece : List ℕ → FragmentKey → Making → Piece → J
 taken_piece file key making piece =
     if is_repeat file piece making.making then gives_none making false
     else joined_with file key (record { making = pieces_with piece making.making; given = making.given }) (is_new file making piece)
-
--- how one key stands to another
-abbrev pub key_cmp : FragmentKey → FragmentKey → Ordering
-key_cmp a b =
-    ordering_then (nat_cmp a.identification b.identification)
-    (ordering_then (nat_cmp a.version b.version) (ordering_then (nat_cmp a.source b.source) (nat_cmp a.destination b.destination)))
-
--- the fragments of a key
-abbrev pub making_of : BTreeMap FragmentKey Making → FragmentKey → Making
-making_of makings key = unwrap_or (get key_cmp makings key) fresh_making
-
--- A fragment of this key was taken: what it gave, and what its key has now. The other keys have what they had.
-abbrev pub TakesFragment : Joined → FragmentKey → Taken → BTreeMap FragmentKey Making → BTreeMap FragmentKey Making → List ℕ → Type 0
-TakesFragment joined key taken old new packet =
-    (taken ≡ joined.taken) × (packet ≡ joined.packet)
-    × ((other : FragmentKey) → making_of new other ≡ (if is_eq (key_cmp key other) then joined.making else making_of old other))
 
 -- this is what is left
 abbrev pub IsJoined : Joined → Taken → Making → List ℕ → Type 0

@@ -6,9 +6,10 @@ use Rattle.std.specs.Prelude.{ℕ, ◌+◌, ◌-◌, ◌*◌, ◌^◌, ◌≡◌
 use Rattle.std.specs.Option.{option_or}
 use Rattle.std.specs.Ordering.{is_eq}
 use Rattle.rtps_capture.specs.Frames.{Unread as UnreadPart, frames_left, opened, time_of}
-use Rattle.rtps_capture.specs.Assembly.{Joined, fresh_making, key_cmp, making_of, taken_piece}
+use Rattle.rtps_capture.specs.Assembly.{Joined, taken_piece}
 use Rattle.rtps_capture.specs.Packets.{contents_read, moved_contents, moved_range}
 use Rattle.rtps_capture.specs.Pieces.{piece_of}
+use Rattle.rtps_capture.specs.Recent.{hosts_cmp, hosts_of, making_in, recent_of, recent_with}
 use Rattle.rtps_capture.specs.Times.{later_of}
 use Rattle.rtps_capture.specs.declared.capture.CaptureFault.{CaptureFault}
 use Rattle.rtps_capture.specs.declared.capture.CaptureFault.TheVariants as fault
@@ -20,16 +21,18 @@ use Rattle.rtps_capture.specs.declared.captures.Captures.TheVariants.{Classic, A
 use Rattle.rtps_capture.specs.declared.frames.Frame.{Frame}
 use Rattle.rtps_capture.specs.declared.frames.CapturedFrame.{CapturedFrame}
 use Rattle.rtps_capture.specs.declared.frames.Frame.TheVariants.{Captured, Unread, NoFrame, Rest, BadBlock, Damaged, CutFrame}
+use Rattle.rtps_capture.specs.declared.assembly.KeyedMaking.{KeyedMaking}
 use Rattle.rtps_capture.specs.declared.assembly.Making.{Making}
 use Rattle.rtps_capture.specs.declared.byte_range.ByteRange.{ByteRange}
 use Rattle.rtps_capture.specs.declared.packet.Contents.{Contents}
 use Rattle.rtps_capture.specs.declared.packet.Contents.TheVariants as contents
+use Rattle.rtps_capture.specs.declared.fragment.FragmentHosts.{FragmentHosts}
 use Rattle.rtps_capture.specs.declared.fragment.FragmentKey.{FragmentKey}
 
--- what was read so far: the fragments by their keys, the datagrams, their times and the numbers of their frames, the first and the greatest time of a frame, the
+-- what was read so far: the fragments of the keys of each two hosts that are remembered, the datagrams, their times and the numbers of their frames, the first and the greatest time of a frame, the
 -- octets behind the file, and the numbers of frames
 pub record Collected : Type 0 where
-  pub making : FragmentKey → Making
+  pub recent : FragmentHosts → List KeyedMaking
   pub datagrams : List ByteRange
   pub times : List (Option ℕ)
   pub frames : List ℕ
@@ -41,7 +44,7 @@ pub record Collected : Type 0 where
 -- nothing so far
 abbrev pub nothing : Collected
 nothing = record {
-  making = λ key. fresh_making;
+  recent = λ hosts. [];
   datagrams = [];
   times = [];
   frames = [];
@@ -56,11 +59,15 @@ unfoldable pub contents_in : Captures → List ℕ → CapturedFrame → Content
 contents_in captures file frame =
     moved_contents frame.range.from (contents_read captures frame.link (slice_range file frame.range.from frame.range.to))
 
+-- the fragments of a key; one that is forgotten has none
+abbrev pub remembered : Collected → FragmentKey → Making
+remembered so_far key = making_in (so_far.recent (hosts_of key)) key.identification
+
 -- What is there with a fragment of this key, whose frame has this time: the octets of a packet that gives its datagram come behind
 -- the others.
 abbrev pub with_fragment : List ℕ → Option ℕ → Collected → FragmentKey → Joined → Collected
 with_fragment file time so_far key joined = record {
-  making = λ other. if is_eq (key_cmp key other) then joined.making else so_far.making other;
+  recent = λ hosts. if is_eq (hosts_cmp (hosts_of key) hosts) then recent_with key.identification joined.making (so_far.recent (hosts_of key)) else so_far.recent hosts;
   datagrams = so_far.datagrams ++ option_to_list (option_map (moved_range (length file + length so_far.behind)) joined.taken.datagram);
   times = so_far.times ++ option_to_list (option_map (λ datagram. time) joined.taken.datagram);
   frames = so_far.frames ++ option_to_list (option_map (λ datagram. so_far.counts.frames) joined.taken.datagram);
@@ -79,7 +86,7 @@ abbrev pub with_contents : List ℕ → Option ℕ → Collected → Contents �
 with_contents file time so_far (contents.Datagram range) =
     record so_far { datagrams = so_far.datagrams ++ range ∷ []; times = so_far.times ++ time ∷ []; frames = so_far.frames ++ so_far.counts.frames ∷ [] }
 with_contents file time so_far (contents.Fragment fragment) =
-    with_fragment file time so_far fragment.key (taken_piece file fragment.key (so_far.making fragment.key) (piece_of fragment))
+    with_fragment file time so_far fragment.key (taken_piece file fragment.key (remembered so_far fragment.key) (piece_of fragment))
 with_contents file time so_far contents.Cut = record so_far { counts = record so_far.counts { cut = so_far.counts.cut + 1 } }
 with_contents file time so_far contents.Other = record so_far { counts = record so_far.counts { other = so_far.counts.other + 1 } }
 
@@ -241,7 +248,7 @@ ignored reading = reading.pieces + reading.cut + reading.other + reading.links
 -- what a struct has collected
 abbrev pub collected_of : CollectedStruct → Collected
 collected_of so_far = record {
-  making = making_of so_far.assembly.makings;
+  recent = recent_of so_far.assembly.recents;
   datagrams = so_far.datagrams.items;
   times = so_far.times.items;
   frames = so_far.frames.items;

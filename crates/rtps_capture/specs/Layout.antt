@@ -3,7 +3,7 @@
 -- 3.1 "General Block Structure", 3.5 "Options", 4.1 to 4.4 and A; IEEE 802.3, 3.1.1 "Packet format"; IEEE 802.1Q, 9 "Tag formats"; RFC 2464,
 -- 3 "Frame Format"; RFC 791 "Internet Protocol", 3.1 "Internet Header Format"; RFC 8200, 3 "IPv6 Header Format" and 4 "IPv6 Extension
 -- Headers"; RFC 768 "User Datagram Protocol", "Format".
--- own: 262,144 octets are the most that tools capture of a frame.
+-- own: 262,144 octets are the most that tools capture of a frame. 64 packets are kept of two hosts, as Linux does it (`ipfrag_max_dist`).
 use Rattle.std.specs.Prelude.{◌≡◌, ◌^◌}
 use Rattle.rtps_capture.specs.declared.layout.file.TheConstants as file
 use Rattle.rtps_capture.specs.declared.layout.record.TheConstants as frame_header
@@ -31,7 +31,7 @@ pub record LayoutIsStandard : Type 0 where
   pub times : (time.SECOND ≡ 10 ^ 9) × (time.MICROSECOND ≡ 10 ^ 3)
   pub ethernet_header : (ethernet.SIZE ≡ 14) × (ethernet.TYPE ≡ 12) × (ethernet.IPV4 ≡ 0x0800) × (ethernet.IPV6 ≡ 0x86dd)
   pub packet_header : (packet.LEAST ≡ 20) × (packet.TOTAL ≡ 2) × (packet.FRAGMENT ≡ 6) × (packet.PROTOCOL ≡ 9) × (packet.VERSION ≡ 4) × (packet.FRAGMENT_BITS ≡ 0x4000) × (packet.UDP ≡ 17)
-      × (packet.IDENTIFICATION ≡ 4) × (packet.SOURCE ≡ 12) × (packet.DESTINATION ≡ 16) × (packet.OFFSETS ≡ 0x2000) × (packet.UNIT ≡ 8) × (packet.MOST ≡ 65535)
+      × (packet.IDENTIFICATION ≡ 4) × (packet.SOURCE ≡ 12) × (packet.DESTINATION ≡ 16) × (packet.OFFSETS ≡ 0x2000) × (packet.UNIT ≡ 8) × (packet.MOST ≡ 65535) × (packet.MOST_KEPT ≡ 64)
   pub udp_header : (udp.SIZE ≡ 8) × (udp.LENGTH ≡ 4) × (udp.CHECKSUM ≡ 6)
   pub link_types : (link_type.LOOPBACK ≡ 0) × (link_type.ETHERNET ≡ 1) × (link_type.RAW ≡ 101) × (link_type.LOOP ≡ 108)
       × (link_type.COOKED_1 ≡ 113) × (link_type.RAW_IPV4 ≡ 228) × (link_type.RAW_IPV6 ≡ 229) × (link_type.COOKED_2 ≡ 276)

@@ -2,6 +2,7 @@ pub mod Assembly
 pub mod Blocks
 pub mod Capture
 pub mod Checksum
+pub mod Forgetting
 pub mod Frames
 pub mod Layout
 pub mod LinkTypes
@@ -11,5 +12,6 @@ pub mod Options
 pub mod Packets
 pub mod Passed
 pub mod Pieces
+pub mod Recent
 pub mod Sent
 pub mod Times

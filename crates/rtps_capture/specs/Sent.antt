@@ -3,10 +3,9 @@
 -- own: a reader that told of a datagram which no packet carried would be no evidence.
 use Rattle.std.specs.Prelude.{ℕ, ◌+◌, ◌≡◌, ◌≤◌, ◌<◌, ◌⊎◌, true, false, List, [], ◌∷◌, ◌++◌, length, slice_range, take, Some, None, Ok}
 use Rattle.std.specs.List.{AllByRecursion}
-use Rattle.std.specs.Ordering.{is_eq}
 use Rattle.rtps_capture.specs.Capture.{Answer, capture_read, contents_in}
 use Rattle.rtps_capture.specs.Frames.{Unread, frames_left, opened}
-use Rattle.rtps_capture.specs.Assembly.{datagram_of_whole, key_cmp, packet_of, taken_piece, udp_length}
+use Rattle.rtps_capture.specs.Assembly.{datagram_of_whole, packet_of, taken_piece, udp_length}
 use Rattle.rtps_capture.specs.Checksum.{is_right}
 use Rattle.rtps_capture.specs.Packets.{fragment_size}
 use Rattle.rtps_capture.specs.Pieces.{clashes_with, fills, in_order, is_repeat, is_same}
@@ -36,7 +35,7 @@ StandsAmong frames contents = (before : List Contents) × (after : List Contents
 abbrev pub AreFragments : List Contents → FragmentKey → List Fragment → Type 0
 AreFragments frames key [] = Unit {0}
 AreFragments frames key (fragment ∷ fragments) =
-    (is_eq (key_cmp fragment.key key) ≡ true) × StandsAmong frames (contents.Fragment fragment) × AreFragments frames key fragments
+    (fragment.key ≡ key) × StandsAmong frames (contents.Fragment fragment) × AreFragments frames key fragments
 
 -- They go on from a place without a gap: the first one begins there, each other one where the one before it ends, and the last one
 -- has no more behind it.

@@ -1,18 +1,21 @@
-ghost use Rattle.std.specs.Prelude.{◌≡◌, ◌≤◌, ◌<◌, ◌+◌, ◌^◌, [], length, IfOk, IfSome, None};
-ghost use Rattle.rtps_capture.specs.Assembly.{IsJoined, StandsInPacket, TakesFragment, datagram_of_whole as datagram_of_whole_lem, fresh_making, given, making_of, taken_piece};
+ghost use Rattle.std.specs.Prelude.{◌≡◌, ◌≤◌, ◌<◌, ◌+◌, ◌^◌, [], ◌∷◌, length, take, IfOk, IfSome, OnOk, None};
+ghost use Rattle.std.specs.List.{position};
+ghost use Rattle.rtps_capture.specs.Assembly.{IsJoined, StandsInPacket, datagram_of_whole as datagram_of_whole_lem, fresh_making, given, taken_piece};
 ghost use Rattle.rtps_capture.specs.Packets.{fragment_size};
 ghost use Rattle.rtps_capture.specs.Pieces.{piece_of as piece_of_lem};
-ghost use Rattle.rtps_capture.specs.declared.fragment.FragmentKey.{FragmentKey as KeyValue};
+ghost use Rattle.rtps_capture.specs.Recent.{TakesFragment, TakesPiece, hosts_of, is_of, making_in, recent_of, without};
+ghost use Rattle.rtps_capture.specs.declared.fragment.FragmentHosts.{FragmentHosts as HostsValue};
+ghost use Rattle.rtps_capture.specs.declared.layout.packet.TheConstants.{MOST_KEPT};
 
 use crate::byte_range::ByteRange;
 use crate::checksum::is_right;
-use crate::fragment::{Fragment, FragmentKey};
-use crate::layout::udp;
+use crate::fragment::{Fragment, FragmentHosts, FragmentKey};
+use crate::layout::{packet, udp};
 use crate::octet_number::two_octets;
 use crate::pieces::{Piece, Pieces, piece_of};
 use rtps_ids::{Memory, Order};
 use std::alloc::Global;
-use std::collections::BTreeMap;
+use std::collections::{BTreeMap, VecDeque};
 
 /// What one fragment more gives.
 #[derive(Clone, Copy)]
@@ -130,20 +133,97 @@ fn datagram_of_whole(key: &FragmentKey, packet: &[u8]) -> Option<ByteRange>
     })
 }
 
-/// The fragments of all keys.
+/// The fragments of the key with this identification.
+#[derive(Drop)]
+pub(crate) struct KeyedMaking {
+    identification: u32,
+    making: Making,
+}
+
+/// The fragments of the keys of two hosts that are remembered, by their last fragments: the key whose fragment came last is the
+/// first one.
+#[derive(Drop)]
+pub(crate) struct RecentMakings {
+    alloc: Global,
+    makings: VecDeque<KeyedMaking>,
+}
+
+impl RecentMakings {
+    fn new(alloc: Global) -> RecentMakings
+        ensures { result.makings.items ≡ [] }
+    {
+        RecentMakings {
+            alloc,
+            makings: VecDeque::new(alloc),
+        }
+    }
+
+    /// Takes one fragment more of this key. The octets of a packet that gives its datagram now are put into `packet`.
+    fn take(
+        &mut self,
+        file: &[u8],
+        key: &FragmentKey,
+        piece: Piece,
+        packet: &mut Vec<u8>,
+    ) -> Result<Taken, Memory>
+        requires ordered { piece.start ≤ piece.end }
+        requires none { packet.old.items ≡ [] }
+        ensures taken { IfOk result (λ taken. TakesPiece (taken_piece file.now key.now (making_in self.old.makings.items key.now.identification) piece) key.now taken self.old.makings.items self.new.makings.items packet.new.items) }
+        ensures within { IfOk result (λ taken. StandsInPacket packet.new.items taken.datagram) }
+    {
+        let mut making = self.take_out(key.identification);
+        let taken = making.take(file, key, piece, packet)?;
+        self.put_first(key.identification, making)?;
+        Ok(taken)
+    }
+
+    /// Takes out the fragments of the key with this identification.
+    fn take_out(&mut self, identification: u32) -> Making
+        ensures making { result ≡ making_in self.old.makings.items identification }
+        ensures others { self.new.makings.items ≡ without (is_of identification) self.old.makings.items }
+    {
+        let place = self.place_of(identification).unwrap_or(self.makings.len());
+        match self.makings.remove(place) {
+            Some(there) => there.making,
+            None => Making::new(self.alloc),
+        }
+    }
+
+    fn place_of(&self, identification: u32) -> Option<usize>
+        ensures { result ≡ position (is_of identification) self.now.makings.items }
+    {
+        self.makings
+            .iter()
+            .position(|one| one.identification == identification)
+    }
+
+    /// Puts the fragments of a key in front of the others. The last key goes where there are as many as are kept.
+    fn put_first(&mut self, identification: u32, making: Making) -> Result<(), Memory>
+        ensures { OnOk result (self.new.makings.items ≡ take MOST_KEPT (record { identification = identification; making = making } ∷ self.old.makings.items)) }
+    {
+        self.makings.truncate(packet::MOST_KEPT - 1);
+        self.makings.push_front(KeyedMaking {
+            identification,
+            making,
+        })?;
+        Ok(())
+    }
+}
+
+/// The fragments of all keys that are remembered.
 #[derive(Drop)]
 pub(crate) struct Assembly {
     alloc: Global,
-    makings: BTreeMap<FragmentKey, Making>,
+    recents: BTreeMap<FragmentHosts, RecentMakings>,
 }
 
 impl Assembly {
     pub(crate) fn new(alloc: Global) -> Assembly
-        ensures none { (key : KeyValue) → making_of result.makings key ≡ fresh_making }
+        ensures none { (hosts : HostsValue) → recent_of result.recents hosts ≡ [] }
     {
         Assembly {
             alloc,
-            makings: BTreeMap::new(alloc),
+            recents: BTreeMap::new(alloc),
         }
     }
 
@@ -157,16 +237,17 @@ impl Assembly {
     ) -> Result<Taken, Memory>
         requires stands { fragment.now.start + fragment_size fragment.now < 2 ^ 32 }
         requires none { packet.old.items ≡ [] }
-        ensures taken { IfOk result (λ taken. TakesFragment (taken_piece file.now fragment.now.key (making_of self.old.makings fragment.now.key) (piece_of_lem fragment.now)) fragment.now.key taken self.old.makings self.new.makings packet.new.items) }
+        ensures taken { IfOk result (λ taken. TakesFragment (taken_piece file.now fragment.now.key (making_in (recent_of self.old.recents (hosts_of fragment.now.key)) fragment.now.key.identification) (piece_of_lem fragment.now)) fragment.now.key taken self.old.recents self.new.recents packet.new.items) }
         ensures within { IfOk result (λ taken. StandsInPacket packet.new.items taken.datagram) }
     {
         let piece = piece_of(fragment);
-        if let Some(making) = self.makings.get_mut(&fragment.key) {
-            return making.take(file, &fragment.key, piece, packet);
+        let hosts = fragment.key.hosts();
+        if let Some(recent) = self.recents.get_mut(&hosts) {
+            return recent.take(file, &fragment.key, piece, packet);
         }
-        let mut making = Making::new(self.alloc);
-        let taken = making.take(file, &fragment.key, piece, packet)?;
-        self.makings.insert(fragment.key, making)?;
+        let mut recent = RecentMakings::new(self.alloc);
+        let taken = recent.take(file, &fragment.key, piece, packet)?;
+        self.recents.insert(hosts, recent)?;
         Ok(taken)
     }
 }

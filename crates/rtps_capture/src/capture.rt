@@ -1,6 +1,6 @@
 ghost use Rattle.std.specs.Prelude.{◌≡◌, ◌≤◌, ◌<◌, ◌+◌, ◌^◌, ◌++◌, [], ℕ, Option, length, IfOk, MatchResult, Ok, OnOk};
-ghost use Rattle.rtps_capture.specs.Assembly.{making_of, taken_piece};
-ghost use Rattle.rtps_capture.specs.Capture.{AreWithin, IsAnswer, IsCounted, IsCountedWith, IsFault, StaysWithin, answer_of, capture_read, collected, collected_of, ignored, noted, nothing, reading_value, size_of, with_fragment};
+ghost use Rattle.rtps_capture.specs.Assembly.{taken_piece};
+ghost use Rattle.rtps_capture.specs.Capture.{AreWithin, IsAnswer, IsCounted, IsCountedWith, IsFault, StaysWithin, answer_of, capture_read, collected, collected_of, ignored, noted, nothing, reading_value, remembered, size_of, with_fragment};
 ghost use Rattle.rtps_capture.specs.Frames.{StandsInFile};
 ghost use Rattle.rtps_capture.specs.Packets.{StandsIn, fragment_size};
 ghost use Rattle.rtps_capture.specs.Pieces.{piece_of};
@@ -222,7 +222,7 @@ impl Collected {
         requires counted { IsCountedWith 1 self.old }
         requires few { self.old.counts.frames < 2 ^ 64 }
         requires stands { fragment.now.start + fragment_size fragment.now < 2 ^ 32 }
-        ensures collected { let file = self.old.octets.file in OnOk result (collected_of self.new ≡ with_fragment file time (collected_of self.old) fragment.now.key (taken_piece file fragment.now.key (making_of self.old.assembly.makings fragment.now.key) (piece_of fragment.now))) }
+        ensures collected { let file = self.old.octets.file in OnOk result (collected_of self.new ≡ with_fragment file time (collected_of self.old) fragment.now.key (taken_piece file fragment.now.key (remembered (collected_of self.old) fragment.now.key) (piece_of fragment.now))) }
         ensures counted { OnOk result (IsCounted self.new) }
         ensures frames { OnOk result (self.new.counts.frames ≡ self.old.counts.frames) }
         ensures file { OnOk result (self.new.octets.file ≡ self.old.octets.file) }

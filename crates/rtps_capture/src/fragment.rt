@@ -1,5 +1,6 @@
 ghost use Rattle.std.specs.Prelude.{◌≡◌, ◌≤◌, ◌<◌, ◌+◌, ◌^◌, length};
 ghost use Rattle.rtps_capture.specs.Packets.{StandsIn, fragment_of as fragment_of_lem, key_4, key_6};
+ghost use Rattle.rtps_capture.specs.Recent.{hosts_of};
 
 use crate::byte_range::ByteRange;
 use crate::layout::{extension, packet, packet_6};
@@ -21,13 +22,34 @@ pub(crate) struct Fragment {
 }
 
 /// What the fragments of one packet have in common, beside the protocol, which is UDP.
-#[derive(Clone, Copy, PartialEq, Eq, PartialOrd, Ord)]
+#[derive(Clone, Copy)]
 pub(crate) struct FragmentKey {
     pub(crate) identification: u32,
     pub(crate) version: u8,
     /// The octets of an address as one number.
     pub(crate) source: u128,
     pub(crate) destination: u128,
+}
+
+/// What the keys have in common of packets that one host sends to another.
+#[derive(Clone, Copy, PartialEq, Eq, PartialOrd, Ord)]
+pub(crate) struct FragmentHosts {
+    pub(crate) version: u8,
+    /// The octets of an address as one number.
+    pub(crate) source: u128,
+    pub(crate) destination: u128,
+}
+
+impl FragmentKey {
+    pub(crate) fn hosts(&self) -> FragmentHosts
+        ensures { result ≡ hosts_of self.now }
+    {
+        FragmentHosts {
+            version: self.version,
+            source: self.source,
+            destination: self.destination,
+        }
+    }
 }
 
 #[inline]

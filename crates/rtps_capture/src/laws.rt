@@ -1,6 +1,7 @@
 //! Laws of the definitions, as contracts of functions that do nothing.
 
 ghost use Rattle.rtps_capture.specs.Capture.{EndIsGreatestTime, StartIsFirstTime};
+ghost use Rattle.rtps_capture.specs.Forgetting.{KeysAreForgotten};
 ghost use Rattle.rtps_capture.specs.Frames.{HasOneReading};
 ghost use Rattle.rtps_capture.specs.Layout.{LayoutIsStandard};
 ghost use Rattle.rtps_capture.specs.Sent.{EachPacketIsGiven, EachWasCarried};
@@ -27,11 +28,17 @@ pub fn each_was_carried()
     ensures { EachWasCarried }
 {}
 
-/// Packets are put together, step by step: where the fragments of one packet come one after another for their key, each has an octet, none
-/// of them clashes with another or equals one that waits, and they have a right checksum, the last of them gives its datagram, whatever
-/// waited before, unless one of them gave another.
+/// Packets are put together, step by step: where the fragments of one packet come one after another for their key, which is not forgotten
+/// between them, each has an octet, none of them clashes with another or equals one that waits, and they have a right checksum, the last of
+/// them gives its datagram, whatever waited before, unless one of them gave another.
 pub fn each_packet_is_given()
     ensures { EachPacketIsGiven }
+{}
+
+/// Of the packets in pieces that a host sends to another, [`crate::read_capture`] remembers those that came and behind whose last piece
+/// stand pieces of fewer than 64 others: no more than 64, however long the file is.
+pub fn keys_are_forgotten()
+    ensures { KeysAreForgotten }
 {}
 
 /// The numbers, sizes and places that readers and definitions name are those of the standards.

@@ -129,6 +129,8 @@ pub(crate) mod packet {
     pub(crate) const UNIT: usize = 8;
     /// The most octets that a packet has behind its header.
     pub(crate) const MOST: usize = 65535;
+    /// The most packets in pieces that are kept of two hosts.
+    pub(crate) const MOST_KEPT: usize = 64;
 }
 
 /// The header of a packet of version 6 (RFC 8200 "Internet Protocol, Version 6", 3 "IPv6 Header Format").
