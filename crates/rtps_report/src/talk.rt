@@ -320,8 +320,8 @@ pub(crate) fn participants_of(
     seen: Seen<'_>,
 ) -> Result<Vec<Participant>, Memory>
     ensures { IfOk result (λ participants. (intake : Intake) → IsIndexBy intake heard.now.index.now
-        → AreJoined (placed_in intake.announcing) seen.joined.now
-        → ArePresencesOf (map (λ datagram. datagram.now) heard.now.datagrams.now) heard.now.times.now.of_datagrams seen.presences.now
+        → AreJoined (placed_in intake.announcing) seen.entry.joined.now
+        → ArePresencesOf (map (λ datagram. datagram.now) heard.now.datagrams.now) heard.now.times.now.of_datagrams seen.entry.presences.now
         → IsAnnouncedBy (acts_together intake.announcing) announced.now
         → participants.items
         ≡ map (participant_told intake (map (λ datagram. datagram.now) heard.now.datagrams.now) heard.now.times.now) heard.now.directory.now.participants) }
