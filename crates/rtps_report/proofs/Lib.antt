@@ -16,6 +16,7 @@ mod NamingLemmas
 mod NamingWalkLemmas
 mod NoPairLemmas
 pub mod Offered
+mod NotToldLemmas
 mod NotToldOnce
 mod OneReportLemmas
 mod OneSideLemmas

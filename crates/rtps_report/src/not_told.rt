@@ -86,7 +86,8 @@ pub(crate) fn all_not_told<'a>(
 {
     let mut found = Vec::with_capacity(alloc, all.len())?;
     for untold in all {
-        found.push(not_told_of(alloc, directory, untold)?)?;
+        let one = not_told_of(alloc, directory, untold)?;
+        found.push(one)?;
     }
     Ok(found)
 }
@@ -102,20 +103,22 @@ fn those_not_told(alloc: Global, found: &[NotTold<'_>]) -> Result<BTreeSet<Guid>
     Ok(those)
 }
 
-/// How many endpoints that is.
-fn endpoints_of(one: &NotTold<'_>) -> u128
+/// How many endpoints that is, as far as a `u64` counts.
+fn endpoints_of(one: &NotTold<'_>) -> u64
     ensures { result ≡ endpoints_of_lem (not_told_value one.now) }
 {
-    one.writers.len() as u128 + one.readers.len() as u128 + u128::from(one.unnamed)
+    let writers = one.writers.len() as u64;
+    let readers = one.readers.len() as u64;
+    writers.saturating_add(readers).saturating_add(one.unnamed)
 }
 
 /// How many all of these are.
 fn endpoints_among(found: &[NotTold<'_>]) -> u128
     ensures { result ≡ sum_by endpoints_of_lem (map not_told_value found.now) }
 {
-    let mut endpoints = 0;
+    let mut endpoints: u128 = 0;
     for one in found {
-        endpoints += endpoints_of(one);
+        endpoints += u128::from(endpoints_of(one));
     }
     endpoints
 }
