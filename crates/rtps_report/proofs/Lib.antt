@@ -34,3 +34,4 @@ mod TalkLemmas
 mod TalkParts
 mod TopicLemmas
 mod TwoLivesOnce
+mod VisitLemmas
