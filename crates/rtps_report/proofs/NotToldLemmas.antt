@@ -1,11 +1,11 @@
 -- Who was never told of what, one more each.
-use Rattle.std.proofs.Common.{◌≡◌, ◌∙◌, ℕ, ◌+◌, ◌<◌, Bool, true, false, ◌||◌, cond, List, [], ◌∷◌, ◌++◌, ap, ap₂, count_by, get_or, length, map, refl, sym, take}
+use Rattle.std.proofs.Common.{◌≡◌, ◌∙◌, ℕ, ◌+◌, ◌<◌, Bool, true, false, ◌||◌, cond, List, [], ◌∷◌, ◌++◌, ap, ap₂, arith, count_by, get_or, length, map, refl, sym, take}
 use Rattle.std.specs.List.{list_any}
 use Rattle.std.specs.Ordering.{is_eq}
 use Rattle.std.specs.Prelude.{sum_by}
 use Rattle.std.proofs.lemmas.List.{map_more, map_push}
 use Rattle.std.proofs.lemmas.List.Folds.{list_any-append}
-use Rattle.std.proofs.lemmas.List.Sums.{sum_by-append}
+use Rattle.std.proofs.lemmas.List.Sums.{count_by_more_no, count_by_more_yes, sum_by-append}
 use Rattle.rtps_ids.specs.declared.identity.Guid.{Guid}
 use Rattle.rtps_discovery.specs.GuidOrder.{guid_cmp}
 use Rattle.rtps_audit.specs.Placed.{is_guid}
@@ -48,3 +48,8 @@ endpoints_more found i one within is =
     let zero_more : endpoints_of (not_told_value (get_or found i one)) ≡ sum_by endpoints_of last = omega arith in
     ap (λ (same : NotTold). sum + endpoints_of (not_told_value same)) is ∙ ap (λ (n : ℕ). sum + n) zero_more
     ∙ sym (ap (sum_by endpoints_of) (map_more not_told_value found i one within) ∙ sum_by-append endpoints_of (map not_told_value (take i found)) last)
+
+-- one more is counted, or not
+pub counted_more : {X : Type 0} (p : X → Bool) (xs : List X) (i : ℕ) (d : X) (b : Bool) → i < length xs → p (get_or xs i d) ≡ b → count_by p (take i xs) + cond b 1 0 ≡ count_by p (take (i + 1) xs)
+counted_more p xs i d true within e = sym (count_by_more_yes p xs i d within e)
+counted_more p xs i d false within e = let more = count_by_more_no p xs i d within e in omega (arith, more)

@@ -1,15 +1,16 @@
 -- When participants are there, with one participant more.
 use Rattle.std.proofs.Common.{◌≡◌, ◌∙◌, ℕ, ◌+◌, ◌<◌, Bool, true, false, ◌||◌, cond, List, Option, Some, None, ap, arith, get_or, length, map, refl, subst, sym, take}
 use Rattle.std.specs.BTreeMap.{BTreeMap, get}
-use Rattle.std.specs.Cmp.Lexicographic.{slice_cmp}
+use Rattle.std.specs.Cmp.Lexicographic.{slice_cmp, texts_ties}
 use Rattle.std.specs.List.{list_any}
-use Rattle.std.specs.Ordering.{nat_cmp}
+use Rattle.std.specs.Ordering.{is_eq, nat_cmp}
 use Rattle.std.proofs.lemmas.List.{get_or-map, length-map}
 use Rattle.std.proofs.lemmas.List.Folds.{list_any_more}
 use Rattle.std.proofs.lemmas.Map.Lookups.{CmpEqualImpliesEq, exact_bytes, exact_pairs}
 use Rattle.std.proofs.lemmas.Map.Views.{tells_apart}
 use Rattle.rtps_ids.specs.declared.identity.Guid.{Guid}
 use Rattle.rtps_ids.specs.declared.identity.GuidPrefix.{GuidPrefix}
+use Rattle.rtps_receiver.specs.Speech.{is_prefix}
 use Rattle.rtps_discovery.specs.GuidOrder.{guid_cmp}
 use Rattle.rtps_audit.specs.Intake.{Intake}
 use Rattle.rtps_audit.specs.Placed.{is_guid, placed_in}
@@ -19,7 +20,7 @@ use Rattle.rtps_evidence.specs.declared.location.Location.{Location}
 use Rattle.rtps_known.specs.declared.visit.Visit.{Visit}
 use Rattle.rtps_policies.specs.Announcing.{participant_of}
 use Rattle.rtps_report.specs.Participants.{AreJoined, participant_told}
-use Rattle.rtps_report.specs.Stays.{latest_of}
+use Rattle.rtps_report.specs.Stays.{latest_of, prefix_cmp}
 use Rattle.rtps_report.specs.Visits.{is_participant, left_time, place_time, visit_by, visit_in, visit_of, visit_with}
 use Rattle.rtps_report.specs.declared.participant.Participant.{Participant}
 
@@ -86,3 +87,14 @@ visits_more intake recording times joined announced participants i participant p
         (latest_of recording times.of_datagrams prefix)) (are (participant_of prefix)))
         ∙ visited true any (visit_in intake recording times.of_datagrams prefix)
     by false e = visited false any (visit_in intake recording times.of_datagrams prefix)
+
+-- ---- one visit
+
+-- a visit is written under the prefix of a participant
+pub visit_written : (prefix other : GuidPrefix) (visit : Visit) (kept : Option Visit)
+    → cond (is_eq (prefix_cmp prefix other)) (Some visit) kept ≡ visit_with (is_prefix prefix other) (Some visit) kept
+visit_written prefix other visit kept = by (is_eq (prefix_cmp prefix other)) ∙ ap (λ (b : Bool). visit_with b (Some visit) kept) (sym (texts_ties prefix.0 other.0))
+  where
+    by : (b : Bool) → cond b (Some visit) kept ≡ visit_with b (Some visit) kept
+    by true = refl
+    by false = refl

@@ -127,11 +127,9 @@ fn endpoints_among(found: &[NotTold<'_>]) -> u128
 fn count_among(participants: &[Participant], those: &BTreeSet<Guid>) -> u64
     ensures { result ≡ count_by (λ participant. contains guid_cmp those.now participant.guid) participants.now }
 {
-    let mut count = 0;
+    let mut count: u64 = 0;
     for participant in participants {
-        if those.contains(&participant.guid) {
-            count += 1;
-        }
+        count += u64::from(those.contains(&participant.guid));
     }
     count
 }
