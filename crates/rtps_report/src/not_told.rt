@@ -4,7 +4,7 @@ ghost use Rattle.std.specs.BTreeSet.{contains};
 ghost use Rattle.rtps_ids.specs.declared.identity.Guid.{Guid as GuidOf};
 ghost use Rattle.rtps_audit.specs.Placed.{is_guid};
 ghost use Rattle.rtps_discovery.specs.GuidOrder.{guid_cmp};
-ghost use Rattle.rtps_report.specs.NotTold.{endpoints_of as endpoints_of_lem, is_not_told_of as is_not_told_of_lem, not_told_by, not_told_counts as not_told_counts_lem, not_told_value, topic_end_value, with_topic as with_topic_lem};
+ghost use Rattle.rtps_report.specs.NotTold.{endpoints_of as endpoints_of_lem, is_between as is_between_lem, is_not_told_of as is_not_told_of_lem, not_told_by, not_told_counts as not_told_counts_lem, not_told_value, topic_end_value, with_topic as with_topic_lem};
 
 use crate::participant::Participant;
 use crate::topics::topic_of;
@@ -149,12 +149,19 @@ pub(crate) fn not_told_counts(
     })
 }
 
+/// Whether it is of these two.
+fn is_between(one: &NotTold<'_>, from: Guid, to: Guid) -> bool
+    ensures { result ≡ is_between_lem from to (not_told_value one.now) }
+{
+    one.from == from && one.to == to
+}
+
 /// Whether a participant was not told of something of another.
 pub(crate) fn is_not_told_of(found: &[NotTold<'_>], from: Guid, to: Guid) -> bool
     ensures { result ≡ is_not_told_of_lem (map not_told_value found.now) from to }
 {
     for one in found {
-        if one.from == from && one.to == to {
+        if is_between(one, from, to) {
             return true;
         }
     }
