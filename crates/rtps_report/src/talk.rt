@@ -28,8 +28,8 @@ use crate::asked::Asked;
 use crate::best_effort::{
     BestEffort, Counted, HeldPair, arrived_among, held_among, sums_of, total_of,
 };
-use crate::end::{End, who_of};
 use crate::discovered::{Discovered, discovered_in};
+use crate::end::{End, who_of};
 use crate::not_told::NotTold;
 use crate::participant::{Participant, is_silent};
 use crate::rows::{are_observed, is_chosen};
