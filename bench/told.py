@@ -19,6 +19,8 @@ SILENCES = {
 # What to do.
 UNMATCHED = 'by the standard nothing passes between them: change what one offers or what the other asks for'
 ONE_WAY = 'a firewall, or its datagrams are not in this recording'
+MOST = 2 ** 64 - 1      # no more endpoints of two participants are counted
+
 TWO_LIVES = 'two processes use one GUID, as after a copied disk image or a restart: give each its own, and record again'
 HOSTS = 'if there are other hosts, multicast may be blocked between them'
 BEST_EFFORT = "at the reader's side the others were lost; at the writer's side the recording lacks them"
@@ -84,7 +86,7 @@ def discovery_reasons(talk):
     reasons = []
     if talk.not_told:
         told = amount(len({one.dest for one in talk.not_told}), 'participant was', 'participants were')
-        reasons.append(f"{told} not told of {amount(sum(one.count() for one in talk.not_told), 'endpoint', 'endpoints')}")
+        reasons.append(f"{told} not told of {amount(sum(min(one.count(), MOST) for one in talk.not_told), 'endpoint', 'endpoints')}")
     if talk.lives:
         reasons.append(amount(len(talk.lives), 'participant has', 'participants have') + ' two lives under one GUID')
     return reasons

@@ -35,8 +35,8 @@ pub use evidence_lines::{
     WaitText, push_sent,
 };
 pub use fields::{
-    AdviceText, NotToldAdvice, PlaceComma, PlaceText, SecondText, SecondsText, durability_name, kind_name, push_decimal,
-    push_field, push_payload, reliability_name, side_name,
+    AdviceText, NotToldAdvice, PlaceComma, PlaceText, SecondText, SecondsText, durability_name,
+    kind_name, push_decimal, push_field, push_payload, reliability_name, side_name,
 };
 pub use json_members::{
     Clock, push_count, push_guid, push_name, push_number, push_seconds, push_text, push_texts,

@@ -15,12 +15,13 @@ abbrev pub timed : Option ℕ → ActValue → TimedAct
 timed time act = record { act = act; time = time }
 
 -- one act more
-pub act_more : {X : Type 0} (value : X → ActValue) (before : List TimedAct) (time : Option ℕ) (acts : List X) (i : ℕ) (default : X) → i < length acts
-    → (before ++ acts_at time (map value (take i acts))) ++ timed time (value (get_or acts i default)) ∷ [] ≡ before ++ acts_at time (map value (take (i + 1) acts))
-act_more value before time acts i default within =
-    append_assoc before (acts_at time (map value (take i acts))) (timed time (value (get_or acts i default)) ∷ [])
+pub act_more : {X : Type 0} (value : X → ActValue) (before : List TimedAct) (time : Option ℕ) (acts : List X) (i : ℕ) (act : X) → i < length acts → act ≡ get_or acts i act
+    → (before ++ acts_at time (map value (take i acts))) ++ timed time (value act) ∷ [] ≡ before ++ acts_at time (map value (take (i + 1) acts))
+act_more {X} value before time acts i act within is =
+    append_assoc before (acts_at time (map value (take i acts))) (timed time (value act) ∷ [])
     ∙ ap (λ (those : List TimedAct). before ++ those)
-    (sym (ap (map (timed time)) (map_more value acts i default within) ∙ map_push (timed time) (map value (take i acts)) (value (get_or acts i default))))
+    (ap (λ (one : X). acts_at time (map value (take i acts)) ++ timed time (value one) ∷ []) is
+    ∙ sym (ap (map (timed time)) (map_more value acts i act within) ∙ map_push (timed time) (map value (take i acts)) (value (get_or acts i act))))
 
 -- one datagram more
 pub timed_more : (recording : List (Bor (List ℕ))) (times : List (Option ℕ)) (place : ℕ) (default : Bor (List ℕ)) (time : Option ℕ) (acts : List ActValue) → place < length recording

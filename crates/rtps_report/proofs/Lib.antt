@@ -17,6 +17,7 @@ mod NamingWalkLemmas
 mod NoPairLemmas
 pub mod Offered
 mod OneNoPairLemmas
+mod NotToldLemmas
 mod NotToldOnce
 mod OneReportLemmas
 mod OneSideLemmas
@@ -34,3 +35,4 @@ mod TalkLemmas
 mod TalkParts
 mod TopicLemmas
 mod TwoLivesOnce
+mod VisitLemmas

@@ -1,6 +1,6 @@
 -- Who was never told of whose endpoints, as a report tells it. DDSI-RTPS 2.5, 8.5.4 "The Simple Endpoint Discovery Protocol". own: an endpoint is told with
 -- its topic, since people ask why a topic is not there.
-use Rattle.std.specs.Prelude.{ℕ, ◌≡◌, ◌+◌, ◌&&◌, Bool, if◌then◌else◌, List, count_by, length, map, sum_by, Option, Some, None}
+use Rattle.std.specs.Prelude.{ℕ, ◌≡◌, ◌+◌, ◌&&◌, Bool, if◌then◌else◌, List, count_by, length, map, min, sum_by, Option, Some, None}
 use Rattle.std.specs.BTreeMap.{BTreeMap}
 use Rattle.std.specs.List.{list_any}
 use Rattle.rtps_ids.specs.declared.identity.Guid.{Guid}
@@ -77,9 +77,9 @@ pub record AreNotToldIn (intake : Intake) (recording : List (List ℕ)) (times :
 abbrev pub is_not_told : List NotToldValue → Participant → Bool
 is_not_told found participant = list_any (λ one. is_guid one.to participant.guid) found
 
--- how many endpoints that is
+-- how many endpoints that is, as far as a `u64` counts
 abbrev pub endpoints_of : NotToldValue → ℕ
-endpoints_of one = length one.writers + length one.readers + one.unnamed
+endpoints_of one = min 18446744073709551615 (length one.writers + length one.readers + one.unnamed)
 
 -- how many of these participants were not told, and of how many endpoints: one that two were not told of counts twice
 abbrev pub not_told_counts : List Participant → List NotToldValue → NotToldCounts

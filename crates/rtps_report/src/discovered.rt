@@ -78,10 +78,10 @@ fn lives_of(alloc: Global, known: &Known, times: &Times) -> Result<Vec<TwoLives>
     ensures { IfOk result (λ found. (recording : List (List ℕ)) → IsKnownOf (timed_acts recording times.now.of_datagrams) known.now
         → AreTwoLivesIn recording times.now.of_datagrams found.items) }
 {
+    let lives = known.lives()?;
     if !times.are_there() {
         return Ok(Vec::new(alloc));
     }
-    let lives = known.lives()?;
     let found = first_lives(alloc, &lives)?;
     Ok(found)
 }
@@ -111,10 +111,12 @@ pub(crate) fn discovered_in<'a>(
         visits,
     } = attend(alloc, announced, heard)?;
     let untold = known.untold(&visits, announced)?;
+    let not_told = all_not_told(alloc, heard.directory, &untold)?;
+    let lives = lives_of(alloc, &known, heard.times)?;
     Ok(Discovered {
         participants,
         namings,
-        not_told: all_not_told(alloc, heard.directory, &untold)?,
-        lives: lives_of(alloc, &known, heard.times)?,
+        not_told,
+        lives,
     })
 }

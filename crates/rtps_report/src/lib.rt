@@ -72,5 +72,5 @@ pub use side_facts::{SideFacts, facts_of_side};
 pub use silences::Silences;
 pub use talk::{LeftOut, Talk};
 pub use topics::{by_topic, topics_of};
-pub use two_lives::TwoLives;
 pub use totals::{Totals, totals_of};
+pub use two_lives::TwoLives;

@@ -48,11 +48,7 @@ pub(crate) fn namings_of(alloc: Global, recording: &[&[u8]]) -> Result<Namings, 
 }
 
 /// What a recording says, any datagrams, which came then. `Memory` is answered where what is kept cannot grow.
-pub(crate) fn walk_all(
-    alloc: Global,
-    recording: &[&[u8]],
-    times: &Times,
-) -> Result<Walked, Memory>
+pub(crate) fn walk_all(alloc: Global, recording: &[&[u8]], times: &Times) -> Result<Walked, Memory>
     ensures namings { IfOk result (λ walked. AreNamingsOf (datagrams_read (map (λ datagram. datagram.now) recording.now)) walked.namings) }
     ensures known { IfOk result (λ walked. IsKnownOf (timed_acts (map (λ datagram. datagram.now) recording.now) times.now.of_datagrams) walked.known) }
 {

@@ -4,7 +4,7 @@ ghost use Rattle.std.specs.BTreeSet.{contains};
 ghost use Rattle.rtps_ids.specs.declared.identity.Guid.{Guid as GuidOf};
 ghost use Rattle.rtps_audit.specs.Placed.{is_guid};
 ghost use Rattle.rtps_discovery.specs.GuidOrder.{guid_cmp};
-ghost use Rattle.rtps_report.specs.NotTold.{endpoints_of as endpoints_of_lem, is_not_told_of as is_not_told_of_lem, not_told_by, not_told_counts as not_told_counts_lem, not_told_value, topic_end_value, with_topic as with_topic_lem};
+ghost use Rattle.rtps_report.specs.NotTold.{endpoints_of as endpoints_of_lem, is_between as is_between_lem, is_not_told_of as is_not_told_of_lem, not_told_by, not_told_counts as not_told_counts_lem, not_told_value, topic_end_value, with_topic as with_topic_lem};
 
 use crate::participant::Participant;
 use crate::topics::topic_of;
@@ -86,7 +86,8 @@ pub(crate) fn all_not_told<'a>(
 {
     let mut found = Vec::with_capacity(alloc, all.len())?;
     for untold in all {
-        found.push(not_told_of(alloc, directory, untold)?)?;
+        let one = not_told_of(alloc, directory, untold)?;
+        found.push(one)?;
     }
     Ok(found)
 }
@@ -102,20 +103,22 @@ fn those_not_told(alloc: Global, found: &[NotTold<'_>]) -> Result<BTreeSet<Guid>
     Ok(those)
 }
 
-/// How many endpoints that is.
-fn endpoints_of(one: &NotTold<'_>) -> u128
+/// How many endpoints that is, as far as a `u64` counts.
+fn endpoints_of(one: &NotTold<'_>) -> u64
     ensures { result ≡ endpoints_of_lem (not_told_value one.now) }
 {
-    one.writers.len() as u128 + one.readers.len() as u128 + u128::from(one.unnamed)
+    let writers = one.writers.len() as u64;
+    let readers = one.readers.len() as u64;
+    writers.saturating_add(readers).saturating_add(one.unnamed)
 }
 
 /// How many all of these are.
 fn endpoints_among(found: &[NotTold<'_>]) -> u128
     ensures { result ≡ sum_by endpoints_of_lem (map not_told_value found.now) }
 {
-    let mut endpoints = 0;
+    let mut endpoints: u128 = 0;
     for one in found {
-        endpoints += endpoints_of(one);
+        endpoints += u128::from(endpoints_of(one));
     }
     endpoints
 }
@@ -124,11 +127,9 @@ fn endpoints_among(found: &[NotTold<'_>]) -> u128
 fn count_among(participants: &[Participant], those: &BTreeSet<Guid>) -> u64
     ensures { result ≡ count_by (λ participant. contains guid_cmp those.now participant.guid) participants.now }
 {
-    let mut count = 0;
+    let mut count: u64 = 0;
     for participant in participants {
-        if those.contains(&participant.guid) {
-            count += 1;
-        }
+        count += u64::from(those.contains(&participant.guid));
     }
     count
 }
@@ -148,12 +149,19 @@ pub(crate) fn not_told_counts(
     })
 }
 
+/// Whether it is of these two.
+fn is_between(one: &NotTold<'_>, from: Guid, to: Guid) -> bool
+    ensures { result ≡ is_between_lem from to (not_told_value one.now) }
+{
+    one.from == from && one.to == to
+}
+
 /// Whether a participant was not told of something of another.
 pub(crate) fn is_not_told_of(found: &[NotTold<'_>], from: Guid, to: Guid) -> bool
     ensures { result ≡ is_not_told_of_lem (map not_told_value found.now) from to }
 {
     for one in found {
-        if one.from == from && one.to == to {
+        if is_between(one, from, to) {
             return true;
         }
     }

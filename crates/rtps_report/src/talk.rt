@@ -28,8 +28,8 @@ use crate::asked::Asked;
 use crate::best_effort::{
     BestEffort, Counted, HeldPair, arrived_among, held_among, sums_of, total_of,
 };
-use crate::end::{End, who_of};
 use crate::discovered::{Discovered, discovered_in};
+use crate::end::{End, who_of};
 use crate::not_told::NotTold;
 use crate::participant::{Participant, is_silent};
 use crate::rows::{are_observed, is_chosen};
@@ -320,8 +320,8 @@ pub(crate) fn participants_of(
     seen: Seen<'_>,
 ) -> Result<Vec<Participant>, Memory>
     ensures { IfOk result (λ participants. (intake : Intake) → IsIndexBy intake heard.now.index.now
-        → AreJoined (placed_in intake.announcing) seen.joined.now
-        → ArePresencesOf (map (λ datagram. datagram.now) heard.now.datagrams.now) heard.now.times.now.of_datagrams seen.presences.now
+        → AreJoined (placed_in intake.announcing) seen.entry.joined.now
+        → ArePresencesOf (map (λ datagram. datagram.now) heard.now.datagrams.now) heard.now.times.now.of_datagrams seen.entry.presences.now
         → IsAnnouncedBy (acts_together intake.announcing) announced.now
         → participants.items
         ≡ map (participant_told intake (map (λ datagram. datagram.now) heard.now.datagrams.now) heard.now.times.now) heard.now.directory.now.participants) }

@@ -63,9 +63,9 @@ pub(crate) struct Seen<'r> {
 
 /// When a participant is there; None where that is not known.
 fn visit_for(seen: Seen<'_>, participant: &Participant) -> Option<Visit>
-    ensures { (recording : List (List ℕ)) → ArePresencesOf recording seen.times.now.of_datagrams seen.presences.now
-        → result ≡ visit_by (place_time_lem seen.times.now.of_datagrams (get guid_cmp seen.joined.now participant.now.guid))
-        (left_time_lem seen.times.now.of_datagrams participant.now.left) (latest_of recording seen.times.now.of_datagrams participant.now.guid.prefix) }
+    ensures { (recording : List (List ℕ)) → ArePresencesOf recording seen.entry.times.now.of_datagrams seen.entry.presences.now
+        → result ≡ visit_by (place_time_lem seen.entry.times.now.of_datagrams (get guid_cmp seen.entry.joined.now participant.now.guid))
+        (left_time_lem seen.entry.times.now.of_datagrams participant.now.left) (latest_of recording seen.entry.times.now.of_datagrams participant.now.guid.prefix) }
 {
     let since = place_time(seen.times, seen.joined.get(&participant.guid).copied());
     let left = left_time(seen.times, participant.left);
@@ -93,10 +93,10 @@ fn note_visit(
     seen: Seen<'_>,
     participant: &Participant,
 ) -> Result<(), Memory>
-    ensures { OnOk result ((recording : List (List ℕ)) → ArePresencesOf recording seen.times.now.of_datagrams seen.presences.now
+    ensures { OnOk result ((recording : List (List ℕ)) → ArePresencesOf recording seen.entry.times.now.of_datagrams seen.entry.presences.now
         → (other : GuidPrefixOf) → get prefix_cmp visits.new other
-        ≡ visit_with (is_participant other participant.now.guid) (visit_by (place_time_lem seen.times.now.of_datagrams (get guid_cmp seen.joined.now participant.now.guid))
-        (left_time_lem seen.times.now.of_datagrams participant.now.left) (latest_of recording seen.times.now.of_datagrams participant.now.guid.prefix))
+        ≡ visit_with (is_participant other participant.now.guid) (visit_by (place_time_lem seen.entry.times.now.of_datagrams (get guid_cmp seen.entry.joined.now participant.now.guid))
+        (left_time_lem seen.entry.times.now.of_datagrams participant.now.left) (latest_of recording seen.entry.times.now.of_datagrams participant.now.guid.prefix))
         (get prefix_cmp visits.old other)) }
 {
     if participant.guid != participant_of(participant.guid.prefix) {
@@ -113,9 +113,9 @@ pub(crate) fn visits_of(
     seen: Seen<'_>,
 ) -> Result<BTreeMap<GuidPrefix, Visit>, Memory>
     ensures { IfOk result (λ visits. (intake : Intake) (recording : List (List ℕ)) (announced : List GuidOf)
-        → ArePresencesOf recording seen.times.now.of_datagrams seen.presences.now → AreJoined (placed_in intake.announcing) seen.joined.now
-        → participants.now ≡ map (participant_told intake recording seen.times.now) announced
-        → AreVisitsIn intake recording seen.times.now.of_datagrams announced visits) }
+        → ArePresencesOf recording seen.entry.times.now.of_datagrams seen.entry.presences.now → AreJoined (placed_in intake.announcing) seen.entry.joined.now
+        → participants.now ≡ map (participant_told intake recording seen.entry.times.now) announced
+        → AreVisitsIn intake recording seen.entry.times.now.of_datagrams announced visits) }
 {
     let mut visits = BTreeMap::new(alloc);
     for participant in participants {

@@ -1,0 +1,55 @@
+-- Who was never told of what, one more each.
+use Rattle.std.proofs.Common.{◌≡◌, ◌∙◌, ℕ, ◌+◌, ◌<◌, Bool, true, false, ◌||◌, cond, List, [], ◌∷◌, ◌++◌, ap, ap₂, arith, count_by, get_or, length, map, refl, sym, take}
+use Rattle.std.specs.List.{list_any}
+use Rattle.std.specs.Ordering.{is_eq}
+use Rattle.std.specs.Prelude.{sum_by}
+use Rattle.std.proofs.lemmas.List.{map_more, map_push}
+use Rattle.std.proofs.lemmas.List.Folds.{list_any-append}
+use Rattle.std.proofs.lemmas.List.Sums.{count_by_more_no, count_by_more_yes, sum_by-append}
+use Rattle.rtps_ids.specs.declared.identity.Guid.{Guid}
+use Rattle.rtps_discovery.specs.GuidOrder.{guid_cmp}
+use Rattle.rtps_audit.specs.Placed.{is_guid}
+use Rattle.rtps_audit.proofs.Offered.{is_eq-guid_cmp}
+use Rattle.rtps_report.specs.NotTold.{NotToldValue, endpoints_of, not_told_value}
+use Rattle.rtps_report.specs.declared.not_told.NotTold.{NotTold}
+
+-- one element more of a list that is made of another, both seen as values
+pub made_more : {X Y V : Type 0} (view : Y → V) (made : X → V) (xs : List X) (ys more : List Y) (i : ℕ) (x : X) (y : Y) → i < length xs → x ≡ get_or xs i x → more ≡ ys ++ y ∷ []
+    → view y ≡ made x → map view ys ≡ map made (take i xs) → map view more ≡ map made (take (i + 1) xs)
+made_more {X} {Y} {V} view made xs ys more i x y within is pushed same so_far =
+    ap (map view) pushed ∙ map_push view ys y ∙ ap₂ (λ (front : List V) (last : V). front ++ last ∷ []) so_far (same ∙ ap made is) ∙ sym (map_more made xs i x within)
+
+or_back : (b known : Bool) → cond b true known ≡ (known || (b || false))
+or_back true true = refl
+or_back true false = refl
+or_back false true = refl
+or_back false false = refl
+
+-- the participant was not told
+abbrev pub is_to : Guid → NotToldValue → Bool
+is_to guid one = is_guid one.to guid
+
+-- one participant more that was not told
+pub those_more : (found : List NotTold) (i : ℕ) (one : NotTold) (guid : Guid) (known new : Bool) → i < length found → one ≡ get_or found i one
+    → new ≡ cond (is_eq (guid_cmp one.to guid)) true known → known ≡ list_any (is_to guid) (map not_told_value (take i found))
+    → new ≡ list_any (is_to guid) (map not_told_value (take (i + 1) found))
+those_more found i one guid known new within is added so_far =
+    added ∙ ap (λ (b : Bool). cond b true known) (is_eq-guid_cmp one.to guid) ∙ or_back (is_guid one.to guid) known
+    ∙ ap₂ (λ (a b : Bool). a || (b || false)) so_far (ap (λ (same : NotTold). is_guid same.to guid) is)
+    ∙ sym (ap (list_any (is_to guid)) (map_more not_told_value found i one within)
+    ∙ list_any-append (is_to guid) (map not_told_value (take i found)) (not_told_value (get_or found i one) ∷ []))
+
+-- one sum more
+pub endpoints_more : (found : List NotTold) (i : ℕ) (one : NotTold) → i < length found → one ≡ get_or found i one
+    → sum_by endpoints_of (map not_told_value (take i found)) + endpoints_of (not_told_value one) ≡ sum_by endpoints_of (map not_told_value (take (i + 1) found))
+endpoints_more found i one within is =
+    let sum = sum_by endpoints_of (map not_told_value (take i found)) in
+    let last : List NotToldValue = not_told_value (get_or found i one) ∷ [] in
+    let zero_more : endpoints_of (not_told_value (get_or found i one)) ≡ sum_by endpoints_of last = omega arith in
+    ap (λ (same : NotTold). sum + endpoints_of (not_told_value same)) is ∙ ap (λ (n : ℕ). sum + n) zero_more
+    ∙ sym (ap (sum_by endpoints_of) (map_more not_told_value found i one within) ∙ sum_by-append endpoints_of (map not_told_value (take i found)) last)
+
+-- one more is counted, or not
+pub counted_more : {X : Type 0} (p : X → Bool) (xs : List X) (i : ℕ) (d : X) (b : Bool) → i < length xs → p (get_or xs i d) ≡ b → count_by p (take i xs) + cond b 1 0 ≡ count_by p (take (i + 1) xs)
+counted_more p xs i d true within e = sym (count_by_more_yes p xs i d within e)
+counted_more p xs i d false within e = let more = count_by_more_no p xs i d within e in omega (arith, more)
