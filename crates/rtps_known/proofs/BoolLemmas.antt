@@ -32,3 +32,7 @@ or_front false false false = refl
 pub and_none : (a : Bool) → (a && false) ≡ false
 and_none true = refl
 and_none false = refl
+
+pub and_all : (a : Bool) → a ≡ (a && true)
+and_all true = refl
+and_all false = refl

@@ -1,15 +1,16 @@
 -- What a participant lacks, by what is kept of a writer.
-use Rattle.std.proofs.Common.{◌≡◌, ◌∙◌, ℕ, ◌+◌, ◌-◌, ◌<◌, ◌≤◌, Bool, true, false, ◌||◌, ◌&&◌, List, [], ◌∷◌, ap, arith, max, min, nat_eq, nat_le, nat_lt, not, refl, subst, sym}
+use Rattle.std.proofs.Common.{◌≡◌, ◌∙◌, ℕ, ◌+◌, ◌-◌, ◌<◌, ◌≤◌, Bool, true, false, ◌||◌, ◌&&◌, List, [], ◌∷◌, ◌++◌, ap, arith, max, min, nat_eq, nat_le, nat_lt, not, refl, subst, sym}
 use Rattle.std.specs.BTreeSet.{contains}
 use Rattle.std.specs.BTreeMap.{is_at}
 use Rattle.std.specs.Cmp.{unsigned_tied}
 use Rattle.std.specs.List.{list_any}
 use Rattle.std.specs.List.Sorted.{IsStrictlySortedBy}
 use Rattle.std.specs.Ordering.{nat_cmp}
+use Rattle.std.proofs.lemmas.List.Folds.{list_any-append}
 use Rattle.rtps_coverage.specs.Counts.{count_in}
-use Rattle.rtps_coverage.specs.Stretches.{stretches_have}
+use Rattle.rtps_coverage.specs.Stretches.{stretch_has, stretches_have}
 use Rattle.rtps_coverage.specs.declared.stretch.Stretch.{Stretch}
-use Rattle.rtps_coverage.proofs.Offered.{count_none, count_rest, count_same, count_split}
+use Rattle.rtps_coverage.proofs.Offered.{count_none, count_others, count_rest, count_same, count_split}
 use Rattle.rtps_ids.specs.declared.identity.Guid.{Guid}
 use Rattle.rtps_ids.specs.declared.identity.GuidPrefix.{GuidPrefix}
 use Rattle.rtps_discovery.specs.GuidOrder.{guid_cmp}
@@ -20,6 +21,7 @@ use Rattle.rtps_known.specs.declared.bulletin.Bulletin.{Bulletin}
 use Rattle.rtps_known.specs.declared.lacking.Lacking.{Lacking}
 use Rattle.rtps_known.specs.declared.layout.TheConstants.{END}
 use Rattle.rtps_known.specs.declared.telling.Announcement.{Announcement}
+use Rattle.rtps_known.proofs.BoolLemmas.{or_join, or_none}
 
 -- ---- tests that agree
 
@@ -77,6 +79,35 @@ counted_others told marked both from is =
     ∙ ap (λ k. count_in marked from END + k)
     (count_same (λ n. both n && not (marked n)) (λ n. told n && not (marked n)) from END (λ n low high. others_are (told n) (marked n) (both n) (is n)))
 
+-- the one is counted before the other is there, and both behind it
+pub counted_more : (told marked both : ℕ → Bool) (from before all : ℕ) → ((n : ℕ) → both n ≡ (marked n || told n)) → before ≡ count_in marked from END
+    → all ≡ count_in both from END → all ≡ before + count_in (λ n. told n && not (marked n)) from END
+counted_more told marked both from before all is before_is all_is =
+    all_is ∙ counted_others told marked both from is ∙ ap (λ k. k + count_in (λ n. told n && not (marked n)) from END) (sym before_is)
+
+pub sum_above : (all before more : ℕ) → all ≡ before + more → before ≤ all
+sum_above all before more sum = omega (arith, sum)
+
+pub sum_less : (all before more : ℕ) → all ≡ before + more → all - before ≡ more
+sum_less all before more sum = omega (arith, sum)
+
+pub less_most : (all before more most : ℕ) → all ≡ before + more → more ≤ most → all - before ≤ most
+less_most all before more most sum at_most = omega (arith, sum, at_most)
+
+first_most : (all one other : ℕ) → all ≡ one + other → one ≤ all
+first_most all one other sum = omega (arith, sum)
+
+pub count_at_most : (has : ℕ → Bool) (lo hi : ℕ) → count_in has lo hi ≤ hi - lo
+count_at_most has lo hi = first_most (hi - lo) (count_in has lo hi) (count_in (λ n. not (has n)) lo hi) (count_others has lo hi)
+
+-- one stretch more, of what is next
+pub marked_more : {X : Type 0} (test : X → Bool) (n : ℕ) (marked new : List Stretch) (one : Stretch) (x : X) (rest left : List X) (had : Bool) → new ≡ marked ++ one ∷ []
+    → stretch_has n one ≡ test x → rest ≡ x ∷ left → (stretches_have marked n || list_any test rest) ≡ had → (stretches_have new n || list_any test left) ≡ had
+marked_more test n marked new one x rest left had pushed same step was =
+    ap (λ l. stretches_have l n || list_any test left) pushed
+    ∙ ap (λ b. b || list_any test left) (list_any-append (stretch_has n) marked (one ∷ []) ∙ ap (λ b. stretches_have marked n || b) (sym (or_none (stretch_has n one)) ∙ same))
+    ∙ sym (or_join (stretches_have marked n) (test x) (list_any test left)) ∙ ap (λ l. stretches_have marked n || list_any test l) (sym step) ∙ was
+
 below_none : (n base : ℕ) (rest more : Bool) → n < base → ((nat_le base n && rest) && more) ≡ false
 below_none n base rest more below =
     let no : nat_le base n ≡ false = grind arith in
@@ -97,21 +128,21 @@ announcing_is : (acts : List TimedAct) (bulletin : Bulletin) → IsBulletinOf ac
     → list_any (λ announcement. nat_eq n announcement.number) bulletin.announced.keys ≡ is_announcing acts n
 announcing_is acts bulletin were n = were.announced (λ announcement. nat_eq n announcement.number)
 
-pub counted_is : (acts : List TimedAct) (bulletin : Bulletin) (prefix : GuidPrefix) (end : ℕ) (told marked : List Stretch) → IsBulletinOf acts bulletin
+pub counted_is : (acts : List TimedAct) (bulletin : Bulletin) (prefix : GuidPrefix) (end from : ℕ) (told marked : List Stretch) → IsBulletinOf acts bulletin
+    → from ≡ min (max (base_by bulletin prefix) 1) END
     → ((n : ℕ) → stretches_have told n ≡ list_any (reaches prefix end n) bulletin.told.entries)
     → ((n : ℕ) → n < END → stretches_have marked n ≡ is_marked bulletin n)
-    → count_in (λ n. stretches_have told n && not (stretches_have marked n)) (min (max (base_by bulletin prefix) 1) END) END
+    → count_in (λ n. stretches_have told n && not (stretches_have marked n)) from END
     ≡ count_in (λ n. lacks acts prefix end n && not (is_announcing acts n)) 1 END
-counted_is acts bulletin prefix end told marked were told_is marked_is =
+counted_is acts bulletin prefix end from told marked were from_is told_is marked_is =
     let base = base_by bulletin prefix in
-    let from = min (max base 1) END in
-    let low : 1 ≤ from = omega arith in
-    let high : from ≤ END = omega arith in
+    let low : 1 ≤ from = omega (arith, from_is) in
+    let high : from ≤ END = omega (arith, from_is) in
     let has : ℕ → Bool = λ n. lacks acts prefix end n && not (is_announcing acts n) in
     let same : count_in (λ n. stretches_have told n && not (stretches_have marked n)) from END ≡ count_in has from END =
     count_same (λ n. stretches_have told n && not (stretches_have marked n)) has from END
     (λ n onward within.
-    let reached : base ≤ n = omega (arith, onward, within) in
+    let reached : base ≤ n = omega (arith, from_is, onward, within) in
     let here : nat_le base n ≡ true = grind (arith, reached) in
     unmarked (nat_le base n) (stretches_have told n) (contains nat_cmp bulletin.ended n) (list_any (λ announcement. nat_eq n announcement.number) bulletin.announced.keys) (stretches_have marked n) here
     (marked_is n within ∙ ap (λ b. list_any (λ announcement. nat_eq n announcement.number) bulletin.announced.keys || b) (sym (any_same (is_at (nat_cmp n)) (nat_eq n) (λ m. unsigned_tied n m) bulletin.ended.keys)))
@@ -120,7 +151,7 @@ counted_is acts bulletin prefix end told marked were told_is marked_is =
     let none : count_in has 1 from ≡ 0 =
     count_none has 1 from
     (λ n onward below.
-    let under : n < base = omega (arith, onward, below) in
+    let under : n < base = omega (arith, from_is, onward, below) in
     ap (λ b. b && not (is_announcing acts n)) (sym (still_lacks acts bulletin prefix end told were told_is n))
     ∙ below_none n base (stretches_have told n && not (contains nat_cmp bulletin.ended n)) (not (is_announcing acts n)) under) in
     same ∙ sym (count_split has 1 from END low high ∙ ap (λ k. k + count_in has from END) none ∙ zero_more (count_in has from END))

@@ -1,5 +1,6 @@
 -- Who has two lives, who may be looked at, and what is said of two more.
-use Rattle.std.proofs.Common.{◌≡◌, ◌∙◌, ◌↔◌, ℕ, Bool, true, false, ◌||◌, ◌&&◌, IsSome, IsTrue, List, [], ◌∷◌, ◌++◌, MatchOption, Option, Some, None, ap, append_assoc, cond, inl, inr, map, not, refl, subst, sym, unwrap_or}
+use Rattle.std.proofs.Common.{◌≡◌, ◌∙◌, ◌↔◌, ℕ, Bool, true, false, ◌||◌, ◌&&◌, IsSome, IsTrue, List, [], ◌∷◌, ◌++◌, ◌+◌, ◌<◌, MatchOption, Option, Some, None, ap, append_assoc, cond, get_or, if◌then◌else◌, inl, inr, length, map, not, refl, subst, sym, take, unwrap_or}
+use Rattle.std.specs.BTreeMap.{BTreeMap, get, is_at}
 use Rattle.std.specs.BTreeSet.{BTreeSet, contains}
 use Rattle.std.specs.Cmp.{IsTotalOrder, both_tied, eq_by_cmp_equiv}
 use Rattle.std.specs.Cmp.Lexicographic.{slice_cmp}
@@ -8,6 +9,7 @@ use Rattle.std.specs.Map.{lookup}
 use Rattle.std.specs.Ordering.{is_eq, nat_cmp}
 use Rattle.std.proofs.lemmas.Bool.{false≢true}
 use Rattle.std.proofs.lemmas.Cmp.{nat_cmp_total, nat_list_cmp_total}
+use Rattle.std.proofs.lemmas.List.Folds.{list_any_more}
 use Rattle.std.proofs.lemmas.Map.Views.{tells_apart}
 use Rattle.rtps_ids.specs.declared.identity.GuidPrefix.{GuidPrefix}
 use Rattle.rtps_ids.specs.declared.identity.Stamp.{Stamp}
@@ -21,10 +23,12 @@ use Rattle.rtps_known.specs.Bulletins.{prefix_cmp}
 use Rattle.rtps_known.specs.Lives.{AreLivesOf, HasTwoLives, birth_cmp, birth_of, is_birth, two_times}
 use Rattle.rtps_known.specs.Recorded.{acts_of}
 use Rattle.rtps_known.specs.Tellings.{TimedAct}
-use Rattle.rtps_known.specs.Untold.{AreSaidOf, Attendance, IsAllTold, IsSaidOf, IsUntold, MayTell, listed, may_tell}
+use Rattle.rtps_known.specs.Untold.{AreNeverTogether, AreSaidOf, AreTogether, Attendance, IsAllTold, IsSaidOf, IsUntold, IsUntoldUntil, MayTell, is_nothing, listed, may_tell}
+use Rattle.rtps_known.specs.Visits.{IsEndBetween, IsNeverInTime}
 use Rattle.rtps_known.specs.declared.life.Birth.{Birth}
 use Rattle.rtps_known.specs.declared.life.Life.{Life}
 use Rattle.rtps_known.specs.declared.untold.Untold.{Untold}
+use Rattle.rtps_known.specs.declared.visit.Visit.{Visit}
 use Rattle.rtps_known.proofs.OrderLemmas.{exact_births, exact_prefixes}
 
 -- ---- two lives
@@ -103,6 +107,21 @@ twice_is acts lives prefix has is were = (
   (λ two. is ∙ life_among lives (record { participant = prefix; number = two.0 }) (subst IsSome (sym (were.times (record { participant = prefix; number = two.0 }))) two.1)),
 )
 
+either : (same old : Bool) → cond same true old ≡ (old || same)
+either true true = refl
+either true false = refl
+either false true = refl
+either false false = refl
+
+-- the participants of one life more
+pub participants_more : (lives : List Life) (i : ℕ) (d : Life) (old new : BTreeSet GuidPrefix) (prefix : GuidPrefix) → i < length lives
+    → contains prefix_cmp new prefix ≡ cond (is_at (prefix_cmp (get_or lives i d).participant) prefix) true (contains prefix_cmp old prefix)
+    → contains prefix_cmp old prefix ≡ list_any (λ life. is_eq (prefix_cmp life.participant prefix)) (take i lives)
+    → contains prefix_cmp new prefix ≡ list_any (λ life. is_eq (prefix_cmp life.participant prefix)) (take (i + 1) lives)
+participants_more lives i d old new prefix within added were =
+    let test : Life → Bool = λ life. is_eq (prefix_cmp life.participant prefix) in
+    added ∙ either (test (get_or lives i d)) (contains prefix_cmp old prefix) ∙ ap (λ b. b || test (get_or lives i d)) were ∙ sym (list_any_more test lives i d within)
+
 -- ---- two that may be looked at
 
 hosts_are : (announcing : List ActValue) (announced : Announced) (prefix : GuidPrefix) → IsAnnouncedBy announcing announced → hosts_in announced prefix ≡ host_of announcing prefix
@@ -113,7 +132,7 @@ pub may_tell_is : (acts : List TimedAct) (announcing : List ActValue) (announced
     → (HasTwoLives (acts_of acts) naming.source → IsTrue source) → (HasTwoLives (acts_of acts) naming.dest → IsTrue dest)
     → may_tell (is_prefix naming.source naming.dest) (two_domains (hosts_in announced naming.source) (hosts_in announced naming.dest)) source dest ≡ true
     → MayTell acts announcing naming
-may_tell_is acts announcing announced naming source dest were of_source of_dest to_source to_dest yes = by (is_prefix naming.source naming.dest) (two_domains (hosts_in announced naming.source) (hosts_in announced naming.dest)) source dest refl refl yes to_source to_dest
+may_tell_is acts announcing announced naming source dest were of_source of_dest to_source to_dest passes = by (is_prefix naming.source naming.dest) (two_domains (hosts_in announced naming.source) (hosts_in announced naming.dest)) source dest refl refl passes to_source to_dest
   where
     domains : two_domains (host_of announcing naming.source) (host_of announcing naming.dest) ≡ two_domains (hosts_in announced naming.source) (hosts_in announced naming.dest)
     domains = sym (ap (λ h. two_domains h (hosts_in announced naming.dest)) (hosts_are announcing announced naming.source were)
@@ -121,18 +140,18 @@ may_tell_is acts announcing announced naming source dest were of_source of_dest 
 
     by : (same apart one other : Bool) → is_prefix naming.source naming.dest ≡ same → two_domains (hosts_in announced naming.source) (hosts_in announced naming.dest) ≡ apart
         → may_tell same apart one other ≡ true → (HasTwoLives (acts_of acts) naming.source → IsTrue one) → (HasTwoLives (acts_of acts) naming.dest → IsTrue other) → MayTell acts announcing naming
-    by false false false false two one_domain yes to_source to_dest =
+    by false false false false two one_domain passes to_source to_dest =
         record { two = two; one_domain = domains ∙ one_domain; source_once = λ has. false≢true (to_source has); dest_once = λ has. false≢true (to_dest has) }
-    by true apart one other two one_domain yes to_source to_dest = absurd (false≢true yes)
-    by false true one other two one_domain yes to_source to_dest = absurd (false≢true yes)
-    by false false true other two one_domain yes to_source to_dest = absurd (false≢true yes)
-    by false false false true two one_domain yes to_source to_dest = absurd (false≢true yes)
+    by true apart one other two one_domain passes to_source to_dest = absurd (false≢true passes)
+    by false true one other two one_domain passes to_source to_dest = absurd (false≢true passes)
+    by false false true other two one_domain passes to_source to_dest = absurd (false≢true passes)
+    by false false false true two one_domain passes to_source to_dest = absurd (false≢true passes)
 
 pub may_not_tell : (acts : List TimedAct) (announcing : List ActValue) (announced : Announced) (naming : Naming) (source dest : Bool) → IsAnnouncedBy announcing announced
     → (IsTrue source → HasTwoLives (acts_of acts) naming.source) → (IsTrue dest → HasTwoLives (acts_of acts) naming.dest)
     → may_tell (is_prefix naming.source naming.dest) (two_domains (hosts_in announced naming.source) (hosts_in announced naming.dest)) source dest ≡ false
     → ¬ MayTell acts announcing naming
-may_not_tell acts announcing announced naming source dest were of_source of_dest no may = by source dest refl refl
+may_not_tell acts announcing announced naming source dest were of_source of_dest fails may = by source dest refl refl
   where
     domains : two_domains (hosts_in announced naming.source) (hosts_in announced naming.dest) ≡ false
     domains =
@@ -143,7 +162,7 @@ may_not_tell acts announcing announced naming source dest were of_source of_dest
     by true other e f = may.source_once (of_source e)
     by false true e f = may.dest_once (of_dest f)
     by false false e f =
-        false≢true (sym no
+        false≢true (sym fails
         ∙ ap (λ b. may_tell b (two_domains (hosts_in announced naming.source) (hosts_in announced naming.dest)) source dest) may.two
         ∙ ap (λ b. may_tell false b source dest) domains ∙ ap (λ b. may_tell false false b dest) e ∙ ap (λ b. may_tell false false false b) f)
 
@@ -156,6 +175,26 @@ pub said_more : (acts : List TimedAct) (attendance : Attendance) (naming : Namin
 said_more acts attendance naming rest all found said is so_far behind rest_said =
     let P : List Untold → Type 0 = λ l. AreSaidOf acts attendance all l in
     subst P (sym (append_assoc found (listed said) behind)) (so_far (listed said ++ behind) (said, behind, refl, is, rest_said))
+
+-- up to when two are there together, where it is known of both when they are there
+pub end_is : (visits : BTreeMap GuidPrefix Visit) (naming : Naming) (one other : Visit) (end : Option ℕ) → get prefix_cmp visits naming.source ≡ Some one
+    → get prefix_cmp visits naming.dest ≡ Some other → MatchOption end (IsNeverInTime one other) (IsEndBetween one other)
+    → MatchOption end (AreNeverTogether visits naming) (AreTogether visits naming)
+end_is visits naming one other None is_one is_other never = inr (one, other, is_one, is_other, never)
+end_is visits naming one other (Some end) is_one is_other is = record { one = one; other = other; is_one = is_one; is_other = is_other; is_end = is }
+
+-- what is told up to that, if it is something
+pub told_is : (acts : List TimedAct) (visits : BTreeMap GuidPrefix Visit) (naming : Naming) (end : ℕ) (untold : Untold) (said : Option Untold)
+    → said ≡ (if is_nothing untold then None else Some untold) → AreTogether visits naming end → IsUntoldUntil acts naming end untold
+    → MatchOption said (IsAllTold acts visits naming) (IsUntold acts visits naming)
+told_is acts visits naming end untold said is together until = subst P (sym is) (by (is_nothing untold) refl)
+  where
+    P : Option Untold → Type 0
+    P o = MatchOption o (IsAllTold acts visits naming) (IsUntold acts visits naming)
+
+    by : (nothing : Bool) → is_nothing untold ≡ nothing → MatchOption (if nothing then None else Some untold) (IsAllTold acts visits naming) (IsUntold acts visits naming)
+    by true e = inr (end, untold, together, until, e)
+    by false e = record { end = end; together = together; is = until; something = e }
 
 -- what is said of two that may be looked at
 pub said_is : (acts : List TimedAct) (attendance : Attendance) (naming : Naming) (said : Option Untold) → MayTell acts attendance.announcing naming

@@ -1,5 +1,8 @@
-ghost use Rattle.std.specs.Prelude.{◌≡◌, ◌++◌, IfOk, List, MatchOption, OnOk};
+ghost use Rattle.std.specs.Prelude.{◌≡◌, ◌++◌, IfOk, List, MatchOption, None, OnOk, Some, if◌then◌else◌};
 ghost use Rattle.std.specs.BTreeSet.{contains};
+ghost use Rattle.std.specs.List.{list_any};
+ghost use Rattle.std.specs.Ordering.{is_eq};
+ghost use Rattle.rtps_ids.specs.declared.identity.GuidPrefix.{GuidPrefix as GuidPrefixValue};
 ghost use Rattle.rtps_receiver.specs.Speech.{is_prefix};
 ghost use Rattle.rtps_receiver.specs.Values.{ActValue};
 ghost use Rattle.rtps_policies.specs.Announcing.{IsAnnouncedBy, hosts_in};
@@ -7,13 +10,15 @@ ghost use Rattle.rtps_policies.specs.Silence.{two_domains as two_domains_lem};
 ghost use Rattle.rtps_known.specs.Bulletins.{prefix_cmp};
 ghost use Rattle.rtps_known.specs.Recorded.{IsKnownOf};
 ghost use Rattle.rtps_known.specs.Tellings.{TimedAct};
-ghost use Rattle.rtps_known.specs.Untold.{AreTwice, AreUntoldIn, IsAllTold, IsSaidOf, IsUntold, IsUntoldUntil, listed, is_nothing as is_nothing_lem, may_tell as may_tell_lem};
+ghost use Rattle.rtps_known.specs.Untold.{AreNeverTogether, AreTogether, AreTwice, AreUntoldIn, IsAllTold, IsSaidOf, IsUntold, IsUntoldUntil, listed, is_nothing as is_nothing_lem, may_tell as may_tell_lem};
 
 use crate::known::Known;
 use crate::layout::entity;
+use crate::life::Life;
 use crate::visit::{Visit, end_between};
 use rtps_ids::{Guid, GuidPrefix, Memory};
 use rtps_policies::{Announced, Naming, participant_of, two_domains};
+use std::alloc::Global;
 use std::collections::{BTreeMap, BTreeSet};
 
 /// The endpoints of a participant that another was never told of.
@@ -44,6 +49,40 @@ impl Untold {
     {
         self.writers.is_empty() && self.readers.is_empty() && self.unnamed == 0
     }
+
+    /// That, unless there are none.
+    fn if_something(self) -> Option<Untold>
+        ensures { result ≡ (if is_nothing_lem self then None else Some self) }
+    {
+        if self.is_nothing() {
+            return None;
+        }
+        Some(self)
+    }
+}
+
+/// Up to when it counts that one participant tells another, by when both are there.
+fn end_of(visits: &BTreeMap<GuidPrefix, Visit>, naming: Naming) -> Option<u64>
+    ensures { MatchOption result (AreNeverTogether visits.now naming) (AreTogether visits.now naming) }
+{
+    let Some(one) = visits.get(&naming.source) else {
+        return None;
+    };
+    let Some(other) = visits.get(&naming.dest) else {
+        return None;
+    };
+    end_between(*one, *other)
+}
+
+/// The participants of these lives.
+fn participants_of(alloc: Global, lives: &[Life]) -> Result<BTreeSet<GuidPrefix>, Memory>
+    ensures { IfOk result (λ participants. (prefix : GuidPrefixValue) → contains prefix_cmp participants prefix ≡ list_any (λ life. is_eq (prefix_cmp life.participant prefix)) lives.now) }
+{
+    let mut participants = BTreeSet::new(alloc);
+    for life in lives {
+        participants.insert(life.participant)?;
+    }
+    Ok(participants)
 }
 
 impl Known {
@@ -78,8 +117,8 @@ impl Known {
         naming: Naming,
     ) -> Result<Option<Untold>, Memory>
         ensures { IfOk result (λ said. (acts : List TimedAct) (announcing : List ActValue) → IsKnownOf acts self.now
-            → IsAnnouncedBy announcing attending.announced.now → AreTwice acts attending.twice.now
-            → IsSaidOf acts (record { announcing = announcing; visits = attending.visits.now }) naming said) }
+            → IsAnnouncedBy announcing attending.entry.announced.now → AreTwice acts attending.entry.twice.now
+            → IsSaidOf acts (record { announcing = announcing; visits = attending.entry.visits.now }) naming said) }
     {
         if !may_tell(attending.announced, attending.twice, naming) {
             return Ok(None);
@@ -93,10 +132,7 @@ impl Known {
         ensures { IfOk result (λ twice. (acts : List TimedAct) → IsKnownOf acts self.now → AreTwice acts twice) }
     {
         let lives = self.lives()?;
-        let mut twice = BTreeSet::new(self.alloc);
-        for life in &lives {
-            twice.insert(life.participant)?;
-        }
+        let twice = participants_of(self.alloc, &lives)?;
         Ok(twice)
     }
 
@@ -109,17 +145,11 @@ impl Known {
         ensures { IfOk result (λ said. (acts : List TimedAct) → IsKnownOf acts self.now
             → MatchOption said (IsAllTold acts visits.now naming) (IsUntold acts visits.now naming)) }
     {
-        let (Some(one), Some(other)) = (visits.get(&naming.source), visits.get(&naming.dest)) else {
-            return Ok(None);
-        };
-        let Some(end) = end_between(*one, *other) else {
+        let Some(end) = end_of(visits, naming) else {
             return Ok(None);
         };
         let untold = self.untold_until(naming, end)?;
-        if untold.is_nothing() {
-            return Ok(None);
-        }
-        Ok(Some(untold))
+        Ok(untold.if_something())
     }
 
     /// What a participant was never told of another, of what the other told up to a time.
@@ -148,7 +178,7 @@ impl Known {
 
 /// Appends what is said of two, if it is something. After `Memory` the list is of no use.
 fn push_said(found: &mut Vec<Untold>, said: Option<Untold>) -> Result<(), Memory>
-    ensures { OnOk result (found.new.items ≡ found.old.items ++ listed said.entry) }
+    ensures { OnOk result (found.new.items ≡ found.old.items ++ listed said) }
 {
     if let Some(untold) = said {
         found.push(untold)?;

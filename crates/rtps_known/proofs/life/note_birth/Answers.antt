@@ -9,4 +9,4 @@ returns-in_default c = λ acts were. no_birth acts (spoken_value c.args.act.now)
 pub returns : goal.returns
 returns c = λ acts were.
     birth_more acts (spoken_value c.args.act.now) c.args.births.now.entries c.insert.new.self.entries c.in-Some.birth c.in-Some.stamp c.copied-kept.result c.with_stamp-sent.result c.in-Some.ensures
-    (cc) c.with_stamp-sent.ensures (λ other. c.in_ok-insert.ensures.updates.0 other) were
+    (c.copied-kept.ensures ∙ c.get.ensures.value) c.with_stamp-sent.ensures (λ other. c.in_ok-insert.ensures.updates.0 other) were

@@ -1,18 +1,34 @@
-use Rattle.std.proofs.Common.{◌≡◌, ◌∙◌, [], List, MatchOption, None, Option, ap, refl, subst, sym}
+use Rattle.std.proofs.Common.{◌≡◌, ◌∙◌, ℕ, [], List, MatchOption, None, Option, Some, ap, refl, subst, sym}
 use Rattle.std.specs.BTreeMap.{get}
+use Rattle.std.specs.Option.{option_copied}
+use Rattle.rtps_ids.specs.declared.identity.GuidPrefix.{GuidPrefix}
 use Rattle.rtps_discovery.specs.GuidOrder.{guid_cmp}
 use Rattle.rtps_known.specs.Bulletins.{IsBulletinOf}
 use Rattle.rtps_known.specs.Lacking.{IsLackingOf}
 use Rattle.rtps_known.specs.Recorded.{about}
 use Rattle.rtps_known.specs.Tellings.{TimedAct}
 use Rattle.rtps_known.specs.declared.bulletin.Bulletin.{Bulletin}
+use Rattle.rtps_known.specs.declared.lacking.Lacking.{Lacking}
 use Rattle.rtps_known.proofs.LackingLemmas.{lacking_nothing}
 use Rattle.rtps_known.proofs.known.Known.lacking_of.Goals as goal
+
+-- what is lacking of no acts
+of_none : (acts : List TimedAct) (prefix : GuidPrefix) (end : ℕ) (lacking : Lacking) → acts ≡ [] → lacking.endpoints.items ≡ [] → lacking.unnamed ≡ 0 → IsLackingOf acts prefix end lacking
+of_none acts prefix end lacking none empty zero_is = let P : List TimedAct → Type 0 = λ l. IsLackingOf l prefix end lacking in subst P (sym none) (lacking_nothing prefix end lacking empty zero_is)
 
 pub returns-in_default-clause-lacking : goal.returns-in_default-clause-lacking
 returns-in_default-clause-lacking c = λ acts known.
     let writer = c.args.writer in
-    let none : get guid_cmp c.args.self.now.bulletins writer ≡ None = grind (c.get.ensures.value, c.in_default.is) in
+    let none : get guid_cmp c.args.self.now.bulletins writer ≡ None = sym c.get.ensures.value ∙ ap option_copied c.in_default.is in
     let M : Option Bulletin → Type 0 = λ kept. MatchOption kept (about writer acts ≡ []) (IsBulletinOf (about writer acts)) in
-    let P : List TimedAct → Type 0 = λ l. IsLackingOf l c.args.prefix c.args.end _ in
-    subst P (sym (subst M none (known.bulletins writer))) (lacking_nothing c.args.prefix c.args.end _ refl refl)
+    of_none (about writer acts) c.args.prefix c.args.end (record { endpoints = c.new.result; unnamed = 0 }) (subst M none (known.bulletins writer)) c.new.ensures.items refl
+
+pub returns-clause-lacking : goal.returns-clause-lacking
+returns-clause-lacking c = λ acts known.
+    let writer = c.args.writer in
+    let some : get guid_cmp c.args.self.now.bulletins writer ≡ Some c.in-Some.bulletin.now = sym c.get.ensures.value ∙ ap option_copied c.in-Some.is in
+    let M : Option Bulletin → Type 0 = λ kept. MatchOption kept (about writer acts ≡ []) (IsBulletinOf (about writer acts)) in
+    c.in_ok-lacking.ensures.lacking (about writer acts) (subst M some (known.bulletins writer))
+
+pub returns-clause-bounded : goal.returns-clause-bounded
+returns-clause-bounded c = c.in_ok-lacking.ensures.bounded

@@ -4,9 +4,9 @@ use Rattle.std.specs.List.{list_any}
 use Rattle.std.specs.Ordering.{is_eq}
 use Rattle.rtps_ids.specs.declared.identity.GuidPrefix.{GuidPrefix}
 use Rattle.rtps_known.specs.Bulletins.{prefix_cmp}
-use Rattle.rtps_known.proofs.known.Known.twice.Given as goal
+use Rattle.rtps_known.proofs.untold.participants_of.Given as goal
 
--- the participants of the lives so far
+-- those of the lives so far
 abbrev pub invariant-loop-life : goal.invariant-loop-life
 invariant-loop-life l =
-    (prefix : GuidPrefix) → contains prefix_cmp l.twice prefix ≡ list_any (λ life. is_eq (prefix_cmp life.participant prefix)) (take l.life-index l.lives.items)
+    (prefix : GuidPrefix) → contains prefix_cmp l.participants prefix ≡ list_any (λ life. is_eq (prefix_cmp life.participant prefix)) (take l.life-index l.lives)
