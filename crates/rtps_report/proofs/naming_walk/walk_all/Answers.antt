@@ -22,7 +22,7 @@ loop-place-preserved c =
     let within = c.loop-place-test.true in
     let so_far : List (List ActValue) = datagrams_read (map (λ (one : Bor (List ℕ)). one.now) (take place recording)) in
     let acts = ap (map spoken_value) c.acts.ensures ∙ c.in_ok-read.ensures.acts.acts in
-    let others = ap (map spoken_value) c.acts-2.ensures ∙ c.in_ok-read.ensures.acts.acts in (
+    let others = ap (map spoken_value) c.acts-in-loop-place.ensures ∙ c.in_ok-read.ensures.acts.acts in (
       subst (λ (all : List (List ActValue)). AreNamingsOf all c.note.new.self)
           (ap (λ (those : List ActValue). so_far ++ those ∷ []) acts ∙ sym (read_more recording place _ within)) (c.in_ok-note.ensures so_far c.loop-place.invariant.0),
       subst (λ (all : List TimedAct). IsKnownOf all c.note_known.new.known) (timed_more recording times place _ _ _ within c.of_datagram.ensures others)
