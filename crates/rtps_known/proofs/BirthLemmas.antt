@@ -1,19 +1,18 @@
 -- One source time more of a number, and the numbers that have two.
 use Rattle.std.proofs.Common.{◌≡◌, ◌∙◌, ◌∷◌, ◌++◌, [], Bool, true, false, if◌then◌else◌, List, Option, Some, None, ap, append-nil, cond, find, map, not, refl, subst, sym}
 use Rattle.std.specs.BTreeMap.{is_at}
-use Rattle.std.specs.List.{AllByRecursion, cons_option, filter_map}
+use Rattle.std.specs.List.{AllByRecursion, cons_option}
 use Rattle.std.specs.List.Sorted.{IsStrictlySortedBy}
 use Rattle.std.specs.Map.{keys_of, lookup}
 use Rattle.std.specs.Option.{option_map, option_or}
 use Rattle.std.specs.Ordering.{is_eq}
-use Rattle.std.specs.declared.cmp.Ordering.{Ordering}
 use Rattle.std.specs.declared.cmp.Ordering.TheVariants.{Less}
 use Rattle.std.proofs.lemmas.List.Elements.{filter_map-append}
 use Rattle.std.proofs.lemmas.List.Folds.{find-append}
 use Rattle.std.proofs.lemmas.Map.Views.{tells_apart}
 use Rattle.rtps_ids.specs.declared.identity.Stamp.{Stamp}
 use Rattle.rtps_receiver.specs.Values.{ActValue}
-use Rattle.rtps_known.specs.Lives.{AreBirthsOf, AreLivesOf, birth_cmp, birth_in, birth_of, is_birth, is_stamp, life_by, lives_in, sent_by, sent_with, stamp_by, stamp_of, stamps_of, two_of}
+use Rattle.rtps_known.specs.Lives.{AreBirthsOf, AreLivesOf, birth_cmp, birth_in, birth_of, is_birth, is_stamp, lives_in, sent_by, sent_with, stamp_by, stamp_of, stamps_of, two_of}
 use Rattle.rtps_known.specs.declared.life.Birth.{Birth}
 use Rattle.rtps_known.specs.declared.life.Life.{Life}
 use Rattle.rtps_known.specs.declared.life.Sent.{Sent}

@@ -1,5 +1,5 @@
 -- Tests that are joined.
-use Rattle.std.proofs.Common.{◌≡◌, ◌∙◌, Bool, true, false, ◌||◌, ◌&&◌, ap, cond, not, refl}
+use Rattle.std.proofs.Common.{◌≡◌, Bool, true, false, ◌||◌, ◌&&◌, refl}
 
 pub or_swap : (a b : Bool) → (a || b) ≡ (b || a)
 or_swap true true = refl

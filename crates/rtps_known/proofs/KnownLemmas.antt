@@ -1,20 +1,17 @@
 -- One act more of a recording.
-use Rattle.std.proofs.Common.{◌≡◌, ◌∙◌, Bool, true, false, ◌||◌, ◌&&◌, List, [], ◌∷◌, ◌++◌, MatchOption, Option, Some, None, ap, append-nil, cond, filter, map, refl, subst, sym}
+use Rattle.std.proofs.Common.{◌≡◌, ◌∙◌, Bool, true, false, ◌||◌, ◌&&◌, List, [], ◌∷◌, ◌++◌, MatchOption, Option, Some, None, ap, append-nil, cond, refl, subst, sym}
 use Rattle.std.specs.BTreeMap.{BTreeMap, get, is_at}
 use Rattle.std.specs.BTreeSet.{BTreeSet, contains}
 use Rattle.std.specs.Cmp.{both_tied}
 use Rattle.std.specs.Cmp.Lexicographic.{slice_cmp, texts_ties}
-use Rattle.std.specs.List.{list_any}
 use Rattle.std.specs.Ordering.{is_eq, nat_cmp}
 use Rattle.std.proofs.lemmas.List.Elements.{filter-append}
 use Rattle.std.proofs.lemmas.Map.Views.{tells_apart}
 use Rattle.rtps_ids.specs.declared.identity.Guid.{Guid}
 use Rattle.rtps_ids.specs.declared.identity.GuidPrefix.{GuidPrefix}
 use Rattle.rtps_receiver.specs.Speech.{is_for, is_prefix}
-use Rattle.rtps_receiver.specs.Values.{ActValue}
 use Rattle.rtps_discovery.specs.GuidOrder.{guid_cmp}
-use Rattle.rtps_policies.specs.Namings.{names, naming_cmp}
-use Rattle.rtps_policies.specs.Silence.{reversed}
+use Rattle.rtps_policies.specs.Namings.{naming_cmp}
 use Rattle.rtps_policies.specs.declared.naming.Naming.{Naming}
 use Rattle.rtps_known.specs.Bulletins.{IsBulletinOf}
 use Rattle.rtps_known.specs.Meetings.{AreMetBy, joins}
@@ -22,7 +19,7 @@ use Rattle.rtps_known.specs.Recorded.{AreBulletinsOf, about, is_about}
 use Rattle.rtps_known.specs.Tellings.{TimedAct, holds, is_guid, subject_of}
 use Rattle.rtps_known.specs.declared.bulletin.Bulletin.{Bulletin}
 use Rattle.rtps_known.proofs.BulletinLemmas.{one_more}
-use Rattle.rtps_known.proofs.BoolLemmas.{and_none, or_join, or_none, or_swap}
+use Rattle.rtps_known.proofs.BoolLemmas.{and_none, or_join, or_none}
 use Rattle.rtps_known.proofs.OrderLemmas.{exact_guids}
 
 -- ---- who names whom

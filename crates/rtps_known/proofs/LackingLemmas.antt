@@ -16,11 +16,10 @@ use Rattle.rtps_ids.specs.declared.identity.GuidPrefix.{GuidPrefix}
 use Rattle.rtps_discovery.specs.GuidOrder.{guid_cmp}
 use Rattle.rtps_known.specs.Bulletins.{IsBulletinOf, base_by, reaches}
 use Rattle.rtps_known.specs.Lacking.{IsLackingOf, is_announcing, is_ended, is_lacking, is_listed, is_marked, is_still, lacks, lacks_endpoint}
-use Rattle.rtps_known.specs.Tellings.{TimedAct, acknowledges, holds, is_guid, number_ended, tells_until}
+use Rattle.rtps_known.specs.Tellings.{TimedAct, acknowledges, is_guid, tells_until}
 use Rattle.rtps_known.specs.declared.bulletin.Bulletin.{Bulletin}
 use Rattle.rtps_known.specs.declared.lacking.Lacking.{Lacking}
 use Rattle.rtps_known.specs.declared.layout.TheConstants.{END}
-use Rattle.rtps_known.specs.declared.telling.Announcement.{Announcement}
 use Rattle.rtps_known.proofs.BoolLemmas.{or_join, or_none}
 
 -- ---- tests that agree

@@ -1,8 +1,8 @@
 -- Who has two lives, who may be looked at, and what is said of two more.
-use Rattle.std.proofs.Common.{◌≡◌, ◌∙◌, ◌↔◌, ℕ, Bool, true, false, ◌||◌, ◌&&◌, IsSome, IsTrue, List, [], ◌∷◌, ◌++◌, ◌+◌, ◌<◌, MatchOption, Option, Some, None, ap, append_assoc, cond, get_or, if◌then◌else◌, inl, inr, length, map, not, refl, subst, sym, take, unwrap_or}
+use Rattle.std.proofs.Common.{◌≡◌, ◌∙◌, ℕ, Bool, true, false, ◌||◌, IsSome, IsTrue, List, [], ◌∷◌, ◌++◌, ◌+◌, ◌<◌, MatchOption, Option, Some, None, ap, append_assoc, cond, get_or, if◌then◌else◌, inr, length, map, refl, subst, sym, take, unwrap_or}
 use Rattle.std.specs.BTreeMap.{BTreeMap, get, is_at}
 use Rattle.std.specs.BTreeSet.{BTreeSet, contains}
-use Rattle.std.specs.Cmp.{IsTotalOrder, both_tied, eq_by_cmp_equiv}
+use Rattle.std.specs.Cmp.{both_tied, eq_by_cmp_equiv}
 use Rattle.std.specs.Cmp.Lexicographic.{slice_cmp}
 use Rattle.std.specs.List.{list_any}
 use Rattle.std.specs.Map.{lookup}
@@ -20,7 +20,7 @@ use Rattle.rtps_policies.specs.Silence.{two_domains}
 use Rattle.rtps_policies.specs.declared.announced.Announced.{Announced}
 use Rattle.rtps_policies.specs.declared.naming.Naming.{Naming}
 use Rattle.rtps_known.specs.Bulletins.{prefix_cmp}
-use Rattle.rtps_known.specs.Lives.{AreLivesOf, HasTwoLives, birth_cmp, birth_of, is_birth, two_times}
+use Rattle.rtps_known.specs.Lives.{AreLivesOf, HasTwoLives, birth_of, is_birth}
 use Rattle.rtps_known.specs.Recorded.{acts_of}
 use Rattle.rtps_known.specs.Tellings.{TimedAct}
 use Rattle.rtps_known.specs.Untold.{AreNeverTogether, AreSaidOf, AreTogether, Attendance, IsAllTold, IsSaidOf, IsUntold, IsUntoldUntil, MayTell, is_nothing, listed, may_tell}

@@ -1,6 +1,6 @@
 -- What is kept of the acts about one built-in writer of endpoints. DDSI-RTPS 2.5, 8.5.4 "The Simple Endpoint Discovery Protocol". own: a telling is
 -- kept once, with its earliest time, so that what is repeated takes no memory.
-use Rattle.std.specs.Prelude.{ℕ, ◌≡◌, ◌==◌, ◌&&◌, Bool, nat_le, nat_lt, List, [], unwrap_or}
+use Rattle.std.specs.Prelude.{ℕ, ◌≡◌, ◌&&◌, Bool, nat_le, nat_lt, List, unwrap_or}
 use Rattle.std.specs.BTreeMap.{get}
 use Rattle.std.specs.List.{list_any}
 use Rattle.rtps_ids.specs.declared.identity.GuidPrefix.{GuidPrefix}

@@ -4,8 +4,8 @@ use Rattle.std.specs.Prelude.{ℕ, ◌≡◌, false, true, List}
 use Rattle.std.specs.List.{list_any}
 use Rattle.rtps_ids.specs.declared.identity.Guid.{Guid}
 use Rattle.rtps_ids.specs.declared.identity.GuidPrefix.{GuidPrefix}
-use Rattle.rtps_known.specs.Lacking.{lacks, lacks_endpoint}
-use Rattle.rtps_known.specs.Tellings.{TimedAct, acknowledges, announcement_in, holds, is_guid, tells_until}
+use Rattle.rtps_known.specs.Lacking.{lacks_endpoint}
+use Rattle.rtps_known.specs.Tellings.{TimedAct, acknowledges, is_guid, tells_until}
 use Rattle.rtps_known.specs.declared.telling.Announcement.{Announcement}
 
 -- an announcement of this endpoint, whose number is told in time, and below no base of the participant

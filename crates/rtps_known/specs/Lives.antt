@@ -1,7 +1,7 @@
 -- Two lives under one GUID. DDSI-RTPS 2.5, 8.5.3 "The Simple Participant Discovery Protocol" and 8.3.8.11 "InfoTimestamp". own: one number of a writer
 -- is one sample, and a stack that repeats it repeats its source time; so two source times of one number are of two processes. It is told of those
 -- vendors alone for which that was tried.
-use Rattle.std.specs.Prelude.{ℕ, ◌≡◌, ◌==◌, ◌&&◌, ◌||◌, Bool, true, false, find, if◌then◌else◌, is_some, IsSome, List, [], ◌∷◌, map, nat_eq, not, Option, Some, None}
+use Rattle.std.specs.Prelude.{ℕ, ◌≡◌, ◌==◌, ◌&&◌, ◌||◌, Bool, find, if◌then◌else◌, is_some, IsSome, List, [], ◌∷◌, map, nat_eq, not, Option, Some, None}
 use Rattle.std.specs.BTreeMap.{is_at}
 use Rattle.std.specs.Cmp.Lexicographic.{pointwise, slice_cmp}
 use Rattle.std.specs.List.{filter_map}

@@ -1,7 +1,7 @@
 -- What an act says of the numbers of a built-in writer of endpoints. DDSI-RTPS 2.5, 8.5.4 "The Simple Endpoint Discovery Protocol", 8.3.8.1
 -- "AckNack", 8.3.8.2 "Data", 8.3.8.3 "DataFrag" and 8.3.8.6 "Heartbeat". own: a number is told where it is sent, or a HEARTBEAT says that the
 -- writer has it; what ends an endpoint is sent at the end, and stacks do not acknowledge it.
-use Rattle.std.specs.Prelude.{ℕ, ◌==◌, ◌&&◌, ◌||◌, Bool, true, false, if◌then◌else◌, nat_le, nat_lt, Option, Some, None}
+use Rattle.std.specs.Prelude.{ℕ, ◌==◌, ◌&&◌, ◌||◌, Bool, false, if◌then◌else◌, nat_le, nat_lt, Option, Some, None}
 use Rattle.std.specs.Option.{option_map, option_or}
 use Rattle.rtps_ids.specs.declared.identity.EntityId.{EntityId}
 use Rattle.rtps_ids.specs.declared.identity.Guid.{Guid}

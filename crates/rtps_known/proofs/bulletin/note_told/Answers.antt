@@ -1,4 +1,4 @@
-use Rattle.std.proofs.Common.{◌∙◌, refl}
+use Rattle.std.proofs.Common.{refl}
 use Rattle.rtps_receiver.specs.Values.{spoken_value}
 use Rattle.rtps_known.proofs.BulletinLemmas.{timed_more, untimed}
 use Rattle.rtps_known.proofs.bulletin.note_told.Goals as goal

@@ -1,5 +1,4 @@
 use Rattle.rtps_receiver.specs.Values.{spoken_value}
-use Rattle.rtps_known.specs.Tellings.{TimedAct}
 use Rattle.rtps_known.proofs.KnownLemmas.{about_none, about_one}
 use Rattle.rtps_known.proofs.known.note_bulletin.Goals as goal
 

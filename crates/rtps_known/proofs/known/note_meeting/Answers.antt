@@ -1,6 +1,4 @@
-use Rattle.std.specs.BTreeSet.{contains}
 use Rattle.rtps_receiver.specs.Values.{spoken_value}
-use Rattle.rtps_known.specs.Tellings.{TimedAct}
 use Rattle.rtps_known.proofs.KnownLemmas.{joins_more, joins_none}
 use Rattle.rtps_known.proofs.known.note_meeting.Goals as goal
 

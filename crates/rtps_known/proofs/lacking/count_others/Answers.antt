@@ -1,4 +1,4 @@
-use Rattle.std.proofs.Common.{◌≡◌, ◌∙◌, ℕ, ◌+◌, Bool, ◌||◌, ◌&&◌, ap, not}
+use Rattle.std.proofs.Common.{◌∙◌, ◌||◌, ◌&&◌, ap, not}
 use Rattle.rtps_coverage.specs.Counts.{count_in}
 use Rattle.rtps_coverage.specs.Stretches.{stretches_have}
 use Rattle.rtps_known.specs.declared.layout.TheConstants.{END}

@@ -1,4 +1,3 @@
-use Rattle.std.specs.List.{list_any}
 use Rattle.rtps_receiver.specs.Values.{spoken_value}
 use Rattle.rtps_known.specs.Tellings.{TimedAct, acknowledges, announcement_in, holds, number_ended}
 use Rattle.rtps_known.proofs.BulletinLemmas.{one_more}

@@ -1,4 +1,4 @@
-use Rattle.std.proofs.Common.{◌≡◌, ◌++◌, [], List, append-nil, refl, subst, sym}
+use Rattle.std.proofs.Common.{◌++◌, [], List, append-nil, refl, subst, sym}
 use Rattle.std.proofs.lemmas.Map.Iter.{rest_all, rest_more}
 use Rattle.rtps_policies.specs.declared.naming.Naming.{Naming}
 use Rattle.rtps_known.specs.Untold.{AreSaidOf, Attendance}

@@ -1,9 +1,9 @@
-use Rattle.std.proofs.Common.{◌≡◌, ◌++◌, List}
+use Rattle.std.proofs.Common.{◌++◌, List}
 use Rattle.rtps_receiver.specs.Values.{ActValue}
 use Rattle.rtps_policies.specs.Announcing.{IsAnnouncedBy}
 use Rattle.rtps_known.specs.Recorded.{IsKnownOf}
 use Rattle.rtps_known.specs.Tellings.{TimedAct}
-use Rattle.rtps_known.specs.Untold.{AreSaidOf, Attendance}
+use Rattle.rtps_known.specs.Untold.{AreSaidOf}
 use Rattle.rtps_known.specs.declared.untold.Untold.{Untold}
 use Rattle.rtps_known.proofs.known.Known.untold.Given as goal
 
