@@ -21,13 +21,8 @@ fn push_end(
 {
     let (end, talk) = by;
     let told = called(talk, one.to.prefix);
-    write!(text, "  {told}")?;
-    let parts = [
-        Part::Text(side),
-        Part::TopicName(end.topic),
-        Part::Text(" "),
-    ];
-    render(text, &parts)?;
+    write!(text, "  {told}{side}")?;
+    render(text, &[Part::TopicName(end.topic), Part::Text(" ")])?;
     writeln!(text, "{}", end_by(talk, end.guid))
 }
 

@@ -25,8 +25,8 @@ use Rattle.rtps_report.proofs.Offered.{same_talk}
 use Rattle.rtps_lines.specs.NoPairText.{no_pair_text}
 use Rattle.rtps_lines.specs.Notes.{talking_names}
 use Rattle.rtps_check.specs.ArrivedText.{AreByTopic as LossyByTopic, is_lossy, lossy_lines}
-use Rattle.rtps_check.specs.CheckText.{Beside, IsCheckText, IsRemedyBy, IsTextBy, beside_of, ending_text, first_lines, told_beside, topics_text}
-use Rattle.rtps_check.specs.TalkText.{AreByTopic as UnmatchedByTopic, AreLeftByTopic, one_way_block, unmatched_lines}
+use Rattle.rtps_check.specs.CheckText.{Beside, IsCheckText, IsRemedyBy, IsTextBy, beside_of, discovery_text, ending_text, first_lines, told_beside, topics_text}
+use Rattle.rtps_check.specs.TalkText.{AreByTopic as UnmatchedByTopic, AreLeftByTopic, unmatched_lines}
 use Rattle.rtps_report.proofs.Offered.{sorted_once, sorted_same}
 use Rattle.rtps_check.proofs.laws.one_text.Goals as goal
 
@@ -69,7 +69,7 @@ text_by_once scope beside rows one other is also =
     ∙ ap₂ (λ (first : List UnmatchedValue) (second : List HeldValue). first_lines totals beside
     ++ (topics_text (told_beside scope beside) beside.events totals rows
     ++ (unmatched_lines beside.talk.ends first
-    ++ (one_way_block beside.talk ++ (lossy_lines beside.talk.ends second ++ ending_text scope beside totals rows)))))
+    ++ (discovery_text beside ++ (lossy_lines beside.talk.ends second ++ ending_text scope beside totals rows)))))
     (unmatched_once beside.talk.unmatched beside.talk.unmatched is.unmatched also.unmatched refl is.unmatched_by_topic also.unmatched_by_topic)
     (lossy_once (filter is_lossy beside.talk.held) is.lossy also.lossy is.lossy_by_topic also.lossy_by_topic)
     ∙ sym also.is_text
