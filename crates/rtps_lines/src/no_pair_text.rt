@@ -1,4 +1,4 @@
-ghost use Rattle.std.specs.Prelude.{◌≡◌, ◌++◌, IfOk, OnOk, decimal, flat_map, map};
+ghost use Rattle.std.specs.Prelude.{◌≡◌, ◌++◌, IfOk, OnOk, decimal, flat_map, map, take};
 ghost use Rattle.std.specs.String.{string_bytes};
 ghost use Rattle.rtps_audit.specs.Index.{IsIndexBy};
 ghost use Rattle.rtps_fragments.specs.RecordedSamples.{intake_as};
@@ -33,7 +33,7 @@ fn push_early(text: &mut String, early: u64) -> Result<(), AllocError>
 {
     let parts = [
         Part::Text("record from before the start: "),
-        Part::Amount(u128::from(early), early_words()),
+        Part::Amount(early as u128, early_words()),
         Part::Text(" never announced"),
     ];
     render(text, &parts)
@@ -124,12 +124,19 @@ fn push_more(text: &mut String, more: usize) -> Result<(), AllocError>
     render(text, &parts)
 }
 
+/// Those that are named.
+fn first_sides<'s, 'a>(sides: &'s [OneSided<'a>]) -> &'s [OneSided<'a>]
+    ensures { map one_sided_value result.now ≡ take NAMED_SIDES (map one_sided_value sides.now) }
+{
+    let count = NAMED_SIDES.min(sides.len());
+    &sides[..count]
+}
+
 fn push_one_sides(text: &mut String, sides: &[OneSided<'_>]) -> Result<(), AllocError>
     ensures { OnOk result (string_bytes text.new ≡ string_bytes text.old ++ one_sides_text (map one_sided_value sides.now)) }
 {
-    let named = sides.len().min(NAMED_SIDES);
-    push_named(text, sides.split_at(named).0)?;
-    push_more(text, sides.len() - named)
+    push_named(text, first_sides(sides))?;
+    push_more(text, sides.len().saturating_sub(NAMED_SIDES))
 }
 
 /// The sentence of a cause that is told in the same words always.
