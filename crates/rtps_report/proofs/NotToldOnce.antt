@@ -22,12 +22,10 @@ use Rattle.rtps_discovery.proofs.Offered.{guids_total}
 use Rattle.rtps_audit.specs.Intake.{Intake, acts_together}
 use Rattle.rtps_audit.specs.Placed.{is_guid}
 use Rattle.rtps_audit.proofs.Offered.{is_eq-guid_cmp}
-use Rattle.rtps_known.specs.Lacking.{IsLackingOf}
 use Rattle.rtps_known.specs.Bulletins.{prefix_cmp}
 use Rattle.rtps_known.specs.Tellings.{TimedAct}
 use Rattle.rtps_known.specs.Untold.{AreNeverTogether, AreSaidOf, AreTogether, Attendance, IsAllTold, IsSaidOf, IsUntold, IsUntoldUntil, is_nothing, listed}
 use Rattle.rtps_known.specs.Visits.{IsEndBetween}
-use Rattle.rtps_known.specs.declared.lacking.Lacking.{Lacking}
 use Rattle.rtps_known.specs.declared.untold.Untold.{Untold}
 use Rattle.rtps_known.specs.declared.visit.Visit.{Visit}
 use Rattle.rtps_policies.specs.Namings.{naming_cmp}
@@ -115,13 +113,6 @@ never_once visits others naming end same is (inr (one, other, is_one, is_other, 
 
 -- ---- what is said of two
 
-lacking_once : (acts : List TimedAct) (prefix : GuidPrefix) (end : ℕ) (one other : Lacking) → IsLackingOf acts prefix end one → IsLackingOf acts prefix end other
-    → (one.endpoints.items ≡ other.endpoints.items) × (one.unnamed ≡ other.unnamed)
-lacking_once acts prefix end one other is also = (
-  guids_once one.endpoints.items other.endpoints.items is.ordered also.ordered (λ guid. is.endpoints guid ∙ sym (also.endpoints guid)),
-  is.unnamed ∙ sym also.unnamed,
-)
-
 -- the same is told of two
 record Same (one other : Untold) : Type 0 where
   from : one.from ≡ other.from
@@ -132,14 +123,16 @@ record Same (one other : Untold) : Type 0 where
 
 untold_once : (acts : List TimedAct) (naming : Naming) (end : ℕ) (one other : Untold) → IsUntoldUntil acts naming end one → IsUntoldUntil acts naming end other → Same one other
 untold_once acts naming end one other is also =
-    let writers = lacking_once _ naming.dest end is.of_writers also.of_writers is.are_writers also.are_writers in
-    let readers = lacking_once _ naming.dest end is.of_readers also.of_readers is.are_readers also.are_readers in
+    let writers = guids_once is.of_writers.endpoints.items also.of_writers.endpoints.items is.are_writers.ordered also.are_writers.ordered (λ guid. is.are_writers.endpoints guid ∙ sym (also.are_writers.endpoints guid)) in
+    let readers = guids_once is.of_readers.endpoints.items also.of_readers.endpoints.items is.are_readers.ordered also.are_readers.ordered (λ guid. is.are_readers.endpoints guid ∙ sym (also.are_readers.endpoints guid)) in
+    let unnamed : is.of_writers.unnamed + is.of_readers.unnamed ≡ also.of_writers.unnamed + also.of_readers.unnamed =
+    ap₂ (λ (a b : ℕ). a + b) (is.are_writers.unnamed ∙ sym also.are_writers.unnamed) (is.are_readers.unnamed ∙ sym also.are_readers.unnamed) in
     record {
       from = is.from ∙ sym also.from;
       to = is.to ∙ sym also.to;
-      writers = is.writers ∙ writers.0 ∙ sym also.writers;
-      readers = is.readers ∙ readers.0 ∙ sym also.readers;
-      unnamed = is.unnamed ∙ ap₂ (λ (a b : ℕ). a + b) writers.1 readers.1 ∙ sym also.unnamed;
+      writers = is.writers ∙ writers ∙ sym also.writers;
+      readers = is.readers ∙ readers ∙ sym also.readers;
+      unnamed = is.unnamed ∙ unnamed ∙ sym also.unnamed;
     }
 
 value_once : (entries : Entries) (one other : Untold) → Same one other → not_told_by entries one ≡ not_told_by entries other
