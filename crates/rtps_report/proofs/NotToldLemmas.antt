@@ -1,5 +1,6 @@
 -- Who was never told of what, one more each.
 use Rattle.std.proofs.Common.{◌≡◌, ◌∙◌, ℕ, ◌+◌, ◌<◌, ◌≤◌, Bool, true, false, ◌||◌, cond, List, [], ◌∷◌, ◌++◌, ap, ap₂, arith, count_by, get_or, length, map, refl, sym, take}
+use mir.Val.{bool_byte}
 use Rattle.std.specs.List.{list_any}
 use Rattle.std.specs.Ordering.{is_eq}
 use Rattle.std.specs.Prelude.{sum_by}
@@ -50,10 +51,10 @@ endpoints_more found i one within is =
     ∙ sym (ap (sum_by endpoints_of) (map_more not_told_value found i one within) ∙ sum_by-append endpoints_of (map not_told_value (take i found)) last)
 
 -- one more is counted, or not
-pub counted_more : {X : Type 0} (p : X → Bool) (xs : List X) (i : ℕ) (d : X) (b : Bool) → i < length xs → p (get_or xs i d) ≡ b → count_by p (take i xs) + cond b 1 0 ≡ count_by p (take (i + 1) xs)
+pub counted_more : {X : Type 0} (p : X → Bool) (xs : List X) (i : ℕ) (d : X) (b : Bool) → i < length xs → p (get_or xs i d) ≡ b → count_by p (take i xs) + bool_byte b ≡ count_by p (take (i + 1) xs)
 counted_more p xs i d true within e = sym (count_by_more_yes p xs i d within e)
 counted_more p xs i d false within e = let more = count_by_more_no p xs i d within e in omega (arith, more)
 
-pub bit_small : (b : Bool) → cond b 1 0 ≤ 1
+pub bit_small : (b : Bool) → bool_byte b ≤ 1
 bit_small true = omega arith
 bit_small false = omega arith

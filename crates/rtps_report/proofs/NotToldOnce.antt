@@ -165,9 +165,9 @@ said_once : (acts : List TimedAct) (announcing : List ActValue) (visits others :
     → IsSaidOf acts (record { announcing = announcing; visits = others }) naming other
     → map (not_told_by entries) (listed one) ≡ map (not_told_by entries) (listed other)
 said_once acts announcing visits others entries naming None None same back is also = refl
-said_once acts announcing visits others entries naming None (Some other) same back (inl no) also = absurd (no also.0)
+said_once acts announcing visits others entries naming None (Some other) same back (inl barred) also = absurd (barred also.0)
 said_once acts announcing visits others entries naming None (Some other) same back (inr all) also = absurd (all_or_untold acts others visits naming other back also.1 all)
-said_once acts announcing visits others entries naming (Some one) None same back is (inl no) = absurd (no is.0)
+said_once acts announcing visits others entries naming (Some one) None same back is (inl barred) = absurd (barred is.0)
 said_once acts announcing visits others entries naming (Some one) None same back is (inr all) = absurd (all_or_untold acts visits others naming one same is.1 all)
 said_once acts announcing visits others entries naming (Some one) (Some other) same back is also =
     ap (λ (value : NotToldValue). let those : List NotToldValue = value ∷ [] in those) (value_once entries one other (both_untold acts visits others naming one other same is.1 also.1))

@@ -60,7 +60,7 @@ times_of : (acts : List ActValue) (lives : List Life) → AreLivesOf acts lives 
 times_of acts lives is birth = ap (lookup (is_birth birth)) (entries_are lives) ∙ is.times birth
 
 distinct : (acts : List ActValue) (lives : List Life) → AreLivesOf acts lives → IsDistinct is_birth (keys_of (map entry_of lives))
-distinct acts lives is = subst (IsDistinct is_birth) (sym (keys_are lives)) (IsDistinct-from_sorted birth_cmp births_total (map birth_of lives) is.ordered)
+distinct acts lives is = subst (IsDistinct is_birth) (sym (keys_are lives)) (IsDistinct-from_sorted birth_cmp (map birth_of lives) is.ordered)
 
 each_shown : (acts : List ActValue) (lives : List Life) → AreLivesOf acts lives → All (λ life. life ≡ shown acts (birth_of life)) lives
 unfolding entry_of shown

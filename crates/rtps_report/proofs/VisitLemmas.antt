@@ -50,28 +50,28 @@ visit_told recording times joined guid left = visit_by (place_time times (get gu
 
 -- the visits of those that are announced, with one more
 pub visits_more : (intake : Intake) (recording : List (List ℕ)) (times : TimesValue) (joined : BTreeMap Guid Location) (announced : List Guid) (participants : List Participant) (i : ℕ)
-    (participant : Participant) (prefix : GuidPrefix) (old new : Option Visit) → AreJoined (placed_in intake.announcing) joined → participants ≡ map (participant_told intake recording times) announced
-    → i < length participants → participant ≡ get_or participants i participant
-    → new ≡ visit_with (is_participant prefix participant.guid) (visit_told recording times.of_datagrams joined participant.guid participant.left) old
+    (d : Participant) (prefix : GuidPrefix) (old new : Option Visit) → AreJoined (placed_in intake.announcing) joined → participants ≡ map (participant_told intake recording times) announced
+    → i < length participants
+    → new ≡ visit_with (is_participant prefix (get_or participants i d).guid) (visit_told recording times.of_datagrams joined (get_or participants i d).guid (get_or participants i d).left) old
     → old ≡ visit_of intake recording times.of_datagrams (take i announced) prefix → new ≡ visit_of intake recording times.of_datagrams (take (i + 1) announced) prefix
-visits_more intake recording times joined announced participants i participant prefix old new are told within is added so_far =
+visits_more intake recording times joined announced participants i d prefix old new are told within added so_far =
     added ∙ ap (λ (one : Participant). visit_with (is_participant prefix one.guid) (visit_told recording times.of_datagrams joined one.guid one.left) old) here
     ∙ ap (visit_with (is_participant prefix guid) (visit_told recording times.of_datagrams joined guid (participant_told intake recording times guid).left)) so_far
     ∙ by (is_participant prefix guid) refl
-    ∙ ap (λ (any : Bool). cond any (visit_in intake recording times.of_datagrams prefix) None) (sym (list_any_more (is_guid (participant_of prefix)) announced i participant.guid among))
+    ∙ ap (λ (any : Bool). cond any (visit_in intake recording times.of_datagrams prefix) None) (sym (list_any_more (is_guid (participant_of prefix)) announced i d.guid among))
   where
     guid : Guid
-    guid = get_or announced i participant.guid
+    guid = get_or announced i d.guid
 
     among : i < length announced
     among =
         let size : length participants ≡ length announced = ap length told ∙ length-map announced (participant_told intake recording times) in
         omega (arith, within, size)
 
-    here : participant ≡ participant_told intake recording times guid
+    here : get_or participants i d ≡ participant_told intake recording times guid
     here =
-        is ∙ ap (λ (those : List Participant). get_or those i participant) told
-        ∙ get_or-map (participant_told intake recording times) announced i participant.guid participant among
+        ap (λ (those : List Participant). get_or those i d) told
+        ∙ get_or-map (participant_told intake recording times) announced i d.guid d among
 
     any : Bool
     any = list_any (is_guid (participant_of prefix)) (take i announced)
