@@ -23,7 +23,7 @@ returns-then-not-are_there c = λ recording known.
     record {
       lives = lives;
       are_lives = c.in_ok-lives.ensures _ known;
-      is_found = c.new.ensures ∙ none_told lives ∙ sym (ap (told lives) (sym c.are_there.ensures ∙ c.if-not-are_there.true));
+      is_found = c.new.ensures.items ∙ none_told lives ∙ sym (ap (told lives) (sym c.are_there.ensures ∙ c.if-not-are_there.true));
     }
 
 pub returns : goal.returns
