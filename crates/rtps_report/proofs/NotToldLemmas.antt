@@ -4,21 +4,32 @@ use mir.Val.{bool_byte}
 use Rattle.std.specs.List.{list_any}
 use Rattle.std.specs.Ordering.{is_eq}
 use Rattle.std.specs.Prelude.{sum_by}
-use Rattle.std.proofs.lemmas.List.{map_more, map_push}
+use Rattle.std.proofs.lemmas.List.{get_or_default, map_more, map_push}
 use Rattle.std.proofs.lemmas.List.Folds.{list_any-append}
 use Rattle.std.proofs.lemmas.List.Sums.{count_by_more_no, count_by_more_yes, sum_by-append}
 use Rattle.rtps_ids.specs.declared.identity.Guid.{Guid}
 use Rattle.rtps_discovery.specs.GuidOrder.{guid_cmp}
 use Rattle.rtps_audit.specs.Placed.{is_guid}
 use Rattle.rtps_audit.proofs.Offered.{is_eq-guid_cmp}
-use Rattle.rtps_report.specs.NotTold.{NotToldValue, endpoints_of, not_told_value}
+use Rattle.rtps_discovery.specs.Directory.{Entries, settled_at}
+use Rattle.rtps_evidence.specs.Explanation.{topic_of}
+use Rattle.rtps_report.specs.NotTold.{NotToldValue, TopicEndValue, endpoints_of, not_told_value, topic_end_value, with_topic}
 use Rattle.rtps_report.specs.declared.not_told.NotTold.{NotTold}
+use Rattle.rtps_report.specs.declared.not_told.TopicEnd.{TopicEnd}
 
 -- one element more of a list that is made of another, both seen as values
 pub made_more : {X Y V : Type 0} (view : Y → V) (made : X → V) (xs : List X) (ys more : List Y) (i : ℕ) (x : X) (y : Y) → i < length xs → x ≡ get_or xs i x → more ≡ ys ++ y ∷ []
     → view y ≡ made x → map view ys ≡ map made (take i xs) → map view more ≡ map made (take (i + 1) xs)
 made_more {X} {Y} {V} view made xs ys more i x y within is pushed same so_far =
     ap (map view) pushed ∙ map_push view ys y ∙ ap₂ (λ (front : List V) (last : V). front ++ last ∷ []) so_far (same ∙ ap made is) ∙ sym (map_more made xs i x within)
+
+-- one endpoint more, with its topic
+pub ends_more : (entries : Entries) (guids : List Guid) (ys more : List TopicEnd) (i : ℕ) (d : Guid) (y : TopicEnd) → i < length guids → more ≡ ys ++ y ∷ [] → y.guid ≡ get_or guids i d
+    → y.topic.now ≡ topic_of (settled_at entries (get_or guids i d)) → map topic_end_value ys ≡ map (with_topic entries) (take i guids)
+    → map topic_end_value more ≡ map (with_topic entries) (take (i + 1) guids)
+ends_more entries guids ys more i d y within pushed same topic so_far =
+    let made : List ℕ → Guid → TopicEndValue = λ name guid. record { topic = name; guid = guid } in
+    made_more topic_end_value (with_topic entries) guids ys more i (get_or guids i d) y within (get_or_default guids i d (get_or guids i d) within) pushed (ap₂ made topic same) so_far
 
 or_back : (b known : Bool) → cond b true known ≡ (known || (b || false))
 or_back true true = refl
