@@ -67,13 +67,15 @@ def one_host(talk):
 
 
 def two_domains(talk):
+    """the two are called by their prefixes, as everywhere: the GUID of a participant has one entity (DDSI-RTPS 2.5, 9.3.1.3)"""
     domains = [(guid, talk.announced.participants[guid][1]) for guid in sorted(talk.announced.participants)]
     known = [(guid, domain) for guid, domain in domains if domain is not None]
     other = next(((guid, domain) for guid, domain in known if domain != known[0][1]), None)
     if other is None:
         return None
     (one, domain), (guid, another) = known[0], other
-    return f'{talk.end(one).process_text()} is in domain {domain}, {talk.end(guid).process_text()} in domain {another}'
+    first, second = (talk.end(participant[:12] + PARTICIPANT).process_text() for participant in (one, guid))
+    return f'{first} is in domain {domain}, {second} in domain {another}'
 
 
 # ---- topics
