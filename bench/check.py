@@ -8,9 +8,11 @@ order. A report is that of `report.Report`: it has rows (`spans.Row`), who talks
 import arrived
 import kinds
 import nothing
+from late import late_notes
+from policies import address_text
 from times import behind, order_notes, timed_line, wait_line
-from told import (best_effort_shares, best_effort_totals, one_way_lines, talk_notes, topic_text, type_text, unmatched_amount,
-                  unmatched_lines)
+from told import (best_effort_shares, best_effort_totals, discovery_reasons, lives_lines, not_told_lines, one_way_lines, talk_notes, topic_text,
+                  type_text, unmatched_amount, unmatched_lines)
 from wording import amount, grouped, in_pairs, of
 
 KINDS = 'received', 'arrived', 'missed', 'unsent', 'unanswered', 'likely', 'unconfirmed'
@@ -19,11 +21,17 @@ KINDS = 'received', 'arrived', 'missed', 'unsent', 'unanswered', 'likely', 'unco
 
 # name, verdict, what fits, what to do
 ADVICE = [
+    ('two_lives', 'two have one GUID', 'a participant of the pair has two lives under one GUID',
+     'two processes use the GUID of a participant of this pair, as after a copied disk image or a restart: the pair is a mixture of both'),
     ('silent_reader', 'a process ended', "the reader's participant is silent", "the reader's process ended without leaving, or was cut off: see what it did"),
     ('silent_writer', 'a process ended', "the writer's participant is silent", "the writer's process ended without leaving, or was cut off: see what it did"),
+    ('not_announced', 'discovery is not complete', "`acknowledged nothing`, and the reader's participant was not told of endpoints of the writer's",
+     'its announcements are lost on the way: look at large announcements in IP fragments, and at multicast'),
     ('lost', 'a link was down', 'with `--arrived`: numbers that were sent are `not arrived`, and not only a tail',
      "it was sent and did not reach the reader's host: look at the network; raise the history depth, so that the writer still has what is "
      'asked for again'),
+    ('matched_late', 'a reader came late, or left', '`matched .. after both were there`, and numbers `unsent`, or `missed` with no DATA or DATA_FRAG of the first one',
+     'the two matched late: what was written before that was not for it; use transient local, or wait for the match'),
     ('missed_unsent', 'the wrong side was recorded', '`missed` above 0, and no DATA or DATA_FRAG of the first one that the reader hears',
      "the reader asked for it and the recording has none: it was lost before this recording, or record at the writer's side"),
     ('missed_again', 'a link was down', '`missed` above 0, the first one `sent again`',
@@ -131,13 +139,24 @@ def case_of(row, counts):
     return 'unsent' if row.counts['unsent'] else 'unanswered'
 
 
+def not_told_advice(address):
+    """what to do where a participant was not told of endpoints of another: nothing comes back from this address, if there is one"""
+    return f'nothing comes back from {address_text(address)}: a firewall, or another interface' if address else SENTENCES['not_announced']
+
+
 def advice_of(row, counts):
-    """what to do for a row that is not clean. A reader that is silent is told first, then a writer, and then nothing else"""
+    """what to do for a row that is not clean. Two lives are told first, then a reader that is silent, then a writer, and then that the reader was never
+    told of the writer. Where the two matched late, that is told in the place of what lacks here"""
+    if row.is_mixture:
+        return SENTENCES['two_lives']
     silent = dict(row.silences)
     for side in ('reader', 'writer'):
         if side in silent:
             return f"{SENTENCES[f'silent_{side}']} at {row.times.second(silent[side])} s"
-    return SENTENCES[case_of(row, counts)]
+    if row.is_not_told and row.evidence()['acknowledged'] is None and not row.is_tail():
+        return SENTENCES['not_announced']
+    case = case_of(row, counts)
+    return SENTENCES['matched_late' if row.late and case in ('unsent', 'missed_unsent') else case]
 
 
 # ---- parts of lines
@@ -312,11 +331,12 @@ def tail_notes(rows):
 
 
 def notes(report):
-    """what weakens the report: each with the topics that it is about, or None, and what to do, or None"""
+    """what weakens the report: each with the topics that it is about, or lines, or None, and what to do, or None"""
     rows, talk, sides = report.rows, report.talk, report.sides
-    late = [row for row in rows if row.wrote_before_alone()]
+    late = [row for row in rows if row.wrote_before_alone() and not row.late]
     found = order_notes(talk.times) + talk_notes(talk) + (list(sides.notes(topic_text)) if sides else [])
     found += [(late_note(late), topics_of(late), LATE)] if late else []
+    found += late_notes(rows, topic_text, SENTENCES['matched_late'])
     found += tail_notes([row for row in rows if row.is_clean_with_a_tail()])
     counts = report.counts | {'likely': total([row for row in rows if not row.held], 'likely')}
     return found + [(noted(counts, name, one, many), None, advice) for name, one, many, advice in NOTES if counts.get(name, 0)]
@@ -325,7 +345,8 @@ def notes(report):
 def note_lines(report):
     lines = []
     for told, topics, advice in notes(report):
-        lines += [told if topics is None else f'{told}: {topics}'] + (['  -> ' + advice] if advice else [])
+        under = ['  ' + line for line in topics] if isinstance(topics, list) else []
+        lines += [f'{told}: {topics}' if isinstance(topics, str) else told] + under + (['  -> ' + advice] if advice else [])
     return lines
 
 
@@ -380,7 +401,7 @@ def because(report):
     """why the recording is not clean"""
     rows, talk = report.rows, report.talk
     reasons = pair_reasons(report) + row_reasons(rows) + (uncertain(rows) if report.asked.certain else [])
-    reasons += ([unmatched_amount(talk)] if talk.unmatched else []) + (report.sides.reasons() if report.sides else [])
+    reasons += ([unmatched_amount(talk)] if talk.unmatched else []) + discovery_reasons(talk) + (report.sides.reasons() if report.sides else [])
     return reasons + best_effort_reasons(report) + few(rows, report.asked.expect or 0) + unread(report.counts, 'unsettled', 'pieces', 'cut', 'links')
 
 
@@ -413,5 +434,6 @@ def check_lines(report):
     lost_here = sides.lines(lambda guid: talk.end(guid).text(), topic_text) if sides else []
     return [*first_lines(report), *block(table(report.rows) if report.rows else []),
             *(line for event in report.events for line in event_lines(event, report)), *tail_lines(report),
-            *block(unmatched_lines(talk)), *block(one_way_lines(talk)), *block(lost_here), *block(note_lines(report)),
+            *block(unmatched_lines(talk)), *block(not_told_lines(talk, not_told_advice)), *block(lives_lines(talk)), *block(one_way_lines(talk)),
+            *block(lost_here), *block(note_lines(report)),
             *block([ending(report)])]

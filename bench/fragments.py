@@ -90,7 +90,7 @@ class Listeners:
                    for other, heard in self.each.items() if heard.told())
 
     def add(self, piece):
-        """takes a piece of this shape, and answers the payloads that it tells, one listener after another"""
+        """takes a piece of this shape, and answers what it tells: each listener and a payload, one listener after another"""
         audience = piece['dest'], piece['reader']
         if not self.is_news(audience, piece):
             return []
@@ -100,16 +100,21 @@ class Listeners:
             self.name((dest, audience[1]))
         self.came.append((audience, piece))
         told = [(listener, payload) for listener, heard in self.each.items() if is_for(audience, listener) for payload in heard.add(piece)]
-        return [payload for listener, payload in told if not self.has_wider(listener, payload)]
+        return [(listener, payload) for listener, payload in told if not self.has_wider(listener, payload)]
 
 
-def told_to_listeners(pieces):
-    """for each of these pieces, which one writer sent in this order: the payloads that it tells, each to some listener"""
+def told_to_each(pieces):
+    """for each of these pieces, which one writer sent in this order: what it tells, each a listener and a payload"""
     samples, told = {}, []
     for piece in pieces:
         shape = shape_of(piece)
         told.append(samples.setdefault((piece['number'], shape), Listeners(shape)).add(piece))
     return told
+
+
+def told_to_listeners(pieces):
+    """the payloads that each of these pieces tells, each to some listener"""
+    return [[payload for _, payload in told] for told in told_to_each(pieces)]
 
 
 def payloads_told(pieces):

@@ -19,9 +19,6 @@ of two vendors alone, whose stacks repeat the source time of a number.
 
 Sets of numbers are lists of pieces here, from a number to one before another.
 """
-import os
-import random
-import subprocess
 import sys
 
 sys.dont_write_bytecode = True
@@ -29,6 +26,7 @@ from life import Life, value_of
 from policies import address_text
 from random_recordings import parameter, put, sn, u
 from reference import BUILTIN, acts_of, announcement, guid_text, input_of, read, times_of
+from systems import Comparison
 from talk import PARTICIPANT, Announced, datagrams_by, named_by
 from times import SECOND, Times
 
@@ -76,8 +74,9 @@ class Untold:
 class Known:
     """what a recording says of it. `prefixes` has the one in the header of each datagram, or None"""
 
-    def __init__(self, recording, vendors, prefixes, times):
-        self.recording, self.times, life = recording, times, Life(recording)
+    def __init__(self, recording, vendors, prefixes, times, life=None):
+        life = life or Life(recording)
+        self.recording, self.times = recording, times
         self.acts = [(times.of(i), act) for i, acts in enumerate(recording, 1) for act in acts]
         self.announced, self.namings = Announced(life.announced), set(named_by(recording))
         sent = datagrams_by(prefixes)
@@ -105,6 +104,13 @@ class Known:
                 told = first.setdefault((act['source'], act['number']), act['time'])
                 if told != act['time']:
                     found.setdefault((act['source'], act['number']), (told, act['time']))
+        return found
+
+    def lives_by_participant(self):
+        """of each participant with two lives the source times of the least number that has two, in seconds and parts of 2^32"""
+        found = {}
+        for (prefix, _), sent in sorted(self.lives.items()):
+            found.setdefault(prefix, sent)
         return found
 
     # ---- what is told
@@ -299,38 +305,12 @@ def some_system(rng):
 # ---- comparing
 
 
-def asked_text(system):
-    datagrams, times = system
-    return ''.join(f"{'-' if time is None else time} {d.hex()}\n" for d, time in zip(datagrams, times))
-
-
-def differing(answers, systems):
-    """the first system of which the two say something else, with both answers; None where there is none"""
-    at = 0
-    for system in systems:
-        wanted = told_of(*system)
-        if not answers.startswith(wanted, at):
-            return system, wanted, answers[at:at + len(wanted) + 200]
-        at += len(wanted)
-    return None if answers[at:].strip() == '' else (systems[-1], '', answers[at:])
-
-
-def judged(answers, systems):
-    """the status is 1 if they differ, or say nothing worth it"""
-    found = differing(answers, systems)
-    if found:
-        system, wanted, got = found
-        print(asked_text(system), f'-- wanted\n{wanted}-- got\n{got}', sep='\n')
-        return 1
-    told = [told_of(*system) for system in systems]
+def counted(told):
     counts = {word: sum(word in one for one in told) for word in ('untold', 'lives', 'unnamed 0', ' writers a', ' readers a')}
-    print(f'{len(systems)} systems agree; of so many it is said: {counts}')
-    return 0 if 0 < counts['untold'] < len(systems) else 1
+    return counts, 0 < counts['untold'] < len(told)
 
 
-def systems_of(count, seed):
-    rng = random.Random(seed)
-    return [some_system(rng) for _ in range(count)]
+COMPARISON = Comparison('known', some_system, told_of, counted)
 
 
 def tell(names):
@@ -354,17 +334,7 @@ def main():
     words = sys.argv[1:]
     if len(words) > 1 and words[0] == 'tell':
         return tell(words[1:])
-    if len(words) != (4 if words[:1] == ['compare'] else 3) or words[0] not in ('compare', 'ask', 'judge'):
-        raise SystemExit(__doc__)
-    systems = systems_of(int(words[-2]), int(words[-1]))
-    asked = '\n'.join(map(asked_text, systems))
-    if words[0] == 'compare':
-        done = subprocess.run([os.path.realpath(words[1]), 'known'], input=asked, capture_output=True, check=True, text=True)
-        return judged(done.stdout, systems)
-    if words[0] == 'judge':
-        return judged(sys.stdin.read(), systems)
-    sys.stdout.write(asked)
-    return 0
+    return COMPARISON.run(words, __doc__)
 
 
 if __name__ == '__main__':

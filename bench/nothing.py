@@ -8,6 +8,7 @@
 - All participants that are announced have one address. Where one of them, of Fast DDS, announces a locator of a kind from 16 on, the ends may use
   shared memory.
 - Two participants are of two domains: the first one that has a domain, in their order, and the first behind it that has another.
+- A participant was never told of endpoints of another.
 - Participants talk one way; or endpoints do not match; or pairs are left out; or there are pairs of best effort alone.
 - A topic that is asked for has writers and no reader, or readers and no writer: of endpoints that announced themselves in one way. Where nodes are
   asked for, an end of the topic is of one of them.
@@ -22,6 +23,7 @@ NO_RTPS = 'nothing of RTPS is in this recording: see that it has the ports of DD
 NOT_ANNOUNCED = 'no participant is announced'
 ONE_HOST = 'nothing of another host is in this recording'
 IN_MEMORY = 'both ends are on this host and use shared memory, which no capture has'
+NOT_TOLD = 'discovery is not complete: see below who was never told of what'
 NOT_ANSWERED = 'see below which participants never answer'
 NOT_MATCHING = 'see below which writers and readers do not match'
 NOT_SEEN = 'record where the datagrams of the readers and the writers pass, and switch off shared memory'
@@ -106,7 +108,7 @@ def cause(talk):
         lambda: not talk.announced.participants and NOT_ANNOUNCED,
         lambda: one_host(talk),
         lambda: two_domains(talk),
-        # that discovery is not complete has its place here
+        lambda: talk.not_told and NOT_TOLD,
         lambda: talk.one_way and NOT_ANSWERED,
         lambda: talk.unmatched and NOT_MATCHING,
         lambda: talk.unobserved and NOT_SEEN,

@@ -22,6 +22,7 @@ import parts
 import reference
 import report as reports
 from asked import PLAIN, asked_by
+from fragments import by_writer, told_to_each
 from random_recordings import some_asked, text_of_datagrams
 from random_systems import some_both, some_other, some_recorded
 from report import Report
@@ -34,18 +35,22 @@ VERSION = '0.2.0'
 ENTRIES = 200000
 
 
-def audience(act):
+def named(dest, reader):
     """whom an act names: nothing where that is everyone, else a participant, an entity id, or both as in a GUID"""
-    prefix = act['dest'].hex() if act['dest'] else ''
-    entity = f".{act['reader'].hex()}" if any(act['reader']) else ''
+    prefix = dest.hex() if dest else ''
+    entity = f'.{reader.hex()}' if any(reader) else ''
     return [prefix + entity] if prefix or entity else []
 
 
-def entries_of(datagram, act):
-    """what an act of a writer says, each behind its place"""
-    place, to = [datagram, act['at']], audience(act)
-    if act['kind'] in ('data', 'data_frag'):
+def entries_of(datagram, act, told):
+    """what an act of a writer says, each behind its place. A DATA_FRAG sends fragments from one on, so many, and the sample is complete for
+    those to whom it is told"""
+    place, to = [datagram, act['at']], named(act['dest'], act['reader'])
+    if act['kind'] == 'data':
         return [place + ['data', act['number']] + to]
+    if act['kind'] == 'data_frag':
+        return [place + ['piece', act['number'], act['start'], act['count']] + to] + [
+            place + ['sample', act['number']] + named(*listener) for listener, _ in told]
     if act['kind'] == 'heartbeat':
         gone = [place + ['gone', 1, act['first'] - 1] + to] if act['first'] > 1 else []
         return gone + [place + ['announced', act['last']] + to]
@@ -63,6 +68,7 @@ class Traffic:
     def __init__(self, recording, rows):
         self.acts = {octets_of(row['writer']): [] for row in rows}
         self.bases = {(octets_of(row['writer']), octets_of(row['reader'])): [] for row in rows}
+        self.told = {id(piece): told for pieces in by_writer(recording).values() for piece, told in zip(pieces, told_to_each(pieces))}
         for datagram, acts in enumerate(recording, 1):
             for act in acts:
                 self.take(datagram, act)
@@ -72,21 +78,23 @@ class Traffic:
             if act['dest'] is not None:
                 answers = self.bases.get((act['dest'] + act['writer'], act['source'] + act['reader']))
                 if answers is not None:
-                    answers.append([datagram, act['at'], act['set'][0]])
+                    base, count, bits, _ = act['set']
+                    answers.append([datagram, act['at'], base, reference.members(base, count, bits)])
             return
         writer = act['source'] + act['writer']
         if writer in self.acts and act['kind'] != 'nack_frag':
-            self.acts[writer] += entries_of(datagram, act)
+            self.acts[writer] += entries_of(datagram, act, self.told.get(id(act), []))
 
     def bases_of(self, row):
         return self.bases[octets_of(row['writer']), octets_of(row['reader'])]
 
     def charted(self, rows):
-        """the rows for which there is room: those that are not complete first, each in their order. A row takes its answers and,
-        if the row that was given room last is not of its writer, what its writer says; one that takes too much is left out"""
+        """the rows for which there is room: those that are not clean first, each in their order. A row takes its answers, each with the
+        numbers that it asks for, and, if the row that was given room last is not of its writer, what its writer says; one that takes too
+        much is left out"""
         last, used, found = None, 0, []
-        for row in sorted(rows, key=lambda row: row['verdict'] == 'complete'):
-            takes = len(self.bases_of(row)) + (0 if row['writer'] == last else len(self.acts[octets_of(row['writer'])]))
+        for row in sorted(rows, key=lambda row: row['clean']):
+            takes = sum(1 + len(asked) for *_, asked in self.bases_of(row)) + (0 if row['writer'] == last else len(self.acts[octets_of(row['writer'])]))
             if used + takes <= ENTRIES:
                 used += takes
                 last = row['writer']
@@ -127,7 +135,7 @@ def joined_values(times, row):
 def parts_of(report, name):
     """the text and the data of the page of a report on a recording of this name, as Python has it"""
     _, endpoints, _, _, _ = reference.discovery(report.datagrams, True)
-    rows = [row.names() | {'verdict': row.kind} for row in report.rows]
+    rows = [row.names() | {'clean': row.is_clean()} for row in report.rows]
     traffic = Traffic(report.talk.recording, rows)
     pairs = {(row['writer'], row['reader']) for row in traffic.charted(rows)}
     shown = [row for row in rows if (row['writer'], row['reader']) in pairs]

@@ -15,6 +15,7 @@ import reference
 import report as reports
 from asked import Asked
 from capture_writer import MICROSECONDS, NANOSECONDS, enhanced, interface, old, option, packet, record, section, simple, start
+from random_discovery import some_told
 from random_ends import some_participant
 from random_events import some_shared
 from random_recordings import A, B, some_asked, some_outage, text_of_datagrams
@@ -89,8 +90,17 @@ def hosts(rng):
     return [some_participant(rng, prefix) for prefix in (A, B) if rng.random() < 0.6]
 
 
+def some_discovery(rng):
+    """the octets of a capture of what discovery tells, and at its times"""
+    datagrams, times = some_told(rng)
+    return section() + interface(options=option(9, b'\x09')) + b''.join(
+        simple(packet(d)) if time is None else enhanced(packet(d), time=time) for d, time in zip(datagrams, times))
+
+
 def some_timed(rng):
     """the octets of a capture. Often one of two participants says something when the others are silent"""
+    if rng.random() < 0.15:
+        return some_discovery(rng)
     if rng.random() < 0.3:
         return some_capture(rng, some_shared(rng), 0.25)
     found = reference.recording_of(some_recorded(rng) if rng.random() < 0.5 else text_of_datagrams(some_outage(rng)))

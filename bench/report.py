@@ -77,7 +77,8 @@ def why_lines(row, report):
     lines = [f"pair {ends} {row.verdict}", f"  topic \"{names['topic']}\" type \"{names['type']}\"",
              f'  from {row.first}{until}', *('  ' + timed_line(row.times, line) for line in with_outcomes(row))]
     lost = [] if row.is_clean() else ['    ' + line for line in kinds.lines(row)]
-    return lines + lost + ['  ' + line for line in check.said_lines(row)] + ([] if row.is_clean() else ['  -> ' + row.advice(report.counts)])
+    said = ([check.wait_line(row.times, row.wait)] if row.wait else []) + ([row.late.line(row.times)] if row.late else []) + row.silence_lines()
+    return lines + lost + ['  ' + line for line in said] + ([] if row.is_clean() else ['  -> ' + row.advice(report.counts)])
 
 
 def with_outcomes(row):

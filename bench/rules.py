@@ -14,6 +14,7 @@ import check
 import nothing
 import report
 from asked import GREATEST
+from known import PUBLICATIONS, SUBSCRIPTIONS
 from life import Span
 from random_recordings import some_asked, text_of_datagrams
 from random_systems import some_both, some_other, some_recorded
@@ -82,9 +83,25 @@ def rules_of(found):
         'a row has a node': any(talk.who.node(guid) for row in rows for guid in (row.w, row.r)),
         'nodes are asked for': bool(rows and found.asked.nodes),
         'no node is asked for': bool(found.asked.nodes) and not rows,
+        **rules_of_discovery(found, advice),
         **rules_of_events(found),
         **rules_of_nothing(found),
     } | (rules_of_sides(found) if found.sides else {})
+
+
+def rules_of_discovery(found, advice):
+    rows, talk = found.rows, found.talk
+    return {
+        'not told': bool(talk.not_told), 'not told of what is not named': any(one.unnamed for one in talk.not_told),
+        'not told of a writer': any(one.named[PUBLICATIONS] for one in talk.not_told), 'not told of a reader': any(one.named[SUBSCRIPTIONS] for one in talk.not_told),
+        'several were not told': len({one.dest for one in talk.not_told}) > 1, 'one was not told of several': len(talk.not_told) > len({one.dest for one in talk.not_told}),
+        'two lives': bool(talk.lives), 'a row of two lives': any('a mixture of both' in one for one in advice),
+        'matched late': any(row.late for row in rows), 'several matched late': sum(bool(row.late) for row in rows) > 1,
+        'matched late, and clean': any(row.late and row.is_clean() for row in rows), 'matched late, and not clean': any(row.late and not row.is_clean() for row in rows),
+        'numbers before one that matched late': any(row.late and row.before for row in rows),
+        'advice on what matched late': any('the two matched late' in one for one in advice),
+        'nothing comes back': any(talk.address_behind(one.source, one.dest) for one in talk.not_told), 'lost on the way': any('lost on the way' in one for one in advice),
+    }
 
 
 def rules_of_events(found):
@@ -114,7 +131,7 @@ def rules_of_nothing(found):
     causes = {
         'nothing of RTPS': told == nothing.NO_RTPS, 'it began late, by several': 'participants speak' in told, 'it began late, by one': 'participant speaks' in told,
         'one host': told == nothing.ONE_HOST, 'shared memory': told == nothing.IN_MEMORY, 'two domains': 'in domain' in told,
-        'one way': told == nothing.NOT_ANSWERED, 'no match': told == nothing.NOT_MATCHING, 'nothing seen': told == nothing.NOT_SEEN,
+        'not told': told == nothing.NOT_TOLD, 'one way': told == nothing.NOT_ANSWERED, 'no match': told == nothing.NOT_MATCHING, 'nothing seen': told == nothing.NOT_SEEN,
         'best effort alone': told == nothing.BEST_EFFORT, 'a topic of one side': ' and no ' in told, 'more than ten topics': told.endswith(' more'),
         'no cause': told == nothing.ELSE,
     }

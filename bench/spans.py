@@ -9,10 +9,12 @@ import kinds
 import reference
 from check import KINDS, advice_of
 from ends import node_members
+from known import Known, vendors_of
 from life import Life, Span
 from reference import Delivery, acts_of, guid_text, last_number, name_text
 from talk import Talk
 from times import NO_TIMES, SHORT, alone, longest_wait, silence_line, timed_values, wait_values
+from whole import WholeMatches
 
 # ---- outcomes
 
@@ -97,6 +99,10 @@ class Row:
         self.lines = reference.evidence_lines(self.delivery, self.verdict)
         # where there are times, the longest that the reader let the writer wait, and whose participants are silent
         self.silences = talk.silences(self.w, self.r)
+        # whether it is of two lives, and the reader's participant was never told of endpoints of the writer's
+        self.is_mixture, self.is_not_told = talk.is_mixture(w, r), talk.is_not_told(w, r)
+        # that the two matched late, or None
+        self.late = talk.late(w, r)
         questions, answers = [place for place, _ in self.delivery.questions], [place for place, _ in self.delivery.answers]
         self.wait = longest_wait(self.times, questions, answers, len(self.datagrams))
         # how many of the numbers that are asked for stand before the first of the row
@@ -182,7 +188,10 @@ def rows_of(datagrams, asked, times=NO_TIMES, other=None):
     recording = [acts_of(d, True) for d in datagrams]
     headers = [reference.read(d)[0] for d in datagrams]
     _, settled, matched, unsettled, _ = reference.discovery(datagrams, True)
-    talk = Talk(recording, [header and header['prefix'] for header in headers], settled, matched, Life(recording), asked, times)
+    prefixes, life = [header and header['prefix'] for header in headers], Life(recording)
+    vendors = [vendors_of(d) for d in datagrams]
+    known, matches = (Known(recording, vendors, prefixes, times, life), WholeMatches(recording, vendors, prefixes, times)) if times.are_there() else (None, None)
+    talk = Talk(recording, prefixes, settled, matched, life, asked, times, known, matches)
     rows = [Row(recording, talk, w, r, asked, other) for w, r in talk.judged]
     line = reference.counts_line(datagrams, recording, unsettled, True).split()
     return rows, talk, dict(zip(line[::2], map(int, line[1::2])))

@@ -7,6 +7,7 @@ whatever their policies say, but not of two domains. The order of all lists is t
 from functools import cached_property
 
 from ends import End
+from late import late_match
 from life import Span
 from policies import address_in, domain_in, lease_in, may_share_memory, policies_in, reasons, values_of
 from reference import told_to
@@ -108,7 +109,7 @@ class Talk:
     """what a recording says of who talks, of the topics and nodes that are asked for. `prefixes` has the one in the header of each datagram, or
     None"""
 
-    def __init__(self, recording, prefixes, settled, matched, life, asked, times=NO_TIMES):
+    def __init__(self, recording, prefixes, settled, matched, life, asked, times=NO_TIMES, known=None, matches=None):
         self.recording, self.settled, self.life, self.asked, self.times = recording, settled, life, asked, times
         self.announced, self.namings, self.answers = Announced(life.announced), named_by(recording), answering(recording)
         self.datagrams_by, self.who = datagrams_by(prefixes), Who(recording, by_writer=True)
@@ -122,6 +123,11 @@ class Talk:
         self.best_effort = [pair for pair in fitting if not is_reliable(*pair) and self.is_observed(*pair)]
         self.one_way = [(source, dest, count) for (source, dest), count in self.namings.items() if self.is_one_way(source, dest)]
         self.silent = self.find_silent() if times.are_there() else {}
+        # who was never told of whose endpoints, and who has two lives: nothing of a recording without times
+        self.not_told = known.untold() if known and times.are_there() else []
+        self.lives = known.lives_by_participant() if known and times.are_there() else {}
+        # when writers and readers matched
+        self.matches = matches if times.are_there() else None
 
     def find_unfit(self, settled):
         """the writers and readers of one topic that may meet, and of which some policy does not fit"""
@@ -206,6 +212,28 @@ class Talk:
         """the participants that are silent, with their last datagrams"""
         return {guid: last for guid, _, last, left in self.lifetimes()
                 if is_silent(self.times, self.datagrams_of(guid), left, self.announced.lease(guid))}
+
+    # ---- discovery
+
+    def address_behind(self, source, dest):
+        """the address of the second of two participants, if the first names it and nothing comes back, or None"""
+        return self.announced.address(dest + PARTICIPANT) if self.is_one_way(source, dest) else None
+
+    def is_not_told(self, w, r):
+        """the participant of the reader of a pair was not told of endpoints of the other"""
+        return any((one.source, one.dest) == (w[0][:12], r[0][:12]) for one in self.not_told)
+
+    def is_mixture(self, w, r):
+        """a participant of a pair has two lives"""
+        return w[0][:12] in self.lives or r[0][:12] in self.lives
+
+    def late(self, w, r):
+        """that a writer and a reader matched late, or None"""
+        return late_match(self.matches, w[0], r[0])
+
+    def topic(self, guid):
+        """that of an endpoint that announced itself in one way, or else nothing"""
+        return next((end[2] for end in self.settled if end[0] == guid), b'')
 
     def silences(self, w, r):
         """of a pair the sides whose participants are silent, with their last datagrams"""

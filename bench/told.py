@@ -1,10 +1,12 @@
 """What `check` says of who does not talk: lines, notes, and members of its object. Facts are those of `talk.Talk`."""
 from ends import process_members
+from late import late_members
 from policies import address_text, value_text
 from reference import guid_text, name_text
 from ros import ros_topic, ros_type
+from known import PUBLICATIONS, SUBSCRIPTIONS
 from talk import PARTICIPANT
-from times import alone
+from times import SECOND, Seconds, alone
 from wording import amount, of
 
 # Why a pair is not observed, in the order in which it is told, and what is said of it.
@@ -18,6 +20,9 @@ SILENCES = {
 # What to do.
 UNMATCHED = 'by the standard nothing passes between them: change what one offers or what the other asks for'
 ONE_WAY = 'a firewall, or its datagrams are not in this recording'
+MOST = 2 ** 64 - 1      # no more endpoints of two participants are counted
+
+TWO_LIVES = 'two processes use one GUID, as after a copied disk image or a restart: give each its own, and record again'
 HOSTS = 'if there are other hosts, multicast may be blocked between them'
 BEST_EFFORT = "at the reader's side the others were lost; at the writer's side the recording lacks them"
 
@@ -72,6 +77,61 @@ def unmatched_lines(talk):
         lines += ([] if one.w[2] == last else [topic_text(one.w[2])]) + unmatched_block(talk, one)
         last = one.w[2]
     return lines + ['  -> ' + UNMATCHED]
+
+
+# ---- discovery that is not complete
+
+
+def discovery_reasons(talk):
+    """how many participants were not told of how many endpoints, and how many have two lives"""
+    reasons = []
+    if talk.not_told:
+        told = amount(len({one.dest for one in talk.not_told}), 'participant was', 'participants were')
+        reasons.append(f"{told} not told of {amount(sum(min(one.count(), MOST) for one in talk.not_told), 'endpoint', 'endpoints')}")
+    if talk.lives:
+        reasons.append(amount(len(talk.lives), 'participant has', 'participants have') + ' two lives under one GUID')
+    return reasons
+
+
+def endpoints_named(one):
+    """the writers and then the readers that are named, each with its side"""
+    return [(side, guid) for side, entity in (('writer', PUBLICATIONS), ('reader', SUBSCRIPTIONS)) for guid in sorted(one.named[entity])]
+
+
+def not_told_block(talk, one):
+    """the lines of one that was not told of endpoints of another"""
+    source, dest = (talk.end(prefix + PARTICIPANT).process_text() for prefix in (one.source, one.dest))
+    lines = [f'  {dest} was never told of the {side} of {topic_text(talk.topic(guid))} {talk.end(guid).text()}' for side, guid in endpoints_named(one)]
+    unnamed = [f"  {dest} was never told of {amount(one.unnamed, 'endpoint', 'endpoints')} of {source} that this recording does not name"]
+    return lines + (unnamed if one.unnamed else [])
+
+
+def not_told_lines(talk, advice):
+    """those of all, by the two, with what to do"""
+    if not talk.not_told:
+        return []
+    lines = ['discovery is not complete']
+    for one in talk.not_told:
+        lines += not_told_block(talk, one) + ['  -> ' + advice(talk.address_behind(one.source, one.dest))]
+    return lines
+
+
+# ---- two lives under one GUID
+
+
+def seconds_of(talk, sent):
+    """a source time in seconds since the recording began"""
+    return Seconds(sent[0] * SECOND + sent[1] * SECOND // 2 ** 32 - talk.times.start)
+
+
+def lives_lines(talk):
+    if not talk.lives:
+        return []
+    lines = [amount(len(talk.lives), 'participant has two lives', 'participants have two lives') + ' under one GUID']
+    for prefix, sent in talk.lives.items():
+        one, other = (seconds_of(talk, time) for time in sent)
+        lines.append(f'  participant {talk.end(prefix + PARTICIPANT).text()}, announced by one number at {one} s and at {other} s of its clock')
+    return lines + ['  -> ' + TWO_LIVES]
 
 
 # ---- participants that talk one way
@@ -156,6 +216,17 @@ def participant_members(talk):
         yield members | alone(talk.times, first=first, last=last, left=left) | silent | process_members(talk.who, guid)
 
 
+def not_told_members(one):
+    writers, readers = ([guid_text(guid) for guid in sorted(one.named[entity])] for entity in (PUBLICATIONS, SUBSCRIPTIONS))
+    return {'from': guid_text(one.source + PARTICIPANT), 'to': guid_text(one.dest + PARTICIPANT), 'writers': writers, 'readers': readers,
+            'unnamed': one.unnamed}
+
+
+def lives_members(talk, prefix, sent):
+    address = talk.announced.address(prefix + PARTICIPANT)
+    return {'participant': guid_text(prefix + PARTICIPANT), 'address': address and address_text(address), 'sent': [seconds_of(talk, time) for time in sent]}
+
+
 def talk_members(talk, sides=None):
     """`sides` is what another recording shows, where there is one"""
     return {
@@ -163,6 +234,9 @@ def talk_members(talk, sides=None):
         'talking': [named(one.w, one.r) | {'because': one.because} for one in talk.talking],
         'unobserved': [named(w, r) | {'because': talk.silence(w, r)} for w, r in talk.unobserved],
         'one_way': [{'from': guid_text(one + PARTICIPANT), 'to': guid_text(other + PARTICIPANT), 'named': count} for one, other, count in talk.one_way],
+        'untold': [not_told_members(one) for one in talk.not_told],
+        'late': list(late_members(talk, named)),
+        'lives': [lives_members(talk, prefix, sent) for prefix, sent in talk.lives.items()],
         'best_effort': [dict(zip(('topic', 'pairs', 'numbers', 'recorded'), (name_text(topic), *counts))) for topic, counts in talk.best_effort_counts],
         **(sides.members() if sides else {}),
         'participants': list(participant_members(talk)),

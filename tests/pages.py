@@ -38,7 +38,7 @@ from wording import grouped as counted
 
 RECORDINGS = '.rec', '.pcap', '.pcapng'
 EXAMPLES = sorted(name for name in os.listdir(os.path.join(ROOT, 'examples')) if name.endswith(RECORDINGS))
-MADE = 'robot', 'hostile', 'greatest', 'chatty', 'unmatched', 'none'
+MADE = 'robot', 'hostile', 'greatest', 'chatty', 'unmatched', 'none', 'pieces'
 # Rows of the tests that have something to tell of who does not talk.
 TALKING = 'each_reason_of_silence.rec', 'best_effort_pairs_by_topic.rec', 'reasons_in_order_and_topics_in_order.rec'
 # Rows of the tests that are held against another recording, which stands beside them.
@@ -489,6 +489,11 @@ class PageTests(Counts):
         charted = {(one['writer'], one['reader']) for one in values['answers']}
         topics = [row['topic'] for row in self.rows('chatty') if (row['writer'], row['reader']) in charted]
         self.holds('the rows for which a page has room', ['few', 'later'], topics)
+        crowded = page.page_of(recorded.crowded())[1]
+        kinds = [(row['topic'], row['verdict'], row['clean']) for row in crowded['pairs']]
+        self.holds('two rows of which a page has room for one', [('a_well', 'complete', True), ('b_lost', 'complete', False)], kinds)
+        self.holds('one that is not clean has room first', [crowded['pairs'][1]['reader']], [one['reader'] for one in crowded['answers']])
+        self.holds('it has the acts of its writer', [crowded['pairs'][1]['writer']], [one['guid'] for one in crowded['writers']])
 
     # ---- what is shown
 
@@ -740,7 +745,8 @@ class PageTests(Counts):
                 'alone': alone_wanted(values),
             }
             self.holds(f'{name}: who does not talk', wanted, {kind: tab.evaluate(f"talkShown('{kind}')") for kind in wanted})
-            for section, kinds in {'talk': ('unmatched', 'talking', 'one-way', 'alone', 'unobserved'), 'best-effort': ('best-effort', 'not-arrived')}.items():
+            wanted |= {kind: values.get(kind) for kind in ('untold', 'lives', 'late')}
+            for section, kinds in {'talk': ('untold', 'lives', 'late', 'unmatched', 'talking', 'one-way', 'alone', 'unobserved'), 'best-effort': ('best-effort', 'not-arrived')}.items():
                 self.holds(f'{name}: there is a part for it', any(wanted[kind] for kind in kinds), not tab.evaluate(f"document.getElementById('{section}').hidden"))
             self.leave(name, tab)
 
@@ -959,10 +965,12 @@ class PageTests(Counts):
 
     @staticmethod
     def dot_text(dot):
-        return f"DATA of number {dot['number']} in datagram {dot['datagram']}, octet {dot['at']}{', sent again' if dot['again'] else ''}."
+        what = 'DATA_FRAG that completes number' if dot['isWhole'] else 'DATA of number'
+        again = '' if not dot['again'] else ', of which a fragment was sent again' if dot['isWhole'] else ', sent again'
+        return f"{what} {dot['number']} in datagram {dot['datagram']}, octet {dot['at']}{again}."
 
     def charts(self):
-        for name in ('robot', 'gone.rec', 'conflict.rec', 'cyclone_reliable.rec', 'ipv6.pcapng', 'loopback.pcap', *IN_TIME):
+        for name in ('robot', 'gone.rec', 'conflict.rec', 'fragments.rec', 'pieces', 'cyclone_reliable.rec', 'ipv6.pcapng', 'loopback.pcap', *IN_TIME):
             tab, values = self.open(name), self.values(name)
             acts = {one['guid']: one['acts'] for one in values['writers']}
             bases = {(one['writer'], one['reader']): one['bases'] for one in values['answers']}
@@ -978,14 +986,47 @@ class PageTests(Counts):
     def chart(self, name, heard, answered, marks):
         """what a chart has of what a reader hears and of what it answers, each in the place of its datagram"""
         bases, place = answered
-        sent = [act for act in heard if act[2] == 'data']
-        dots = [[place(act[0]), act[3], act[1], act[3] in [one[3] for one in sent[:k]]] for k, act in enumerate(sent)]
+        sent = [act for k, act in enumerate(heard) if act[2] == 'data' or (act[2] == 'sample' and act[2:4] not in [one[2:4] for one in heard[:k]])]
+        twice = sent_twice(heard)
+        dots = [[place(act[0]), act[3], act[1], act[3] in [one[3] for one in sent[:k]] or (act[2] == 'sample' and act[3] in twice)] for k, act in enumerate(sent)]
         self.holds(f'{name}: the dots', dots, [[dot['x'], dot['y'], dot['at'], dot['again']] for dot in marks['dots']])
-        answers = [[place(datagram), base - 1] for datagram, _, base in bases]
+        answers = [[place(datagram), base - 1] for datagram, _, base, _ in bases]
         self.holds(f'{name}: the answers', answers, [[one['x'], one['y']] for one in marks['answers']])
+        asked = [[place(datagram), number] for datagram, _, _, numbers in bases for number in numbers]
+        self.holds(f'{name}: what is asked for', asked, [[one['x'], one['y']] for one in marks['asked']])
         gone = {n for act in heard if act[2] == 'gone' for n in range(act[3], act[4] + 1)}
         drawn = {n for band in marks['bands'] for n in range(band['low'], band['high'] + 1)}
         self.holds(f'{name}: what is gone', gone, drawn)
+
+    def asked_for(self):
+        """a sign for each number that a reader asks for, where it does; the first pair asks for 19 twice, the second one for 18"""
+        tab = self.open('robot', '#pair-1')
+        signs = "chartInSight.marks.asked.map(({ x, y }) => [x, y])"
+        self.holds('robot: what the first pair asks for', [[95, 19], [115, 19]], tab.evaluate(signs))
+        self.holds('robot: it is told by ear', True, '2 numbers asked for' in tab.evaluate("document.querySelector('canvas').getAttribute('aria-label')"))
+        self.holds('robot: the sign is explained', 1, tab.evaluate("textsOf(document, '.legend li').filter((text) => text === 'asked for by the reader').length"))
+        self.choose(tab, 1)
+        self.holds('robot: what the second one asks for', [[138, 18]], tab.evaluate(signs))
+        self.choose(tab, 3)
+        self.holds('robot: what the last one asks for', [], tab.evaluate(signs))
+        self.holds('robot: no sign is explained there', 0, tab.evaluate("textsOf(document, '.legend li').filter((text) => text === 'asked for by the reader').length"))
+        self.leave('robot', tab)
+
+    def samples_in_fragments(self):
+        """each is one dot, at the fragment that completed it, and hollow where a fragment of it was sent again; one that lacks a fragment is none"""
+        tab = self.open('pieces', '#pair-1')
+        dots = [[1, 5, False], [2, 8, True], [3, 11, True], [4, 13, True], [6, 18, True], [7, 19, False], [7, 23, True]]
+        self.holds('pieces: the dots', dots, tab.evaluate('chartInSight.marks.dots.map(({ y, datagram, again }) => [y, datagram, again])'))
+        self.holds('pieces: which are samples in fragments', [True] * 5 + [False] * 2, tab.evaluate('chartInSight.marks.dots.map(({ isWhole }) => isWhole)'))
+        self.holds('pieces: what is asked for', [[21, 5], [22, 5], [22, 6]], tab.evaluate('chartInSight.marks.asked.map(({ x, y }) => [x, y])'))
+        self.holds('pieces: the lost ones stand where a fragment was sent first', [[15, 5], [17, 6]], tab.evaluate('chartInSight.marks.lost.map(({ x, y }) => [x, y])'))
+        tab.evaluate("document.querySelector('canvas').focus()")
+        tab.press('ArrowRight')
+        self.holds('pieces: a dot is read', 'DATA_FRAG that completes number 1 in datagram 5, octet 20.', tab.evaluate('chartInSight.readout.textContent'))
+        tab.press('ArrowRight')
+        self.holds('pieces: a hollow one is read', 'DATA_FRAG that completes number 2 in datagram 8, octet 20, of which a fragment was sent again.',
+                   tab.evaluate('chartInSight.readout.textContent'))
+        self.leave('pieces', tab)
 
     def pointer(self):
         tab = self.open('robot', '#pair-2')
@@ -1087,6 +1128,19 @@ class PageTests(Counts):
         self.holds('90,000 pairs: the focus stays', True, focused("document.querySelector('#pairs > button.more')"))
         self.leave('many', tab)
 
+    def seen_first(self):
+        """of a large page how the run ended is seen while the data is read"""
+        tab = Tab(self.browser)
+        tab.send('Performance.enable', timeDomain='threadTicks')
+        before = self.thread_time(tab)
+        self.browser.send('Page.navigate', tab.session, url='file://' + self.path('many'))
+        self.browser.wait(lambda: tab.evaluate("performance.getEntriesByName('first-contentful-paint').length") or None, 'first sight')
+        took = self.thread_time(tab) - before
+        seen = tab.evaluate("[document.getElementById('outcome')?.textContent, document.querySelector('main').hidden, document.readyState]")
+        self.holds('90,000 pairs: what is seen first', ['✗ not clean 60,000 pairs are not complete', True, 'loading'], seen)
+        print(f'90,000 pairs: how the run ended is seen after {took:.2f} s of processor time')
+        tab.close()
+
     def many_pairs(self):
         tab = Tab(self.browser)
         tab.send('Performance.enable', timeDomain='threadTicks')
@@ -1098,7 +1152,7 @@ class PageTests(Counts):
         tab.evaluate("timeToFilter('')")
         slowest = max(self.time_to_filter(tab, text) for text in ('000a07', 'unfounded', 'p1', 'nothing', ''))
         size = os.path.getsize(self.path('many'))
-        print(f'90,000 pairs: {size:,} octets, seen after {first:.2f} s of processor time, filtered in {slowest * 1000:.0f} ms')
+        print(f'90,000 pairs: {size:,} octets, all is seen after {first:.2f} s of processor time, filtered in {slowest * 1000:.0f} ms')
         self.holds('90,000 pairs: what is shown', '90,000 pairs; the first 100 are shown; 30,000 are folded.', self.text(tab, '#shown'))
         tab.click('#pairs > button.more')
         self.holds('90,000 pairs: more of them', '90,000 pairs; the first 600 are shown; 30,000 are folded.', self.text(tab, '#shown'))
@@ -1190,9 +1244,15 @@ def event_of(events, at):
     return next((head_of(event) for event in events if at in event['pairs']), 'Other pairs to look at')
 
 
+def sent_twice(acts):
+    """the numbers of samples of which a fragment was sent twice"""
+    sent = [(act[3], fragment) for act in acts if act[2] == 'piece' for fragment in range(act[4], act[4] + act[5])]
+    return {number for number, fragment in sent if sent.count((number, fragment)) > 1}
+
+
 def is_heard(act, reader):
     """whether the audience of an entry has a reader"""
-    to = act[5:] if act[2] == 'gone' else act[4:]
+    to = act[3 + {'gone': 2, 'piece': 3}.get(act[2], 1):]
     prefix, _, entity = to[0].partition('.') if to else ('', '', '')
     return prefix in ('', reader[:24]) and entity in ('', reader[25:])
 
@@ -1201,8 +1261,8 @@ WITHOUT_BROWSER = 'constants', 'pages_of_the_program', 'text_of_a_page', 'data_o
 IN_BROWSER = (
     'each_row', 'working_copy', 'outcome', 'asked', 'first_screen', 'topics_to_look_at', 'chosen_pairs', 'participants', 'talk', 'not_told', 'seconds',
     'head', 'pictures_of_topics', 'folds', 'bar', 'heights', 'both_sides_shown', 'all_arrived', 'hostile_names',
-    'without_scripts', 'filters', 'orders', 'clicks', 'keyboard', 'charts', 'pointer', 'charts_left_out', 'contrast', 'widths', 'paper', 'opened_on_paper',
-    'more_rows', 'many_pairs',
+    'without_scripts', 'filters', 'orders', 'clicks', 'keyboard', 'charts', 'asked_for', 'samples_in_fragments', 'pointer', 'charts_left_out', 'contrast', 'widths', 'paper', 'opened_on_paper',
+    'more_rows', 'seen_first', 'many_pairs',
 )
 
 

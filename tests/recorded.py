@@ -9,7 +9,7 @@ import sys
 sys.path.insert(0, os.path.join(os.path.dirname(os.path.dirname(os.path.realpath(__file__))), 'bench'))
 import make
 from check import SENTENCES
-from make import ack_nack, data, gap, header, heartbeat, to
+from make import ack_nack, data, data_frag, gap, header, heartbeat, to
 
 RELIABLE, BEST_EFFORT = 2, 1
 VOLATILE, TRANSIENT_LOCAL = 0, 1
@@ -62,6 +62,12 @@ class Topic:
 
     def asks(self, first, last):
         return header(self.writer) + heartbeat(self.sender, first, last)
+
+    def part(self, number, *fragments, reader=bytes(4)):
+        """fragments of a sample of 24 octets, of 8 octets each, which follow each other"""
+        sample = b'\0\1\0\0' + number.to_bytes(4, 'big') * 5
+        octets = b''.join(sample[8 * (k - 1):8 * k] for k in fragments)
+        return header(self.writer) + (to(self.reader) if any(reader) else b'') + data_frag(self.sender, number, fragments[0], octets, 8, 24, reader)
 
     def gap(self, start, base):
         return header(self.writer) + to(self.reader) + gap(self.sender, start, base, [], 0, self.receiver)
@@ -179,6 +185,30 @@ def chatty():
     return [*few.announced, *many.announced, *later.announced, *sent]
 
 
+def pieces():
+    """samples in fragments. The reader gets 1 as it is sent, of 2 a fragment again before it is complete, of 3 one again behind that, and 4 whole
+    again; 5 lacks a fragment, 6 is complete by two fragments in one submessage, of which one came before, and 7 is no sample in fragments"""
+    topic = Topic(b'rt/image', b'sensor_msgs::msg::dds_::Image_', Participant(0x0a), Participant(0x1b))
+    part, reader = topic.part, topic.receiver
+    sent = [part(1, 1), part(1, 2), part(1, 3), part(2, 1), part(2, 1), part(2, 2, 3), part(3, 1), part(3, 2), part(3, 3), part(3, 2, reader=reader)]
+    sent += [part(4, 1, 2, 3), part(4, 1, 2, 3), part(5, 1), part(5, 3), part(6, 1, 2), part(6, 2, 3), topic.sent(7), topic.asks(1, 7)]
+    return [*topic.announced, *sent, topic.answers(5, 5), topic.answers(5, 5, 6), topic.resent(7), topic.asks(1, 7)]
+
+
+def crowded():
+    """two topics, each with more than half of what a page has room for: of the first one all is well, of the second one the reader acknowledged all,
+    and a number that it asked for never came"""
+    one, other = Participant(0x0a), Participant(0x1b)
+    well, lost = (Topic(name, b'Sample', one, other) for name in (b'a_well', b'b_lost'))
+
+    def gone(topic):
+        return header(topic.writer) + to(topic.reader) + gap(topic.sender, 1, 1, [0xffffffff] * 8, 256, topic.receiver) * 100
+
+    sent = [topic.sent(number) for topic in (well, lost) for number in range(1, 257)]
+    sent += [well.asks(1, 256), well.answers(257), lost.answers(1, 1), lost.asks(2, 256), lost.answers(257)]
+    return [*well.announced, *lost.announced, *sent, *(gone(topic) for topic in (well, lost) for _ in range(6))]
+
+
 def lost_on_the_way():
     """a recording and another one, made at the host of its readers. Of 1,500 numbers five are in the first one, and 2 more arrived. By best
     effort one of three that JavaScript cannot hold did, and none of another topic"""
@@ -227,7 +257,7 @@ def many(side, names, verdict_of):
         for writer in ends['writer']:
             for reader in ends['reader']:
                 pairs.append({'writer': writer, 'reader': reader, 'topic': topic, 'type': kind} | verdict_of(len(pairs)))
-                answers.append({'writer': writer, 'reader': reader, 'bases': [[20, 36, pairs[-1]['acknowledged']['below']]]})
+                answers.append({'writer': writer, 'reader': reader, 'bases': [[20, 36, pairs[-1]['acknowledged']['below'], []]]})
     endpoints.sort(key=lambda endpoint: endpoint['guid'])
     incomplete = sum(row['verdict'] != 'complete' for row in pairs)
     return {

@@ -13,11 +13,14 @@ import tempfile
 
 sys.dont_write_bytecode = True
 import program
+from make import ack_nack, to
 from capture_writer import (NANOSECONDS, enhanced, fragment, interface, old, option, packet, record, section, simple,
                             start, udp_4)
 from program import answer_of, text_of
 from recorded import Participant, Topic, parameter
 
+# The built-in readers and writers of endpoints: publications and subscriptions.
+BUILT_IN = (b'\0\0\3\xc7', b'\0\0\3\xc2'), (b'\0\0\4\xc7', b'\0\0\4\xc2')
 SECOND, MILLISECOND = 10 ** 9, 10 ** 6
 # How a frame is told: in lines, and in JSON.
 FRAME = r', frame \d+|,"(\w+_)?frame":(\d+|null)'
@@ -72,9 +75,21 @@ def nanoseconds(frames):
     return start(magic=NANOSECONDS) + b''.join(record(frame, time=divmod(time, SECOND)) for time, frame in frames)
 
 
+def known(datagrams):
+    """the same, where each participant acknowledges what the others announce of their endpoints, behind all else in its first datagram: discovery is complete"""
+    first = {}
+    for place, datagram in enumerate(datagrams):
+        first.setdefault(datagram[8:20], place)
+    heard = list(datagrams)
+    for prefix, place in first.items():
+        for other in first.keys() - {prefix}:
+            heard[place] += to(other) + b''.join(ack_nack(reader, writer, 100, flags=2) for reader, writer in BUILT_IN)
+    return heard
+
+
 def timed(datagrams, times):
     assert len(datagrams) == len(times)
-    return nanoseconds([(time, packet(d)) for time, d in zip(times, datagrams)])
+    return nanoseconds([(time, packet(d)) for time, d in zip(times, known(datagrams))])
 
 
 def told(code, *octets):
@@ -546,7 +561,7 @@ def events(tests):
     between = 'from process 4711 on robot1 to 10.0.0.3, first sent between 0.200 s and 3.200 s: 1 pair, 2 numbers'
     silent = 'process 12 on robot2' + ASKED
     tests.says('the worst first', 'check', octets, [between, silent], heads)
-    blocks = [between, '/c T', silent, '/a T', '/b T', '1 pair of participants talks one way']
+    blocks = [between, '/c T', silent, '/a T', '/b T']
     tests.says('rows under their event', 'check', octets, blocks, lambda text: [part.split('\n')[0] for part in text.split('\n\n')[2:-1]])
     ends = ['  writer driver (pid 4711 on robot1, 10.0.0.1) 010f01010101010101010101.00000303', '  reader 010f03030303030303030303.00000104 at 10.0.0.3, from 1',
             '  writer driver (pid 4711 on robot1, 10.0.0.1) 010f01010101010101010101.00000103', '  reader (pid 12 on robot2) 010f02020202020202020202.00000104, from 1']
@@ -706,7 +721,7 @@ def asked_at_the_end(tests):
     not_asked = ['-> the reader may have all: stop publishing, wait some seconds, and only then end the recording']
 
     def ending(*more):
-        return nanoseconds([(at(50), packet(d)) for d in begun] + [(at(50) + time, packet(d) if d else TCP) for time, d in more])
+        return nanoseconds([(at(50), packet(d)) for d in known(begun)] + [(at(50) + time, packet(d) if d else TCP) for time, d in more])
 
     nothing = topic.answers(1)
     rows = {
@@ -740,7 +755,7 @@ def given_twice(tests):
     datagrams = [*TWO, *topic.announced, *said]
     times = [at(50) + MILLISECOND * k for k in range(len(datagrams))]
     octets, later = timed(datagrams, times), timed(datagrams, [*times[:-1], times[-1] + 1])
-    blocks_of = section() + interface(options=told(9, 9)) + b''.join(enhanced(packet(d), time=time) for time, d in zip(times, datagrams))
+    blocks_of = section() + interface(options=told(9, 9)) + b''.join(enhanced(packet(d), time=time) for time, d in zip(times, known(datagrams)))
     half = section() + interface() + b''.join(map(simple, map(packet, datagrams)))
     twice, apart = ['not clean: one recording was given twice'], ['nothing tells the two recordings apart: nothing was lost, or both were made at one place', 'clean']
     rows = {'the same file': (octets, octets, twice), 'a file of another form': (octets, blocks_of, twice), 'a nanosecond later': (octets, later, apart),

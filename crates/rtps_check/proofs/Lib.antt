@@ -1,5 +1,6 @@
 mod AppendLemmas
 mod ArrivedLemmas
+mod DiscoveryLemmas
 mod EndLemmas
 mod OneWayLemmas
 mod UnmatchedLemmas

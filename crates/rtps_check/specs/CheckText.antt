@@ -12,6 +12,7 @@ use Rattle.rtps_evidence.specs.Times.{TimesValue}
 use Rattle.rtps_report.specs.Vocabulary.{CompleteGrounds, ConflictGrounds, Counts, EvidenceValue, Explanation, explanation_value, ExplanationValue, FirstMissed, GroundsValue, InSpan, OpenGrounds, Outcomes, SentValue, UnfoundedGrounds}
 use Rattle.rtps_report.specs.declared.findings.Ending.TheVariants.{Clean}
 use Rattle.rtps_report.specs.declared.findings.Ending.{Ending}
+use Rattle.rtps_report.specs.declared.findings.TalkFacts.{TalkFacts}
 use Rattle.rtps_report.specs.declared.advice.Scope.{Scope}
 use Rattle.rtps_report.specs.declared.totals.Totals.{Totals}
 use Rattle.rtps_parts.specs.Parts.{amount, share, words_for, grouped}
@@ -22,11 +23,11 @@ use Rattle.rtps_report.specs.FullReport.{IsTold, ReportValue, facts_with, lost_o
 use Rattle.rtps_report.specs.NoteFacts.{note_facts, scope_of}
 use Rattle.rtps_report.specs.Recording.{RecordingValue}
 use Rattle.rtps_report.specs.Totals.{totals_of}
-use Rattle.rtps_report.specs.RowFacts.{is_clean_tail, is_late, is_noted, is_tail_alone, left_in, outcomes_of, row_from}
+use Rattle.rtps_report.specs.RowFacts.{is_clean_tail, is_noted, is_tail_alone, left_in, outcomes_of, row_from}
 use Rattle.rtps_report.specs.SideFacts.{side_facts}
+use Rattle.rtps_report.specs.LateRows.{is_late_alone, late_rows}
 use Rattle.rtps_report.specs.Silences.{silences_of}
 use Rattle.rtps_report.specs.BestEfforts.{HeldValue, numbers_told}
-use Rattle.rtps_report.specs.declared.best_effort.BestEffortNumbers.{BestEffortNumbers}
 use Rattle.rtps_report.specs.declared.side_facts.SideFacts.{SideFacts}
 use Rattle.rtps_report.specs.declared.silences.Silences.{Silences}
 use Rattle.rtps_evidence.specs.declared.waits.Wait.{Wait}
@@ -34,6 +35,7 @@ use Rattle.rtps_report.specs.declared.advice.Advice.TheVariants.{Tail}
 use Rattle.rtps_report.specs.declared.note_facts.NoteFacts.{NoteFacts}
 use Rattle.rtps_report.specs.declared.order.Order.{Order}
 use Rattle.rtps_lines.specs.Causes.{causes_of, findings_in, last_line}
+use Rattle.rtps_lines.specs.LateNotes.{late_lines}
 use Rattle.rtps_lines.specs.Notes.{NotedValue, joined_names, notes, number_words, talking_names, topic_name}
 use Rattle.rtps_lines.specs.EventText.{event_text}
 use Rattle.rtps_lines.specs.NoPairText.{IsRemedyOf}
@@ -50,6 +52,7 @@ use Rattle.rtps_lines.specs.CheckMembers.{check_members}
 use Rattle.rtps_lines.specs.JsonText.{IsJsonLine, object_of}
 use Rattle.rtps_report.specs.Findings.{ending_as}
 use Rattle.rtps_check.specs.ArrivedText.{AreByTopic as LossyByTopic, is_lossy, lossy_lines}
+use Rattle.rtps_check.specs.DiscoveryText.{lives_block, not_told_block}
 use Rattle.rtps_check.specs.TalkText.{AreByTopic as UnmatchedByTopic, AreLeftByTopic as LeftOutByTopic, ended, one_way_block, unmatched_lines}
 use Rattle.rtps_check.specs.declared.checked_text.Told.{Told}
 use Rattle.rtps_check.specs.declared.sections.RowTelling.{RowTelling}
@@ -309,7 +312,9 @@ noted_beside scope beside rows =
       talk = beside.talk;
       talking = beside.talking;
       left_out = beside.left_out;
-      late = filter (λ row. is_late scope.from row.evidence) rows;
+      late = filter (is_late_alone beside.talk scope.from) rows;
+      matched_late = late_rows beside.talk rows;
+      late_lines = late_lines beside.times (late_rows beside.talk rows);
       tails = filter (λ row. is_clean_tail scope.tail row.evidence) rows;
       rows = rows;
       side = beside.side;
@@ -329,6 +334,10 @@ ending_text scope beside totals rows =
 abbrev pub told_beside : Scope → Beside → RowTold
 told_beside scope beside = record { scope = scope; talk = beside.talk; lost = beside.lost; times = beside.times }
 
+-- who was never told of what, who has two lives, and who talks one way
+abbrev pub discovery_text : Beside → List ℕ
+discovery_text beside = not_told_block beside.talk ++ (lives_block beside.times beside.talk ++ one_way_block beside.talk)
+
 -- the text of what is told, of rows by topic: those that do not match stand by topic, too, and so do those of best effort of which not all
 -- numbers arrived
 pub record IsTextBy (scope : Scope) (beside : Beside) (rows : List ExplanationValue) (text : List ℕ) : Type 0 where
@@ -339,7 +348,7 @@ pub record IsTextBy (scope : Scope) (beside : Beside) (rows : List ExplanationVa
   pub is_text : let totals = totals_of scope rows in text ≡ first_lines totals beside
       ++ (topics_text (told_beside scope beside) beside.events totals rows
       ++ (unmatched_lines beside.talk.ends unmatched
-      ++ (one_way_block beside.talk ++ (lossy_lines beside.talk.ends lossy ++ ending_text scope beside totals rows))))
+      ++ (discovery_text beside ++ (lossy_lines beside.talk.ends lossy ++ ending_text scope beside totals rows))))
 
 -- what the code knows of it, as a value
 abbrev pub beside_value : Told → Beside
@@ -410,5 +419,5 @@ IsCleanWithoutReasons asked scope rows ending = (ending ≡ Clean) ↔ (causes_o
 
 -- Whatever is asked of whatever rows, a run ends clean exactly where it gives no reason. own: a job that ends unclean has to say why.
 abbrev pub TellsWhyUnclean : Type 0
-TellsWhyUnclean = (unmatched : ℕ) (best_effort : BestEffortNumbers) (order : Order) (asked : AskedValue) (unread : Bool) (rows : List ExplanationValue) (counts : Counts) (recording : RecordingValue)
-    → IsCleanWithoutReasons asked (record { from = asked.from; tail = asked.tail; unread = unread }) rows (ending_as asked (facts_with unmatched best_effort order asked rows counts recording))
+TellsWhyUnclean = (talk : TalkFacts) (order : Order) (asked : AskedValue) (unread : Bool) (rows : List ExplanationValue) (counts : Counts) (recording : RecordingValue)
+    → IsCleanWithoutReasons asked (record { from = asked.from; tail = asked.tail; unread = unread }) rows (ending_as asked (facts_with talk order asked rows counts recording))

@@ -1,3 +1,4 @@
 pub mod ArrivedText
 pub mod CheckText
+pub mod DiscoveryText
 pub mod TalkText

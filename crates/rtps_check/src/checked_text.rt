@@ -7,10 +7,12 @@ ghost use Rattle.rtps_parts.specs.Parts.{part_text};
 ghost use Rattle.rtps_report.specs.Asked.{asked_value};
 ghost use Rattle.rtps_report.specs.FullReport.{report_value};
 ghost use Rattle.rtps_report.specs.Talk.{left_out_value, talk_value};
-ghost use Rattle.rtps_check.specs.CheckText.{IsCheckJson, IsCheckText, IsRemedyIn, IsTextBy, arrived_text, beside_value, clean_line as clean_line_lem, clean_lines, ending_text, first_lines, notes_block, told_beside, told_notes as told_notes_lem, topics_text};
+ghost use Rattle.rtps_check.specs.CheckText.{IsCheckJson, IsCheckText, IsRemedyIn, IsTextBy, arrived_text, beside_value, clean_line as clean_line_lem, clean_lines, discovery_text, ending_text, first_lines, notes_block, told_beside, told_notes as told_notes_lem, topics_text};
 
 use crate::arrived_block::push_arrived_block;
 use crate::event_blocks::push_events;
+use crate::lives_block::push_lives_block;
+use crate::not_told_block::push_not_told_block;
 use crate::one_way_block::push_one_way_block;
 use crate::sections::RowTelling;
 use crate::tails::{clean_tails_among, late_among, push_tail_block};
@@ -19,13 +21,13 @@ use crate::unmatched_block::{left_by_topic, push_unmatched_block, unmatched_by_t
 use json::Writer;
 use rtps_evidence::Explanation;
 use rtps_lines::{
-    Judged, LostRows, NotedRows, causes_of, json_line, no_pair_remedy, notes_of,
+    Judged, LostRows, NotedRows, causes_of, json_line, late_lines, no_pair_remedy, notes_of,
     push_check_members, push_last, talking_names,
 };
 use rtps_parts::{Part, Words, render, words_for};
 use rtps_report::{
     Ending, Event, FullReport, LeftOut, NoteFacts, Scope, SideFacts, Talk, Totals, by_topic,
-    events_of, facts_of_side, notes_on, scope_of, topics_of, totals_of,
+    events_of, facts_of_side, late_rows, notes_on, scope_of, topics_of, totals_of,
 };
 use std::alloc::{AllocError, Global};
 
@@ -151,13 +153,17 @@ fn told_notes(alloc: Global, told: &Told<'_, '_>) -> Result<Vec<String>, AllocEr
     ensures { IfOk result (λ notes. map string_bytes notes.items
         ≡ told_notes_lem told.now.scope (beside_value told.now) (map explanation_value told.now.rows.now)) }
 {
-    let late = late_among(alloc, told.rows, told.scope.from)?;
+    let late = late_among(alloc, told.talk, told.scope.from, told.rows)?;
+    let matched_late = late_rows(alloc, told.talk, told.rows)?;
+    let late_lines = late_lines(alloc, &matched_late, told.lost.times)?;
     let tails = clean_tails_among(alloc, told.rows, told.scope.tail)?;
     let rows = NotedRows {
         talk: told.talk,
         talking: told.talking,
         left_out: told.left_out,
         late: &late,
+        matched_late: &matched_late,
+        late_lines: &late_lines,
         tails: &tails,
         rows: told.rows,
         side: told.side,
@@ -187,6 +193,15 @@ fn push_ending(
     push_last(text, judged, &told.ending, &causes)
 }
 
+/// Appends who was never told of what, who has two lives, and who talks one way.
+fn push_discovery(text: &mut String, told: &Told<'_, '_>) -> Result<(), AllocError>
+    ensures { OnOk result (string_bytes text.new ≡ string_bytes text.old ++ discovery_text (beside_value told.now)) }
+{
+    push_not_told_block(text, told.talk)?;
+    push_lives_block(text, told.talk, told.lost.times)?;
+    push_one_way_block(text, told.talk)
+}
+
 fn text_of(alloc: Global, told: &Told<'_, '_>) -> Result<String, AllocError>
     ensures { IfOk result (λ text. IsTextBy told.now.scope (beside_value told.now) (map explanation_value told.now.rows.now) (string_bytes text)) }
 {
@@ -195,7 +210,7 @@ fn text_of(alloc: Global, told: &Told<'_, '_>) -> Result<String, AllocError>
     push_first(&mut text, &totals, told)?;
     push_topics(alloc, &mut text, told, &totals)?;
     push_unmatched_block(alloc, &mut text, told.talk)?;
-    push_one_way_block(&mut text, told.talk)?;
+    push_discovery(&mut text, told)?;
     push_arrived_block(alloc, &mut text, told.talk)?;
     push_ending(alloc, &mut text, told, &totals)?;
     Ok(text)

@@ -1,13 +1,15 @@
 ghost use Rattle.std.specs.Prelude.{◌≡◌, ◌++◌, IfOk, OnOk, filter, map, string_bytes};
 ghost use Rattle.rtps_evidence.specs.Explanation.{explanation_value};
-ghost use Rattle.rtps_report.specs.RowFacts.{is_clean_tail as is_clean_tail_lem, is_late as is_late_lem};
+ghost use Rattle.rtps_report.specs.RowFacts.{is_clean_tail as is_clean_tail_lem};
+ghost use Rattle.rtps_report.specs.LateRows.{is_late_alone as is_late_alone_lem};
+ghost use Rattle.rtps_report.specs.Talk.{talk_value};
 ghost use Rattle.rtps_check.specs.CheckText.{lacks_tail_alone, row_told, tail_block, tails_text};
 
 use crate::sections::RowTelling;
 use rtps_evidence::Explanation;
 use rtps_lines::{longest_tail, names_of, number_words, push_field};
 use rtps_parts::{Part, Words, render};
-use rtps_report::{Advice, is_clean_tail, is_late, is_tail_alone};
+use rtps_report::{Advice, Talk, is_clean_tail, is_late_alone, is_tail_alone};
 use std::alloc::{AllocError, Global};
 
 fn tails_among<'a>(
@@ -26,17 +28,18 @@ fn tails_among<'a>(
     Ok(alone)
 }
 
-/// Those of these rows before which all numbers stand that their writer announced.
+/// Those of these rows before which all numbers stand that their writer announced, and whose two did not match late.
 pub(crate) fn late_among<'a>(
     alloc: Global,
-    rows: &[Explanation<'a>],
+    talk: &Talk<'_>,
     from: u64,
+    rows: &[Explanation<'a>],
 ) -> Result<Vec<Explanation<'a>>, AllocError>
-    ensures { IfOk result (λ late. map explanation_value late.items ≡ filter (λ row. is_late_lem from row.evidence) (map explanation_value rows.now)) }
+    ensures { IfOk result (λ late. map explanation_value late.items ≡ filter (is_late_alone_lem (talk_value talk.now) from) (map explanation_value rows.now)) }
 {
     let mut late = Vec::new(alloc);
     for row in rows {
-        if is_late(from, &row.evidence) {
+        if is_late_alone(talk, from, row) {
             late.push(*row)?;
         }
     }

@@ -6,4 +6,7 @@ mod BirthLemmas
 mod KnownLemmas
 mod LackingLemmas
 mod UntoldLemmas
+mod TrailLemmas
+mod SpreadLemmas
+mod MatchLemmas
 mod LawLemmas

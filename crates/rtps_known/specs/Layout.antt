@@ -21,6 +21,6 @@ status_is = (status.PID ≡ 0x0071) × (status.SIZE ≡ 4) × (status.FLAGS ≡ 
 abbrev pub vendor_is : Type 0
 vendor_is = (vendor.CYCLONE.0 ≡ 0x01 ∷ 0x10 ∷ []) × (vendor.FAST.0 ≡ 0x01 ∷ 0x0f ∷ [])
 
--- a second in nanoseconds, and what is past all numbers
+-- a second and a tenth of one in nanoseconds, and what is past all numbers
 abbrev pub bounds_are : Type 0
-bounds_are = (layout.GRACE ≡ 1000000000) × (layout.END ≡ 2 ^ 63)
+bounds_are = (layout.GRACE ≡ 1000000000) × (layout.NEAR ≡ 100000000) × (layout.END ≡ 2 ^ 63)

@@ -8,3 +8,8 @@ pub mod Recorded
 pub mod Lacking
 pub mod Untold
 pub mod Laws
+pub mod Places
+pub mod Learning
+pub mod Trails
+pub mod Spreads
+pub mod Matched

@@ -45,5 +45,8 @@ pub(crate) mod vendor {
 /// What is told so long before somebody is gone counts: a second, in nanoseconds.
 pub(crate) const GRACE: u64 = 1_000_000_000;
 
+/// A clock fits that is no further away than this: 0.1 s, in nanoseconds.
+pub(crate) const NEAR: u64 = 100_000_000;
+
 /// All numbers are below this one.
 pub(crate) const END: u64 = 0x8000_0000_0000_0000;

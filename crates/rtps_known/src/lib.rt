@@ -3,16 +3,24 @@
 #![tactic(auto)]
 
 mod bulletin;
+mod issue;
 mod known;
 mod lacking;
 pub mod laws;
 mod layout;
 mod life;
+mod matches;
+mod place;
+mod spread;
+mod step;
 mod telling;
+mod trail;
 mod untold;
 mod visit;
 
 pub use known::Known;
 pub use life::Life;
+pub use matches::{Matched, Matches};
+pub use place::Place;
 pub use untold::Untold;
 pub use visit::Visit;

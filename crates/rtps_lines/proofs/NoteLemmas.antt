@@ -11,6 +11,7 @@ use Rattle.rtps_policies.specs.declared.silence.Silence.{Silence}
 use Rattle.rtps_report.specs.BestEfforts.{BestEffortValue}
 use Rattle.rtps_report.specs.Talk.{LeftOutValue, left_out_value}
 use Rattle.rtps_report.specs.declared.talk.LeftOut.{LeftOut}
+use Rattle.rtps_lines.specs.LateNotes.{late_remedy, matched_note}
 use Rattle.rtps_lines.specs.Notes.{best_effort_note, best_effort_remedy, left_names, left_out_by, name_behind, names_behind, silent_by, talking_behind, talking_text}
 
 -- a note is told where there is some of it
@@ -72,3 +73,16 @@ best_effort_told arrow shares word total pairs remedy d e some count words text 
     let last : texts ≡ best_effort_remedy arrow total ++ [] = two_texts remedy d e both ∙ text ∙ sym (append-nil (best_effort_remedy arrow total)) in
     ap (λ n. told n word texts) count ∙ ap (λ w. told total.pairs w texts) words ∙ ap (told total.pairs (words_for total.numbers numbers)) last
     ∙ sym (ap (λ (none : Bool). if none then [] else told total.pairs (words_for total.numbers numbers) (best_effort_remedy arrow total ++ [])) (ne_eqb total.pairs 0 some))
+
+-- ---- pairs that matched late
+
+pub matched_told : (arrow lines : List ℕ) (pairs before : ℕ) (remedy : List Part) (d e : Part) → (pairs ≡ 0 → ⊥) → flat_map part_text remedy ≡ late_remedy arrow before → length remedy ≡ 2
+    → (amount pairs (record { one = codes "pair matched late"; many = codes "pairs matched late" })
+    ++ (lines ++ (part_text (get_or remedy 0 d) ++ (part_text (get_or remedy 1 e) ++ [])))) ∷ []
+    ≡ matched_note arrow pairs before lines
+matched_told arrow lines pairs before remedy d e some text both =
+    let names : WordsValue = record { one = codes "pair matched late"; many = codes "pairs matched late" } in
+    let told : List ℕ → List (List ℕ) = λ last. (amount pairs names ++ (lines ++ last)) ∷ [] in
+    let texts : List ℕ = part_text (get_or remedy 0 d) ++ (part_text (get_or remedy 1 e) ++ []) in
+    let last : texts ≡ late_remedy arrow before ++ [] = two_texts remedy d e both ∙ text ∙ sym (append-nil (late_remedy arrow before)) in
+    ap told last ∙ some_note pairs (amount pairs names ++ (lines ++ (late_remedy arrow before ++ []))) some

@@ -7,6 +7,7 @@ use Rattle.rtps_report.specs.Asked.{AskedValue}
 use Rattle.rtps_report.specs.Events.{events_by}
 use Rattle.rtps_report.specs.FullReport.{ReportValue}
 use Rattle.rtps_report.specs.Laws.{AreSame}
+use Rattle.rtps_report.specs.LateRows.{late_rows}
 use Rattle.rtps_report.specs.NoteFacts.{facts_by, is_unread}
 use Rattle.rtps_report.specs.Recording.{RecordingValue}
 use Rattle.rtps_report.specs.SideFacts.{facts_if}
@@ -17,6 +18,7 @@ use Rattle.rtps_report.specs.declared.findings.Ending.{Ending}
 use Rattle.rtps_report.specs.declared.order.Order.{Order}
 use Rattle.rtps_lines.specs.Causes.{causes_of, findings_in}
 use Rattle.rtps_lines.specs.CheckMembers.{check_members, last_members, status_members}
+use Rattle.rtps_lines.specs.DiscoveryMembers.{discovery_members}
 use Rattle.rtps_lines.specs.EventMembers.{events_member}
 use Rattle.rtps_lines.specs.JsonText.{Member, rows_members}
 use Rattle.rtps_lines.specs.Notes.{notes}
@@ -30,9 +32,21 @@ members_with asked recording arrived order ending counts rows lost talk =
     status_members ending (causes_of asked.certain (totals_of scope rows) (findings_in ending))
     ++ (rows_members (Some (record { scope = scope; talk = talk; lost = lost; times = recording.times; has_other = is_some arrived })) rows counts recording
     ++ ((unmatched_member talk.unmatched ∷ talking_member talk.talking ∷ unobserved_member talk.silence talk.left_out ∷ one_way_member talk.one_way
-    ∷ best_effort_member talk.best_effort ∷ (held_members (is_some arrived) talk.held ++ participants_member recording.times talk ∷ []))
-    ++ last_members (is_some arrived) order.wrong (events_member recording.times talk (events_by asked talk lost rows)) (notes (codes " -> ") (facts_by rows scope counts recording)
-    (record { talk = talk; talking = []; left_out = talk.left_out; late = []; tails = []; rows = []; side = facts_if rows order arrived; named = false }))))
+    ∷ (discovery_members recording.times talk (late_rows talk rows)
+    ++ best_effort_member talk.best_effort ∷ (held_members (is_some arrived) talk.held ++ participants_member recording.times talk ∷ [])))
+    ++ last_members (is_some arrived) order.wrong (events_member recording.times talk (events_by asked talk lost rows)) (notes (codes " -> ") (facts_by talk rows scope counts recording)
+    (record {
+      talk = talk;
+      talking = [];
+      left_out = talk.left_out;
+      late = [];
+      matched_late = late_rows talk rows;
+      late_lines = [];
+      tails = [];
+      rows = [];
+      side = facts_if rows order arrived;
+      named = false;
+    }))))
 
 -- a report of which all this is the same has the same members
 pub same_members : (asked : AskedValue) (recording : RecordingValue) (one other : ReportValue) → AreSame one other → check_members asked recording one ≡ check_members asked recording other

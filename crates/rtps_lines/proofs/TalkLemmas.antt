@@ -6,7 +6,7 @@ use Rattle.std.specs.List.{flat_map}
 use Rattle.json.specs.Json.{Json, boolean, string}
 use Rattle.json.specs.Token.{Token, begin_array, end_array}
 use Rattle.json.specs.Tree.{depth, json_tokens, members_depth}
-use Rattle.rtps_evidence.specs.Times.{TimesValue, are_there}
+use Rattle.rtps_evidence.specs.Times.{TimesValue, are_there, seconds_of}
 use Rattle.rtps_policies.specs.Fitting.{ProfileValue}
 use Rattle.rtps_policies.specs.PolicyText.{policy_name}
 use Rattle.rtps_policies.specs.Unmatched.{UnmatchedValue}
@@ -14,16 +14,21 @@ use Rattle.rtps_policies.specs.declared.fitting.Policy.{Policy}
 use Rattle.rtps_policies.specs.declared.host.Address.{Address}
 use Rattle.rtps_evidence.specs.FirstNumbers.{numbers_of}
 use Rattle.rtps_report.specs.BestEfforts.{HeldValue}
-use Rattle.rtps_report.specs.FullReport.{ReportValue}
+use Rattle.rtps_report.specs.FullReport.{ReportValue, rows_of}
+use Rattle.rtps_report.specs.LateRows.{LateRowValue, late_rows}
+use Rattle.rtps_parts.specs.Names.{guid_text}
+use Rattle.rtps_report.specs.NotTold.{NotToldValue, TopicEndValue}
 use Rattle.rtps_report.specs.Talk.{LeftOutValue, TalkValue}
+use Rattle.rtps_report.specs.declared.two_lives.TwoLives.{TwoLives}
 use Rattle.rtps_who.specs.Processes.{ProcessValue}
+use Rattle.rtps_lines.specs.DiscoveryMembers.{discovery_members, ends_json, late_json, lives_json, not_told_json, sent_second}
 use Rattle.rtps_lines.specs.EndMembers.{known_json, nodes_member, process_members}
 use Rattle.rtps_report.specs.declared.participant.Participant.{Participant}
 use Rattle.rtps_lines.specs.JsonText.{Member, array_of, frame_at, members_of, node_json, second_at, second_json, timed_members, tokens_of, tokens_of_member, until_json}
 use Rattle.rtps_lines.specs.PolicyValues.{value_text}
-use Rattle.rtps_lines.specs.TalkMembers.{address_json, best_effort_json, first_of, held_json, held_members, last_of, named_members, one_way_json, participant_json, participants_member, placed_members, reasons_json, stay_times, talk_members, talking_json, unmatched_json, unobserved_json, values_json}
+use Rattle.rtps_lines.specs.TalkMembers.{address_json, best_effort_json, best_effort_member, first_of, held_json, held_members, last_of, named_members, one_way_json, participant_json, participants_member, placed_members, reasons_json, stay_times, talk_members, talking_json, unmatched_json, unobserved_json, values_json}
 use Rattle.rtps_lines.specs.declared.policy_values.Naming.TheVariants.{Dds}
-use Rattle.rtps_lines.proofs.JsonLemmas.{items_within, joined, mapped_tokens, numbers_within, second_within, timed_within}
+use Rattle.rtps_lines.proofs.JsonLemmas.{items_within, joined, mapped_tokens, numbers_within, place_within, second_within, timed_within}
 use Rattle.rtps_lines.proofs.PartLemmas.{four_parts}
 
 -- ---- tokens
@@ -49,13 +54,15 @@ views_written {X} {Y} {one} {two} f g xs taken start name all first second third
 pub three_tokens : (a b c : Member) → tokens_of_member a ++ (tokens_of_member b ++ tokens_of_member c) ≡ tokens_of (a ∷ b ∷ c ∷ [])
 three_tokens a b c = ap (λ last. tokens_of_member a ++ (tokens_of_member b ++ last)) (sym (append-nil (tokens_of_member c)))
 
--- four members, some others, and a last one
-pub seven_tokens : (a b c d e : Member) (others : List Member) (last : Member)
-    → tokens_of_member a ++ (tokens_of_member b ++ (tokens_of_member c ++ (tokens_of_member d ++ (tokens_of_member e ++ (tokens_of others ++ tokens_of_member last)))))
-    ≡ tokens_of (a ∷ b ∷ c ∷ d ∷ e ∷ (others ++ last ∷ []))
-seven_tokens a b c d e others last =
-    ap (λ (rest : List Token). tokens_of_member a ++ (tokens_of_member b ++ (tokens_of_member c ++ (tokens_of_member d ++ (tokens_of_member e ++ rest)))))
+-- four members, some more, one, some others, and a last one
+pub eight_tokens : (a b c d : Member) (more : List Member) (e : Member) (others : List Member) (last : Member)
+    → tokens_of_member a ++ (tokens_of_member b ++ (tokens_of_member c ++ (tokens_of_member d ++ (tokens_of more ++ (tokens_of_member e ++ (tokens_of others ++ tokens_of_member last))))))
+    ≡ tokens_of (a ∷ b ∷ c ∷ d ∷ (more ++ e ∷ (others ++ last ∷ [])))
+eight_tokens a b c d more e others last =
+    ap (λ (rest : List Token). tokens_of_member a ++ (tokens_of_member b ++ (tokens_of_member c ++ (tokens_of_member d ++ rest))))
+    (ap (λ (end : List Token). tokens_of more ++ (tokens_of_member e ++ end))
     (ap (λ (end : List Token). tokens_of others ++ end) (sym (append-nil (tokens_of_member last))) ∙ sym (flat_map-append tokens_of_member others (last ∷ [])))
+    ∙ sym (flat_map-append tokens_of_member more (e ∷ (others ++ last ∷ []))))
 
 -- ---- depth
 
@@ -138,8 +145,36 @@ held_within : (has_other : Bool) (held : List HeldValue) → members_depth (memb
 held_within true held = omega (arith, items_within held_json 2 held (λ one. omega (arith, numbers_within (numbers_of one.arrived.lacking))))
 held_within false held = omega arith
 
+guids_within : (ends : List TopicEndValue) → depth (ends_json ends) ≤ 1
+guids_within ends = omega (arith, items_within (λ (end : TopicEndValue). string (guid_text end.guid)) 0 ends (λ end. omega arith))
+
+not_told_within : (one : NotToldValue) → depth (not_told_json one) ≤ 2
+not_told_within one = omega (arith, guids_within one.writers, guids_within one.readers)
+
+lives_within : (talk : TalkValue) (times : TimesValue) (one : TwoLives) → depth (lives_json talk times one) ≤ 2
+lives_within talk times one =
+    omega (
+      arith,
+      address_within (talk.ends one.participant).address,
+      second_within (Some (sent_second times one.sent.0)),
+      second_within (Some (sent_second times one.sent.1)),
+    )
+
+late_within : (times : TimesValue) (one : LateRowValue) → depth (late_json times one) ≤ 2
+late_within times one = omega (arith, second_within (Some (seconds_of one.late.delay)), place_within times (Some one.late.place))
+
+discovery_within : (times : TimesValue) (talk : TalkValue) (late : List LateRowValue) → members_depth (members_of (discovery_members times talk late)) ≤ 3
+discovery_within times talk late =
+    omega (
+      arith,
+      items_within not_told_json 2 talk.not_told not_told_within,
+      items_within (late_json times) 2 late (late_within times),
+      items_within (lives_json talk times) 2 talk.lives (lives_within talk times),
+    )
+
 pub talk_depth : (times : TimesValue) (report : ReportValue) → members_depth (members_of (talk_members times report)) ≤ 3
 talk_depth times report =
+    let late = late_rows report.talk (rows_of report) in
     let unmatched = items_within unmatched_json 2 report.talk.unmatched unmatched_within in
     let talking = items_within talking_json 2 report.talk.talking talking_within in
     let left_out = items_within (λ (one : LeftOutValue). unobserved_json (report.talk.silence one.pair) one) 1 report.talk.left_out (λ one. omega arith) in
@@ -148,4 +183,7 @@ talk_depth times report =
     let participants = items_within (participant_json report.talk times) 2 report.talk.participants (participant_within report.talk times) in
     let held = held_members (is_some report.arrived) report.talk.held in
     let end = joined 3 held (participants_member times report.talk ∷ []) (held_within (is_some report.arrived) report.talk.held) (omega (arith, participants)) in
-    omega (arith, unmatched, talking, left_out, one_way, sums, end)
+    let rest =
+    joined 3 (discovery_members times report.talk late) (best_effort_member report.talk.best_effort ∷ (held ++ participants_member times report.talk ∷ [])) (discovery_within times report.talk late)
+    (omega (arith, sums, end)) in
+    omega (arith, unmatched, talking, left_out, one_way, rest)

@@ -9,6 +9,7 @@ use Rattle.rtps_report.specs.declared.findings.Ending.TheVariants.{Clean, Unmet}
 use Rattle.rtps_report.specs.declared.findings.Ending.{Ending}
 use Rattle.rtps_report.specs.declared.findings.FewRows.{FewRows}
 use Rattle.rtps_report.specs.declared.findings.Findings.{Findings}
+use Rattle.rtps_report.specs.declared.not_told.NotToldCounts.{NotToldCounts}
 use Rattle.rtps_report.specs.declared.totals.Totals.{Totals}
 use Rattle.rtps_report.specs.declared.recording.Links.{Links as LinksFound}
 use Rattle.rtps_lines.specs.Notes.{detail_of, pair_words, words_of}
@@ -109,12 +110,34 @@ unread_causes findings =
 abbrev pub order_causes : Findings → List (List ℕ)
 order_causes findings = swapped_cause findings.swapped ++ twice_cause findings.twice
 
+-- the words for participants that were not told of something
+abbrev pub told_words : WordsValue
+told_words = record { one = codes "participant was not told of "; many = codes "participants were not told of " }
+
+-- for endpoints
+abbrev pub endpoint_words : WordsValue
+endpoint_words = record { one = codes "endpoint"; many = codes "endpoints" }
+
+-- for participants with two lives
+abbrev pub lives_words : WordsValue
+lives_words = record { one = codes "participant has two lives under one GUID"; many = codes "participants have two lives under one GUID" }
+
+-- so many participants were not told of so many endpoints
+abbrev pub not_told_cause : NotToldCounts → List (List ℕ)
+not_told_cause counts =
+    if counts.participants == 0 then [] else concat (amount counts.participants told_words ∷ amount counts.endpoints endpoint_words ∷ []) ∷ []
+
+-- what discovery did not tell, and who has two lives
+abbrev pub discovery_causes : Findings → List (List ℕ)
+discovery_causes findings = not_told_cause findings.not_told ++ cause findings.lives lives_words
+
 -- all of them, for rows of which this is counted, where each number has to be certain or not
 abbrev pub causes_of : Bool → Totals → Findings → List (List ℕ)
 causes_of certain totals findings =
     empty_cause findings.empty
     ++ (row_causes totals certain
-    ++ (cause findings.unmatched unmatched_words ++ (order_causes findings ++ (lossy_cause findings.lossy ++ (few_cause findings.few ++ unread_causes findings)))))
+    ++ (cause findings.unmatched unmatched_words
+    ++ (discovery_causes findings ++ (order_causes findings ++ (lossy_cause findings.lossy ++ (few_cause findings.few ++ unread_causes findings))))))
 
 -- the words for all numbers, of which so many are received for certain
 abbrev pub certain_words : WordsValue

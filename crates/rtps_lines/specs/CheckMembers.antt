@@ -5,6 +5,7 @@ use Rattle.json.specs.Json.{string}
 use Rattle.rtps_report.specs.BestEfforts.{numbers_told}
 use Rattle.rtps_report.specs.Events.{events_of}
 use Rattle.rtps_report.specs.FullReport.{AskedValue, RecordingValue, ReportValue, lost_of, rows_of}
+use Rattle.rtps_report.specs.LateRows.{late_rows}
 use Rattle.rtps_report.specs.NoteFacts.{note_facts, scope_of}
 use Rattle.rtps_report.specs.SideFacts.{side_facts}
 use Rattle.rtps_report.specs.Totals.{totals_of}
@@ -57,7 +58,18 @@ report_last asked recording report =
 -- of what the notes of a report tell, where topics are not named
 abbrev pub noted_of : ReportValue → NotedValue
 noted_of report =
-    record { talk = report.talk; talking = []; left_out = report.talk.left_out; late = []; tails = []; rows = []; side = side_facts report; named = false }
+    record {
+      talk = report.talk;
+      talking = [];
+      left_out = report.talk.left_out;
+      late = [];
+      matched_late = late_rows report.talk (rows_of report);
+      late_lines = [];
+      tails = [];
+      rows = [];
+      side = side_facts report;
+      named = false;
+    }
 
 -- what weakens it
 abbrev pub report_notes : AskedValue → RecordingValue → ReportValue → List (List ℕ)

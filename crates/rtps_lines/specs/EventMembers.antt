@@ -16,6 +16,7 @@ abbrev pub name_by : Option GuidPrefix → List ℕ
 name_by None = codes "silent"
 name_by (Some second) = codes "between"
 
+-- that of an event with this key
 abbrev pub event_name : EventKey → List ℕ
 event_name key = name_by key.second
 

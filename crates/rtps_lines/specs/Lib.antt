@@ -1,9 +1,12 @@
 pub mod Causes
+pub mod AddressMembers
 pub mod CheckMembers
+pub mod DiscoveryMembers
 pub mod EventMembers
 pub mod EventText
 pub mod JsonText
 pub mod NoPairText
+pub mod LateNotes
 pub mod Lines
 pub mod EndText
 pub mod Notes

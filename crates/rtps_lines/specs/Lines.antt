@@ -16,6 +16,7 @@ use Rattle.rtps_evidence.specs.declared.waits.Wait.{Wait}
 use Rattle.rtps_evidence.specs.Times.{TimesValue, frame_of, second_of, seconds_of, time_of}
 use Rattle.rtps_report.specs.Advice.{ended_in, sentence_of}
 use Rattle.rtps_report.specs.declared.advice.Advice.{Advice}
+use Rattle.rtps_report.specs.declared.advice.Advice.TheVariants.{NotAnnounced}
 use Rattle.rtps_report.specs.declared.silences.Silences.{Silences}
 use Rattle.rtps_discovery.specs.declared.endpoint.Side.{Side}
 use Rattle.rtps_discovery.specs.declared.endpoint.Side.TheVariants.{Writer, Reader}
@@ -172,6 +173,11 @@ at_second (Some second) = codes " at " ++ (seconds_text second ++ codes " s")
 abbrev pub ended_text : TimesValue → Option ℕ → List ℕ
 ended_text times None = []
 ended_text times (Some datagram) = at_second (second_in times datagram)
+
+-- what to do where a participant was not told of endpoints of another: nothing comes back from this address, if there is one
+unfoldable pub not_told_advice : Option Address → List ℕ
+not_told_advice None = sentence_of NotAnnounced
+not_told_advice (Some address) = codes "nothing comes back from " ++ (address_text address ++ codes ": a firewall, or another interface")
 
 -- what to do for a pair, in one sentence
 abbrev pub advice_text : TimesValue → Advice → List ℕ

@@ -13,7 +13,7 @@ use Rattle.rtps_report.specs.Recording.{RecordingValue}
 use Rattle.rtps_report.specs.Talk.{TalkValue}
 use Rattle.rtps_report.specs.declared.no_pair.InDomain.{InDomain}
 use Rattle.rtps_report.specs.declared.no_pair.NoPair.{NoPair}
-use Rattle.rtps_report.specs.declared.no_pair.NoPair.TheVariants.{Counted, NoRtps, Early, NoParticipant, OneHost, SharedMemory, TwoDomains, OneWay, Unmatched, LeftOut, BestEffort, OneSide, Unknown}
+use Rattle.rtps_report.specs.declared.no_pair.NoPair.TheVariants.{Counted, NoRtps, Early, NoParticipant, OneHost, SharedMemory, TwoDomains, NotTold, OneWay, Unmatched, LeftOut, BestEffort, OneSide, Unknown}
 use Rattle.rtps_lines.specs.EventText.{called}
 
 -- the words for participants that speak before they are announced
@@ -75,6 +75,7 @@ cause_sentence NoParticipant = codes "no participant is announced"
 cause_sentence SharedMemory = codes "both ends are on this host and use shared memory, which no capture has"
 cause_sentence OneHost = codes "nothing of another host is in this recording"
 cause_sentence (TwoDomains one other) = []
+cause_sentence NotTold = codes "discovery is not complete: see below who was never told of what"
 cause_sentence OneWay = codes "see below which participants never answer"
 cause_sentence Unmatched = codes "see below which writers and readers do not match"
 cause_sentence LeftOut = codes "record where the datagrams of the readers and the writers pass, and switch off shared memory"

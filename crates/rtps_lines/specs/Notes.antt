@@ -9,6 +9,7 @@ use Rattle.rtps_discovery.specs.declared.matching.Pair.{Pair}
 use Rattle.rtps_policies.specs.declared.silence.Silence.{Silence}
 use Rattle.rtps_policies.specs.declared.silence.Silence.TheVariants.{OneParticipant, TwoDomains, OneWay, Silent}
 use Rattle.rtps_report.specs.BestEfforts.{BestEffortValue}
+use Rattle.rtps_report.specs.LateRows.{LateRowValue, late_row_value}
 use Rattle.rtps_report.specs.Participants.{are_on_one_host}
 use Rattle.rtps_report.specs.RowFacts.{absent_in, way_in}
 use Rattle.rtps_report.specs.Talk.{LeftOutValue, TalkValue, left_out_value, talk_value}
@@ -18,6 +19,7 @@ use Rattle.rtps_report.specs.declared.participant.Participant.{Participant}
 use Rattle.rtps_report.specs.ByTopic.{topics_of}
 use Rattle.rtps_report.specs.declared.note_facts.NoteFacts.{NoteFacts}
 use Rattle.rtps_report.specs.declared.side_facts.SideFacts.{SideFacts}
+use Rattle.rtps_lines.specs.LateNotes.{matched_note}
 use Rattle.rtps_lines.specs.Lines.{seconds_text}
 use Rattle.rtps_lines.specs.PolicyValues.{policy_words}
 use Rattle.rtps_lines.specs.TailNames.{tail_names}
@@ -303,13 +305,15 @@ unread_there side =
 
 -- ---- all of them
 
--- of what notes tell: who does not talk, the names of those that talk though they do not match, the pairs that are left out, the rows whose writer wrote nothing since their reader joined, those
--- that are clean with a tail, and all rows, each by topic; what another recording shows, if there is one; and whether topics are named
+-- of what notes tell: who does not talk, the names of those that talk though they do not match, the pairs that are left out, the rows whose writer wrote nothing since their reader joined and
+-- whose two did not match late, those whose two matched late, the lines of these, those that are clean with a tail, and all rows, each by topic; what another recording shows, if there is one; and whether topics are named
 pub record NotedValue : Type 0 where
   pub talk : TalkValue
   pub talking : List ℕ
   pub left_out : List LeftOutValue
   pub late : List ExplanationValue
+  pub matched_late : List LateRowValue
+  pub late_lines : List ℕ
   pub tails : List ExplanationValue
   pub rows : List ExplanationValue
   pub side : Option SideFacts
@@ -323,6 +327,8 @@ noted_value rows =
       talking = rows.talking.now;
       left_out = map left_out_value rows.left_out.now;
       late = map explanation_value rows.late.now;
+      matched_late = map late_row_value rows.matched_late.now;
+      late_lines = rows.late_lines.now;
       tails = map explanation_value rows.tails.now;
       rows = map explanation_value rows.rows.now;
       side = rows.side;
@@ -350,4 +356,6 @@ notes arrow facts noted =
     ++ (left_out_notes noted.named noted.talk.silence noted.left_out
     ++ (best_effort_note arrow noted.talk.best_effort_total (shares_if noted.named noted.talk.best_effort)
     ++ (side_notes arrow noted noted.side
-    ++ (late_note arrow facts.late (names_if noted.named noted.late) ++ (tail_note facts (tail_names_if noted.named noted.tails) ++ flat_map (note arrow) (weaknesses facts))))))))
+    ++ (late_note arrow facts.late (names_if noted.named noted.late)
+    ++ (matched_note arrow (length noted.matched_late) facts.late_before noted.late_lines
+    ++ (tail_note facts (tail_names_if noted.named noted.tails) ++ flat_map (note arrow) (weaknesses facts)))))))))

@@ -7,20 +7,21 @@ use Rattle.rtps_discovery.specs.declared.matching.Pair.{Pair}
 use Rattle.rtps_evidence.specs.FirstNumbers.{numbers_of}
 use Rattle.rtps_evidence.specs.Times.{TimesValue}
 use Rattle.rtps_parts.specs.Names.{guid_text}
-use Rattle.rtps_policies.specs.AddressText.{address_text}
 use Rattle.rtps_policies.specs.Announcing.{participant_of}
 use Rattle.rtps_policies.specs.Fitting.{ProfileValue}
 use Rattle.rtps_policies.specs.PolicyText.{policy_name}
 use Rattle.rtps_policies.specs.Unmatched.{UnmatchedValue}
 use Rattle.rtps_policies.specs.declared.fitting.Policy.{Policy}
-use Rattle.rtps_policies.specs.declared.host.Address.{Address}
 use Rattle.rtps_policies.specs.declared.one_way.OneWay.{OneWay}
 use Rattle.rtps_policies.specs.declared.silence.Silence.{Silence}
 use Rattle.rtps_policies.specs.declared.silence.Silence.TheVariants as silence
 use Rattle.rtps_report.specs.BestEfforts.{BestEffortValue, HeldValue}
-use Rattle.rtps_report.specs.FullReport.{ReportValue}
+use Rattle.rtps_report.specs.LateRows.{late_rows}
+use Rattle.rtps_report.specs.FullReport.{ReportValue, rows_of}
 use Rattle.rtps_report.specs.Talk.{LeftOutValue, TalkValue}
 use Rattle.rtps_report.specs.declared.participant.Participant.{Participant}
+pub use Rattle.rtps_lines.specs.AddressMembers.{address_json}
+use Rattle.rtps_lines.specs.DiscoveryMembers.{discovery_members}
 use Rattle.rtps_lines.specs.EndMembers.{nodes_member, process_members}
 use Rattle.rtps_lines.specs.JsonText.{Member, array_of, count_json, frame_member, name_json, numbers_json, object_of, second_member, timed_members, until_json}
 use Rattle.rtps_lines.specs.PolicyValues.{value_text}
@@ -106,11 +107,6 @@ held_member held = (codes "arrived", array_of (map held_json held))
 abbrev pub held_members : Bool → List HeldValue → List Member
 held_members has_other held = if has_other then held_member held ∷ [] else []
 
--- an address, or null
-abbrev pub address_json : Option Address → Json
-address_json None = null
-address_json (Some address) = string (address_text address)
-
 -- from which datagram on there is something of a participant
 abbrev pub first_of : Participant → Option ℕ
 first_of participant = option_map (λ stay. stay.first) participant.stay
@@ -154,4 +150,5 @@ participants_member times talk = (codes "participants", array_of (map (participa
 abbrev pub talk_members : TimesValue → ReportValue → List Member
 talk_members times report =
     unmatched_member report.talk.unmatched ∷ talking_member report.talk.talking ∷ unobserved_member report.talk.silence report.talk.left_out ∷ one_way_member report.talk.one_way
-    ∷ best_effort_member report.talk.best_effort ∷ (held_members (is_some report.arrived) report.talk.held ++ participants_member times report.talk ∷ [])
+    ∷ (discovery_members times report.talk (late_rows report.talk (rows_of report))
+    ++ best_effort_member report.talk.best_effort ∷ (held_members (is_some report.arrived) report.talk.held ++ participants_member times report.talk ∷ []))

@@ -1,12 +1,12 @@
 ghost use Rattle.std.specs.Prelude.{◌≡◌, ◌++◌, OnOk, IfOk, flat_map, map};
 ghost use Rattle.std.specs.String.{string_bytes};
 ghost use Rattle.rtps_parts.specs.Parts.{part_text, words_value};
-ghost use Rattle.rtps_lines.specs.Causes.{best_effort_text, cause, certain_detail, certain_words as certain_words_lem, causes_of as causes_of_lem, clean_detail, empty_cause, few_cause, findings_in as findings_in_lem, incomplete_words as incomplete_words_lem, last_line, links_cause, lossy_cause, lost_cause, lost_words as lost_words_lem, missed_words as missed_words_lem, order_causes, row_causes, unanswered_words as unanswered_words_lem, uncertain_of as uncertain_of_lem, uncertain_words as uncertain_words_lem, unmatched_words as unmatched_words_lem, unread_causes, unsent_words as unsent_words_lem};
+ghost use Rattle.rtps_lines.specs.Causes.{best_effort_text, cause, certain_detail, certain_words as certain_words_lem, causes_of as causes_of_lem, clean_detail, discovery_causes, empty_cause, endpoint_words as endpoint_words_lem, few_cause, findings_in as findings_in_lem, incomplete_words as incomplete_words_lem, last_line, links_cause, lives_words as lives_words_lem, lossy_cause, lost_cause, lost_words as lost_words_lem, missed_words as missed_words_lem, not_told_cause, order_causes, row_causes, told_words as told_words_lem, unanswered_words as unanswered_words_lem, uncertain_of as uncertain_of_lem, uncertain_words as uncertain_words_lem, unmatched_words as unmatched_words_lem, unread_causes, unsent_words as unsent_words_lem};
 
 use crate::notes::{Weakness, pair_words};
 use crate::way_notes::{push_swapped_cause, push_twice_cause};
 use rtps_parts::{Part, Words, push_joined, push_rendered, render, words_for};
-use rtps_report::{BestEffortNumbers, Ending, FewRows, Findings, Links, Totals};
+use rtps_report::{BestEffortNumbers, Ending, FewRows, Findings, Links, NotToldCounts, Totals};
 use std::alloc::{AllocError, Global};
 
 fn findings_in(ending: &Ending) -> Findings
@@ -201,6 +201,64 @@ pub fn unmatched_words() -> Words
     }
 }
 
+fn told_words() -> Words
+    ensures { words_value result ≡ told_words_lem }
+{
+    Words {
+        one: "participant was not told of ",
+        many: "participants were not told of ",
+    }
+}
+
+/// The words for endpoints.
+pub fn endpoint_words() -> Words
+    ensures { words_value result ≡ endpoint_words_lem }
+{
+    Words {
+        one: "endpoint",
+        many: "endpoints",
+    }
+}
+
+/// The words for participants with two lives.
+pub fn lives_words() -> Words
+    ensures { words_value result ≡ lives_words_lem }
+{
+    Words {
+        one: "participant has two lives under one GUID",
+        many: "participants have two lives under one GUID",
+    }
+}
+
+fn push_not_told(
+    alloc: Global,
+    causes: &mut Vec<String>,
+    counts: NotToldCounts,
+) -> Result<(), AllocError>
+    ensures { OnOk result (map string_bytes causes.new.items ≡ map string_bytes causes.old.items ++ not_told_cause counts) }
+{
+    if counts.participants == 0 {
+        return Ok(());
+    }
+    let parts = [
+        Part::Amount(u128::from(counts.participants), told_words()),
+        Part::Amount(counts.endpoints, endpoint_words()),
+    ];
+    push_rendered(alloc, causes, &parts)
+}
+
+/// Appends what discovery did not tell, and who has two lives.
+fn push_discovery(
+    alloc: Global,
+    causes: &mut Vec<String>,
+    found: &Findings,
+) -> Result<(), AllocError>
+    ensures { OnOk result (map string_bytes causes.new.items ≡ map string_bytes causes.old.items ++ discovery_causes found.now) }
+{
+    push_not_told(alloc, causes, found.not_told)?;
+    push_cause(alloc, causes, u128::from(found.lives), lives_words())
+}
+
 fn push_row_causes(
     alloc: Global,
     causes: &mut Vec<String>,
@@ -291,6 +349,7 @@ fn push_causes(
     push_empty(alloc, causes, found.empty)?;
     push_row_causes(alloc, causes, judged.totals, judged.certain)?;
     push_cause(alloc, causes, unmatched, unmatched_words())?;
+    push_discovery(alloc, causes, found)?;
     push_order(alloc, causes, found)?;
     push_lossy(alloc, causes, found.lossy)?;
     push_few(alloc, causes, found.few)?;

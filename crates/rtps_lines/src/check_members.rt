@@ -12,7 +12,9 @@ use crate::json_object::{Telling, ToldRows, push_report_members};
 use crate::notes::{NotedRows, notes_of};
 use crate::talk_members::{has_other, push_talk_members};
 use json::Writer;
-use rtps_report::{Ending, FullReport, events_of, facts_of_side, notes_on, scope_of, totals_of};
+use rtps_report::{
+    Ending, FullReport, events_of, facts_of_side, late_rows, notes_on, scope_of, totals_of,
+};
 use std::alloc::{AllocError, Global};
 
 fn status_name(ending: &Ending) -> &'static str
@@ -69,11 +71,14 @@ pub fn push_report_last(
 fn report_notes_of(alloc: Global, report: &FullReport<'_>) -> Result<Vec<String>, AllocError>
     ensures { IfOk result (λ notes. map string_bytes notes.items ≡ report_notes (asked_value report.now.asked.now) report.now.recording.now (report_value report.now)) }
 {
+    let matched_late = late_rows(alloc, &report.talk, &report.explained.rows)?;
     let rows = NotedRows {
         talk: &report.talk,
         talking: "",
         left_out: &report.talk.left_out,
         late: &[],
+        matched_late: &matched_late,
+        late_lines: "",
         tails: &[],
         rows: &[],
         side: facts_of_side(report),

@@ -17,7 +17,7 @@ use std::fmt;
 
 /// What a participant is called: its process, where that is known, or else where it is.
 #[derive(Clone, Copy, Drop)]
-pub(crate) struct ParticipantText<'t> {
+pub struct ParticipantText<'t> {
     pid: Option<u32>,
     host: Option<&'t [u8]>,
     address: Option<Address>,
@@ -40,7 +40,7 @@ impl fmt::Display for ParticipantText<'_> {
 }
 
 /// What a participant is called, by what is known of it.
-pub(crate) fn called<'a>(talk: &Talk<'a>, prefix: GuidPrefix) -> ParticipantText<'a>
+pub fn called<'a>(talk: &Talk<'a>, prefix: GuidPrefix) -> ParticipantText<'a>
     ensures { told_as result ≡ called_lem (talk_value talk.now) prefix }
 {
     let guid = participant_of(prefix);

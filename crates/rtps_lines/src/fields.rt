@@ -4,7 +4,7 @@
 ghost use Rattle.std.specs.Prelude.{◌≡◌, ◌++◌, codes, OnOk, Some};
 ghost use Rattle.std.specs.String.{string_bytes};
 ghost use Rattle.rtps_wire.specs.Values.{payload_value};
-ghost use Rattle.rtps_lines.specs.Lines.{advice_text, ended_text, hosted_text, kind_text, payload_text, place_comma, place_text, second_text, seconds_text, frame_behind, second_behind};
+ghost use Rattle.rtps_lines.specs.Lines.{advice_text, not_told_advice, ended_text, hosted_text, kind_text, payload_text, place_comma, place_text, second_text, seconds_text, frame_behind, second_behind};
 ghost use Rattle.rtps_lines.specs.QosNames.{durability_text, reliability_text, side_text};
 
 use itoa::{Buffer, Integer};
@@ -100,6 +100,25 @@ impl fmt::Display for EndedText<'_> {
         match self.0.second(datagram) {
             Some(second) => write!(f, " at {} s", SecondsText(second)),
             None => Ok(()),
+        }
+    }
+}
+
+/// What to do where a participant was not told of endpoints of another: nothing comes back from this address, if there is one.
+#[derive(Drop)]
+pub struct NotToldAdvice(pub Option<Address>);
+
+impl fmt::Display for NotToldAdvice {
+    ghost output = { λ text. Some (not_told_advice text.0) };
+
+    #[tactic(auto, unfolding(crate::specs::Lines::not_told_advice))]
+    fn fmt<W: fmt::Write>(&self, f: &mut fmt::Formatter<W>) -> fmt::Result {
+        match self.0 {
+            Some(address) => write!(
+                f,
+                "nothing comes back from {address}: a firewall, or another interface"
+            ),
+            None => write!(f, "{}", Advice::NotAnnounced.sentence()),
         }
     }
 }

@@ -155,6 +155,7 @@ fn sentence(cause: NoPair) -> &'static str
             "both ends are on this host and use shared memory, which no capture has"
         }
         NoPair::OneHost => "nothing of another host is in this recording",
+        NoPair::NotTold => "discovery is not complete: see below who was never told of what",
         NoPair::OneWay => "see below which participants never answer",
         NoPair::Unmatched => "see below which writers and readers do not match",
         NoPair::LeftOut =>

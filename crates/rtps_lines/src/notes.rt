@@ -9,12 +9,15 @@ ghost use Rattle.rtps_report.specs.Talk.{talk_value};
 ghost use Rattle.rtps_lines.specs.Notes.{back_by as back_by_lem, best_effort_note, best_effort_remedy as best_effort_remedy_lem, detail_of, host_note, joined_names as joined_names_lem, late_by as late_by_lem, late_note, names_if as names_if_lem, note, noted_value, notes as notes_lem, number_words as number_words_lem, order_note, pair_words as pair_words_lem, remedy_of, share_text, shares_if as shares_if_lem, shares_text, tail_names_if as tail_names_if_lem, tail_note, topic_name as topic_name_lem, weaknesses as weaknesses_lem, words_of};
 
 use crate::fields::SecondsText;
+use crate::late_notes::{MatchedLate, push_matched};
 use crate::side_notes::push_beside;
 use crate::tail_names::tail_names;
 use crate::talk_notes::{push_left_out, push_talking};
 use rtps_evidence::{Explanation, Seconds};
 use rtps_parts::{Part, Words, push_rendered, render, words_for};
-use rtps_report::{BestEffort, LeftOut, NoteFacts, SideFacts, Talk, are_on_one_host, topics_of};
+use rtps_report::{
+    BestEffort, LateRow, LeftOut, NoteFacts, SideFacts, Talk, are_on_one_host, topics_of,
+};
 use std::alloc::{AllocError, Global};
 
 /// What weakens a report.
@@ -450,8 +453,12 @@ pub struct NotedRows<'r, 'a> {
     pub talking: &'r str,
     /// The pairs that are left out.
     pub left_out: &'r [LeftOut<'a>],
-    /// Those whose writer wrote nothing since their reader joined. They are only read where topics are named.
+    /// Those whose writer wrote nothing since their reader joined, and whose two did not match late. They are only read where topics are named.
     pub late: &'r [Explanation<'a>],
+    /// Those whose two matched late.
+    pub matched_late: &'r [LateRow<'a>],
+    /// The lines of the latest of these; empty where topics are not named.
+    pub late_lines: &'r str,
     /// Those that are clean with a tail. They are only read where topics are named.
     pub tails: &'r [Explanation<'a>],
     /// All that are not left out. They are only read where topics are named.
@@ -460,6 +467,19 @@ pub struct NotedRows<'r, 'a> {
     pub side: Option<SideFacts>,
     /// Whether the topics are named.
     pub named: bool,
+}
+
+/// What is told of the pairs that matched late.
+fn matched_in<'r>(facts: &NoteFacts, rows: NotedRows<'r, '_>) -> MatchedLate<'r>
+    ensures pairs { result.pairs ≡ length (noted_value rows.entry).matched_late }
+    ensures before { result.before ≡ facts.now.late_before }
+    ensures lines { result.lines.now ≡ rows.entry.late_lines.now }
+{
+    MatchedLate {
+        pairs: rows.matched_late.len(),
+        before: facts.late_before,
+        lines: rows.late_lines,
+    }
 }
 
 /// What weakens a report, and before what is to be done this arrow.
@@ -483,6 +503,7 @@ pub fn notes_of(
     push_best_effort(alloc, &mut notes, (&talk.best_effort_total, &shares), arrow)?;
     push_beside(alloc, &mut notes, rows, arrow)?;
     push_late(alloc, &mut notes, (facts.late, &late), arrow)?;
+    push_matched(alloc, &mut notes, matched_in(facts, rows), arrow)?;
     push_tails(alloc, &mut notes, facts, &tails)?;
     push_weaknesses(alloc, &mut notes, facts, arrow)?;
     Ok(notes)

@@ -30,7 +30,7 @@ pub fn push_more(text: &mut String, more: u128) -> Result<(), AllocError>
 
 /// A second and a frame in brackets; nothing where there is none.
 #[derive(Drop)]
-struct Bracketed(Option<Seconds>, Option<u64>);
+pub(crate) struct Bracketed(pub(crate) Option<Seconds>, pub(crate) Option<u64>);
 
 impl fmt::Display for Bracketed {
     ghost output = { λ text. Some (bracketed text.0 text.1) };

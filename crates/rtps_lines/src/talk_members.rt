@@ -11,6 +11,7 @@ ghost use Rattle.rtps_report.specs.Talk.{left_out_value, talk_value};
 ghost use Rattle.rtps_lines.specs.JsonText.{clock_times, array_of, timed_members, tokens_of, tokens_of_member};
 ghost use Rattle.rtps_lines.specs.TalkMembers.{address_json, best_effort_json, best_effort_member, held_json, held_member, held_members, named_members, one_way_json, one_way_member, participant_json, participants_member, placed_members, reasons_json, silence_name as silence_name_lem, stay_members, stay_times, talk_members, talking_json, talking_member, unmatched_json, unmatched_member, unobserved_json, unobserved_member, values_json};
 
+use crate::discovery_members::push_discovery_members;
 use crate::end_members::{push_node_names, push_process};
 use crate::json_members::{
     Clock, push_count, push_flag, push_framed, push_guid, push_name, push_numbers, push_optional,
@@ -303,7 +304,7 @@ fn push_arrived(
     }
 }
 
-fn push_address(
+pub(crate) fn push_address(
     writer: &mut Writer,
     text: &mut String,
     address: Option<Address>,
@@ -497,6 +498,7 @@ pub(crate) fn push_talk_members(
     push_all_talking(writer, &mut text, &talk.talking)?;
     push_all_unobserved(writer, &mut text, talk)?;
     push_all_one_way(writer, &mut text, &talk.one_way)?;
+    push_discovery_members(writer, &mut text, report, clock)?;
     push_all_best_effort(writer, &mut text, &talk.best_effort)?;
     push_arrived(writer, &mut text, &talk.held, has_other(report))?;
     push_all_participants(writer, &mut text, Presented { talk, clock })

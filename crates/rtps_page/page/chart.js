@@ -17,14 +17,14 @@ const MOST_ARRIVED = 100000;
 
 // What is drawn of a row: dots for DATA to its reader, bands for numbers that are told gone to it, steps for what HEARTBEATs announce
 // and for what the reader acknowledged, a sign where the reader asks for a number, a mark for each number that is lost, dots for those that
-// another recording has, and marks for the numbers and the datagram that its verdict is about. A sample in pieces is one dot.
+// another recording has, and marks for the numbers and the datagram that its verdict is about. A sample in fragments is one dot.
 function marksOf(report, row, axis) {
   const acts = report.actsOf(row).map((entry) => entryParts(entry, axis));
   const to = namesOf(row.reader);
   const heard = acts.filter(({ named }) => to.includes(named));
-  const answers = report.basesOf(row).map(([datagram, at, base]) => ({ x: axis.at(datagram), y: Number(base) - 1, at }));
-  const sent = heard.filter(({ what }) => what === 'data' || what === 'piece');
-  const dots = dotsOf(sent);
+  const answers = report.basesOf(row).map(([datagram, at, base, asked]) => ({ x: axis.at(datagram), y: Number(base) - 1, at, asked }));
+  const sent = heard.filter(({ what }) => IS_SENDING.has(what));
+  const dots = dotsOf(heard);
   const announced = stepsOf(acts.filter(({ what }) => what === 'announced').map(({ x, numbers: [last] }) => ({ x, y: Number(last) })));
   const told = stepsOf(acts.filter(({ what }) => what !== 'gone').map(({ x, numbers: [last] }) => ({ x, y: Number(last) })));
   return {
@@ -33,7 +33,7 @@ function marksOf(report, row, axis) {
     announced,
     answers,
     acknowledged: stepsOf(answers),
-    asked: report.asksOf(row).flatMap(([datagram, , numbers]) => numbers.map((number) => ({ x: axis.at(datagram), y: Number(number) }))),
+    asked: answers.flatMap(({ x, asked }) => asked.map((number) => ({ x, y: Number(number) }))),
     lost: lostMarks(row, sent.map(({ x, numbers: [number] }) => ({ x, y: Number(number) })), told, axis),
     arrived: arrivedDots(row, dots),
     numbers: markedNumbers(row),
@@ -107,7 +107,7 @@ const within = ([first, last], room, [low, high]) => (first > last ? [low, high]
 
 // The parts of an entry: where it stands, what it says, of which numbers, and whom it names.
 function entryParts([datagram, at, what, ...rest], axis) {
-  const count = what === 'gone' || what === 'piece' ? 2 : 1;
+  const count = numbersIn(what);
   return { x: axis.at(datagram), datagram, at, what, numbers: rest.slice(0, count), named: rest[count] };
 }
 
@@ -116,22 +116,32 @@ function markedNumbers({ verdict, number, first_missed: missed }) {
   return missed && missed.number !== number ? [...found, { y: Number(missed.number), label: `missed ${missed.number}` }] : found;
 }
 
-// Each DATA as a dot, and each sample in pieces where it is complete. It is sent again where an earlier one has its number, or where one of its
-// pieces was sent twice.
+// Each DATA as a dot, and each sample in fragments as one, where it is complete first. A DATA is sent again where an earlier dot has its number, a
+// sample in fragments where one of these was sent twice, too.
 function dotsOf(entries) {
-  const [seen, pieces, twice] = [new Set(), new Set(), new Set()];
+  const [seen, whole, twice] = [new Set(), new Set(), sentTwice(entries)];
   const dots = [];
-  for (const { x, what, datagram, at, numbers: [number, piece] } of entries) {
-    if (what === 'piece') {
-      const name = `${number} ${piece}`;
-      if (pieces.has(name)) twice.add(number);
-      pieces.add(name);
-    } else {
-      dots.push({ x, y: Number(number), number, datagram, at, again: seen.has(number) || twice.has(number) });
-      seen.add(number);
-    }
+  for (const { x, what, datagram, at, numbers: [number] } of entries) {
+    const isWhole = what === 'sample';
+    if (what !== 'data' && (!isWhole || whole.has(number))) continue;
+    dots.push({ x, y: Number(number), number, datagram, at, isWhole, again: seen.has(number) || (isWhole && twice.has(number)) });
+    seen.add(number);
+    if (isWhole) whole.add(number);
   }
   return dots;
+}
+
+// The numbers of samples of which a fragment is sent twice.
+function sentTwice(entries) {
+  const [sent, twice] = [new Set(), new Set()];
+  for (const { what, numbers: [number, first, count] } of entries) {
+    for (let fragment = first; what === 'piece' && fragment < first + count; fragment += 1) {
+      const name = `${number} ${fragment}`;
+      if (sent.has(name)) twice.add(number);
+      sent.add(name);
+    }
+  }
+  return twice;
 }
 
 // From a datagram on these numbers are told gone. Of those that follow on what is gone already, the new ones alone.
@@ -208,7 +218,8 @@ class Chart {
     const { dots, answers, asked, lost } = this.marks;
     const again = dots.filter((dot) => dot.again).length;
     const asks = asked.length > 0 ? `${plural(asked.length, 'number')} asked for, ` : '';
-    return `Chart of ${this.axis.name.toLowerCase()} and numbers: ${plural(dots.length, 'DATA', 'DATA')} to this reader, ${counted(again)} of them sent again, `
+    const what = dots.some(({ isWhole }) => isWhole) ? plural(dots.length, 'sample') : plural(dots.length, 'DATA', 'DATA');
+    return `Chart of ${this.axis.name.toLowerCase()} and numbers: ${what} to this reader, ${counted(again)} of them sent again, `
       + `${plural(answers.length, 'answer')} of the reader, ${asks}${plural(lost.length, 'mark')} of lost numbers, and a line at ${row.verdict} ${row.number}.`;
   }
 
@@ -301,10 +312,12 @@ class Chart {
     this.paint();
   }
 
-  dotText({ number, datagram, at, again, x }) {
+  dotText({ number, datagram, at, again, isWhole, x }) {
     const place = placeText({ datagram, at, frame: this.report.frameOf(datagram), time: this.axis.word === 's' ? x : null });
     const kinds = this.marks.lost.filter((mark) => mark.y === Number(number)).map(({ kind }) => LOST_WORDS[kind].toLowerCase());
-    return `DATA of number ${number} in ${place}${again ? ', sent again' : ''}${kinds.length > 0 ? `; ${number} is ${kinds.join(' and ')}` : ''}.`;
+    const what = isWhole ? `DATA_FRAG that completes number ${number}` : `DATA of number ${number}`;
+    const sentAgain = isWhole ? ', of which a fragment was sent again' : ', sent again';
+    return `${what} in ${place}${again ? sentAgain : ''}${kinds.length > 0 ? `; ${number} is ${kinds.join(' and ')}` : ''}.`;
   }
 
   pointed({ offsetX, offsetY }) {
@@ -512,7 +525,8 @@ class Chart {
     }
   }
 
-  // Each number that the reader asks for, as a triangle that stands on its tip; of those that fall on one pixel, one.
+  // Each number that the reader asks for, as a triangle that stands on its tip above the place, where a dot hides nothing of it; of those that fall on
+  // one pixel, one.
   drawAsked() {
     const pen = this.penOf('--ink', 1.25);
     const drawn = new Set();
@@ -521,9 +535,9 @@ class Chart {
       if (drawn.has(x * CHART_HEIGHT + y)) continue;
       drawn.add(x * CHART_HEIGHT + y);
       pen.beginPath();
-      pen.moveTo(x - 4, y - 4);
-      pen.lineTo(x + 4, y - 4);
-      pen.lineTo(x, y + 3);
+      pen.moveTo(x - 4, y - 12);
+      pen.lineTo(x + 4, y - 12);
+      pen.lineTo(x, y - 5);
       pen.closePath();
       pen.stroke();
     }
@@ -589,10 +603,11 @@ class Chart {
 
 // ---- the legend
 
-function legend({ asked, lost, arrived }) {
+function legend({ dots, asked, lost, arrived }) {
+  const hasWhole = dots.some(({ isWhole }) => isWhole);
   return make('ul', { class: 'legend' },
-    legendItem('DATA to this reader', drawn('circle', { class: 'sent', cx: 12, cy: 7, r: 4 })),
-    legendItem('sent again', drawn('circle', { class: 'again', cx: 12, cy: 7, r: 4.5 })),
+    legendItem(hasWhole ? 'DATA to this reader, or where a sample in fragments is complete' : 'DATA to this reader', drawn('circle', { class: 'sent', cx: 12, cy: 7, r: 4 })),
+    legendItem(hasWhole ? 'sent again, or a fragment of it' : 'sent again', drawn('circle', { class: 'again', cx: 12, cy: 7, r: 4.5 })),
     asked.length > 0 && legendItem('asked for by the reader', drawn('path', { class: 'asked', d: 'M8 3h8l-4 7z' })),
     lost.length > 0 && legendItem('lost: missed, unsent, unanswered or not arrived', drawn('path', { class: 'cross', d: 'M8 3l8 8m0-8l-8 8' })),
     lost.some(({ isSent }) => !isSent) && legendItem('lost, and never sent here', drawn('path', { class: 'cross', d: 'M9 4l6 6m0-6l-6 6M6 1h12v12H6z' })),

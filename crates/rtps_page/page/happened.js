@@ -11,14 +11,16 @@ const NAMED_PAIRS = 3;
 function topicLines(rows) {
   const lines = new Map();
   for (const row of rows) {
-    if (row.advice !== null) entryOf(entryOf(lines, row.group, () => new Map()), row.kind + row.advice, () => []).push(row);
+    if (row.advice !== null) entryOf(entryOf(entryOf(lines, row.group, newMap), row.kind, newMap), row.advice, () => []).push(row);
   }
-  return [...lines.values()].flatMap((found) => [...found.values()])
-    .sort((one, other) => worse(lineWeight(one), lineWeight(other)) || other.length - one.length || one[0].at - other[0].at);
+  return [...lines.values()].flatMap((kinds) => [...kinds.values()]).flatMap((found) => [...found.values()]).map(weighed)
+    .sort((one, other) => worse(one, other) || other.rows.length - one.rows.length || one.rows[0].at - other.rows[0].at).map((line) => line.rows);
 }
 
-// How bad the rows of a line are together.
-const lineWeight = (rows) => ({ ...rows[0], clean: rows[0].clean, lost: sumOf(rows, ({ lost }) => lost) });
+const newMap = () => new Map();
+
+// The rows of a line, and how bad they are together.
+const weighed = (rows) => ({ rows, clean: rows[0].clean, rank: rows[0].rank, isPlumbing: rows[0].isPlumbing, lost: sumOf(rows, ({ lost }) => lost) });
 
 // The events, each with its rows, and behind them the rows that stand in none. Where the data tells no events, these are all.
 function eventsOf({ data, rows }) {
@@ -77,8 +79,9 @@ function topicLine(report, rows) {
 
 // How many numbers of each kind its rows lost.
 function lineCounts(rows) {
-  const held = rows.some(isHeld);
-  const counts = held ? [['not arrived', sumOf(rows.filter(isHeld), lostOf)]] : LOST.map((kind) => [kind, sumOf(rows, ({ outcomes }) => outcomes[kind])]);
+  const held = rows.filter(isHeld);
+  const losing = rows.filter(({ lost }) => lost !== 0);
+  const counts = held.length > 0 ? [['not arrived', sumOf(held, lostOf)]] : LOST.map((kind) => [kind, sumOf(losing, ({ outcomes }) => outcomes[kind])]);
   return counts.filter(([, count]) => isAbove(count, 0)).flatMap(([kind, count]) => [' ', badge('missed', `${kind} ${counted(count)}`)]);
 }
 

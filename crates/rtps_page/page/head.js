@@ -9,11 +9,10 @@ function showHead(report) {
   const { data } = report;
   const at = (id) => document.getElementById(id);
   const { name = null, version = null } = data.recording || {};
-  document.title = `${lastLine()}: rtps-audit`;
   fill(at('program'), `rtps-audit${version === null ? '' : ` ${version}`}, a report of `, askedText(data));
   fill(at('name'), name === null ? 'A recording' : name === '-' ? 'Standard input (-)' : name);
   fill(at('when'), ...whenParts(report));
-  showOutcome(report, at('outcome'));
+  showOutcome(data.because.length === 0);
   fill(at('received'), receivedSentence(report));
   fill(at('because'), ...data.because.map((reason) => make('li', null, reason)));
   at('because').hidden = data.because.length === 0;
@@ -75,22 +74,8 @@ function whenParts(report) {
 
 // ---- the outcome
 
-// How the run ends: the last line of the text.
-const lastLine = memo(() => {
-  const text = document.querySelector('#text pre').textContent.trimEnd();
-  return text.slice(text.lastIndexOf('\n') + 1);
-});
-
 // The lines in front of the first empty one, without what marks them in a text.
 const firstLines = () => document.querySelector('#text pre').textContent.split('\n\n')[0].split('\n').map((line) => line.replace(/^ *(-> )?/, '')).filter(Boolean);
-
-// Its word, in its colour; what else the line says, where that are no reasons.
-function showOutcome({ data }, place) {
-  const [word, ...rest] = lastLine().split(': ');
-  const isClean = data.status === 'clean';
-  fill(place, badge(isClean ? 'outcome good' : 'outcome bad', [make('span', { 'aria-hidden': 'true' }, isClean ? '✓ ' : '✗ '), make('span', { class: 'word' }, word)]),
-    data.because.length === 0 && rest.length > 0 && make('span', { class: 'more-said' }, ` ${rest.join(': ')}`));
-}
 
 // ---- hosts
 

@@ -4,7 +4,7 @@
 function start() {
   const report = reportOf(document.getElementById('data').textContent);
   showHead(report);
-  document.getElementById('page').hidden = false;
+  document.querySelector('main').hidden = false;
   const picture = new Picture(report, document.getElementById('picture'));
   showHappened(report, document.getElementById('happened'));
   showTalk(report);
@@ -52,6 +52,7 @@ try {
   start();
 } catch (error) {
   document.documentElement.classList.remove('scripted');
+  document.getElementById('page').hidden = true;
   document.getElementById('text').prepend(make('p', null, `The tables of this report cannot be shown here: ${error}`));
   throw error;
 }

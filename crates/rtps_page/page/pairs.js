@@ -89,8 +89,7 @@ class Pairs {
     this.columns = columnsOf(report).filter(({ name, isAmount, sum }) => (
       name === 'arrived' ? report.data.arrived : !isAmount || name === 'received' || report.groups.some((group) => isAbove(sum(group), 0))));
     this.orders = [WORST_FIRST, BY_TOPIC, BY_TYPE, ...this.columns];
-    this.openness = new Map(report.groups.map((group) => [group, group.clean ? FOLDED : BAD]));
-    this.areCleanShown = report.groups.every(({ clean }) => clean);
+    this.fold(null);
     this.sort();
     this.build();
     this.render();
@@ -136,9 +135,15 @@ class Pairs {
     return this.isPaper || this.words.length > 0 || this.kinds.size > 0;
   }
 
-  isShown(row) {
-    const openness = this.openness.get(row.group);
-    return openness === ALL || (openness === BAD && !row.clean);
+  isShown({ clean, group: { openness } }) {
+    return openness === ALL || (openness === BAD && !clean);
+  }
+
+  // Opens all topics, or folds them as at first.
+  fold(openness) {
+    const { groups } = this.report;
+    for (const group of groups) group.openness = openness ?? (group.clean ? FOLDED : BAD);
+    this.areCleanShown = openness === ALL || groups.every(({ clean }) => clean);
   }
 
   setFilter(text) {
@@ -209,15 +214,13 @@ class Pairs {
     this.render();
   }
 
-  // Opens or folds all topics; folded they are as at first.
   openAll(openness) {
-    for (const group of this.report.groups) this.openness.set(group, openness ?? (group.clean ? FOLDED : BAD));
-    this.areCleanShown = openness === ALL || this.report.groups.every(({ clean }) => clean);
+    this.fold(openness);
     this.renderFirst();
   }
 
   openGroup(group, openness) {
-    this.openness.set(group, openness);
+    group.openness = openness;
     this.areCleanShown ||= group.clean;
     this.render();
   }
@@ -240,16 +243,15 @@ class Pairs {
 
   render() {
     const rows = this.matching();
-    const open = this.isAllOpen() ? rows : rows.filter((row) => this.isShown(row));
-    const shown = open.slice(0, this.most);
+    const { groups, shown, open } = this.choice(rows);
     this.table.querySelectorAll('tbody').forEach((body) => body.remove());
-    const hasMore = this.showBodies(rows, shown) || shown.length < open.length;
+    const hasMore = this.showBodies(groups, shown) || shown.length < open;
     this.table.querySelectorAll('thead th').forEach((head, at) => {
       if (this.columns[at] === this.order) head.setAttribute('aria-sort', this.isDown ? 'descending' : 'ascending');
       else head.removeAttribute('aria-sort');
     });
     this.select.value = this.order.name;
-    this.status.textContent = this.statusText(rows.length, open.length, shown.length);
+    this.status.textContent = this.statusText(rows.length, open, shown.length);
     this.more.hidden = !hasMore;
     this.showChosen();
   }
@@ -261,14 +263,29 @@ class Pairs {
     return `${partOf(found, all, 'pair')}${some}${folded > 0 ? `; ${counted(folded)} ${folded === 1 ? 'is' : 'are'} folded` : ''}.`;
   }
 
-  // The topics in the order of the first row of each, with the rows that are shown. Whether there are more topics than have room.
-  showBodies(rows, shown) {
-    const sizes = new Map();
-    for (const { group } of rows) sizes.set(group, (sizes.get(group) || 0) + 1);
-    const groups = [...sizes.keys()];
+  // What is made of the rows that are found, in one walk: their topics in the order of the first row of each, with how many each has, the rows that
+  // are shown, and how many are not folded.
+  choice(rows) {
+    const isAllOpen = this.isAllOpen();
+    const [groups, shown] = [[], []];
+    let open = 0;
+    for (const group of this.report.groups) group.found = 0;
+    for (const row of rows) {
+      const { group } = row;
+      if (group.found === 0) groups.push(group);
+      group.found += 1;
+      if (!isAllOpen && !this.isShown(row)) continue;
+      open += 1;
+      if (open <= this.most) shown.push(row);
+    }
+    return { groups, shown, open };
+  }
+
+  // The topics with the rows that are shown. Whether there are more topics than have room.
+  showBodies(groups, shown) {
     const isSeen = (group) => this.isAllOpen() || this.areCleanShown || !group.clean;
     const seen = groups.filter(isSeen).slice(0, this.most);
-    const bodies = new Map(seen.map((group) => [group, make('tbody', null, this.groupRow(group, sizes.get(group)))]));
+    const bodies = new Map(seen.map((group) => [group, make('tbody', null, this.groupRow(group))]));
     for (const row of shown) bodies.get(row.group)?.append(this.row(row));
     for (const [group, body] of bodies) this.addFolded(group, body);
     this.table.append(...bodies.values());
@@ -290,16 +307,16 @@ class Pairs {
   }
 
   // The line of a topic: its name, which folds it, how many pairs it has, and the sums of its rows.
-  groupRow(group, size) {
-    const { at, topic, type, rows, bad } = group;
-    const isOpen = this.isAllOpen() || this.openness.get(group) !== FOLDED;
+  groupRow(group) {
+    const { at, topic, type, rows, bad, found, openness } = group;
+    const isOpen = this.isAllOpen() || openness !== FOLDED;
     const fold = makeButton({ class: 'fold', 'aria-expanded': String(isOpen) }, shownTopic(topic), () => {
       this.openGroup(group, isOpen ? FOLDED : group.clean ? ALL : BAD);
       document.querySelector(`#topic-${at + 1} button`)?.focus();
     });
     const clean = bad === rows.length ? 'none clean' : bad === 0 ? 'clean' : `${counted(rows.length - bad)} clean`;
     const head = make('th', { scope: 'rowgroup', colspan: 3 }, fold, make('span', { class: 'type' }, oneName('span', rosType(type) || type)),
-      make('span', { class: 'size' }, `${partOf(size, rows.length, 'pair')}, ${clean}`));
+      make('span', { class: 'size' }, `${partOf(found, rows.length, 'pair')}, ${clean}`));
     return make('tr', { class: 'group', id: `topic-${at + 1}` }, head,
       ...this.columns.slice(3).map((column) => make('td', { class: `sum ${column.name}` }, column.total(group))));
   }
@@ -307,7 +324,7 @@ class Pairs {
   // How many clean rows of a topic are folded, below those that are not.
   addFolded(group, body) {
     const count = group.rows.length - group.bad;
-    if (this.isAllOpen() || this.openness.get(group) !== BAD || count === 0) return;
+    if (this.isAllOpen() || group.openness !== BAD || count === 0) return;
     body.append(make('tr', { class: 'folded' }, make('td', { colspan: this.columns.length },
       makeButton({ class: 'fold', 'aria-expanded': 'false' }, `${plural(count, 'clean pair')}`, () => {
         this.openGroup(group, ALL);
@@ -340,7 +357,7 @@ class Pairs {
     const row = this.report.rows[at];
     this.chosen = at;
     const isThere = () => document.getElementById(`pair-${at + 1}`) !== null;
-    if (!isThere() && !this.isAllOpen()) this.openGroup(row.group, row.clean || this.openness.get(row.group) === ALL ? ALL : BAD);
+    if (!isThere() && !this.isAllOpen()) this.openGroup(row.group, row.clean || row.group.openness === ALL ? ALL : BAD);
     if (!isThere()) this.filterBy(`${row.writer} ${row.reader}`);
     else this.showChosen();
     const line = document.getElementById(`pair-${at + 1}`);
@@ -353,7 +370,7 @@ class Pairs {
     const group = this.report.groups[at];
     if (!group) return;
     const lineOf = () => document.getElementById(`topic-${at + 1}`);
-    if (this.openness.get(group) === FOLDED || !lineOf()) this.openGroup(group, group.clean ? ALL : BAD);
+    if (group.openness === FOLDED || !lineOf()) this.openGroup(group, group.clean ? ALL : BAD);
     if (!lineOf()) this.filterBy(group.topic);
     lineOf().scrollIntoView();
     lineOf().querySelector('button').focus({ preventScroll: true });

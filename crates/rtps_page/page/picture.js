@@ -23,6 +23,8 @@ const MARK_FORMS = {
   unanswered: (x) => `M${x - 0.5} 11h3v10h-3z`,
   not_arrived: (x) => `M${x - 3} 5l8 13m0-13l-8 13`,
 };
+// Where the sign of a kind begins that does not stand at the top of a strip.
+const SIGN_TOPS = { joins: 16, leaves: 16, silent: 16, unanswered: 5 };
 const MARK_WORDS = {
   missed: 'missed', unsent: 'unsent', unanswered: 'unanswered', not_arrived: 'not arrived', joins: 'a reader joins', leaves: 'a reader leaves',
   silent: 'a participant falls silent',
@@ -235,8 +237,9 @@ function widen(span, report, { announced, told, claimed, acknowledged }) {
   }
 }
 
+// Each sign stands in the middle of its line.
 function pictureLegend(kinds) {
-  const sign = (shape) => drawn('svg', { viewBox: '0 0 24 32', width: '18', height: '24', 'aria-hidden': 'true' }, shape);
-  return make('ul', { class: 'legend' }, make('li', null, sign(drawn('path', { class: 'samples', d: 'M1 8h22v8H1z' })), 'samples'),
-    ...kinds.map((kind) => make('li', null, sign(drawn('path', { class: `mark ${kind}`, d: MARK_FORMS[kind](11) })), MARK_WORDS[kind])));
+  const sign = (top, shape) => drawn('svg', { viewBox: `0 ${top} 24 22`, width: '20', height: '18', 'aria-hidden': 'true' }, shape);
+  return make('ul', { class: 'legend' }, make('li', null, sign(1, drawn('path', { class: 'samples', d: 'M1 8h22v8H1z' })), 'samples'),
+    ...kinds.map((kind) => make('li', null, sign(SIGN_TOPS[kind] || 0, drawn('path', { class: `mark ${kind}`, d: MARK_FORMS[kind](11) })), MARK_WORDS[kind])));
 }

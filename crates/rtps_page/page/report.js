@@ -50,6 +50,7 @@ const isAbove = (a, b) => compareNumbers(a, b) > 0;
 
 // The sum of integers: a BigInt where one of them, or the sum, may be too large for a number.
 function added(a, b) {
+  if (b === 0) return a;
   if (typeof a === 'number' && typeof b === 'number' && a + b <= Number.MAX_SAFE_INTEGER) return a + b;
   return BigInt(a) + BigInt(b);
 }
@@ -155,16 +156,10 @@ class Report {
     return Object.entries(this.data).filter(([, value]) => typeof value === 'number');
   }
 
-  // what the reader of a row answered, or undefined where the page has no room for it
+  // what the reader of a row answered, each with its base and the numbers that it asks for; undefined where the page has no room for it
   basesOf({ writer, reader }) {
     this.bases ||= new Map(this.data.answers.map((answer) => [answer.writer + answer.reader, answer.bases]));
     return this.bases.get(writer + reader);
-  }
-
-  // which numbers the reader of a row asked for, and where; none where the page does not tell it
-  asksOf({ writer, reader }) {
-    this.asks ||= new Map(this.data.answers.map((answer) => [answer.writer + answer.reader, answer.asks || []]));
-    return this.asks.get(writer + reader);
   }
 
   // what the writer of a row said, to whichever reader
@@ -176,7 +171,7 @@ class Report {
   sendingsOf({ writer, reader }) {
     const byNumber = entryOf(this.numbered, writer, () => dataByNumber(this.acts.get(writer) || []));
     const to = namesOf(reader);
-    return (number) => (byNumber.get(number) || []).find((entry) => to.includes(entry[entry[2] === 'piece' ? 5 : 4]));
+    return (number) => (byNumber.get(number) || []).find((entry) => to.includes(namedBy(entry)));
   }
 
   // where the writer of a row first tells of greater and greater numbers, each a datagram and a number; null where it has no chart
@@ -197,7 +192,15 @@ class Report {
 // The names by which an entry is for a reader: it names nobody, or the reader, its participant or its entity.
 const namesOf = (reader) => [undefined, reader, prefixOf(reader), entityOf(reader)];
 
-// Entries by which a writer sends a number: a DATA, or what completes a sample in pieces, and a piece.
+// How many numbers an entry has behind its kind: one; the first and the last that are gone; of a DATA_FRAG that of its sample, its first fragment,
+// and how many fragments.
+const NUMBERS_OF = { gone: 2, piece: 3 };
+const numbersIn = (what) => NUMBERS_OF[what] || 1;
+
+// Whom an entry names, or undefined.
+const namedBy = (entry) => entry[3 + numbersIn(entry[2])];
+
+// Entries by which a writer sends a number: a DATA, and fragments of a sample.
 const IS_SENDING = new Set(['data', 'piece']);
 
 function dataByNumber(acts) {

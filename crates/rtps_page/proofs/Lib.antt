@@ -3,6 +3,7 @@ pub mod NumberText
 pub mod ReadLemmas
 pub mod PageLemmas
 pub mod EntryLemmas
+pub mod AnswerLemmas
 pub mod ChartLemmas
 pub mod TimeLemmas
 pub mod Written

@@ -3,13 +3,13 @@ use Rattle.std.proofs.Common.{◌≤◌, ◌++◌, ◌∷◌, [], ℕ, ℤ, List
 use Rattle.std.specs.List.{range_with_len}
 use Rattle.json.specs.Json.{Json, max_depth, string}
 use Rattle.json.specs.Tree.{depth, items_depth, members_depth}
-use Rattle.rtps_report.specs.Vocabulary.{ExplanationValue, Location, Pair, PayloadValue}
+use Rattle.rtps_report.specs.Vocabulary.{ExplanationValue, Location, Pair}
 use Rattle.rtps_ids.specs.declared.identity.Guid.{Guid}
-use Rattle.rtps_receiver.specs.Values.{ActBodyValue}
+use Rattle.rtps_receiver.specs.Values.{ActBodyValue, SentPartValue}
 use Rattle.rtps_receiver.specs.Values.ActBodyValue.{Data, Heartbeat, AckNack, Gap, DataFrag, NackFrag}
 use Rattle.rtps_discovery.specs.Directory.{DirectoryValue, settled_in}
 use Rattle.rtps_receiver.specs.Speech.{is_spoken_by}
-use Rattle.rtps_audit.specs.Placed.{PlacedValue, answers_among}
+use Rattle.rtps_audit.specs.Placed.{PlacedValue}
 use Rattle.rtps_report.specs.Asked.{AskedValue}
 use Rattle.rtps_evidence.specs.Times.{TimesValue, frame_of, time_of}
 use Rattle.rtps_evidence.specs.declared.times.Seconds.{Seconds}
@@ -18,12 +18,12 @@ use Rattle.rtps_lines.specs.Lines.{second_in}
 use Rattle.rtps_report.specs.FullReport.{ReportValue, rows_of}
 use Rattle.rtps_report.specs.Recording.{RecordingValue}
 use Rattle.rtps_lines.proofs.Offered.{check_depth, joined, timed_within}
-use Rattle.rtps_page.specs.ChartEntries.{entries_of, members_of as numbers_of, piece_json}
+use Rattle.rtps_page.specs.ChartEntries.{entries_of, fragments_in, members_of as numbers_of, piece_json, sample_json}
 use Rattle.rtps_page.specs.ChartTimes.{datagrams_shown, frame_items, is_among, time_json, time_of_json}
 use Rattle.rtps_page.specs.Joining.{joined_in}
 use Rattle.rtps_page.specs.Origin.{OriginValue}
 use Rattle.rtps_page.specs.Page.{page_json, pairs_with_charts}
-use Rattle.rtps_page.proofs.Written.{acts_judged, answers_json, base_json, chart_members, check_members, endpoint_json, entries_at, entry_json, expect_json, gone_json, joined_json, joining_json, moment_json, named_json, number_json, object_of, one_gone_json, option_members, own_members, recording_members, times_member, writer_json, writers_behind}
+use Rattle.rtps_page.proofs.Written.{acts_judged, answer_json, answers_in, answers_json, chart_members, check_members, count_json, endpoint_json, entries_at, entry_json, expect_json, gone_json, joined_json, joining_json, moment_json, named_json, number_json, object_of, one_gone_json, option_members, own_members, recording_members, set_items, times_member, writer_json, writers_behind}
 
 -- ---- depth
 
@@ -58,9 +58,14 @@ gone_within place named from past = go (nat_lt from past)
     go true = omega (arith, entry_within place named (codes "gone") (pos from ∷ pos (past - 1) ∷ []))
     go false = omega arith
 
-piece_within : (place : Location) (named : List ℕ) (number : ℕ) (told : Option PayloadValue) → items_depth (items_of (piece_json place named number told)) ≤ 1
-piece_within place named number None = omega (arith, entry_within place named (codes "data") (pos number ∷ []))
-piece_within place named number (Some payload) = omega arith
+piece_within : (place : Location) (named : List ℕ) (number : ℕ) (sent : Option SentPartValue) → items_depth (items_of (piece_json place named number sent)) ≤ 1
+piece_within place named number None = omega arith
+piece_within place named number (Some part) =
+    omega (arith, entry_within place named (codes "piece") (pos number ∷ pos part.first ∷ pos (fragments_in part.shape.fragment (length part.octets)) ∷ []))
+
+sample_within : (place : Location) (named : List ℕ) (number : ℕ) (is_told : Bool) → items_depth (items_of (sample_json place named number is_told)) ≤ 1
+sample_within place named number true = omega (arith, entry_within place named (codes "sample") (pos number ∷ []))
+sample_within place named number false = omega arith
 
 entries_within : (place : Location) (named : List ℕ) (body : ActBodyValue) → items_depth (items_of (entries_at place named body)) ≤ 1
 entries_within place named (Data value) = omega (arith, entry_within place named (codes "data") (pos value.number ∷ []))
@@ -70,7 +75,9 @@ entries_within place named (Heartbeat value) =
 entries_within place named (Gap value) =
     both_within 1 (gone_json place named value.start value.list.base) (map (one_gone_json place named) (numbers_of value.list)) (gone_within place named value.start value.list.base)
     (mapped_within 1 (one_gone_json place named) (λ n. entry_within place named (codes "gone") (pos n ∷ pos n ∷ [])) (numbers_of value.list))
-entries_within place named (DataFrag value) = piece_within place named value.number value.told
+entries_within place named (DataFrag value) =
+    both_within 1 (piece_json place named value.number value.sent) (sample_json place named value.number (is_some value.told)) (piece_within place named value.number value.sent)
+    (sample_within place named value.number (is_some value.told))
 entries_within place named (AckNack value) = omega arith
 entries_within place named (NackFrag value) = omega arith
 
@@ -79,9 +86,17 @@ writer_within acts writer =
     let entries = flat_within 1 entries_of (λ placed. entries_within _ _ placed.act.body) (filter (λ placed. is_spoken_by placed.act writer) acts) in
     omega (arith, entries)
 
-answers_within : (acts : List PlacedValue) (pair : Pair) → depth (answers_json acts pair) ≤ 3
+set_within : (body : ActBodyValue) → items_depth (items_of (set_items body)) ≤ 1
+set_within (AckNack value) = let asked = mapped_within 0 count_json (λ n. omega arith) (numbers_of value.set) in omega (arith, asked)
+set_within (Data value) = omega arith
+set_within (Heartbeat value) = omega arith
+set_within (Gap value) = omega arith
+set_within (DataFrag value) = omega arith
+set_within (NackFrag value) = omega arith
+
+answers_within : (acts : List PlacedValue) (pair : Pair) → depth (answers_json acts pair) ≤ 4
 answers_within acts pair =
-    let bases = mapped_within 1 base_json (λ answer. omega arith) (answers_among pair acts) in
+    let bases = mapped_within 2 answer_json (λ placed. omega (arith, set_within placed.act.body)) (answers_in pair acts) in
     omega (arith, bases)
 
 expect_within : (expect : Option ℕ) → depth (expect_json expect) ≤ 0
@@ -130,19 +145,19 @@ times_within times acts pairs =
     (filter shown (range_with_len 1 (length times.of_datagrams))) in
     omega (arith, each)
 
-chart_part : (times : TimesValue) (acts : List PlacedValue) (pairs : List Pair) → members_depth (members_of (chart_members times acts pairs)) ≤ 5
+chart_part : (times : TimesValue) (acts : List PlacedValue) (pairs : List Pair) → members_depth (members_of (chart_members times acts pairs)) ≤ 6
 chart_part times acts pairs =
     let writers = mapped_within 3 (writer_json acts) (writer_within acts) (writers_behind None pairs) in
-    let answers = mapped_within 3 (answers_json acts) (answers_within acts) pairs in
+    let answers = mapped_within 4 (answers_json acts) (answers_within acts) pairs in
     let seconds = timed_within 2 times (times_member times acts pairs ∷ []) (times_within times acts pairs) in
     omega (arith, writers, answers, seconds)
 
 pub page_within : (origin : OriginValue) (asked : AskedValue) (recording : RecordingValue) (report : ReportValue) (directory : DirectoryValue)
     → depth (page_json origin asked recording report directory) ≤ max_depth
 page_within origin asked recording report directory =
-    let pairs = pairs_with_charts recording report in
+    let pairs = pairs_with_charts asked recording report in
     let rows = rows_of report in
-    let own : members_depth (members_of (own_members origin asked recording rows directory pairs)) ≤ 5 =
+    let own : members_depth (members_of (own_members origin asked recording rows directory pairs)) ≤ 6 =
     omega (arith, recording_within origin recording.times, joining_within recording.times rows, options_within asked, endpoints_within directory, chart_part recording.times (acts_judged recording) pairs) in
     let all = joined 7 (check_members asked recording report) (own_members origin asked recording rows directory pairs) (check_depth asked recording report) (omega (arith, own)) in
     omega (arith, all)

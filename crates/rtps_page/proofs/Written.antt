@@ -2,14 +2,14 @@
 pub use Rattle.std.proofs.lemmas.Result.{on_ok_weaker}
 pub use Rattle.json.specs.Token.{Token, begin_array, begin_object, boolean, end_array, end_object, key, number, string}
 pub use Rattle.json.specs.Tree.{json_tokens}
-pub use Rattle.rtps_audit.specs.Placed.{answers_among, placed_in}
+pub use Rattle.rtps_audit.specs.Placed.{placed_in}
 pub use Rattle.rtps_report.specs.Asked.{asked_value}
 pub use Rattle.rtps_report.specs.FullReport.{report_value}
 pub use Rattle.rtps_lines.specs.CheckMembers.{check_members}
-pub use Rattle.rtps_lines.specs.JsonText.{array_of, number_json, object_of, timed_members, tokens_of, tokens_of_member}
+pub use Rattle.rtps_lines.specs.JsonText.{array_of, count_json, number_json, object_of, timed_members, tokens_of, tokens_of_member}
 pub use Rattle.rtps_lines.proofs.Offered.{eight_parts, five_parts, four_parts, mapped_tokens, object_tokens, seven_parts, six_parts, three_parts, two_parts}
 pub use Rattle.rtps_parts.specs.Names.{guid_text, octet_text}
-pub use Rattle.rtps_page.specs.ChartEntries.{base_json, entries_at, entries_by, entry_json, gone_json, members_of, named_json, one_gone_json}
+pub use Rattle.rtps_page.specs.ChartEntries.{answer_json, answers_in, entries_at, entries_by, entry_json, gone_json, members_of, named_json, numbers_answered, one_gone_json, set_items}
 pub use Rattle.rtps_page.specs.ChartRoom.{writers_behind}
 pub use Rattle.rtps_page.specs.Joining.{joined_json, joined_member, joining_json}
 pub use Rattle.rtps_page.specs.Origin.{moment_json, origin_value, recording_member, recording_members}

@@ -1,8 +1,12 @@
--- What a writer says and a reader answers, as entries of a page. DDSI-RTPS 2.5, 8.3.8.1 "AckNack", 8.3.8.2 "Data", 8.3.8.4 "Gap"
--- and 8.3.8.6 "Heartbeat".
+-- What a writer says and a reader answers, as entries of a page. DDSI-RTPS 2.5, 8.3.8.1 "AckNack", 8.3.8.2 "Data", 8.3.8.3
+-- "DataFrag", 8.3.8.4 "Gap" and 8.3.8.6 "Heartbeat".
 -- own: an entry is an array of JSON and no object, since there can be very many. A HEARTBEAT says two things: that the numbers
 -- below its first are gone, and the last number. A GAP has an entry for the numbers below its list, and one for each of its list.
-use Rattle.std.specs.Prelude.{ℕ, ℤ, pos, ◌-◌, nat_lt, ◌++◌, ◌==◌, if◌then◌else◌, List, [], ◌∷◌, codes, filter, length, map, Option, None, Some, flat_map}
+-- A DATA_FRAG has one for the fragments that it sends. A sample that was sent in fragments is complete at the DATA_FRAG by which the
+-- last of them that some audience lacked is sent to it: there it has one entry more, which names this audience. So a chart shows one dot
+-- for it, and knows by the fragments which of them were sent again. An answer takes an entry for its base, and one for each number that
+-- it asks for.
+use Rattle.std.specs.Prelude.{ℕ, ℤ, pos, Bool, ◌+◌, ◌-◌, ◌/◌, nat_lt, ◌++◌, ◌==◌, if◌then◌else◌, List, [], ◌∷◌, codes, filter, is_some, length, map, max, Option, None, Some, flat_map}
 use Rattle.std.specs.List.{range_with_len}
 use Rattle.hex.specs.Hex.{encode_lower}
 use Rattle.json.specs.Json.{Json, string}
@@ -11,13 +15,12 @@ use Rattle.rtps_ids.specs.declared.identity.EntityId.{EntityId}
 use Rattle.rtps_ids.specs.declared.identity.Guid.{Guid}
 use Rattle.rtps_ids.specs.declared.identity.GuidPrefix.{GuidPrefix}
 use Rattle.rtps_receiver.specs.Audience.{audience_of}
-use Rattle.rtps_receiver.specs.Speech.{is_entity, is_spoken_by, unknown_entity}
-use Rattle.rtps_receiver.specs.Values.{ActBodyValue}
+use Rattle.rtps_receiver.specs.Speech.{is_answer, is_entity, is_spoken_by, unknown_entity}
+use Rattle.rtps_receiver.specs.Values.{ActBodyValue, SentPartValue}
 use Rattle.rtps_receiver.specs.Values.ActBodyValue.{Data, Heartbeat, AckNack, Gap, DataFrag, NackFrag}
 use Rattle.rtps_receiver.specs.declared.speech.Audience.{Audience}
-use Rattle.rtps_wire.specs.Values.{PayloadValue}
+use Rattle.rtps_discovery.specs.declared.matching.Pair.{Pair}
 use Rattle.rtps_audit.specs.Placed.{PlacedValue}
-use Rattle.rtps_audit.specs.declared.answer.Answer.{Answer}
 use Rattle.rtps_evidence.specs.Locations.{location_of}
 use Rattle.rtps_evidence.specs.declared.location.Location.{Location}
 use Rattle.rtps_lines.specs.JsonText.{array_of, count_json, number_json}
@@ -56,18 +59,26 @@ one_gone_json place named number = entry_json place named (codes "gone") (pos nu
 abbrev pub members_of : NumberSetValue → List ℕ
 members_of set = filter (is_member set) (range_with_len set.base set.count)
 
--- that fragments of a number are sent; nothing where the act tells the sample that was put together of them, since the fragments
--- that complete it stand in the same place
-abbrev pub piece_json : Location → List ℕ → ℕ → Option PayloadValue → List Json
-piece_json place named number None = entry_json place named (codes "data") (pos number ∷ []) ∷ []
-piece_json place named number (Some payload) = []
+-- how many fragments of this size have so many octets; the last one may be shorter
+abbrev pub fragments_in : ℕ → ℕ → ℕ
+fragments_in size octets = (octets + (max 1 size - 1)) / max 1 size
+
+-- that fragments of a number are sent: the first of them, and how many; nothing where the act sends none
+abbrev pub piece_json : Location → List ℕ → ℕ → Option SentPartValue → List Json
+piece_json place named number None = []
+piece_json place named number (Some part) =
+    entry_json place named (codes "piece") (pos number ∷ pos part.first ∷ pos (fragments_in part.shape.fragment (length part.octets)) ∷ []) ∷ []
+
+-- that the sample of a number is complete, where the act tells it; else nothing
+abbrev pub sample_json : Location → List ℕ → ℕ → Bool → List Json
+sample_json place named number is_told = if is_told then entry_json place named (codes "sample") (pos number ∷ []) ∷ [] else []
 
 -- the entries of what an act says there
 abbrev pub entries_at : Location → List ℕ → ActBodyValue → List Json
 entries_at place named (Data value) = entry_json place named (codes "data") (pos value.number ∷ []) ∷ []
 entries_at place named (Heartbeat value) = gone_json place named 1 value.first ++ entry_json place named (codes "announced") (value.last ∷ []) ∷ []
 entries_at place named (Gap value) = gone_json place named value.start value.list.base ++ map (one_gone_json place named) (members_of value.list)
-entries_at place named (DataFrag value) = piece_json place named value.number value.told
+entries_at place named (DataFrag value) = piece_json place named value.number value.sent ++ sample_json place named value.number (is_some value.told)
 entries_at place named (AckNack value) = []
 entries_at place named (NackFrag value) = []
 
@@ -79,6 +90,32 @@ entries_of placed = entries_at (location_of placed) (audience_text (audience_of 
 abbrev pub entries_by : Guid → List PlacedValue → List Json
 entries_by writer acts = flat_map entries_of (filter (λ placed. is_spoken_by placed.act writer) acts)
 
--- an answer: where it stands, and its base
-abbrev pub base_json : Answer → Json
-base_json answer = array_of (count_json answer.datagram ∷ count_json answer.at ∷ number_json answer.base ∷ [])
+-- the answers of a pair's reader to its writer
+abbrev pub answers_in : Pair → List PlacedValue → List PlacedValue
+answers_in pair acts = filter (λ placed. is_answer placed.act pair.reader pair.writer) acts
+
+-- the numbers of an answer: its base, and those that it asks for
+abbrev pub numbers_in : ActBodyValue → List ℕ
+numbers_in (AckNack value) = value.set.base ∷ members_of value.set
+numbers_in (Data value) = []
+numbers_in (Heartbeat value) = []
+numbers_in (Gap value) = []
+numbers_in (DataFrag value) = []
+numbers_in (NackFrag value) = []
+
+-- those of all answers, each of which takes an entry
+abbrev pub numbers_answered : Pair → List PlacedValue → List ℕ
+numbers_answered pair acts = flat_map (λ placed. numbers_in placed.act.body) (answers_in pair acts)
+
+-- its base, and an array of those that it asks for
+abbrev pub set_items : ActBodyValue → List Json
+set_items (AckNack value) = number_json (pos value.set.base) ∷ array_of (map count_json (members_of value.set)) ∷ []
+set_items (Data value) = []
+set_items (Heartbeat value) = []
+set_items (Gap value) = []
+set_items (DataFrag value) = []
+set_items (NackFrag value) = []
+
+-- an answer: where it stands, its base, and what it asks for
+abbrev pub answer_json : PlacedValue → Json
+answer_json placed = array_of (count_json placed.datagram ∷ count_json placed.act.at ∷ set_items placed.act.body)

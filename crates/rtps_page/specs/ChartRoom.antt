@@ -1,33 +1,33 @@
 -- Which rows have a chart on a page. own: a page has room for so many entries, which it gives first to the rows that are not
--- complete, in their order, and then to the others. A row takes its answers, and what its writer says where the row that was
--- given room last is not of this writer: rows of one writer stand together. A row that takes more than is left has no chart,
--- and later ones may still have one.
+-- clean, in their order, and then to the others. A row takes its answers, each with what it asks for, and what its writer says
+-- where the row that was given room last is not of this writer: rows of one writer stand together. A row that takes more than is
+-- left has no chart, and later ones may still have one.
 use Rattle.std.specs.Prelude.{ℕ, ◌+◌, ◌++◌, ◌&&◌, nat_le, Bool, true, false, not, if◌then◌else◌, List, [], ◌∷◌, fold, filter, length, map, Option, None, Some}
 use Rattle.rtps_ids.specs.declared.identity.Guid.{Guid}
 use Rattle.rtps_discovery.specs.declared.matching.Pair.{Pair}
-use Rattle.rtps_audit.specs.Placed.{PlacedValue, answers_among, is_guid}
+use Rattle.rtps_audit.specs.Placed.{PlacedValue, is_guid}
 use Rattle.rtps_evidence.specs.Explanation.{ExplanationValue}
-use Rattle.rtps_report.specs.Reported.{is_complete}
-use Rattle.rtps_page.specs.ChartEntries.{entries_by}
+use Rattle.rtps_report.specs.RowFacts.{is_clean}
+use Rattle.rtps_page.specs.ChartEntries.{entries_by, numbers_answered}
 use Rattle.rtps_page.specs.declared.chart_room.Need.{Need}
 use Rattle.rtps_page.specs.declared.chart_room.Room.{Room}
 use Rattle.rtps_page.specs.declared.chart_room.TheConstants.{ENTRIES}
 use Rattle.rtps_page.specs.declared.chart_room.Turn.{Turn}
-use Rattle.rtps_page.specs.declared.chart_room.Turn.TheVariants.{Incomplete, Complete}
+use Rattle.rtps_page.specs.declared.chart_room.Turn.TheVariants.{Unclean, Clean}
 
--- it is the turn of a row that is complete, or is not
+-- it is the turn of a row that is clean, or is not
 abbrev pub is_turn : Turn → Bool → Bool
-is_turn Incomplete complete = not complete
-is_turn Complete complete = complete
+is_turn Unclean clean = not clean
+is_turn Clean clean = clean
 
--- what a row would take, which is not given room yet
-abbrev pub need_of : List PlacedValue → ExplanationValue → Need
-need_of acts row =
+-- what a row would take, which is not given room yet, where a tail may have so many numbers
+abbrev pub need_of : ℕ → List PlacedValue → ExplanationValue → Need
+need_of tail acts row =
     record {
       pair = row.pair;
-      complete = is_complete row.evidence.verdict;
+      clean = is_clean tail row.evidence;
       acts = length (entries_by row.pair.writer acts);
-      bases = length (answers_among row.pair acts);
+      answers = length (numbers_answered row.pair acts);
       charted = false;
     }
 
@@ -38,7 +38,7 @@ is_last (Some last) writer = is_guid last writer
 
 -- how many entries a row takes behind this last writer
 abbrev pub takes : Option Guid → Need → ℕ
-takes last need = need.bases + (if is_last last need.pair.writer then 0 else need.acts)
+takes last need = need.answers + (if is_last last need.pair.writer then 0 else need.acts)
 
 -- all room is left
 abbrev pub whole_room : Room
@@ -46,7 +46,7 @@ whole_room = record { used = 0; last = None }
 
 -- it is the row's turn, and there is room for it
 abbrev pub is_given : Turn → Room → Need → Bool
-is_given turn room need = is_turn turn need.complete && nat_le (room.used + takes room.last need) ENTRIES
+is_given turn room need = is_turn turn need.clean && nat_le (room.used + takes room.last need) ENTRIES
 
 -- how much room is used behind a row; None where there is not so much
 abbrev pub used_behind : Room → Need → Option ℕ
@@ -60,7 +60,7 @@ room_behind turn room need =
 -- the row, with a chart if it is given room
 abbrev pub need_behind : Turn → Room → Need → Need
 need_behind turn room need =
-    if is_given turn room need then record { pair = need.pair; complete = need.complete; acts = need.acts; bases = need.bases; charted = true } else need
+    if is_given turn room need then record { pair = need.pair; clean = need.clean; acts = need.acts; answers = need.answers; charted = true } else need
 
 -- what room is left, and the rows that had their turn
 pub record Given : Type 0 where
@@ -75,17 +75,17 @@ give turn given need = record { room = room_behind turn given.room need; needs =
 abbrev pub given_from : Turn → Room → List Need → Given
 given_from turn room needs = fold (give turn) (record { room = room; needs = [] }) needs
 
--- those that are not complete, and then the others
+-- those that are not clean, and then the others
 abbrev pub given_in_turn : Given → Given
-given_in_turn first = given_from Complete first.room first.needs
+given_in_turn first = given_from Clean first.room first.needs
 
 -- which rows have a chart
 abbrev pub charted : List Need → List Need
-charted needs = filter (λ need. need.charted) (given_in_turn (given_from Incomplete whole_room needs)).needs
+charted needs = filter (λ need. need.charted) (given_in_turn (given_from Unclean whole_room needs)).needs
 
 -- the pairs of the rows that have one, in the order of the report
-abbrev pub charted_pairs : List PlacedValue → List ExplanationValue → List Pair
-charted_pairs acts rows = map (λ need. need.pair) (charted (map (need_of acts) rows))
+abbrev pub charted_pairs : ℕ → List PlacedValue → List ExplanationValue → List Pair
+charted_pairs tail acts rows = map (λ need. need.pair) (charted (map (need_of tail acts) rows))
 
 -- the writers of these pairs that follow one another, each once, behind this last one
 abbrev pub writers_behind : Option Guid → List Pair → List Guid

@@ -14,7 +14,7 @@ use Rattle.rtps_report.specs.Vocabulary.{acts_together, ExplanationValue, Intake
 use Rattle.rtps_ids.specs.declared.identity.Guid.{Guid}
 use Rattle.rtps_discovery.specs.Directory.{DirectoryValue, settled_in, IsMapOf}
 use Rattle.rtps_discovery.specs.Endpoint.{EndpointValue}
-use Rattle.rtps_audit.specs.Placed.{PlacedValue, answers_among, placed_in}
+use Rattle.rtps_audit.specs.Placed.{PlacedValue, placed_in}
 use Rattle.rtps_evidence.specs.Times.{TimesValue}
 use Rattle.rtps_report.specs.Asked.{AskedValue, asked_value}
 use Rattle.rtps_report.specs.FullReport.{IsFullReport, ReportValue, report_value, rows_of}
@@ -23,7 +23,7 @@ use Rattle.rtps_lines.specs.CheckMembers.{check_members}
 use Rattle.rtps_lines.specs.JsonText.{Member, array_of, count_json, name_json, object_of, timed_members}
 use Rattle.rtps_lines.specs.QosNames.{durability_text, reliability_text, side_text}
 use Rattle.rtps_parts.specs.Names.{guid_text}
-use Rattle.rtps_page.specs.ChartEntries.{base_json, entries_by}
+use Rattle.rtps_page.specs.ChartEntries.{answer_json, answers_in, entries_by}
 use Rattle.rtps_page.specs.ChartRoom.{charted_pairs, writers_behind}
 use Rattle.rtps_page.specs.ChartTimes.{datagrams_shown, times_json}
 use Rattle.rtps_page.specs.Joining.{joined_member}
@@ -60,10 +60,14 @@ endpoint_json endpoint = object_of (endpoint_members endpoint)
 abbrev pub writer_json : List PlacedValue → Guid → Json
 writer_json acts writer = object_of ((codes "guid", guid_json writer) ∷ (codes "acts", array_of (entries_by writer acts)) ∷ [])
 
--- a pair, and the answers of its reader to its writer
+-- a pair, and these answers of its reader to its writer
+abbrev pub answered_json : Pair → List PlacedValue → Json
+answered_json pair answers = object_of ((codes "writer", guid_json pair.writer) ∷ (codes "reader", guid_json pair.reader)
+    ∷ (codes "bases", array_of (map answer_json answers)) ∷ [])
+
+-- all of them among these acts
 abbrev pub answers_json : List PlacedValue → Pair → Json
-answers_json acts pair = object_of ((codes "writer", guid_json pair.writer) ∷ (codes "reader", guid_json pair.reader)
-    ∷ (codes "bases", array_of (map base_json (answers_among pair acts))) ∷ [])
+answers_json acts pair = answered_json pair (answers_in pair acts)
 
 -- what was asked, as a member
 abbrev pub options_member : AskedValue → Member
@@ -93,13 +97,13 @@ own_members origin asked recording rows directory pairs =
     ∷ chart_members recording.times (acts_judged recording) pairs
 
 -- which rows have a chart
-abbrev pub pairs_with_charts : RecordingValue → ReportValue → List Pair
-pairs_with_charts recording report = charted_pairs (acts_judged recording) (rows_of report)
+abbrev pub pairs_with_charts : AskedValue → RecordingValue → ReportValue → List Pair
+pairs_with_charts asked recording report = charted_pairs asked.tail (acts_judged recording) (rows_of report)
 
 -- all of it
 abbrev pub page_json : OriginValue → AskedValue → RecordingValue → ReportValue → DirectoryValue → Json
 page_json origin asked recording report directory =
-    object_of (check_members asked recording report ++ own_members origin asked recording (rows_of report) directory (pairs_with_charts recording report))
+    object_of (check_members asked recording report ++ own_members origin asked recording (rows_of report) directory (pairs_with_charts asked recording report))
 
 -- what the report of a page is by
 abbrev pub intake_in : Shown → Intake

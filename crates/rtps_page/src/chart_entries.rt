@@ -1,15 +1,16 @@
-ghost use Rattle.std.specs.Prelude.{◌≡◌, ◌<◌, ◌^◌, ◌++◌, ◌∷◌, [], codes, OnOk, flat_map, string_bytes};
+ghost use Rattle.std.specs.Prelude.{◌≡◌, ◌<◌, ◌^◌, ◌++◌, ◌∷◌, [], codes, is_some, length, OnOk, flat_map, option_map, pos, string_bytes};
 ghost use Rattle.json.specs.Tree.{json_tokens};
-ghost use Rattle.rtps_receiver.specs.Values.{spoken_body_value};
+ghost use Rattle.rtps_receiver.specs.Values.{sent_part_value, spoken_body_value};
+ghost use Rattle.rtps_wire.specs.Values.{payload_value};
 ghost use Rattle.rtps_audit.specs.Placed.{placed_value};
-ghost use Rattle.rtps_page.specs.ChartEntries.{audience_text, entries_of, entry_json, entries_at, gone_json, members_of, named_json, one_gone_json};
+ghost use Rattle.rtps_page.specs.ChartEntries.{audience_text, entries_of, entry_json, entries_at, fragments_in, gone_json, members_of, named_json, one_gone_json, piece_json, sample_json};
 
 use crate::entry_counts::has_number;
 use json::Writer;
 use rtps_audit::Placed;
 use rtps_evidence::Location;
 use rtps_ids::NumberSet;
-use rtps_receiver::{ActBody, Audience, EVERY_READER, SpokenBody};
+use rtps_receiver::{ActBody, Audience, EVERY_READER, FragmentBody, SentPart, SpokenBody};
 use rtps_wire::HeartbeatBody;
 use std::alloc::AllocError;
 
@@ -126,6 +127,92 @@ fn push_members(writer: &mut Writer, head: EntryHead<'_>, set: &NumberSet) -> Re
     Ok(())
 }
 
+/// How many fragments a part has; the last one may be shorter.
+fn fragments_of(part: &SentPart<'_>) -> u64
+    ensures value { result ≡ fragments_in part.now.shape.fragment (length part.now.octets.now) }
+    ensures few { result < 2 ^ 63 }
+{
+    let size = u64::from(part.shape.fragment).max(1);
+    (part.octets.len() as u64 + (size - 1)) / size
+}
+
+/// Appends that an act sends fragments, if it does.
+fn push_sent(
+    writer: &mut Writer,
+    head: EntryHead<'_>,
+    piece: &FragmentBody<'_>,
+) -> Result<(), AllocError>
+    ensures tokens { OnOk result (writer.new.tokens ≡ writer.old.tokens
+        ++ flat_map json_tokens (piece_json head.entry.place head.entry.named.now piece.now.number (option_map sent_part_value piece.now.sent))) }
+    ensures before { writer.new.before ≡ writer.old.before }
+{
+    let Some(part) = &piece.sent else {
+        return Ok(());
+    };
+    push_entry(
+        writer,
+        head,
+        "piece",
+        &[
+            piece.number.get(),
+            i64::from(part.first),
+            fragments_of(part).cast_signed(),
+        ],
+    )
+}
+
+/// Whether an act tells a sample.
+fn is_told(piece: &FragmentBody<'_>) -> bool
+    ensures { result ≡ is_some (option_map payload_value piece.now.told) }
+{
+    match piece.told {
+        Some(_) => true,
+        None => false,
+    }
+}
+
+fn push_sample(
+    writer: &mut Writer,
+    head: EntryHead<'_>,
+    piece: &FragmentBody<'_>,
+) -> Result<(), AllocError>
+    ensures tokens { OnOk result (writer.new.tokens
+        ≡ writer.old.tokens ++ json_tokens (entry_json head.entry.place head.entry.named.now (codes "sample") (pos piece.now.number ∷ []))) }
+    ensures before { writer.new.before ≡ writer.old.before }
+{
+    push_entry(writer, head, "sample", &[piece.number.get()])
+}
+
+/// Appends that an act tells a sample, if it does.
+fn push_told(
+    writer: &mut Writer,
+    head: EntryHead<'_>,
+    piece: &FragmentBody<'_>,
+) -> Result<(), AllocError>
+    ensures tokens { OnOk result (writer.new.tokens ≡ writer.old.tokens
+        ++ flat_map json_tokens (sample_json head.entry.place head.entry.named.now piece.now.number (is_some (option_map payload_value piece.now.told)))) }
+    ensures before { writer.new.before ≡ writer.old.before }
+{
+    if !is_told(piece) {
+        return Ok(());
+    }
+    push_sample(writer, head, piece)
+}
+
+fn push_piece(
+    writer: &mut Writer,
+    head: EntryHead<'_>,
+    piece: &FragmentBody<'_>,
+) -> Result<(), AllocError>
+    ensures tokens { OnOk result (writer.new.tokens ≡ writer.old.tokens ++ flat_map json_tokens
+        (piece_json head.entry.place head.entry.named.now piece.now.number (option_map sent_part_value piece.now.sent)
+        ++ sample_json head.entry.place head.entry.named.now piece.now.number (is_some (option_map payload_value piece.now.told)))) }
+    ensures before { writer.new.before ≡ writer.old.before }
+{
+    push_sent(writer, head, piece)?;
+    push_told(writer, head, piece)
+}
+
 pub(crate) fn push_entries(
     writer: &mut Writer,
     text: &mut String,
@@ -171,10 +258,7 @@ fn push_said(
             push_gone(writer, head, start, gap.list.base().cast_unsigned())?;
             push_members(writer, head, &gap.list)
         }
-        SpokenBody::DataFrag(piece) => match piece.told {
-            Some(_) => Ok(()),
-            None => push_entry(writer, head, "data", &[piece.number.get()]),
-        },
+        SpokenBody::DataFrag(piece) => push_piece(writer, head, piece),
         SpokenBody::Act(ActBody::AckNack(_)) | SpokenBody::NackFrag(_) => Ok(()),
     }
 }

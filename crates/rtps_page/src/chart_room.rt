@@ -3,33 +3,34 @@ ghost use Rattle.rtps_evidence.specs.Explanation.{explanation_value};
 ghost use Rattle.rtps_audit.specs.Index.{IsIndexBy};
 ghost use Rattle.rtps_audit.specs.Intake.{Intake};
 ghost use Rattle.rtps_audit.specs.Placed.{placed_in};
-ghost use Rattle.rtps_page.specs.ChartEntries.{entries_by};
+ghost use Rattle.rtps_page.specs.ChartEntries.{entries_by, numbers_answered};
 ghost use Rattle.rtps_page.specs.ChartRoom.{charted_pairs, given_from, is_last as is_last_lem, is_turn as is_turn_lem, need_behind as need_behind_lem, need_of, room_behind as room_behind_lem, used_behind as used_behind_lem};
 
-use crate::entry_counts::entries_of_writer;
+use crate::entry_counts::{entries_of_answers, entries_of_writer};
+use crate::pair_answers::answer_acts;
 use rtps_audit::Index;
 use rtps_discovery::Pair;
 use rtps_evidence::Explanation;
 use rtps_ids::Guid;
-use rtps_report::is_complete;
+use rtps_report::is_clean;
 use std::alloc::{AllocError, Global};
 
 /// How many entries a page has room for.
 const ENTRIES: u128 = 200_000;
 
-/// Rows that are not complete come first, on the page and where room is given.
+/// Rows that are not clean come first, on the page and where room is given.
 #[derive(Clone, Copy)]
 pub(crate) enum Turn {
-    Incomplete,
-    Complete,
+    Unclean,
+    Clean,
 }
 
-fn is_turn(turn: Turn, complete: bool) -> bool
-    ensures { result ≡ is_turn_lem turn complete }
+fn is_turn(turn: Turn, clean: bool) -> bool
+    ensures { result ≡ is_turn_lem turn clean }
 {
     match turn {
-        Turn::Incomplete => !complete,
-        Turn::Complete => complete,
+        Turn::Unclean => !clean,
+        Turn::Clean => clean,
     }
 }
 
@@ -37,11 +38,11 @@ fn is_turn(turn: Turn, complete: bool) -> bool
 #[derive(Clone, Copy)]
 pub(crate) struct Need {
     pub(crate) pair: Pair,
-    pub(crate) complete: bool,
+    pub(crate) clean: bool,
     /// How many entries its writer has.
     pub(crate) acts: u128,
-    /// How many answers its reader has.
-    pub(crate) bases: u64,
+    /// How many entries the answers of its reader have.
+    pub(crate) answers: u128,
     pub(crate) charted: bool,
 }
 
@@ -77,13 +78,23 @@ fn entries_known(index: &Index<'_>, before: Option<Known>, writer: Guid) -> Know
     }
 }
 
+/// How many entries the answers of a pair's reader to its writer have.
+fn entries_answered(alloc: Global, index: &Index<'_>, pair: Pair) -> Result<u128, AllocError>
+    ensures { (intake : Intake) → IsIndexBy intake index.now
+        → IfOk result (λ entries. entries ≡ length (numbers_answered pair (placed_in intake.acts))) }
+{
+    let answers = answer_acts(alloc, index, pair)?;
+    Ok(entries_of_answers(&answers))
+}
+
 fn needs_of(
     alloc: Global,
     index: &Index<'_>,
+    tail: u64,
     rows: &[Explanation<'_>],
 ) -> Result<Vec<Need>, AllocError>
     ensures { (intake : Intake) → IsIndexBy intake index.now
-        → IfOk result (λ needs. needs.items ≡ map (λ row. need_of (placed_in intake.acts) (explanation_value row)) rows.now) }
+        → IfOk result (λ needs. needs.items ≡ map (λ row. need_of tail (placed_in intake.acts) (explanation_value row)) rows.now) }
 {
     let mut needs = Vec::with_capacity(alloc, rows.len())?;
     let mut before = None;
@@ -92,9 +103,9 @@ fn needs_of(
         before = Some(known);
         needs.push(Need {
             pair: row.pair,
-            complete: is_complete(&row.evidence.verdict),
+            clean: is_clean(tail, &row.evidence),
             acts: known.entries,
-            bases: index.answers_of(row.pair).len() as u64,
+            answers: entries_answered(alloc, index, row.pair)?,
             charted: false,
         })?;
     }
@@ -119,12 +130,11 @@ fn used_behind(room: Room, need: &Need) -> Option<u128>
     } else {
         need.acts
     };
-    let bases = u128::from(need.bases);
     let left = ENTRIES.saturating_sub(room.used);
-    if room.used > ENTRIES || bases > left || acts > left - bases {
+    if room.used > ENTRIES || need.answers > left || acts > left - need.answers {
         return None;
     }
-    Some(room.used + (bases + acts))
+    Some(room.used + (need.answers + acts))
 }
 
 /// Gives a row room, if it is its turn and there is room for it.
@@ -132,7 +142,7 @@ fn give_one(turn: Turn, room: Room, need: &Need) -> (Room, Need)
     ensures room { result.0 ≡ room_behind_lem turn room need.now }
     ensures need { result.1 ≡ need_behind_lem turn room need.now }
 {
-    if !is_turn(turn, need.complete) {
+    if !is_turn(turn, need.clean) {
         return (room, *need);
     }
     let Some(used) = used_behind(room, need) else {
@@ -182,21 +192,22 @@ fn pairs_of(alloc: Global, needs: &[Need]) -> Result<Vec<Pair>, AllocError>
     Ok(pairs)
 }
 
-/// Which of these rows have a chart: their pairs, in the order of the rows.
+/// Which of these rows have a chart, where a tail may have so many numbers: their pairs, in the order of the rows.
 pub(crate) fn pairs_with_charts(
     alloc: Global,
     index: &Index<'_>,
+    tail: u64,
     rows: &[Explanation<'_>],
 ) -> Result<Vec<Pair>, AllocError>
     ensures { (intake : Intake) → IsIndexBy intake index.now
-        → IfOk result (λ pairs. pairs.items ≡ charted_pairs (placed_in intake.acts) (map explanation_value rows.now)) }
+        → IfOk result (λ pairs. pairs.items ≡ charted_pairs tail (placed_in intake.acts) (map explanation_value rows.now)) }
 {
-    let needs = needs_of(alloc, index, rows)?;
+    let needs = needs_of(alloc, index, tail, rows)?;
     let room = Room {
         used: 0,
         last: None,
     };
-    let (room, needs) = give_all(alloc, Turn::Incomplete, room, &needs)?;
-    let (_, needs) = give_all(alloc, Turn::Complete, room, &needs)?;
+    let (room, needs) = give_all(alloc, Turn::Unclean, room, &needs)?;
+    let (_, needs) = give_all(alloc, Turn::Clean, room, &needs)?;
     pairs_of(alloc, &needs)
 }

@@ -1,10 +1,10 @@
-ghost use Rattle.std.specs.Prelude.{ℕ, ◌≡◌, ◌≤◌, ◌<◌, ◌^◌, length, map, List, option_map};
+ghost use Rattle.std.specs.Prelude.{ℕ, ◌≡◌, ◌≤◌, ◌<◌, ◌^◌, flat_map, is_some, length, map, List, option_map};
 ghost use Rattle.rtps_ids.specs.NumberSet.{is_member};
-ghost use Rattle.rtps_receiver.specs.Values.{spoken_body_value};
+ghost use Rattle.rtps_receiver.specs.Values.{sent_part_value, spoken_body_value};
 ghost use Rattle.rtps_wire.specs.Values.{payload_value};
 ghost use Rattle.rtps_audit.specs.Placed.{placed_value};
 ghost use Rattle.rtps_evidence.specs.declared.location.Location.{Location as LocationValue};
-ghost use Rattle.rtps_page.specs.ChartEntries.{entries_at, entries_by, gone_json, members_of, piece_json};
+ghost use Rattle.rtps_page.specs.ChartEntries.{entries_at, entries_by, fragments_in as fragments_in_lem, gone_json, members_of, numbers_in as numbers_in_lem, piece_json, sample_json};
 ghost use Rattle.rtps_page.specs.ChartTimes.{has_entry as has_entry_lem};
 
 use rtps_audit::Placed;
@@ -40,14 +40,25 @@ fn one_if_gone(from: u64, past: u64) -> u64
     if from < past { 1 } else { 0 }
 }
 
-/// 1 where an act says that fragments are sent, and 0 where it tells the sample that was put together of them.
-fn one_if_piece(piece: &FragmentBody<'_>) -> u64
-    ensures value { (place : LocationValue) (named : List ℕ) → result ≡ length (piece_json place named piece.now.number (option_map payload_value piece.now.told)) }
+/// 1 where an act sends fragments, and else 0.
+fn one_if_sent(piece: &FragmentBody<'_>) -> u64
+    ensures value { (place : LocationValue) (named : List ℕ) → result ≡ length (piece_json place named piece.now.number (option_map sent_part_value piece.now.sent)) }
+    ensures few { result ≤ 1 }
+{
+    match piece.sent {
+        Some(_) => 1,
+        None => 0,
+    }
+}
+
+/// 1 where an act tells a sample, and else 0.
+fn one_if_told(piece: &FragmentBody<'_>) -> u64
+    ensures value { (place : LocationValue) (named : List ℕ) → result ≡ length (sample_json place named piece.now.number (is_some (option_map payload_value piece.now.told))) }
     ensures few { result ≤ 1 }
 {
     match piece.told {
-        Some(_) => 0,
-        None => 1,
+        Some(_) => 1,
+        None => 0,
     }
 }
 
@@ -66,7 +77,7 @@ fn entries_in(body: &SpokenBody<'_>) -> u64
             let start = gap.start.get().cast_unsigned();
             one_if_gone(start, gap.list.base().cast_unsigned()) + members_among(&gap.list)
         }
-        SpokenBody::DataFrag(piece) => one_if_piece(piece),
+        SpokenBody::DataFrag(piece) => one_if_sent(piece) + one_if_told(piece),
         SpokenBody::Act(ActBody::AckNack(_)) | SpokenBody::NackFrag(_) => 0,
     }
 }
@@ -87,6 +98,32 @@ pub(crate) fn entries_of_writer(acts: &[Placed<'_>], writer: Guid) -> u128
         if placed.act.spoken_by(writer) {
             count += u128::from(entries_in(&placed.act.body));
         }
+    }
+    count
+}
+
+/// How many numbers an answer has: its base, and those that it asks for.
+fn numbers_in(body: &SpokenBody<'_>) -> u64
+    ensures value { result ≡ length (numbers_in_lem (spoken_body_value body.now)) }
+    ensures few { result ≤ 257 }
+{
+    match body {
+        SpokenBody::Act(ActBody::AckNack(ack_nack)) => members_among(&ack_nack.set) + 1,
+        SpokenBody::Act(ActBody::Data(_))
+        | SpokenBody::Act(ActBody::Heartbeat(_))
+        | SpokenBody::Act(ActBody::Gap(_))
+        | SpokenBody::DataFrag(_)
+        | SpokenBody::NackFrag(_) => 0,
+    }
+}
+
+/// How many entries these answers have.
+pub(crate) fn entries_of_answers(answers: &[Placed<'_>]) -> u128
+    ensures { result ≡ length (flat_map (λ placed. numbers_in_lem placed.act.body) (map placed_value answers.now)) }
+{
+    let mut count = 0u128;
+    for placed in answers {
+        count += u128::from(numbers_in(&placed.act.body));
     }
     count
 }

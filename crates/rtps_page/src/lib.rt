@@ -15,6 +15,7 @@ mod page;
 mod page_data;
 mod page_directory;
 mod page_parts;
+mod pair_answers;
 mod safe_text;
 
 pub use origin::Origin;

@@ -118,7 +118,12 @@ pub(crate) fn data_of(alloc: Global, shown: &Shown<'_, '_>) -> Result<Vec<u8>, M
     ensures { IfOk result (λ text. IsPrinted (json_in shown.now) text.items) }
 {
     let report = shown.report;
-    let pairs = pairs_with_charts(alloc, &report.index, &report.explained.rows)?;
+    let pairs = pairs_with_charts(
+        alloc,
+        &report.index,
+        report.asked.tail,
+        &report.explained.rows,
+    )?;
     let mut writer = Writer::new(Vec::new(alloc));
     writer.begin_object()?;
     push_members(alloc, &mut writer, shown, &pairs)?;

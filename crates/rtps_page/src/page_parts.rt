@@ -6,7 +6,7 @@ pub(crate) const HEAD: &str = "\
 <html lang=\"en\">\n\
 <head>\n\
 <meta charset=\"utf-8\">\n\
-<meta http-equiv=\"Content-Security-Policy\" content=\"default-src 'none'; style-src 'sha256-EseMbammGylegBxk8jCNIG/Y+qVwTO9Z1GFH+sgg35c='; script-src 'sha256-hpmW3mDyoQhB9f0WRZW6RarG+nvTxqFH2yl+nJ5/Zek=' 'sha256-R9Xk4sjcmSM2pzw0muQ5pic9bATqz5C85RDxy/d33cY=' 'sha256-ITctgU4SinAQQYsXVflAZKVj6OUeisokZHBS2nZUUoI=' 'sha256-0Ic07IyjN2XDWJx8ud6piX9l/xdS8hFAqJ759Fk9QXY=' 'sha256-nzGEYvzDKKZYZJA/DM7XyA16Ls/k6Nl4xNWS6IHdY/Q=' 'sha256-8p8Dxbx6TBoqoOH/9nx1shdrfyDNuF/MbP2cxU8WwtI=' 'sha256-IDKn87SsjoB7KFxDOA98+C9PAwaZUG5nSecNhajfn5Y=' 'sha256-2ELIcGH5E1pJxmMUXa4vBYSAMFL1BCId//7q11HXGjY=' 'sha256-YKfXUCxjsA2JhKMB27DqdbmQs5lIqI42dpn8+zc7Guo=' 'sha256-kVdnEU2vVvmrVFvfoaOWgyjH7vn7mLhAiHHOsUb7jwM=' 'sha256-vUTO7+SZpcIXDB4FdSR9w04wk6uI0AQVhjGcRbSvPEY=' 'sha256-Ng/qG/jczhEehaLvFM9UoDXYY2suV6XApjDWWpgKjqI=' 'sha256-IjGLpaISxDclr2jdlmOVqEAUYmkIIBwBDOBlxE3KRO8='; base-uri 'none'; form-action 'none'\">\n\
+<meta http-equiv=\"Content-Security-Policy\" content=\"default-src 'none'; style-src 'sha256-qp4E1iOvEK/V6rQsiZTz2r7N2d+h5RSxrfvCzBtCj20='; script-src 'sha256-hpmW3mDyoQhB9f0WRZW6RarG+nvTxqFH2yl+nJ5/Zek=' 'sha256-ITctgU4SinAQQYsXVflAZKVj6OUeisokZHBS2nZUUoI=' 'sha256-Vx6VTy5wvpj3yfcSndNxHG/3uKDNgV6xVj7tCWRM06Q=' 'sha256-mFxS9+ff4TQgIQahwChDhHPKTpmLHVQahvu0UUtd3oY=' 'sha256-0Ic07IyjN2XDWJx8ud6piX9l/xdS8hFAqJ759Fk9QXY=' 'sha256-bqD1pDnh3FecsfB1dPybatyiUe07MaQLprbU9Vx17Hk=' 'sha256-KJW8ewj2owtgq2X0t1e71PxlfuDlZihesH4Gkm9w2Rw=' 'sha256-RZFZmN4jOaiyhk7fpR0c+dJylwie/3D5m4tVYJeBxJ4=' 'sha256-2ELIcGH5E1pJxmMUXa4vBYSAMFL1BCId//7q11HXGjY=' 'sha256-4hayr4ho+P3uEsOvfW5UWOdhsscUbvieEAR57S2eHvA=' 'sha256-kVdnEU2vVvmrVFvfoaOWgyjH7vn7mLhAiHHOsUb7jwM=' 'sha256-U8nXqyZVjnGvIF6HaSEVDC+KYBCVvq8e9Wz863DtxAA=' 'sha256-Ng/qG/jczhEehaLvFM9UoDXYY2suV6XApjDWWpgKjqI=' 'sha256-cxD5CTsYS7stLUjzK5HtuohpAXHojrdZMq0X8VYauXM='; base-uri 'none'; form-action 'none'\">\n\
 <meta name=\"viewport\" content=\"width=device-width, initial-scale=1\">\n\
 <meta name=\"color-scheme\" content=\"light dark\">\n\
 <meta name=\"referrer\" content=\"no-referrer\">\n\
@@ -209,7 +209,8 @@ button.fold:focus-visible { outline: 3px solid var(--focus); outline-offset: 2px
 button.fold::before { content: '▸ '; }\n\
 button.fold[aria-expanded='true']::before { content: '▾ '; }\n\
 .words { margin-top: 10px; }\n\
-.talk th { font-weight: 400; min-width: 150px; }\n\
+.talk th { font-weight: 400; }\n\
+.talk tbody th { min-width: 150px; }\n\
 .talk thead th { font-weight: 600; }\n\
 .talk-part { margin-bottom: 14px; }\n\
 .endpoints th { white-space: nowrap; font-weight: 400; }\n\
@@ -359,7 +360,7 @@ document.documentElement.classList.add('scripted');\n\
 <ul id=\"hosts\"></ul>\n\
 </header>\n\
 <nav id=\"bar\" aria-label=\"Sections\"></nav>\n\
-<main>\n\
+<main hidden>\n\
 <section id=\"picture\" aria-labelledby=\"picture-head\" tabindex=\"-1\" data-name=\"Picture\">\n\
 <h2 id=\"picture-head\">The recording in one picture</h2>\n\
 </section>\n\
@@ -411,212 +412,6 @@ of a verdict.</p>\n\
 pub(crate) const MIDDLE: &str = "\
 </pre>\n\
 </section>\n\
-<script type=\"application/json\" id=\"data\">";
-
-/// What stands behind the data.
-pub(crate) const TAIL: &str = "\
-</script>\n\
-<script>'use strict';\n\
-const KINDS = ['unfounded', 'conflict', 'open', 'lost', 'clean'];\n\
-const KIND_WORDS = Object.fromEntries(KINDS.map((kind) => [kind, kind === 'lost' ? `complete, ${kind}` : kind]));\n\
-const OUTCOMES = ['received', 'arrived', 'likely', 'missed', 'unsent', 'unanswered', 'unconfirmed'];\n\
-const LOST = ['missed', 'unsent', 'unanswered'];\n\
-const LOST_WORDS = { missed: 'Missed', unsent: 'Unsent', unanswered: 'Unanswered', not_arrived: 'Not arrived' };\n\
-const PLUMBING = ['ros_discovery_info', 'rt/parameter_events'];\n\
-const STRING_OR_LARGE = /\"(?:[^\"\\\\]|\\\\.)*\"|\\d{16,}/g;\n\
-const isLarge = (n) => n > Number.MAX_SAFE_INTEGER;\n\
-function isRounded({ number, announced, acknowledged, from }) {\n\
-return isLarge(number) || isLarge(from) || (announced !== null && isLarge(announced.number)) || (acknowledged !== null && isLarge(acknowledged.below));\n\
-}\n\
-function reportOf(text) {\n\
-const report = new Report(JSON.parse(text));\n\
-if (!report.isRounded) return report;\n\
-return new Report(JSON.parse(text.replace(STRING_OR_LARGE, (found) => (found[0] === '\"' ? found : `\"${found}\"`))));\n\
-}\n\
-function isRoundedElsewhere({ options: { from, expect, tail }, best_effort: bestEffort, arrived = [] }) {\n\
-return [from, expect, tail].some(isLarge) || [...bestEffort, ...arrived].some(({ numbers, not_arrived: named = [] }) => [numbers, ...named].some(isLarge));\n\
-}\n\
-function compareNumbers(a, b) {\n\
-if (typeof a === 'number' && typeof b === 'number') return a - b;\n\
-const [x, y] = [BigInt(a), BigInt(b)];\n\
-return x < y ? -1 : Number(x > y);\n\
-}\n\
-const isAbove = (a, b) => compareNumbers(a, b) > 0;\n\
-function added(a, b) {\n\
-if (typeof a === 'number' && typeof b === 'number' && a + b <= Number.MAX_SAFE_INTEGER) return a + b;\n\
-return BigInt(a) + BigInt(b);\n\
-}\n\
-const differenceOf = (a, b) => (typeof a === 'number' && typeof b === 'number' ? a - b : BigInt(a) - BigInt(b));\n\
-const sumOf = (rows, numberOf) => rows.reduce((sum, row) => added(sum, numberOf(row)), 0);\n\
-const counted = (n) => String(n).replace(/\\B(?=(\\d{3})+$)/g, ',');\n\
-const plural = (n, noun, nouns = `${noun}s`) => `${counted(n)} ${String(n) === '1' ? noun : nouns}`;\n\
-const partOf = (n, all, noun) => (n === all ? plural(all, noun) : `${counted(n)} of ${plural(all, noun)}`);\n\
-const askedAbout = ({ payloads, gone, untold }) => added(added(payloads, gone), untold);\n\
-const isHeld = ({ outcomes: { arrived = null } }) => arrived !== null;\n\
-function lostOf({ outcomes }) {\n\
-const lost = added(added(outcomes.missed, outcomes.unsent), outcomes.unanswered);\n\
-return (outcomes.arrived ?? null) === null ? lost : added(added(lost, outcomes.likely), outcomes.unconfirmed);\n\
-}\n\
-const prefixOf = (guid) => guid.slice(0, 24);\n\
-const entityOf = (guid) => guid.slice(24);\n\
-function kindOf({ verdict, clean }) {\n\
-if (clean) return 'clean';\n\
-return verdict === 'complete' ? 'lost' : verdict;\n\
-}\n\
-function entryOf(map, key, made) {\n\
-if (!map.has(key)) map.set(key, made());\n\
-return map.get(key);\n\
-}\n\
-function worse(a, b) {\n\
-return Number(a.clean) - Number(b.clean) || compareNumbers(b.lost, a.lost) || a.rank - b.rank || Number(a.isPlumbing) - Number(b.isPlumbing);\n\
-}\n\
-class Report {\n\
-constructor(data) {\n\
-this.data = data;\n\
-this.rows = data.pairs;\n\
-this.groups = groupsOf(this.rows, data.options.from);\n\
-this.isRounded = isRoundedElsewhere(data) || this.groups.some(({ isRounded }) => isRounded);\n\
-this.acts = new Map(data.writers.map(({ guid, acts }) => [guid, acts]));\n\
-this.endpointOf = new Map(data.endpoints.map((endpoint) => [endpoint.guid, endpoint]));\n\
-this.participants = participantsOf(data);\n\
-this.times = new Map((data.times || []).map((entry) => [entry[0], entry]));\n\
-this.isTimed = data.times !== undefined;\n\
-this.hasSilent = data.participants.some(({ silent }) => silent);\n\
-this.bases = null;\n\
-this.numbered = new Map();\n\
-this.told = new Map();\n\
-}\n\
-secondOf(datagram) {\n\
-return this.times.get(datagram)?.[1];\n\
-}\n\
-frameOf(datagram) {\n\
-return this.times.get(datagram)?.[2];\n\
-}\n\
-axis() {\n\
-this.range ||= this.isTimed ? { word: 's', low: 0, high: this.seconds() } : { word: 'datagram', low: 0, high: this.data.datagrams };\n\
-return this.range;\n\
-}\n\
-seconds() {\n\
-const { begin = null, end = null } = this.data.recording || {};\n\
-const last = this.data.participants.reduce((most, { last_time: time }) => Math.max(most, time || 0), 0);\n\
-return Math.max(last, begin !== null && end !== null ? (end - begin) / 1000 : 0);\n\
-}\n\
-placeOf(datagram) {\n\
-return this.isTimed ? this.secondOf(datagram) : datagram;\n\
-}\n\
-onAxis({ datagram, time = null }) {\n\
-return this.isTimed ? time : datagram;\n\
-}\n\
-counts() {\n\
-return Object.entries(this.data).filter(([, value]) => typeof value === 'number');\n\
-}\n\
-basesOf({ writer, reader }) {\n\
-this.bases ||= new Map(this.data.answers.map((answer) => [answer.writer + answer.reader, answer.bases]));\n\
-return this.bases.get(writer + reader);\n\
-}\n\
-asksOf({ writer, reader }) {\n\
-this.asks ||= new Map(this.data.answers.map((answer) => [answer.writer + answer.reader, answer.asks || []]));\n\
-return this.asks.get(writer + reader);\n\
-}\n\
-actsOf({ writer }) {\n\
-return this.acts.get(writer);\n\
-}\n\
-sendingsOf({ writer, reader }) {\n\
-const byNumber = entryOf(this.numbered, writer, () => dataByNumber(this.acts.get(writer) || []));\n\
-const to = namesOf(reader);\n\
-return (number) => (byNumber.get(number) || []).find((entry) => to.includes(entry[entry[2] === 'piece' ? 5 : 4]));\n\
-}\n\
-tellingsOf({ writer }) {\n\
-return entryOf(this.told, writer, () => (this.acts.has(writer) ? risingOf(this.acts.get(writer)) : null));\n\
-}\n\
-participantOf(guid) {\n\
-return this.participants.get(prefixOf(guid));\n\
-}\n\
-lateOf({ writer, reader }) {\n\
-return (this.data.late || []).find((late) => late.writer === writer && late.reader === reader);\n\
-}\n\
-}\n\
-const namesOf = (reader) => [undefined, reader, prefixOf(reader), entityOf(reader)];\n\
-const IS_SENDING = new Set(['data', 'piece']);\n\
-function dataByNumber(acts) {\n\
-const found = new Map();\n\
-for (const entry of acts) if (IS_SENDING.has(entry[2])) entryOf(found, entry[3], () => []).push(entry);\n\
-return found;\n\
-}\n\
-function risingOf(acts) {\n\
-const steps = [];\n\
-let last = 0;\n\
-for (const [datagram, , what, number] of acts) {\n\
-if (what === 'gone' || number <= last) continue;\n\
-steps.push([datagram, Number(number)]);\n\
-last = number;\n\
-}\n\
-return steps;\n\
-}\n\
-const NO_NUMBERS = Object.freeze({});\n\
-function groupsOf(rows, first) {\n\
-const topics = new Map();\n\
-let group = null;\n\
-for (let at = 0; at < rows.length; at += 1) {\n\
-const row = rows[at];\n\
-if (group === null || row.topic !== group.topic || row.type !== group.type) {\n\
-group = entryOf(entryOf(topics, row.topic, () => new Map()), row.type, () => emptyGroup(row));\n\
-}\n\
-judgeRow(row, at, group);\n\
-addRow(group, row, first);\n\
-}\n\
-const groups = [...topics.values()].flatMap((types) => [...types.values()]);\n\
-groups.forEach((one, at) => Object.assign(one, { at, clean: one.bad === 0 }));\n\
-return groups;\n\
-}\n\
-function judgeRow(row, at, group) {\n\
-row.at = at;\n\
-row.group = group;\n\
-row.kind = kindOf(row);\n\
-row.rank = KINDS.indexOf(row.kind);\n\
-row.lost = lostOf(row);\n\
-row.isPlumbing = group.isPlumbing;\n\
-row.numbers ||= NO_NUMBERS;\n\
-}\n\
-function emptyGroup({ topic, type }) {\n\
-return {\n\
-topic, type, rows: [], bad: 0, lost: 0, rank: KINDS.length, isPlumbing: PLUMBING.includes(topic), isRounded: false, held: [],\n\
-kinds: KINDS.map(() => 0),\n\
-sums: { received: 0, arrived: 0, likely: 0, missed: 0, unsent: 0, unanswered: 0, unconfirmed: 0, before: 0, proved: 0, asked: 0 },\n\
-};\n\
-}\n\
-function addRow(group, row, first) {\n\
-const { sums } = group;\n\
-group.rows.push(row);\n\
-group.bad += Number(!row.clean);\n\
-group.lost = added(group.lost, row.lost);\n\
-group.rank = Math.min(group.rank, row.rank);\n\
-group.kinds[row.rank] += 1;\n\
-group.isRounded ||= isRounded(row);\n\
-if (isHeld(row)) group.held.push(row);\n\
-addOutcomes(sums, row.outcomes);\n\
-sums.before = added(sums.before, differenceOf(row.from, first));\n\
-sums.proved = added(sums.proved, row.received);\n\
-sums.asked = added(sums.asked, askedAbout(row));\n\
-}\n\
-function addOutcomes(sums, { received, arrived, likely, missed, unsent, unanswered, unconfirmed }) {\n\
-sums.received = added(sums.received, received);\n\
-sums.arrived = added(sums.arrived, arrived || 0);\n\
-sums.likely = added(sums.likely, likely);\n\
-sums.missed = added(sums.missed, missed);\n\
-sums.unsent = added(sums.unsent, unsent);\n\
-sums.unanswered = added(sums.unanswered, unanswered);\n\
-sums.unconfirmed = added(sums.unconfirmed, unconfirmed);\n\
-}\n\
-function participantsOf(data) {\n\
-const announced = new Map([...data.endpoints, ...data.participants].map(({ guid }) => [prefixOf(guid), null]));\n\
-for (const participant of data.participants) announced.set(prefixOf(participant.guid), participant);\n\
-const participants = new Map([...announced.keys()].sort().map((prefix, at) => (\n\
-[prefix, { at: at + 1, name: `P${at + 1}`, prefix, announced: announced.get(prefix), endpoints: [], nodes: announced.get(prefix)?.nodes || [] }])));\n\
-for (const endpoint of data.endpoints) participants.get(prefixOf(endpoint.guid)).endpoints.push(endpoint);\n\
-return participants;\n\
-}\n\
-</script>\n\
 <script>'use strict';\n\
 function rosTopic(topic) {\n\
 const [, kind, name] = /^(rt|rq|rr)\\/(.*)$/.exec(topic) || [];\n\
@@ -738,6 +533,229 @@ return make('li', null, drawn('svg', { viewBox: '0 0 24 14', width: '24', height
 }\n\
 </script>\n\
 <script>'use strict';\n\
+const lastLine = memo(() => {\n\
+const text = document.querySelector('#text pre').textContent.trimEnd();\n\
+return text.slice(text.lastIndexOf('\\n') + 1);\n\
+});\n\
+function showOutcome(isWhole) {\n\
+const [word, ...rest] = lastLine().split(': ');\n\
+const isClean = word === 'clean';\n\
+fill(document.getElementById('outcome'),\n\
+badge(isClean ? 'outcome good' : 'outcome bad', [make('span', { 'aria-hidden': 'true' }, isClean ? '✓ ' : '✗ '), make('span', { class: 'word' }, word)]),\n\
+isWhole && rest.length > 0 && make('span', { class: 'more-said' }, ` ${rest.join(': ')}`));\n\
+}\n\
+document.title = `${lastLine()}: rtps-audit`;\n\
+showOutcome(true);\n\
+fill(document.getElementById('received'), 'The pairs are being read.');\n\
+document.getElementById('page').hidden = false;\n\
+</script>\n\
+<script type=\"application/json\" id=\"data\">";
+
+/// What stands behind the data.
+pub(crate) const TAIL: &str = "\
+</script>\n\
+<script>'use strict';\n\
+const KINDS = ['unfounded', 'conflict', 'open', 'lost', 'clean'];\n\
+const KIND_WORDS = Object.fromEntries(KINDS.map((kind) => [kind, kind === 'lost' ? `complete, ${kind}` : kind]));\n\
+const OUTCOMES = ['received', 'arrived', 'likely', 'missed', 'unsent', 'unanswered', 'unconfirmed'];\n\
+const LOST = ['missed', 'unsent', 'unanswered'];\n\
+const LOST_WORDS = { missed: 'Missed', unsent: 'Unsent', unanswered: 'Unanswered', not_arrived: 'Not arrived' };\n\
+const PLUMBING = ['ros_discovery_info', 'rt/parameter_events'];\n\
+const STRING_OR_LARGE = /\"(?:[^\"\\\\]|\\\\.)*\"|\\d{16,}/g;\n\
+const isLarge = (n) => n > Number.MAX_SAFE_INTEGER;\n\
+function isRounded({ number, announced, acknowledged, from }) {\n\
+return isLarge(number) || isLarge(from) || (announced !== null && isLarge(announced.number)) || (acknowledged !== null && isLarge(acknowledged.below));\n\
+}\n\
+function reportOf(text) {\n\
+const report = new Report(JSON.parse(text));\n\
+if (!report.isRounded) return report;\n\
+return new Report(JSON.parse(text.replace(STRING_OR_LARGE, (found) => (found[0] === '\"' ? found : `\"${found}\"`))));\n\
+}\n\
+function isRoundedElsewhere({ options: { from, expect, tail }, best_effort: bestEffort, arrived = [] }) {\n\
+return [from, expect, tail].some(isLarge) || [...bestEffort, ...arrived].some(({ numbers, not_arrived: named = [] }) => [numbers, ...named].some(isLarge));\n\
+}\n\
+function compareNumbers(a, b) {\n\
+if (typeof a === 'number' && typeof b === 'number') return a - b;\n\
+const [x, y] = [BigInt(a), BigInt(b)];\n\
+return x < y ? -1 : Number(x > y);\n\
+}\n\
+const isAbove = (a, b) => compareNumbers(a, b) > 0;\n\
+function added(a, b) {\n\
+if (b === 0) return a;\n\
+if (typeof a === 'number' && typeof b === 'number' && a + b <= Number.MAX_SAFE_INTEGER) return a + b;\n\
+return BigInt(a) + BigInt(b);\n\
+}\n\
+const differenceOf = (a, b) => (typeof a === 'number' && typeof b === 'number' ? a - b : BigInt(a) - BigInt(b));\n\
+const sumOf = (rows, numberOf) => rows.reduce((sum, row) => added(sum, numberOf(row)), 0);\n\
+const counted = (n) => String(n).replace(/\\B(?=(\\d{3})+$)/g, ',');\n\
+const plural = (n, noun, nouns = `${noun}s`) => `${counted(n)} ${String(n) === '1' ? noun : nouns}`;\n\
+const partOf = (n, all, noun) => (n === all ? plural(all, noun) : `${counted(n)} of ${plural(all, noun)}`);\n\
+const askedAbout = ({ payloads, gone, untold }) => added(added(payloads, gone), untold);\n\
+const isHeld = ({ outcomes: { arrived = null } }) => arrived !== null;\n\
+function lostOf({ outcomes }) {\n\
+const lost = added(added(outcomes.missed, outcomes.unsent), outcomes.unanswered);\n\
+return (outcomes.arrived ?? null) === null ? lost : added(added(lost, outcomes.likely), outcomes.unconfirmed);\n\
+}\n\
+const prefixOf = (guid) => guid.slice(0, 24);\n\
+const entityOf = (guid) => guid.slice(24);\n\
+function kindOf({ verdict, clean }) {\n\
+if (clean) return 'clean';\n\
+return verdict === 'complete' ? 'lost' : verdict;\n\
+}\n\
+function entryOf(map, key, made) {\n\
+if (!map.has(key)) map.set(key, made());\n\
+return map.get(key);\n\
+}\n\
+function worse(a, b) {\n\
+return Number(a.clean) - Number(b.clean) || compareNumbers(b.lost, a.lost) || a.rank - b.rank || Number(a.isPlumbing) - Number(b.isPlumbing);\n\
+}\n\
+class Report {\n\
+constructor(data) {\n\
+this.data = data;\n\
+this.rows = data.pairs;\n\
+this.groups = groupsOf(this.rows, data.options.from);\n\
+this.isRounded = isRoundedElsewhere(data) || this.groups.some(({ isRounded }) => isRounded);\n\
+this.acts = new Map(data.writers.map(({ guid, acts }) => [guid, acts]));\n\
+this.endpointOf = new Map(data.endpoints.map((endpoint) => [endpoint.guid, endpoint]));\n\
+this.participants = participantsOf(data);\n\
+this.times = new Map((data.times || []).map((entry) => [entry[0], entry]));\n\
+this.isTimed = data.times !== undefined;\n\
+this.hasSilent = data.participants.some(({ silent }) => silent);\n\
+this.bases = null;\n\
+this.numbered = new Map();\n\
+this.told = new Map();\n\
+}\n\
+secondOf(datagram) {\n\
+return this.times.get(datagram)?.[1];\n\
+}\n\
+frameOf(datagram) {\n\
+return this.times.get(datagram)?.[2];\n\
+}\n\
+axis() {\n\
+this.range ||= this.isTimed ? { word: 's', low: 0, high: this.seconds() } : { word: 'datagram', low: 0, high: this.data.datagrams };\n\
+return this.range;\n\
+}\n\
+seconds() {\n\
+const { begin = null, end = null } = this.data.recording || {};\n\
+const last = this.data.participants.reduce((most, { last_time: time }) => Math.max(most, time || 0), 0);\n\
+return Math.max(last, begin !== null && end !== null ? (end - begin) / 1000 : 0);\n\
+}\n\
+placeOf(datagram) {\n\
+return this.isTimed ? this.secondOf(datagram) : datagram;\n\
+}\n\
+onAxis({ datagram, time = null }) {\n\
+return this.isTimed ? time : datagram;\n\
+}\n\
+counts() {\n\
+return Object.entries(this.data).filter(([, value]) => typeof value === 'number');\n\
+}\n\
+basesOf({ writer, reader }) {\n\
+this.bases ||= new Map(this.data.answers.map((answer) => [answer.writer + answer.reader, answer.bases]));\n\
+return this.bases.get(writer + reader);\n\
+}\n\
+actsOf({ writer }) {\n\
+return this.acts.get(writer);\n\
+}\n\
+sendingsOf({ writer, reader }) {\n\
+const byNumber = entryOf(this.numbered, writer, () => dataByNumber(this.acts.get(writer) || []));\n\
+const to = namesOf(reader);\n\
+return (number) => (byNumber.get(number) || []).find((entry) => to.includes(namedBy(entry)));\n\
+}\n\
+tellingsOf({ writer }) {\n\
+return entryOf(this.told, writer, () => (this.acts.has(writer) ? risingOf(this.acts.get(writer)) : null));\n\
+}\n\
+participantOf(guid) {\n\
+return this.participants.get(prefixOf(guid));\n\
+}\n\
+lateOf({ writer, reader }) {\n\
+return (this.data.late || []).find((late) => late.writer === writer && late.reader === reader);\n\
+}\n\
+}\n\
+const namesOf = (reader) => [undefined, reader, prefixOf(reader), entityOf(reader)];\n\
+const NUMBERS_OF = { gone: 2, piece: 3 };\n\
+const numbersIn = (what) => NUMBERS_OF[what] || 1;\n\
+const namedBy = (entry) => entry[3 + numbersIn(entry[2])];\n\
+const IS_SENDING = new Set(['data', 'piece']);\n\
+function dataByNumber(acts) {\n\
+const found = new Map();\n\
+for (const entry of acts) if (IS_SENDING.has(entry[2])) entryOf(found, entry[3], () => []).push(entry);\n\
+return found;\n\
+}\n\
+function risingOf(acts) {\n\
+const steps = [];\n\
+let last = 0;\n\
+for (const [datagram, , what, number] of acts) {\n\
+if (what === 'gone' || number <= last) continue;\n\
+steps.push([datagram, Number(number)]);\n\
+last = number;\n\
+}\n\
+return steps;\n\
+}\n\
+const NO_NUMBERS = Object.freeze({});\n\
+function groupsOf(rows, first) {\n\
+const topics = new Map();\n\
+let group = null;\n\
+for (let at = 0; at < rows.length; at += 1) {\n\
+const row = rows[at];\n\
+if (group === null || row.topic !== group.topic || row.type !== group.type) {\n\
+group = entryOf(entryOf(topics, row.topic, () => new Map()), row.type, () => emptyGroup(row));\n\
+}\n\
+judgeRow(row, at, group);\n\
+addRow(group, row, first);\n\
+}\n\
+const groups = [...topics.values()].flatMap((types) => [...types.values()]);\n\
+groups.forEach((one, at) => Object.assign(one, { at, clean: one.bad === 0 }));\n\
+return groups;\n\
+}\n\
+function judgeRow(row, at, group) {\n\
+row.at = at;\n\
+row.group = group;\n\
+row.kind = kindOf(row);\n\
+row.rank = KINDS.indexOf(row.kind);\n\
+row.lost = lostOf(row);\n\
+row.isPlumbing = group.isPlumbing;\n\
+row.numbers ||= NO_NUMBERS;\n\
+}\n\
+function emptyGroup({ topic, type }) {\n\
+return {\n\
+topic, type, rows: [], bad: 0, lost: 0, rank: KINDS.length, isPlumbing: PLUMBING.includes(topic), isRounded: false, held: [],\n\
+kinds: KINDS.map(() => 0),\n\
+sums: { received: 0, arrived: 0, likely: 0, missed: 0, unsent: 0, unanswered: 0, unconfirmed: 0, before: 0, proved: 0, asked: 0 },\n\
+};\n\
+}\n\
+function addRow(group, row, first) {\n\
+const { sums } = group;\n\
+group.rows.push(row);\n\
+group.bad += Number(!row.clean);\n\
+group.lost = added(group.lost, row.lost);\n\
+group.rank = Math.min(group.rank, row.rank);\n\
+group.kinds[row.rank] += 1;\n\
+group.isRounded ||= isRounded(row);\n\
+if (isHeld(row)) group.held.push(row);\n\
+addOutcomes(sums, row.outcomes);\n\
+sums.before = added(sums.before, differenceOf(row.from, first));\n\
+sums.proved = added(sums.proved, row.received);\n\
+sums.asked = added(sums.asked, askedAbout(row));\n\
+}\n\
+function addOutcomes(sums, { received, arrived, likely, missed, unsent, unanswered, unconfirmed }) {\n\
+sums.received = added(sums.received, received);\n\
+sums.arrived = added(sums.arrived, arrived || 0);\n\
+sums.likely = added(sums.likely, likely);\n\
+sums.missed = added(sums.missed, missed);\n\
+sums.unsent = added(sums.unsent, unsent);\n\
+sums.unanswered = added(sums.unanswered, unanswered);\n\
+sums.unconfirmed = added(sums.unconfirmed, unconfirmed);\n\
+}\n\
+function participantsOf(data) {\n\
+const announced = new Map([...data.endpoints, ...data.participants].map(({ guid }) => [prefixOf(guid), null]));\n\
+for (const participant of data.participants) announced.set(prefixOf(participant.guid), participant);\n\
+const participants = new Map([...announced.keys()].sort().map((prefix, at) => (\n\
+[prefix, { at: at + 1, name: `P${at + 1}`, prefix, announced: announced.get(prefix), endpoints: [], nodes: announced.get(prefix)?.nodes || [] }])));\n\
+for (const endpoint of data.endpoints) participants.get(prefixOf(endpoint.guid)).endpoints.push(endpoint);\n\
+return participants;\n\
+}\n\
+</script>\n\
+<script>'use strict';\n\
 const KIND_OF_ACT = { data: 'a DATA', heartbeat: 'a HEARTBEAT', gap: 'a GAP', data_frag: 'a DATA_FRAG' };\n\
 const secondText = (time) => (typeof time === 'number' ? `, ${time.toFixed(3)} s` : '');\n\
 const frameText = (frame) => (typeof frame === 'number' ? `, frame ${frame}` : '');\n\
@@ -843,11 +861,10 @@ function showHead(report) {\n\
 const { data } = report;\n\
 const at = (id) => document.getElementById(id);\n\
 const { name = null, version = null } = data.recording || {};\n\
-document.title = `${lastLine()}: rtps-audit`;\n\
 fill(at('program'), `rtps-audit${version === null ? '' : ` ${version}`}, a report of `, askedText(data));\n\
 fill(at('name'), name === null ? 'A recording' : name === '-' ? 'Standard input (-)' : name);\n\
 fill(at('when'), ...whenParts(report));\n\
-showOutcome(report, at('outcome'));\n\
+showOutcome(data.because.length === 0);\n\
 fill(at('received'), receivedSentence(report));\n\
 fill(at('because'), ...data.because.map((reason) => make('li', null, reason)));\n\
 at('because').hidden = data.because.length === 0;\n\
@@ -892,17 +909,7 @@ const universal = `${spanText(begin, end, () => 0)} UTC`;\n\
 return [make('b', null, lengthText(end - begin)), `, ${size}, `,\n\
 here === 0 ? universal : `${spanText(begin, end, minutesHere)} ${offsetText(here)} (${universal})`];\n\
 }\n\
-const lastLine = memo(() => {\n\
-const text = document.querySelector('#text pre').textContent.trimEnd();\n\
-return text.slice(text.lastIndexOf('\\n') + 1);\n\
-});\n\
 const firstLines = () => document.querySelector('#text pre').textContent.split('\\n\\n')[0].split('\\n').map((line) => line.replace(/^ *(-> )?/, '')).filter(Boolean);\n\
-function showOutcome({ data }, place) {\n\
-const [word, ...rest] = lastLine().split(': ');\n\
-const isClean = data.status === 'clean';\n\
-fill(place, badge(isClean ? 'outcome good' : 'outcome bad', [make('span', { 'aria-hidden': 'true' }, isClean ? '✓ ' : '✗ '), make('span', { class: 'word' }, word)]),\n\
-data.because.length === 0 && rest.length > 0 && make('span', { class: 'more-said' }, ` ${rest.join(': ')}`));\n\
-}\n\
 function hostsOf(report) {\n\
 const hosts = new Map();\n\
 for (const participant of report.participants.values()) {\n\
@@ -970,6 +977,7 @@ unsent: (x) => `M${x - 1.5} 2h5v18h-5z`,\n\
 unanswered: (x) => `M${x - 0.5} 11h3v10h-3z`,\n\
 not_arrived: (x) => `M${x - 3} 5l8 13m0-13l-8 13`,\n\
 };\n\
+const SIGN_TOPS = { joins: 16, leaves: 16, silent: 16, unanswered: 5 };\n\
 const MARK_WORDS = {\n\
 missed: 'missed', unsent: 'unsent', unanswered: 'unanswered', not_arrived: 'not arrived', joins: 'a reader joins', leaves: 'a reader leaves',\n\
 silent: 'a participant falls silent',\n\
@@ -1142,9 +1150,9 @@ span[1] = Math.max(span[1], x);\n\
 }\n\
 }\n\
 function pictureLegend(kinds) {\n\
-const sign = (shape) => drawn('svg', { viewBox: '0 0 24 32', width: '18', height: '24', 'aria-hidden': 'true' }, shape);\n\
-return make('ul', { class: 'legend' }, make('li', null, sign(drawn('path', { class: 'samples', d: 'M1 8h22v8H1z' })), 'samples'),\n\
-...kinds.map((kind) => make('li', null, sign(drawn('path', { class: `mark ${kind}`, d: MARK_FORMS[kind](11) })), MARK_WORDS[kind])));\n\
+const sign = (top, shape) => drawn('svg', { viewBox: `0 ${top} 24 22`, width: '20', height: '18', 'aria-hidden': 'true' }, shape);\n\
+return make('ul', { class: 'legend' }, make('li', null, sign(1, drawn('path', { class: 'samples', d: 'M1 8h22v8H1z' })), 'samples'),\n\
+...kinds.map((kind) => make('li', null, sign(SIGN_TOPS[kind] || 0, drawn('path', { class: `mark ${kind}`, d: MARK_FORMS[kind](11) })), MARK_WORDS[kind])));\n\
 }\n\
 </script>\n\
 <script>'use strict';\n\
@@ -1154,12 +1162,13 @@ const NAMED_PAIRS = 3;\n\
 function topicLines(rows) {\n\
 const lines = new Map();\n\
 for (const row of rows) {\n\
-if (row.advice !== null) entryOf(entryOf(lines, row.group, () => new Map()), row.kind + row.advice, () => []).push(row);\n\
+if (row.advice !== null) entryOf(entryOf(entryOf(lines, row.group, newMap), row.kind, newMap), row.advice, () => []).push(row);\n\
 }\n\
-return [...lines.values()].flatMap((found) => [...found.values()])\n\
-.sort((one, other) => worse(lineWeight(one), lineWeight(other)) || other.length - one.length || one[0].at - other[0].at);\n\
+return [...lines.values()].flatMap((kinds) => [...kinds.values()]).flatMap((found) => [...found.values()]).map(weighed)\n\
+.sort((one, other) => worse(one, other) || other.rows.length - one.rows.length || one.rows[0].at - other.rows[0].at).map((line) => line.rows);\n\
 }\n\
-const lineWeight = (rows) => ({ ...rows[0], clean: rows[0].clean, lost: sumOf(rows, ({ lost }) => lost) });\n\
+const newMap = () => new Map();\n\
+const weighed = (rows) => ({ rows, clean: rows[0].clean, rank: rows[0].rank, isPlumbing: rows[0].isPlumbing, lost: sumOf(rows, ({ lost }) => lost) });\n\
 function eventsOf({ data, rows }) {\n\
 const events = (data.events || []).map(({ text, pairs }) => ({ text, rows: pairs.map((at) => rows[at]) }));\n\
 const told = new Set(events.flatMap((event) => event.rows));\n\
@@ -1208,8 +1217,9 @@ make('ul', { class: 'which' }, ...links, rows.length > NAMED_PAIRS && make('li',
 make('td', { class: 'advice' }, first.advice));\n\
 }\n\
 function lineCounts(rows) {\n\
-const held = rows.some(isHeld);\n\
-const counts = held ? [['not arrived', sumOf(rows.filter(isHeld), lostOf)]] : LOST.map((kind) => [kind, sumOf(rows, ({ outcomes }) => outcomes[kind])]);\n\
+const held = rows.filter(isHeld);\n\
+const losing = rows.filter(({ lost }) => lost !== 0);\n\
+const counts = held.length > 0 ? [['not arrived', sumOf(held, lostOf)]] : LOST.map((kind) => [kind, sumOf(losing, ({ outcomes }) => outcomes[kind])]);\n\
 return counts.filter(([, count]) => isAbove(count, 0)).flatMap(([kind, count]) => [' ', badge('missed', `${kind} ${counted(count)}`)]);\n\
 }\n\
 function pairLink(report, row) {\n\
@@ -1331,9 +1341,9 @@ function marksOf(report, row, axis) {\n\
 const acts = report.actsOf(row).map((entry) => entryParts(entry, axis));\n\
 const to = namesOf(row.reader);\n\
 const heard = acts.filter(({ named }) => to.includes(named));\n\
-const answers = report.basesOf(row).map(([datagram, at, base]) => ({ x: axis.at(datagram), y: Number(base) - 1, at }));\n\
-const sent = heard.filter(({ what }) => what === 'data' || what === 'piece');\n\
-const dots = dotsOf(sent);\n\
+const answers = report.basesOf(row).map(([datagram, at, base, asked]) => ({ x: axis.at(datagram), y: Number(base) - 1, at, asked }));\n\
+const sent = heard.filter(({ what }) => IS_SENDING.has(what));\n\
+const dots = dotsOf(heard);\n\
 const announced = stepsOf(acts.filter(({ what }) => what === 'announced').map(({ x, numbers: [last] }) => ({ x, y: Number(last) })));\n\
 const told = stepsOf(acts.filter(({ what }) => what !== 'gone').map(({ x, numbers: [last] }) => ({ x, y: Number(last) })));\n\
 return {\n\
@@ -1342,7 +1352,7 @@ bands: bandsOf(heard.filter(({ what }) => what === 'gone')),\n\
 announced,\n\
 answers,\n\
 acknowledged: stepsOf(answers),\n\
-asked: report.asksOf(row).flatMap(([datagram, , numbers]) => numbers.map((number) => ({ x: axis.at(datagram), y: Number(number) }))),\n\
+asked: answers.flatMap(({ x, asked }) => asked.map((number) => ({ x, y: Number(number) }))),\n\
 lost: lostMarks(row, sent.map(({ x, numbers: [number] }) => ({ x, y: Number(number) })), told, axis),\n\
 arrived: arrivedDots(row, dots),\n\
 numbers: markedNumbers(row),\n\
@@ -1399,7 +1409,7 @@ window: 0.02, step: 0.001, text: shortSecond,\n\
 const endsOfAll = (values) => [values.reduce((a, b) => Math.min(a, b), Infinity), values.reduce((a, b) => Math.max(a, b), -Infinity)];\n\
 const within = ([first, last], room, [low, high]) => (first > last ? [low, high] : [Math.max(low, first - room), Math.min(high, last + room)]);\n\
 function entryParts([datagram, at, what, ...rest], axis) {\n\
-const count = what === 'gone' || what === 'piece' ? 2 : 1;\n\
+const count = numbersIn(what);\n\
 return { x: axis.at(datagram), datagram, at, what, numbers: rest.slice(0, count), named: rest[count] };\n\
 }\n\
 function markedNumbers({ verdict, number, first_missed: missed }) {\n\
@@ -1407,19 +1417,27 @@ const found = [{ y: Number(number), label: `${verdict} ${number}` }];\n\
 return missed && missed.number !== number ? [...found, { y: Number(missed.number), label: `missed ${missed.number}` }] : found;\n\
 }\n\
 function dotsOf(entries) {\n\
-const [seen, pieces, twice] = [new Set(), new Set(), new Set()];\n\
+const [seen, whole, twice] = [new Set(), new Set(), sentTwice(entries)];\n\
 const dots = [];\n\
-for (const { x, what, datagram, at, numbers: [number, piece] } of entries) {\n\
-if (what === 'piece') {\n\
-const name = `${number} ${piece}`;\n\
-if (pieces.has(name)) twice.add(number);\n\
-pieces.add(name);\n\
-} else {\n\
-dots.push({ x, y: Number(number), number, datagram, at, again: seen.has(number) || twice.has(number) });\n\
+for (const { x, what, datagram, at, numbers: [number] } of entries) {\n\
+const isWhole = what === 'sample';\n\
+if (what !== 'data' && (!isWhole || whole.has(number))) continue;\n\
+dots.push({ x, y: Number(number), number, datagram, at, isWhole, again: seen.has(number) || (isWhole && twice.has(number)) });\n\
 seen.add(number);\n\
-}\n\
+if (isWhole) whole.add(number);\n\
 }\n\
 return dots;\n\
+}\n\
+function sentTwice(entries) {\n\
+const [sent, twice] = [new Set(), new Set()];\n\
+for (const { what, numbers: [number, first, count] } of entries) {\n\
+for (let fragment = first; what === 'piece' && fragment < first + count; fragment += 1) {\n\
+const name = `${number} ${fragment}`;\n\
+if (sent.has(name)) twice.add(number);\n\
+sent.add(name);\n\
+}\n\
+}\n\
+return twice;\n\
 }\n\
 function bandsOf(entries) {\n\
 const bands = [];\n\
@@ -1482,7 +1500,8 @@ description(row) {\n\
 const { dots, answers, asked, lost } = this.marks;\n\
 const again = dots.filter((dot) => dot.again).length;\n\
 const asks = asked.length > 0 ? `${plural(asked.length, 'number')} asked for, ` : '';\n\
-return `Chart of ${this.axis.name.toLowerCase()} and numbers: ${plural(dots.length, 'DATA', 'DATA')} to this reader, ${counted(again)} of them sent again, `\n\
+const what = dots.some(({ isWhole }) => isWhole) ? plural(dots.length, 'sample') : plural(dots.length, 'DATA', 'DATA');\n\
+return `Chart of ${this.axis.name.toLowerCase()} and numbers: ${what} to this reader, ${counted(again)} of them sent again, `\n\
 + `${plural(answers.length, 'answer')} of the reader, ${asks}${plural(lost.length, 'mark')} of lost numbers, and a line at ${row.verdict} ${row.number}.`;\n\
 }\n\
 controls() {\n\
@@ -1554,10 +1573,12 @@ this.at = dot;\n\
 this.readout.textContent = dot ? this.dotText(dot) : POINT;\n\
 this.paint();\n\
 }\n\
-dotText({ number, datagram, at, again, x }) {\n\
+dotText({ number, datagram, at, again, isWhole, x }) {\n\
 const place = placeText({ datagram, at, frame: this.report.frameOf(datagram), time: this.axis.word === 's' ? x : null });\n\
 const kinds = this.marks.lost.filter((mark) => mark.y === Number(number)).map(({ kind }) => LOST_WORDS[kind].toLowerCase());\n\
-return `DATA of number ${number} in ${place}${again ? ', sent again' : ''}${kinds.length > 0 ? `; ${number} is ${kinds.join(' and ')}` : ''}.`;\n\
+const what = isWhole ? `DATA_FRAG that completes number ${number}` : `DATA of number ${number}`;\n\
+const sentAgain = isWhole ? ', of which a fragment was sent again' : ', sent again';\n\
+return `${what} in ${place}${again ? sentAgain : ''}${kinds.length > 0 ? `; ${number} is ${kinds.join(' and ')}` : ''}.`;\n\
 }\n\
 pointed({ offsetX, offsetY }) {\n\
 if (!this.drag) {\n\
@@ -1745,9 +1766,9 @@ const [x, y] = [Math.round(this.pixelX(mark.x)), Math.round(this.pixelY(mark.y))
 if (drawn.has(x * CHART_HEIGHT + y)) continue;\n\
 drawn.add(x * CHART_HEIGHT + y);\n\
 pen.beginPath();\n\
-pen.moveTo(x - 4, y - 4);\n\
-pen.lineTo(x + 4, y - 4);\n\
-pen.lineTo(x, y + 3);\n\
+pen.moveTo(x - 4, y - 12);\n\
+pen.lineTo(x + 4, y - 12);\n\
+pen.lineTo(x, y - 5);\n\
 pen.closePath();\n\
 pen.stroke();\n\
 }\n\
@@ -1802,10 +1823,11 @@ pen.fillText(text, x, y);\n\
 pen.restore();\n\
 }\n\
 }\n\
-function legend({ asked, lost, arrived }) {\n\
+function legend({ dots, asked, lost, arrived }) {\n\
+const hasWhole = dots.some(({ isWhole }) => isWhole);\n\
 return make('ul', { class: 'legend' },\n\
-legendItem('DATA to this reader', drawn('circle', { class: 'sent', cx: 12, cy: 7, r: 4 })),\n\
-legendItem('sent again', drawn('circle', { class: 'again', cx: 12, cy: 7, r: 4.5 })),\n\
+legendItem(hasWhole ? 'DATA to this reader, or where a sample in fragments is complete' : 'DATA to this reader', drawn('circle', { class: 'sent', cx: 12, cy: 7, r: 4 })),\n\
+legendItem(hasWhole ? 'sent again, or a fragment of it' : 'sent again', drawn('circle', { class: 'again', cx: 12, cy: 7, r: 4.5 })),\n\
 asked.length > 0 && legendItem('asked for by the reader', drawn('path', { class: 'asked', d: 'M8 3h8l-4 7z' })),\n\
 lost.length > 0 && legendItem('lost: missed, unsent, unanswered or not arrived', drawn('path', { class: 'cross', d: 'M8 3l8 8m0-8l-8 8' })),\n\
 lost.some(({ isSent }) => !isSent) && legendItem('lost, and never sent here', drawn('path', { class: 'cross', d: 'M9 4l6 6m0-6l-6 6M6 1h12v12H6z' })),\n\
@@ -1940,8 +1962,7 @@ Object.assign(this, { report, words: [], kinds: new Set(), order: WORST_FIRST, i
 this.columns = columnsOf(report).filter(({ name, isAmount, sum }) => (\n\
 name === 'arrived' ? report.data.arrived : !isAmount || name === 'received' || report.groups.some((group) => isAbove(sum(group), 0))));\n\
 this.orders = [WORST_FIRST, BY_TOPIC, BY_TYPE, ...this.columns];\n\
-this.openness = new Map(report.groups.map((group) => [group, group.clean ? FOLDED : BAD]));\n\
-this.areCleanShown = report.groups.every(({ clean }) => clean);\n\
+this.fold(null);\n\
 this.sort();\n\
 this.build();\n\
 this.render();\n\
@@ -1977,9 +1998,13 @@ return tests.reduce((rows, test) => rows.filter(test), this.sorted);\n\
 isAllOpen() {\n\
 return this.isPaper || this.words.length > 0 || this.kinds.size > 0;\n\
 }\n\
-isShown(row) {\n\
-const openness = this.openness.get(row.group);\n\
-return openness === ALL || (openness === BAD && !row.clean);\n\
+isShown({ clean, group: { openness } }) {\n\
+return openness === ALL || (openness === BAD && !clean);\n\
+}\n\
+fold(openness) {\n\
+const { groups } = this.report;\n\
+for (const group of groups) group.openness = openness ?? (group.clean ? FOLDED : BAD);\n\
+this.areCleanShown = openness === ALL || groups.every(({ clean }) => clean);\n\
 }\n\
 setFilter(text) {\n\
 this.words = text.toLowerCase().split(/\\s+/).filter(Boolean);\n\
@@ -2035,12 +2060,11 @@ this.most = FIRST_ROWS;\n\
 this.render();\n\
 }\n\
 openAll(openness) {\n\
-for (const group of this.report.groups) this.openness.set(group, openness ?? (group.clean ? FOLDED : BAD));\n\
-this.areCleanShown = openness === ALL || this.report.groups.every(({ clean }) => clean);\n\
+this.fold(openness);\n\
 this.renderFirst();\n\
 }\n\
 openGroup(group, openness) {\n\
-this.openness.set(group, openness);\n\
+group.openness = openness;\n\
 this.areCleanShown ||= group.clean;\n\
 this.render();\n\
 }\n\
@@ -2058,16 +2082,15 @@ this.render();\n\
 }\n\
 render() {\n\
 const rows = this.matching();\n\
-const open = this.isAllOpen() ? rows : rows.filter((row) => this.isShown(row));\n\
-const shown = open.slice(0, this.most);\n\
+const { groups, shown, open } = this.choice(rows);\n\
 this.table.querySelectorAll('tbody').forEach((body) => body.remove());\n\
-const hasMore = this.showBodies(rows, shown) || shown.length < open.length;\n\
+const hasMore = this.showBodies(groups, shown) || shown.length < open;\n\
 this.table.querySelectorAll('thead th').forEach((head, at) => {\n\
 if (this.columns[at] === this.order) head.setAttribute('aria-sort', this.isDown ? 'descending' : 'ascending');\n\
 else head.removeAttribute('aria-sort');\n\
 });\n\
 this.select.value = this.order.name;\n\
-this.status.textContent = this.statusText(rows.length, open.length, shown.length);\n\
+this.status.textContent = this.statusText(rows.length, open, shown.length);\n\
 this.more.hidden = !hasMore;\n\
 this.showChosen();\n\
 }\n\
@@ -2077,13 +2100,25 @@ const folded = found - open;\n\
 const some = shown < open ? `; the first ${counted(shown)} are shown` : '';\n\
 return `${partOf(found, all, 'pair')}${some}${folded > 0 ? `; ${counted(folded)} ${folded === 1 ? 'is' : 'are'} folded` : ''}.`;\n\
 }\n\
-showBodies(rows, shown) {\n\
-const sizes = new Map();\n\
-for (const { group } of rows) sizes.set(group, (sizes.get(group) || 0) + 1);\n\
-const groups = [...sizes.keys()];\n\
+choice(rows) {\n\
+const isAllOpen = this.isAllOpen();\n\
+const [groups, shown] = [[], []];\n\
+let open = 0;\n\
+for (const group of this.report.groups) group.found = 0;\n\
+for (const row of rows) {\n\
+const { group } = row;\n\
+if (group.found === 0) groups.push(group);\n\
+group.found += 1;\n\
+if (!isAllOpen && !this.isShown(row)) continue;\n\
+open += 1;\n\
+if (open <= this.most) shown.push(row);\n\
+}\n\
+return { groups, shown, open };\n\
+}\n\
+showBodies(groups, shown) {\n\
 const isSeen = (group) => this.isAllOpen() || this.areCleanShown || !group.clean;\n\
 const seen = groups.filter(isSeen).slice(0, this.most);\n\
-const bodies = new Map(seen.map((group) => [group, make('tbody', null, this.groupRow(group, sizes.get(group)))]));\n\
+const bodies = new Map(seen.map((group) => [group, make('tbody', null, this.groupRow(group))]));\n\
 for (const row of shown) bodies.get(row.group)?.append(this.row(row));\n\
 for (const [group, body] of bodies) this.addFolded(group, body);\n\
 this.table.append(...bodies.values());\n\
@@ -2101,22 +2136,22 @@ this.table.querySelector(`#topic-${groups[0].at + 1} button`)?.focus();\n\
 this.table.append(make('tbody', { class: 'clean-topics' }, make('tr', null, make('td', { colspan: this.columns.length }, button,\n\
 make('span', { class: 'size' }, `${names}${groups.length > NAMED_TOPICS ? ` and ${groups.length - NAMED_TOPICS} more` : ''}`)))));\n\
 }\n\
-groupRow(group, size) {\n\
-const { at, topic, type, rows, bad } = group;\n\
-const isOpen = this.isAllOpen() || this.openness.get(group) !== FOLDED;\n\
+groupRow(group) {\n\
+const { at, topic, type, rows, bad, found, openness } = group;\n\
+const isOpen = this.isAllOpen() || openness !== FOLDED;\n\
 const fold = makeButton({ class: 'fold', 'aria-expanded': String(isOpen) }, shownTopic(topic), () => {\n\
 this.openGroup(group, isOpen ? FOLDED : group.clean ? ALL : BAD);\n\
 document.querySelector(`#topic-${at + 1} button`)?.focus();\n\
 });\n\
 const clean = bad === rows.length ? 'none clean' : bad === 0 ? 'clean' : `${counted(rows.length - bad)} clean`;\n\
 const head = make('th', { scope: 'rowgroup', colspan: 3 }, fold, make('span', { class: 'type' }, oneName('span', rosType(type) || type)),\n\
-make('span', { class: 'size' }, `${partOf(size, rows.length, 'pair')}, ${clean}`));\n\
+make('span', { class: 'size' }, `${partOf(found, rows.length, 'pair')}, ${clean}`));\n\
 return make('tr', { class: 'group', id: `topic-${at + 1}` }, head,\n\
 ...this.columns.slice(3).map((column) => make('td', { class: `sum ${column.name}` }, column.total(group))));\n\
 }\n\
 addFolded(group, body) {\n\
 const count = group.rows.length - group.bad;\n\
-if (this.isAllOpen() || this.openness.get(group) !== BAD || count === 0) return;\n\
+if (this.isAllOpen() || group.openness !== BAD || count === 0) return;\n\
 body.append(make('tr', { class: 'folded' }, make('td', { colspan: this.columns.length },\n\
 makeButton({ class: 'fold', 'aria-expanded': 'false' }, `${plural(count, 'clean pair')}`, () => {\n\
 this.openGroup(group, ALL);\n\
@@ -2143,7 +2178,7 @@ if (at === this.chosen || !this.report.rows[at]) return;\n\
 const row = this.report.rows[at];\n\
 this.chosen = at;\n\
 const isThere = () => document.getElementById(`pair-${at + 1}`) !== null;\n\
-if (!isThere() && !this.isAllOpen()) this.openGroup(row.group, row.clean || this.openness.get(row.group) === ALL ? ALL : BAD);\n\
+if (!isThere() && !this.isAllOpen()) this.openGroup(row.group, row.clean || row.group.openness === ALL ? ALL : BAD);\n\
 if (!isThere()) this.filterBy(`${row.writer} ${row.reader}`);\n\
 else this.showChosen();\n\
 const line = document.getElementById(`pair-${at + 1}`);\n\
@@ -2154,7 +2189,7 @@ goToTopic(at) {\n\
 const group = this.report.groups[at];\n\
 if (!group) return;\n\
 const lineOf = () => document.getElementById(`topic-${at + 1}`);\n\
-if (this.openness.get(group) === FOLDED || !lineOf()) this.openGroup(group, group.clean ? ALL : BAD);\n\
+if (group.openness === FOLDED || !lineOf()) this.openGroup(group, group.clean ? ALL : BAD);\n\
 if (!lineOf()) this.filterBy(group.topic);\n\
 lineOf().scrollIntoView();\n\
 lineOf().querySelector('button').focus({ preventScroll: true });\n\
@@ -2262,7 +2297,7 @@ make('td', { class: 'in-pairs' }, pairs));\n\
 function start() {\n\
 const report = reportOf(document.getElementById('data').textContent);\n\
 showHead(report);\n\
-document.getElementById('page').hidden = false;\n\
+document.querySelector('main').hidden = false;\n\
 const picture = new Picture(report, document.getElementById('picture'));\n\
 showHappened(report, document.getElementById('happened'));\n\
 showTalk(report);\n\
@@ -2303,6 +2338,7 @@ try {\n\
 start();\n\
 } catch (error) {\n\
 document.documentElement.classList.remove('scripted');\n\
+document.getElementById('page').hidden = true;\n\
 document.getElementById('text').prepend(make('p', null, `The tables of this report cannot be shown here: ${error}`));\n\
 throw error;\n\
 }\n\

@@ -3,6 +3,7 @@ mod AnyLemmas
 mod AskedLemmas
 mod BestEffortLemmas
 mod BestEffortSums
+mod DiscoveryLemmas
 mod EarlyLemmas
 mod EndLemmas
 mod EventLaws
@@ -10,12 +11,16 @@ mod EventLemmas
 mod EventOrder
 mod FollowedLemmas
 mod KeptLemmas
+mod LateLemmas
 mod MatchLemmas
+mod MatchingLemmas
 mod NamingLemmas
 mod NamingWalkLemmas
 mod NoPairLemmas
 pub mod Offered
 mod OneNoPairLemmas
+mod NotToldLemmas
+mod NotToldOnce
 mod OneReportLemmas
 mod OneSideLemmas
 mod OneTalkLemmas
@@ -31,3 +36,5 @@ mod StayLemmas
 mod TalkLemmas
 mod TalkParts
 mod TopicLemmas
+mod TwoLivesOnce
+mod VisitLemmas

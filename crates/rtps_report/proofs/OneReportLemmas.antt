@@ -10,17 +10,16 @@ use Rattle.rtps_evidence.proofs.Offered.{HasOneMap}
 use Rattle.rtps_policies.specs.Silence.{Traffic}
 use Rattle.rtps_report.specs.Vocabulary.{Counts, Ending, Explained, ExplanationValue, Intake, Pair, Read, acts_together, explanation_value, intake_as}
 use Rattle.rtps_report.specs.Asked.{AskedValue}
-use Rattle.rtps_report.specs.BestEfforts.{numbers_told}
 use Rattle.rtps_report.specs.Findings.{ending_as}
-use Rattle.rtps_report.specs.FullReport.{AreRowsOf, facts_with, rows_of}
+use Rattle.rtps_report.specs.FullReport.{AreRowsOf, facts_with, rows_of, talk_facts}
 use Rattle.rtps_report.specs.Order.{order_by}
 use Rattle.rtps_report.specs.RowPairs.{AreRowPairs}
 use Rattle.rtps_report.specs.Laws.{HasOneFullReport}
 use Rattle.rtps_report.specs.ReaderSide.{beside_of, other_by}
 use Rattle.rtps_report.specs.Talk.{traffic_of}
-use Rattle.rtps_report.specs.declared.best_effort.BestEffortNumbers.{BestEffortNumbers}
+use Rattle.rtps_report.specs.declared.findings.TalkFacts.{TalkFacts}
 use Rattle.rtps_report.specs.declared.order.Order.{Order}
-use Rattle.rtps_report.proofs.OneTalkLemmas.{one_talk}
+use Rattle.rtps_report.proofs.OneTalkLemmas.{one_talk, same_talk}
 use Rattle.rtps_report.proofs.RowPairLemmas.{exact_two, pairs_total}
 use Rattle.rtps_report.proofs.SameLists.{same_members}
 
@@ -41,9 +40,8 @@ pub one_full_report : PairsHaveOneExplanation → HasOneMap → HasOneFullReport
 one_full_report law unique asked theirs recording one other is also =
     let talk = one_talk unique asked (other_by theirs) recording one.talk other.talk is.talks also.talks in
     let lists = one_list law unique asked (intake_as Read recording.datagrams) (beside_of theirs recording) (traffic_of recording.datagrams) one.explained other.explained is.rows also.rows in
-    let ends : ℕ → BestEffortNumbers → Order → List ExplanationValue → Counts → Ending = λ unmatched numbers order those counted. ending_as asked (facts_with unmatched numbers order asked those counted recording) in
-    let unmatched = ap length talk.unmatched in
-    let numbers = ap numbers_told talk.best_effort_total in
+    let ends : TalkFacts → Order → List ExplanationValue → Counts → Ending = λ facts order those counted. ending_as asked (facts_with facts order asked those counted recording) in
+    let facts : talk_facts one.talk ≡ talk_facts other.talk = ap talk_facts (same_talk one.talk other.talk talk) in
     let order : one.order ≡ other.order = is.order ∙ ap₂ (order_by theirs recording) lists.0.0 talk.ways ∙ sym also.order in
     record {
       arrived = is.beside ∙ sym also.beside;
@@ -51,6 +49,6 @@ one_full_report law unique asked theirs recording one other is also =
       lost = lists.0.1;
       counts = lists.1;
       order = order;
-      ending = is.ends ∙ (λ i. ends (unmatched i) (numbers i) (order i) (lists.0.0 i) (lists.1 i)) ∙ sym also.ends;
+      ending = is.ends ∙ (λ i. ends (facts i) (order i) (lists.0.0 i) (lists.1 i)) ∙ sym also.ends;
       talk = talk;
     }

@@ -36,9 +36,10 @@ use Rattle.rtps_policies.specs.declared.one_way.OneWay.{OneWay}
 use Rattle.rtps_report.specs.Asked.{AskedValue}
 use Rattle.rtps_report.specs.BestEfforts.{AreSumsOf, BestEffortValue, CountedValue, HeldValue, arrived_among, held_among, sum_of, total_of}
 use Rattle.rtps_report.specs.Laws.{TellSame}
+use Rattle.rtps_report.specs.NotTold.{AreNotToldIn, NotToldValue}
 use Rattle.rtps_report.specs.Participants.{participant_told}
 use Rattle.rtps_report.specs.Recording.{RecordingValue}
-use Rattle.rtps_report.specs.Talk.{AreCounted, IsTalkAs, IsTalkOf, LeftOutValue, TalkValue, choice_of, is_counted, is_left_out, left_out_of, talks, traffic_of, unfit_in}
+use Rattle.rtps_report.specs.Talk.{AreCounted, IsTalkAs, IsTalkOf, LeftOutValue, TalkValue, acts_of_matching, choice_of, is_counted, is_left_out, judged_pairs, late_among, left_out_of, talks, traffic_of, unfit_in}
 use Rattle.rtps_report.specs.Ways.{ways_of_counted}
 use Rattle.std.proofs.Math.Path.{fun_ext}
 use Rattle.rtps_ids.specs.declared.identity.GuidPrefix.{GuidPrefix}
@@ -48,7 +49,11 @@ use Rattle.rtps_who.specs.Samples.{NodeValue}
 use Rattle.rtps_report.specs.Ends.{EndValue, end_of, recorded_in}
 use Rattle.rtps_policies.specs.declared.silence.Silence.{Silence}
 use Rattle.rtps_report.specs.declared.participant.Participant.{Participant}
+use Rattle.rtps_report.specs.declared.late_matches.LateMatch.{LateMatch}
+use Rattle.rtps_report.specs.declared.two_lives.TwoLives.{TwoLives}
 use Rattle.rtps_report.specs.declared.ways.Ways.{Ways}
+use Rattle.rtps_report.proofs.NotToldOnce.{not_told_once}
+use Rattle.rtps_report.proofs.TwoLivesOnce.{two_lives_once}
 use Rattle.rtps_report.proofs.SameLists.{same_keys, same_members}
 
 -- ---- pairs of best effort
@@ -156,13 +161,17 @@ talk_once unique asked theirs recording times one other is also =
     let moved = subst (λ (of : DirectoryValue). AreCounted asked theirs intake of.endpoints (count of) is.best_effort.counted) same is.best_effort.are_counted in
     let counted : is.best_effort.counted ≡ also.best_effort.counted =
     one_counted unique asked theirs intake entries (count also.directory) is.best_effort.counted also.best_effort.counted moved also.best_effort.are_counted in
+    let acts = acts_of_matching intake recording times.of_datagrams in
+    let lives = two_lives_once recording times.of_datagrams one.lives other.lives is.lives also.lives in
+    let talking : one.talking ≡ other.talking =
+    is.talking ∙ ap (λ (of : DirectoryValue). filter (λ (one : UnmatchedValue). talks intake (pair_of one)) (unfit of)) same ∙ sym also.talking in
     record {
       ends = λ guid. is.ends guid ∙ ap (λ (of : DirectoryValue). end_of (recorded_in intake of.endpoints) guid) same ∙ sym (also.ends guid);
       node = λ guid. is.node guid ∙ ap (λ (of : DirectoryValue). node_of (recorded_in intake of.endpoints) guid) same ∙ sym (also.node guid);
       nodes = λ prefix. is.nodes prefix ∙ ap (λ (of : DirectoryValue). nodes_of_participant (recorded_in intake of.endpoints) prefix) same ∙ sym (also.nodes prefix);
       silence = λ pair. is.silence pair ∙ sym (also.silence pair);
       unmatched = is.unmatched ∙ ap (λ (of : DirectoryValue). filter (λ (one : UnmatchedValue). not (talks intake (pair_of one))) (unfit of)) same ∙ sym also.unmatched;
-      talking = is.talking ∙ ap (λ (of : DirectoryValue). filter (λ (one : UnmatchedValue). talks intake (pair_of one)) (unfit of)) same ∙ sym also.talking;
+      talking = talking;
       left_out = is.left_out ∙ ap leave same ∙ sym also.left_out;
       one_way = one_way_once traffic one.one_way other.one_way is.one_way also.one_way;
       best_effort = one_sums also.best_effort.counted one.best_effort other.best_effort
@@ -174,6 +183,13 @@ talk_once unique asked theirs recording times one other is also =
       held_total = is.best_effort.is_held_total ∙ ap (λ those. total_of (arrived_among those)) counted ∙ sym also.best_effort.is_held_total;
       ways = is.best_effort.are_ways ∙ ap ways_of_counted counted ∙ sym also.best_effort.are_ways;
       participants = is.participants ∙ ap (λ (d : DirectoryValue). map (participant_told intake recording times) d.participants) same ∙ sym also.participants;
+      not_told = not_told_once intake recording times.of_datagrams also.directory one.not_told other.not_told
+          (subst (λ (d : DirectoryValue). AreNotToldIn intake recording times.of_datagrams d one.not_told) same is.not_told) also.not_told;
+      lives = lives;
+      late = λ pair. is.late pair
+          ∙ ap (λ (of : DirectoryValue). late_among acts one.lives (judged_pairs (matches_among (settled_in of.endpoints)) one.talking) pair) same
+          ∙ ap (λ (those : List TwoLives). late_among acts those (judged_pairs (matches_among (settled_in entries)) one.talking) pair) lives
+          ∙ ap (λ (those : List UnmatchedValue). late_among acts other.lives (judged_pairs (matches_among (settled_in entries)) those) pair) talking ∙ sym (also.late pair);
     }
 
 pub one_talk : HasOneMap → (asked : AskedValue) (theirs : Option OtherRecording) (recording : RecordingValue) (one other : TalkValue) → IsTalkAs asked theirs recording one
@@ -183,8 +199,8 @@ one_talk unique asked theirs recording one other is also =
 
 -- what is told of who does not talk, by its parts
 abbrev talk_of : (Guid → EndValue) → (Guid → Option NodeValue) → (GuidPrefix → List NodeValue) → (Pair → Silence) → List UnmatchedValue → List UnmatchedValue → List LeftOutValue → List OneWay → List BestEffortValue → BestEffortValue
-    → List HeldValue → List BestEffortValue → BestEffortValue → Ways → List Participant → TalkValue
-talk_of ends node nodes silence unmatched talking left_out one_way best_effort total held held_sums held_total ways participants =
+    → List HeldValue → List BestEffortValue → BestEffortValue → Ways → List Participant → List NotToldValue → List TwoLives → (Pair → Option LateMatch) → TalkValue
+talk_of ends node nodes silence unmatched talking left_out one_way best_effort total held held_sums held_total ways participants not_told lives late =
     record {
       ends = ends;
       node = node;
@@ -201,6 +217,9 @@ talk_of ends node nodes silence unmatched talking left_out one_way best_effort t
       held_total = held_total;
       ways = ways;
       participants = participants;
+      not_told = not_told;
+      lives = lives;
+      late = late;
     }
 
 -- what tells the same is the same
@@ -210,6 +229,7 @@ same_talk one other same =
     let node : one.node ≡ other.node = fun_ext same.node in
     let nodes : one.nodes ≡ other.nodes = fun_ext same.nodes in
     let silence : one.silence ≡ other.silence = fun_ext same.silence in
+    let late : one.late ≡ other.late = fun_ext same.late in
     λ i.
     talk_of (ends i) (node i) (nodes i) (silence i) (same.unmatched i) (same.talking i) (same.left_out i) (same.one_way i) (same.best_effort i) (same.best_effort_total i) (same.held i) (same.held_sums i)
-    (same.held_total i) (same.ways i) (same.participants i)
+    (same.held_total i) (same.ways i) (same.participants i) (same.not_told i) (same.lives i) (late i)

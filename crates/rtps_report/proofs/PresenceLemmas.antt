@@ -39,7 +39,7 @@ presence_written old datagram time source prefix presence is =
 
 -- ---- one datagram
 
-enumerate_more : {X : Type 0} (start : ℕ) (xs : List X) (x : X) → enumerate_from start (xs ++ x ∷ []) ≡ enumerate_from start xs ++ (start + length xs, x) ∷ []
+pub enumerate_more : {X : Type 0} (start : ℕ) (xs : List X) (x : X) → enumerate_from start (xs ++ x ∷ []) ≡ enumerate_from start xs ++ (start + length xs, x) ∷ []
 enumerate_more {X} start [] x = let zero_more : start ≡ start + 0 = omega arith in ap (λ (n : ℕ). let rows : List (ℕ × X) = (n, x) ∷ [] in rows) zero_more
 enumerate_more {X} start (y ∷ xs) x =
     let further : start + 1 + length xs ≡ start + suc (length xs) = omega arith in

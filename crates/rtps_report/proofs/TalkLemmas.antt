@@ -280,12 +280,17 @@ counted_skip asked other intake entries test matches counted i d within fails ar
 abbrev pub participant_of_parts : Guid → Host → Option Stay → Option ℕ → Bool → Participant
 participant_of_parts guid host stay left silent = record { guid = guid; host = host; stay = stay; left = left; silent = silent }
 
--- a participant leaves when it does by what few acts announce
-pub leaves_then : (intake : Intake) (announcements : List Placed) (joined : BTreeMap Guid Location) (guid : Guid) (place : Option Location) (left : Option ℕ)
-    → AreJoined (map placed_value announcements) joined → map placed_value announcements ≡ announcements_in intake.announcing → place ≡ get guid_cmp joined guid
+-- participants are announced first where few acts announce them
+pub joined_then : (intake : Intake) (announcements : List Placed) (joined : BTreeMap Guid Location) → AreJoined (map placed_value announcements) joined
+    → map placed_value announcements ≡ announcements_in intake.announcing → AreJoined (placed_in intake.announcing) joined
+joined_then intake announcements joined are same = λ guid. are guid ∙ ap (place_of guid) same ∙ place_alone guid intake.announcing
+
+-- a participant leaves when it does by where it is announced first
+pub leaves_then : (intake : Intake) (joined : BTreeMap Guid Location) (guid : Guid) (place : Option Location) (left : Option ℕ)
+    → AreJoined (placed_in intake.announcing) joined → place ≡ get guid_cmp joined guid
     → left ≡ left_in place guid (placed_in intake.acts) → left ≡ left_of intake guid
-leaves_then intake announcements joined guid place left are same p l =
-    let first : place ≡ place_of guid (placed_in intake.announcing) = p ∙ are guid ∙ ap (place_of guid) same ∙ place_alone guid intake.announcing in
+leaves_then intake joined guid place left are p l =
+    let first : place ≡ place_of guid (placed_in intake.announcing) = p ∙ are guid in
     l ∙ ap (λ (place : Option Location). left_in place guid (placed_in intake.acts)) first
 
 -- what is told of a participant, by what is known of it

@@ -1,7 +1,10 @@
 -- All of who does not talk, by what is kept.
 use Rattle.std.proofs.Common.{◌≡◌, ◌∙◌, ℕ, List, Option, ap, filter, map, not, subst}
 use Rattle.rtps_discovery.specs.Directory.{DirectoryValue, Entries, IsMapOf, settled_in}
+use Rattle.std.specs.BTreeMap.{get}
+use Rattle.rtps_discovery.specs.Listings.{pair_cmp}
 use Rattle.rtps_discovery.specs.Matching.{matches_among}
+use Rattle.rtps_discovery.specs.declared.matching.Pair.{Pair}
 use Rattle.rtps_audit.specs.Intake.{Intake}
 use Rattle.rtps_evidence.specs.OtherSide.{OtherRecording}
 use Rattle.rtps_evidence.specs.Times.{TimesValue}
@@ -16,8 +19,10 @@ use Rattle.rtps_who.proofs.Offered.{node_is, nodes_are}
 use Rattle.rtps_report.specs.Asked.{AskedValue}
 use Rattle.rtps_report.specs.BestEfforts.{AreSumsOf, CountedValue, arrived_among, best_effort_value, held_among, held_value, total_of}
 use Rattle.rtps_report.specs.Ends.{recorded_in}
+use Rattle.rtps_report.specs.NotTold.{AreNotToldIn, not_told_value}
 use Rattle.rtps_report.specs.Participants.{participant_told}
-use Rattle.rtps_report.specs.Talk.{AreCounted, AreUnfit, IsKeptOf, IsTalkOf, choice_in, choice_of, is_counted_of, is_left_out_of, left_out_of, left_out_value, talk_value, talks, traffic_of, unfit_in}
+use Rattle.rtps_report.specs.Talk.{AreCounted, AreUnfit, IsKeptOf, IsTalkOf, acts_of_matching, choice_in, choice_of, is_counted_of, is_left_out_of, judged_pairs, late_among, left_out_of, left_out_value, talk_value, talks, traffic_of, unfit_in}
+use Rattle.rtps_report.specs.TwoLives.{AreTwoLivesIn}
 use Rattle.rtps_report.specs.Ways.{ways_of_counted}
 use Rattle.rtps_report.specs.Vocabulary.{Read}
 use Rattle.rtps_report.specs.declared.talk.Talk.{Talk}
@@ -51,8 +56,11 @@ pub talk_is : (asked : AskedValue) (other : Option OtherRecording) (recording : 
     → AreSumsOf (arrived_among counted) (map best_effort_value talk.held_sums.items) → best_effort_value talk.held_total ≡ total_of (arrived_among counted)
     → talk.ways ≡ ways_of_counted counted
     → talk.participants.items ≡ map (participant_told (intake_as Read recording) recording times) directory.participants
+    → AreNotToldIn (intake_as Read recording) recording times.of_datagrams directory (map not_told_value talk.not_told.items) → AreTwoLivesIn recording times.of_datagrams talk.lives.items
+    → ((pair : Pair) → get pair_cmp talk.late pair ≡ late_among (acts_of_matching (intake_as Read recording) recording times.of_datagrams) talk.lives.items
+    (judged_pairs (matches_among (settled_in directory.endpoints)) (map unmatched_value talk.talking.items)) pair)
     → IsTalkOf asked other recording times (talk_value talk)
-talk_is asked other recording times directory talk counted map_of announced who kept unmatched left one_way are sums total held held_sums held_total ways participants =
+talk_is asked other recording times directory talk counted map_of announced who kept unmatched left one_way are sums total held held_sums held_total ways participants not_told lives late =
     let traffic = traffic_of recording in
     let recorded = recorded_in (intake_as Read recording) directory.endpoints in
     let chosen = choice_of asked recording directory.endpoints in
@@ -81,4 +89,7 @@ talk_is asked other recording times directory talk counted map_of announced who 
         are_ways = ways;
       };
       participants = participants;
+      not_told = not_told;
+      lives = lives;
+      late = late;
     }

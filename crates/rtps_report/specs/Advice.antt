@@ -1,15 +1,17 @@
 -- What to do for a pair that is not clean. own: it is chosen by what the recording shows of the pair and its participants, by what was not
--- read of it, and by the first number asked for, so that one case has one advice. Who was killed or cut off comes first, since nothing else
--- of the pair needs a reason; then what is lost or missed; then a tail; then what was told nowhere, since no answer can be owed for it; then
--- what was asked. The guide prints the cases and their sentences.
+-- read of it, and by the first number asked for, so that one case has one advice. Two lives under one GUID come first, since all that is told of the pair
+-- is of both; then who was killed or cut off, since nothing else of the pair needs a reason; then, of a reader that acknowledged nothing, that it was never
+-- told of the writer; then what is lost or missed; then a tail; then what was told nowhere, since no answer can be owed for it; then what was asked. The
+-- guide prints the cases and their sentences.
 use Rattle.std.specs.Prelude.{ℕ, ℤ, ◌-◌, ◌^◌, ◌==◌, ◌&&◌, ◌||◌, not, nat_le, nat_lt, int_lt, Bool, true, false, if◌then◌else◌, List, codes, length, Option, Some, None, is_none, is_some, unwrap_or}
+use Rattle.std.specs.Option.{option_or}
 use Rattle.rtps_receiver.specs.Said.{natural}
 use Rattle.rtps_report.specs.Vocabulary.{Absent, Announcement, Claim, CompleteGrounds, ConflictGrounds, EvidenceValue, FirstMissed, GroundsValue, Key, Location, OpenGrounds, PayloadValue, Scope, SentValue, Teller, UnfoundedGrounds, Whole}
 use Rattle.rtps_evidence.specs.Times.{TimesValue, time_of}
 use Rattle.rtps_report.specs.Reported.{number_of}
 use Rattle.rtps_report.specs.RowFacts.{is_held_in, is_joined_in, is_tail, left_in, outcomes_of, row_from}
 use Rattle.rtps_report.specs.declared.advice.Advice.{Advice}
-use Rattle.rtps_report.specs.declared.advice.Advice.TheVariants.{ReaderEnded, WriterEnded, Lost, MissedUnsent, MissedAgain, MissedOnce, Unsent, Unanswered, Tail, OpenUnread, OpenUntold, Left, NotAsked, JustAsked, NeverAnswered, Silent, Alike, Unlike, Relayed, UnfoundedUnread, Late, Unannounced, BeganLate, Lacking}
+use Rattle.rtps_report.specs.declared.advice.Advice.TheVariants.{TwoLives, ReaderEnded, WriterEnded, NotAnnounced, Lost, MatchedLate, MissedUnsent, MissedAgain, MissedOnce, Unsent, Unanswered, Tail, OpenUnread, OpenUntold, Left, NotAsked, JustAsked, NeverAnswered, Silent, Alike, Unlike, Relayed, UnfoundedUnread, Late, Unannounced, BeganLate, Lacking}
 use Rattle.rtps_report.specs.declared.silences.Silences.{Silences}
 
 -- of a pair whose participants are silent since these datagrams: first of its reader, then of its writer
@@ -21,6 +23,19 @@ ended_by None None = None
 -- the same of both participants of a pair
 abbrev pub ended_advice : Silences → Option Advice
 ended_advice silences = ended_by silences.reader silences.writer
+
+-- the reader of a row knows its writer: it acknowledged a number of the row, or all before it
+abbrev pub is_known : EvidenceValue → Bool
+is_known evidence = is_some evidence.acknowledgement || is_tail evidence
+
+-- of a pair whose reader does not know the writer, where its participant was not told of endpoints of the writer's
+abbrev pub not_told_advice : Bool → Bool → Option Advice
+not_told_advice is_not_told known = if is_not_told && not known then Some NotAnnounced else None
+
+-- of a pair by its participants alone: one has two lives, or is silent, or the reader's was not told of endpoints of the writer's
+abbrev pub participant_advice : Silences → Bool → Option Advice
+participant_advice silences known =
+    if silences.is_twice then Some TwoLives else option_or (ended_advice silences) (not_told_advice silences.is_not_told known)
 
 -- of a pair with missed numbers, by the least of them
 abbrev pub missed_advice : FirstMissed → Advice
@@ -131,9 +146,16 @@ advice_by times scope evidence (OpenGrounds teller count first last) = open_advi
 advice_by times scope evidence (ConflictGrounds first other) = conflict_advice first other
 advice_by times scope evidence (UnfoundedGrounds teller claim) = unfounded_advice scope evidence teller claim
 
--- what to do for a pair, of which this participant or that one is silent
+-- what to do where this would be done of a pair whose two did not match late: what lacks was written before they matched
+abbrev pub late_advice : Bool → Advice → Advice
+late_advice true Unsent = MatchedLate
+late_advice true MissedUnsent = MatchedLate
+late_advice late advice = advice
+
+-- what to do for a pair, of whose participants this is known
 abbrev pub advice_of : TimesValue → Silences → Scope → EvidenceValue → Advice
-advice_of times silences scope evidence = unwrap_or (ended_advice silences) (advice_by times scope evidence evidence.grounds)
+advice_of times silences scope evidence =
+    unwrap_or (participant_advice silences (is_known evidence)) (late_advice silences.matched_late (advice_by times scope evidence evidence.grounds))
 
 -- the last datagram of the participant that ended, where the advice is of one
 abbrev pub ended_in : Advice → Option ℕ
@@ -143,9 +165,12 @@ ended_in advice = None
 
 -- in one sentence; of a participant that ended, without the time of its last datagram
 unfoldable pub sentence_of : Advice → List ℕ
+sentence_of TwoLives = codes "two processes use the GUID of a participant of this pair, as after a copied disk image or a restart: the pair is a mixture of both"
 sentence_of (ReaderEnded last) = codes "the reader's process ended without leaving, or was cut off: see what it did"
 sentence_of (WriterEnded last) = codes "the writer's process ended without leaving, or was cut off: see what it did"
+sentence_of NotAnnounced = codes "its announcements are lost on the way: look at large announcements in IP fragments, and at multicast"
 sentence_of Lost = codes "it was sent and did not reach the reader's host: look at the network; raise the history depth, so that the writer still has what is asked for again"
+sentence_of MatchedLate = codes "the two matched late: what was written before that was not for it; use transient local, or wait for the match"
 sentence_of MissedUnsent = codes "the reader asked for it and the recording has none: it was lost before this recording, or record at the writer's side"
 sentence_of MissedAgain = codes "it was sent again, and nothing shows that it arrived: look at the network; a recording at the reader's side tells"
 sentence_of MissedOnce = codes "the reader asked for it and the writer did not send it again: raise the history depth or the lifespan, and look at the network"

@@ -94,19 +94,21 @@ numbers_lost from evidence =
 abbrev pub sent_in : List LostValue → ExplanationValue → Option SentSpan
 sent_in lost row = (lost_at lost row.place).sent
 
--- the ends of such a span
+-- its end that lies in front
 abbrev pub first_end : Option SentSpan → Option Location
 first_end None = None
 first_end (Some span) = Some span.first
 
+-- its end that lies behind
 abbrev pub last_end : Option SentSpan → Option Location
 last_end None = None
 last_end (Some span) = Some span.last
 
--- where the first of these numbers is sent first, and where the last is
+-- where the first of these numbers is sent first
 abbrev pub first_sent : List LostValue → ExplanationValue → Option Location
 first_sent lost row = first_end (sent_in lost row)
 
+-- where the last of these numbers is sent first
 abbrev pub last_sent : List LostValue → ExplanationValue → Option Location
 last_sent lost row = last_end (sent_in lost row)
 
@@ -131,10 +133,11 @@ later None other = other
 later (Some one) None = Some one
 later (Some one) (Some other) = Some (if precedes one other then other else one)
 
--- the first of the places of rows where a lost number is sent first, and the last
+-- the first of the places of rows where a lost number is sent first
 abbrev pub first_among : List LostValue → List ExplanationValue → Option Location
 first_among lost rows = fold (λ first row. earlier first (first_sent lost row)) None rows
 
+-- the last of those places
 abbrev pub last_among : List LostValue → List ExplanationValue → Option Location
 last_among lost rows = fold (λ last row. later last (last_sent lost row)) None rows
 
@@ -147,6 +150,7 @@ abbrev pub heard_by : TalkValue → GuidPrefix → Option GuidPrefix → Option 
 heard_by talk first None = silence_among talk.participants (participant_of first)
 heard_by talk first (Some second) = None
 
+-- that of an event with this key
 abbrev pub heard_in : TalkValue → EventKey → Option ℕ
 heard_in talk key = heard_by talk key.first key.second
 
@@ -237,10 +241,11 @@ EventsAreWhole = (asked : AskedValue) (report : ReportValue) → AreWhole asked 
 
 -- ---- the same of the code
 
--- by first participants, octet by octet, and then by second ones, of which none stands first
+-- the order of participants: octet by octet
 abbrev pub prefix_cmp : GuidPrefix → GuidPrefix → Ordering
 prefix_cmp one other = slice_cmp nat_cmp one.0 other.0
 
+-- the order of keys: by the first participant, and then by the second one, where none stands first
 abbrev pub key_cmp : EventKey → EventKey → Ordering
 key_cmp one other = ordering_then (prefix_cmp one.first other.first) (option_cmp prefix_cmp one.second other.second)
 
@@ -253,6 +258,7 @@ abbrev pub rows_in : Option (Vec (Bor Explanation)) → List ExplanationValue
 rows_in None = []
 rows_in (Some rows) = rows_value rows.items
 
+-- those that are kept at a key of a map
 abbrev pub rows_at : BTreeMap EventKey (Vec (Bor Explanation)) → EventKey → List ExplanationValue
 rows_at kept key = rows_in (get key_cmp kept key)
 

@@ -5,6 +5,7 @@ use Rattle.rtps_report.specs.Asked.{AskedValue}
 use Rattle.rtps_report.specs.Order.{is_given_twice, swapped}
 use Rattle.rtps_report.specs.Recording.{known}
 use Rattle.rtps_report.specs.declared.best_effort.BestEffortNumbers.{BestEffortNumbers}
+use Rattle.rtps_report.specs.declared.not_told.NotToldCounts.{NotToldCounts}
 use Rattle.rtps_report.specs.Vocabulary.{Clean, Ending, Facts, FewRows, Findings, Unclean, Unmet}
 
 -- there are fewer rows than were expected, if so
@@ -21,16 +22,22 @@ abbrev pub findings_of : AskedValue → Facts → Findings
 findings_of asked facts =
     record {
       few = few_of asked.expect facts.rows;
-      empty = (facts.rows == 0) && (facts.best_effort.numbers == 0);
-      lossy = lossy_of facts.rows facts.best_effort;
+      empty = (facts.rows == 0) && (facts.talk.best_effort.numbers == 0);
+      lossy = lossy_of facts.rows facts.talk.best_effort;
       unsettled = facts.counts.unsettled;
       pieces = (known facts.reasons).pieces;
       cut = (known facts.reasons).cut;
       links = (known facts.reasons).links;
-      unmatched = facts.unmatched;
+      unmatched = facts.talk.unmatched;
+      not_told = facts.talk.not_told;
+      lives = facts.talk.lives;
       swapped = swapped facts.order;
       twice = is_given_twice facts.order;
     }
+
+-- nobody was not told of anything
+abbrev pub nobody : NotToldCounts
+nobody = record { participants = 0; endpoints = 0 }
 
 -- nothing
 abbrev pub no_findings : Findings
@@ -44,6 +51,8 @@ no_findings =
       cut = 0;
       links = (known None).links;
       unmatched = 0;
+      not_told = nobody;
+      lives = 0;
       swapped = 0;
       twice = false;
     }
@@ -54,7 +63,8 @@ are_none findings =
     is_none findings.few
     && (not findings.empty
     && (is_none findings.lossy && ((findings.unsettled == 0) && ((findings.pieces == 0) && ((findings.cut == 0) && ((findings.links.number == 0)
-    && ((findings.unmatched == 0) && ((findings.swapped == 0) && not findings.twice))))))))
+    && ((findings.unmatched == 0) && ((findings.not_told.participants == 0) && ((findings.lives == 0)
+    && ((findings.swapped == 0) && not findings.twice))))))))))
 
 -- how a run ends by what is found, and by whether each row is what it has to be
 abbrev pub ending_by : Findings → Bool → Ending

@@ -13,13 +13,14 @@ use Rattle.rtps_report.specs.Vocabulary.{Counts, DirectoryValue, Ending, Evidenc
 pub use Rattle.rtps_report.specs.Asked.{AskedValue, asked_value}
 use Rattle.rtps_report.specs.BestEfforts.{numbers_told}
 use Rattle.rtps_report.specs.Findings.{ending_as}
+use Rattle.rtps_report.specs.NotTold.{not_told_counts}
 use Rattle.rtps_report.specs.Order.{order_by}
 pub use Rattle.rtps_report.specs.Recording.{RecordingValue}
 use Rattle.rtps_report.specs.ReaderSide.{arrived_value, beside_of, other_by}
 use Rattle.rtps_report.specs.RowFacts.{is_certain, is_clean}
 use Rattle.rtps_report.specs.RowPairs.{AreRowPairs}
 use Rattle.rtps_report.specs.Talk.{IsTalkAs, TalkValue, talk_value, traffic_of}
-use Rattle.rtps_report.specs.declared.best_effort.BestEffortNumbers.{BestEffortNumbers}
+use Rattle.rtps_report.specs.declared.findings.TalkFacts.{TalkFacts}
 use Rattle.rtps_report.specs.declared.full_report.FullReport.{FullReport}
 use Rattle.rtps_report.specs.declared.order.Order.{Order}
 
@@ -27,17 +28,25 @@ use Rattle.rtps_report.specs.declared.order.Order.{Order}
 abbrev pub is_met : AskedValue → EvidenceValue → Bool
 is_met asked evidence = is_clean asked.tail evidence && (not asked.certain || is_certain asked.from evidence)
 
--- what is known of a report with these rows and counts, where so many writers and readers do not match, pairs of best effort have so many
--- numbers, and two recordings were given in this order
-abbrev pub facts_with : ℕ → BestEffortNumbers → Order → AskedValue → List ExplanationValue → Counts → RecordingValue → Facts
-facts_with unmatched best_effort order asked rows counts recording =
+-- what is known of who does not talk
+abbrev pub talk_facts : TalkValue → TalkFacts
+talk_facts talk =
+    record {
+      unmatched = length talk.unmatched;
+      not_told = not_told_counts talk.participants talk.not_told;
+      lives = length talk.lives;
+      best_effort = numbers_told talk.best_effort_total;
+    }
+
+-- what is known of a report with these rows and counts, where this is known of who does not talk, and two recordings were given in this order
+abbrev pub facts_with : TalkFacts → Order → AskedValue → List ExplanationValue → Counts → RecordingValue → Facts
+facts_with talk order asked rows counts recording =
     record {
       rows = length rows;
       met = list_all (λ row. is_met asked row.evidence) rows;
       counts = counts;
       reasons = recording.reasons;
-      unmatched = unmatched;
-      best_effort = best_effort;
+      talk = talk;
       order = order;
     }
 
@@ -82,7 +91,7 @@ lost_of report = map lost_value report.explained.lost.items
 -- what is known of this report
 abbrev pub facts_of : AskedValue → RecordingValue → ReportValue → Facts
 facts_of asked recording report =
-    facts_with (length report.talk.unmatched) (numbers_told report.talk.best_effort_total) report.order asked (rows_of report) report.explained.counts recording
+    facts_with (talk_facts report.talk) report.order asked (rows_of report) report.explained.counts recording
 
 -- What is told of this recording, of what is asked. Samples that come in fragments are read. Rows are held against another recording,
 -- where there is one, and waits are by the times of the recording's own datagrams.

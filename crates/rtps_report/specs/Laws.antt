@@ -116,6 +116,9 @@ pub record TellSame (one other : TalkValue) : Type 0 where
   pub held_total : one.held_total ≡ other.held_total
   pub ways : one.ways ≡ other.ways
   pub participants : one.participants ≡ other.participants
+  pub not_told : one.not_told ≡ other.not_told
+  pub lives : one.lives ≡ other.lives
+  pub late : (pair : Pair) → one.late pair ≡ other.late pair
 
 -- two reports tell the same
 pub record AreSame (one other : ReportValue) : Type 0 where

@@ -7,7 +7,10 @@ pub mod DatagramSpan
 pub mod Events
 pub mod Findings
 pub mod FullReport
+pub mod LateMatches
+pub mod LateRows
 pub mod Laws
+pub mod MatchingActs
 pub mod NoteFacts
 pub mod Order
 pub mod Participants
@@ -30,3 +33,6 @@ pub mod Totals
 pub mod Twice
 pub mod Vocabulary
 pub mod Ways
+pub mod Visits
+pub mod NotTold
+pub mod TwoLives

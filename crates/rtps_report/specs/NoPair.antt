@@ -13,7 +13,7 @@ use Rattle.rtps_report.specs.Stays.{sender_of}
 use Rattle.rtps_report.specs.Talk.{TalkValue}
 use Rattle.rtps_report.specs.declared.no_pair.InDomain.{InDomain}
 use Rattle.rtps_report.specs.declared.no_pair.NoPair.{NoPair}
-use Rattle.rtps_report.specs.declared.no_pair.NoPair.TheVariants.{Counted, NoRtps, Early, NoParticipant, OneHost, SharedMemory, TwoDomains, OneWay, Unmatched, LeftOut, BestEffort, OneSide, Unknown}
+use Rattle.rtps_report.specs.declared.no_pair.NoPair.TheVariants.{Counted, NoRtps, Early, NoParticipant, OneHost, SharedMemory, TwoDomains, NotTold, OneWay, Unmatched, LeftOut, BestEffort, OneSide, Unknown}
 use Rattle.rtps_report.specs.declared.participant.Participant.{Participant}
 
 -- some datagram has a header of RTPS
@@ -51,10 +51,10 @@ by_endpoints talk one_side =
     else if one_side then OneSide
     else Unknown
 
--- the same, where no two participants are in two domains
+-- the same, where no two participants are in two domains, and discovery is complete
 abbrev pub by_domains : Option (InDomain × InDomain) → TalkValue → Bool → NoPair
 by_domains (Some apart) talk one_side = TwoDomains apart.0 apart.1
-by_domains None talk one_side = by_endpoints talk one_side
+by_domains None talk one_side = if not (length talk.not_told == 0) then NotTold else by_endpoints talk one_side
 
 -- that of participants: there is none, all are on one host, or two are in two domains
 abbrev pub by_participants : TalkValue → Bool → NoPair

@@ -3,6 +3,8 @@ use Rattle.std.specs.Prelude.{ℕ, ◌-◌, ◌^◌, ◌||◌, if◌then◌else�
 use Rattle.rtps_evidence.specs.Times.{step_back}
 use Rattle.rtps_report.specs.Vocabulary.{Counts, EvidenceValue, ExplanationValue, Reasons, Scope}
 use Rattle.rtps_report.specs.RowFacts.{is_clean_tail, outcomes_of}
+use Rattle.rtps_report.specs.LateRows.{is_late_alone, lacks_before}
+use Rattle.rtps_report.specs.Talk.{TalkValue}
 use Rattle.rtps_report.specs.FullReport.{AskedValue, ReportValue, rows_of}
 use Rattle.rtps_report.specs.Recording.{RecordingValue, known}
 use Rattle.rtps_report.specs.Totals.{totals_of}
@@ -33,12 +35,13 @@ clean_tail_of tail evidence = if is_clean_tail tail evidence then (outcomes_of e
 abbrev pub longest_clean_tail : ℕ → List ExplanationValue → ℕ
 longest_clean_tail tail rows = fold (λ longest row. max longest (clean_tail_of tail row.evidence)) 0 rows
 
--- what is known of a report with these rows and counts
-abbrev pub facts_by : List ExplanationValue → Scope → Counts → RecordingValue → NoteFacts
-facts_by rows scope counts recording =
+-- what is known of a report with these rows and counts, where this is known of who does not talk
+abbrev pub facts_by : TalkValue → List ExplanationValue → Scope → Counts → RecordingValue → NoteFacts
+facts_by talk rows scope counts recording =
     record {
       back = back_in recording.times.of_datagrams;
-      late = (totals_of scope rows).late_pairs;
+      late = count_by (is_late_alone talk scope.from) rows;
+      late_before = count_by (lacks_before talk scope.from) rows;
       tails = (totals_of scope rows).tail_pairs;
       longest = longest_clean_tail scope.tail rows;
       likely = (totals_of scope rows).likely - (totals_of scope rows).lost;
@@ -53,4 +56,4 @@ facts_by rows scope counts recording =
 
 -- what weakens this report
 abbrev pub note_facts : AskedValue → RecordingValue → ReportValue → NoteFacts
-note_facts asked recording report = facts_by (rows_of report) (scope_of asked recording report) report.explained.counts recording
+note_facts asked recording report = facts_by report.talk (rows_of report) (scope_of asked recording report) report.explained.counts recording

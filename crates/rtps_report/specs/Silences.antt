@@ -1,11 +1,17 @@
--- Since when the participants of a pair are silent. own: a reader whose participant was killed or cut off acknowledges nothing more, so what
--- it lacks at the end is not told as a tail alone.
-use Rattle.std.specs.Prelude.{ℕ, ◌&&◌, Bool, if◌then◌else◌, is_none, List, Option, Some, None}
-use Rattle.std.specs.List.{find}
+-- What is known of the participants of a pair. own: a reader whose participant was killed or cut off acknowledges nothing more, so what it lacks at
+-- the end is not told as a tail alone; nor is what is a mixture of two lives. A reader that was never told of the writer takes nothing of it.
+use Rattle.std.specs.Prelude.{ℕ, ◌&&◌, Bool, if◌then◌else◌, is_none, is_some, List, not, Option, Some, None}
+use Rattle.std.specs.List.{find, list_any}
 use Rattle.rtps_ids.specs.declared.identity.Guid.{Guid}
 use Rattle.rtps_discovery.specs.declared.matching.Pair.{Pair}
 use Rattle.rtps_audit.specs.Placed.{is_guid}
+use Rattle.rtps_ids.specs.declared.identity.GuidPrefix.{GuidPrefix}
+use Rattle.rtps_receiver.specs.Speech.{is_prefix}
 use Rattle.rtps_policies.specs.Announcing.{participant_of}
+use Rattle.rtps_policies.specs.declared.host.Address.{Address}
+use Rattle.rtps_policies.specs.declared.one_way.OneWay.{OneWay}
+use Rattle.rtps_report.specs.LateMatches.{is_mixed}
+use Rattle.rtps_report.specs.NotTold.{is_not_told_of}
 use Rattle.rtps_report.specs.Talk.{TalkValue}
 use Rattle.rtps_report.specs.declared.participant.Participant.{Participant}
 use Rattle.rtps_report.specs.declared.silences.Silences.{Silences}
@@ -29,14 +35,30 @@ has_guid guid participant = is_guid participant.guid guid
 abbrev pub silence_among : List Participant → Guid → Option ℕ
 silence_among participants guid = silent_since (find (has_guid guid) participants)
 
--- since when the participants of the writer and the reader of a pair are silent
+-- ---- what discovery did not tell
+
+-- the one names the other, and never the other way round
+abbrev pub is_one_way : List OneWay → GuidPrefix → GuidPrefix → Bool
+is_one_way found source dest = list_any (λ one. is_prefix one.naming.source source && is_prefix one.naming.dest dest) found
+
+-- from where nothing comes back of two participants, of which the one names the other; None where something does
+abbrev pub address_behind : TalkValue → Guid → Guid → Option Address
+address_behind talk from to = if is_one_way talk.one_way from.prefix to.prefix then (talk.ends to).address else None
+
+-- ---- of a pair
+
+-- since when the participants of the writer and the reader of a pair are silent, whether that of the reader was not told of endpoints of the other,
+-- whether one has two lives, and whether the two matched late
 abbrev pub silences_of : TalkValue → Pair → Silences
 silences_of talk pair =
     record {
       writer = silence_among talk.participants (participant_of pair.writer.prefix);
       reader = silence_among talk.participants (participant_of pair.reader.prefix);
+      is_not_told = is_not_told_of talk.not_told (participant_of pair.writer.prefix) (participant_of pair.reader.prefix);
+      is_twice = is_mixed talk.lives pair;
+      matched_late = is_some (talk.late pair);
     }
 
--- neither is silent
+-- neither is silent, and neither has two lives
 abbrev pub are_heard : Silences → Bool
-are_heard silences = is_none silences.writer && is_none silences.reader
+are_heard silences = is_none silences.writer && (is_none silences.reader && not silences.is_twice)

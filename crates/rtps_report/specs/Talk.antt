@@ -1,14 +1,15 @@
 -- Who does not talk. DDS 1.4, 2.2.3 "Supported QoS"; DDSI-RTPS 2.5, 8.5 "Discovery Module" and 8.3.8.8 "InfoDestination".
 -- own: rows tell what a reader got of a writer. If the two do not match, one never answers, or neither is heard here, no participant says
 -- so: it is told beside the rows. So is how much a recording has of pairs of best effort, which no row is about.
-use Rattle.std.specs.Prelude.{ℕ, ◌≡◌, ◌&&◌, Bool, true, not, nat_lt, List, [], ◌∷◌, Option, filter, map}
+use Rattle.std.specs.Prelude.{ℕ, ◌≡◌, ◌&&◌, ◌++◌, Bool, true, false, not, nat_lt, if◌then◌else◌, List, [], ◌∷◌, Option, Some, None, filter, map}
+use Rattle.std.specs.BTreeMap.{get}
 use Rattle.std.specs.BTreeSet.{BTreeSet, contains}
 use Rattle.std.specs.List.{list_any}
 use Rattle.rtps_ids.specs.declared.identity.Guid.{Guid}
 use Rattle.rtps_ids.specs.declared.identity.GuidPrefix.{GuidPrefix}
 use Rattle.rtps_discovery.specs.Directory.{DirectoryValue, Entries, IsMapOf, settled_at, settled_in}
 use Rattle.rtps_discovery.specs.Listings.{pair_cmp}
-use Rattle.rtps_discovery.specs.Matching.{matches_among}
+use Rattle.rtps_discovery.specs.Matching.{matches_among, reliable_pairs}
 use Rattle.rtps_discovery.specs.declared.matching.Match.{Match}
 use Rattle.rtps_discovery.specs.declared.matching.Pair.{Pair}
 use Rattle.rtps_audit.specs.Index.{IsIndexBy}
@@ -27,6 +28,7 @@ use Rattle.rtps_policies.specs.OneWays.{AreOneWayIn}
 use Rattle.rtps_policies.specs.Silence.{Traffic, silence_by, silence_of}
 use Rattle.rtps_policies.specs.Unmatched.{UnmatchedValue, pair_of, unmatched_among, unmatched_value}
 use Rattle.rtps_policies.specs.declared.naming.Namings.{Namings}
+use Rattle.rtps_known.specs.Places.{PlacedAct}
 use Rattle.rtps_policies.specs.declared.one_way.OneWay.{OneWay}
 use Rattle.rtps_policies.specs.declared.silence.Silence.{Silence}
 use Rattle.rtps_who.specs.Naming.{node_of, nodes_of_participant}
@@ -36,14 +38,20 @@ use Rattle.rtps_report.specs.ActsRead.{datagrams_read}
 use Rattle.rtps_report.specs.Asked.{AskedValue}
 use Rattle.rtps_report.specs.BestEfforts.{AreSumsOf, BestEffortValue, CountedValue, HeldValue, arrived_among, best_effort_value, held_among, held_value, total_of}
 use Rattle.rtps_report.specs.Ends.{EndValue, end_kept, end_of, recorded_in}
+use Rattle.rtps_report.specs.LateMatches.{late_of}
+use Rattle.rtps_report.specs.MatchingActs.{matching_acts}
+use Rattle.rtps_report.specs.NotTold.{AreNotToldIn, NotToldValue, not_told_value}
 use Rattle.rtps_report.specs.Participants.{participant_told}
 use Rattle.rtps_report.specs.Recording.{RecordingValue}
 use Rattle.rtps_report.specs.Rows.{Choice, chosen_by, is_named_by}
+use Rattle.rtps_report.specs.TwoLives.{AreTwoLivesIn}
 use Rattle.rtps_report.specs.Ways.{ways_of_counted}
+use Rattle.rtps_report.specs.declared.late_matches.LateMatch.{LateMatch}
 use Rattle.rtps_report.specs.declared.participant.Participant.{Participant}
 use Rattle.rtps_report.specs.declared.talk.Heard.{Heard}
 use Rattle.rtps_report.specs.declared.talk.LeftOut.{LeftOut}
 use Rattle.rtps_report.specs.declared.talk.Talk.{Talk}
+use Rattle.rtps_report.specs.declared.two_lives.TwoLives.{TwoLives}
 use Rattle.rtps_report.specs.declared.ways.Ways.{Ways}
 
 -- a match that is left out, and its topic
@@ -57,7 +65,8 @@ left_out_value one = record { topic = one.topic.now; pair = one.pair }
 
 -- who does not talk: by what each end is known, the node of each endpoint, the nodes of each participant, why pairs are silent, which writers and readers do not match, which of them talk all the
 -- same, which matches are left out, who talks one way, the pairs of best effort by topic, those of them that are held against another
--- recording, what arrived of these by topic, by how many pairs of best effort the two recordings are which way round, and the participants
+-- recording, what arrived of these by topic, by how many pairs of best effort the two recordings are which way round, the participants, who was
+-- never told of whose endpoints, who has two lives, and which pairs matched late
 pub record TalkValue : Type 0 where
   pub ends : Guid → EndValue
   pub node : Guid → Option NodeValue
@@ -74,6 +83,9 @@ pub record TalkValue : Type 0 where
   pub held_total : BestEffortValue
   pub ways : Ways
   pub participants : List Participant
+  pub not_told : List NotToldValue
+  pub lives : List TwoLives
+  pub late : Pair → Option LateMatch
 
 -- that of the code, as a value
 abbrev pub talk_value : Talk → TalkValue
@@ -94,6 +106,9 @@ talk_value talk =
       held_total = best_effort_value talk.held_total;
       ways = talk.ways;
       participants = talk.participants.items;
+      not_told = map not_told_value talk.not_told.items;
+      lives = talk.lives.items;
+      late = get pair_cmp talk.late;
     }
 
 -- ---- pairs that do not match
@@ -188,6 +203,26 @@ pub record AreBestEffortIn (asked : AskedValue) (other : Option OtherRecording) 
   pub is_held_total : talk.held_total ≡ total_of (arrived_among counted)
   pub are_ways : talk.ways ≡ ways_of_counted counted
 
+-- ---- pairs that matched late
+
+-- the acts of a recording by which that is told, of which this is taken in, and whose datagrams came then
+abbrev pub acts_of_matching : Intake → List (List ℕ) → List (Option ℕ) → List PlacedAct
+acts_of_matching intake recording times = matching_acts (announcements_in intake.announcing) recording times
+
+-- the pairs of which rows may be: those of reliable matches, and those that talk though they do not match
+abbrev pub judged_pairs : List Match → List UnmatchedValue → List Pair
+judged_pairs matches talking = reliable_pairs matches ++ map pair_of talking
+
+-- where the two of one of these pairs matched late by these acts, if they did
+abbrev pub late_among : List PlacedAct → List TwoLives → List Pair → Pair → Option LateMatch
+late_among acts lives pairs pair = if list_any (λ one. is_pair one pair) pairs then late_of acts lives pair else None
+
+-- what is kept of a pair, with one match more, if that is late and of the pair
+abbrev pub late_kept : Bool → Option LateMatch → Option LateMatch → Option LateMatch
+late_kept false found kept = kept
+late_kept true None kept = kept
+late_kept true (Some found) kept = Some found
+
 -- ---- all of it
 
 -- what is said of participants: by what announces, and by all acts that are read
@@ -215,6 +250,10 @@ pub record IsTalkOf (asked : AskedValue) (other : Option OtherRecording) (record
   pub best_effort : AreBestEffortIn asked other (intake_as Read recording) (traffic_of recording) directory.endpoints talk
   pub participants : talk.participants
       ≡ map (participant_told (intake_as Read recording) recording times) directory.participants
+  pub not_told : AreNotToldIn (intake_as Read recording) recording times.of_datagrams directory talk.not_told
+  pub lives : AreTwoLivesIn recording times.of_datagrams talk.lives
+  pub late : (pair : Pair) → talk.late pair
+      ≡ late_among (acts_of_matching (intake_as Read recording) recording times.of_datagrams) talk.lives (judged_pairs (matches_among (settled_in directory.endpoints)) talk.talking) pair
 
 -- the same of a recording with its times
 abbrev pub IsTalkAs : AskedValue → Option OtherRecording → RecordingValue → TalkValue → Type 0

@@ -1,7 +1,7 @@
 -- What is counted of rows. own: a topic with thousands of samples is read at a glance only as sums.
 use Rattle.std.specs.Prelude.{ℕ, ◌+◌, ◌-◌, ◌*◌, ◌≤◌, ◌&&◌, nat_lt, not, Bool, if◌then◌else◌, List, count_by, length, sum_by}
 use Rattle.rtps_report.specs.Reported.{is_complete}
-use Rattle.rtps_report.specs.RowFacts.{asked_about, is_certain, is_clean, is_clean_tail, is_held_in, is_late, outcomes_of, row_from}
+use Rattle.rtps_report.specs.RowFacts.{asked_about, is_certain, is_clean, is_clean_tail, is_held_in, outcomes_of, row_from}
 use Rattle.rtps_report.specs.Vocabulary.{EvidenceValue, ExplanationValue, Scope, Totals}
 
 -- the row is neither complete nor clean
@@ -29,7 +29,6 @@ totals_of scope rows =
       clean_pairs = count_by (λ row. is_clean scope.tail row.evidence) rows;
       unclean_pairs = count_by (λ row. is_unclean scope.tail row.evidence) rows;
       tail_pairs = count_by (λ row. is_clean_tail scope.tail row.evidence) rows;
-      late_pairs = count_by (λ row. is_late scope.from row.evidence) rows;
       missed_pairs = count_by (λ row. nat_lt 0 (outcomes_of row.evidence).missed) rows;
       unsent_pairs = count_by (λ row. nat_lt 0 (outcomes_of row.evidence).unsent) rows;
       unanswered_pairs = count_by (λ row. nat_lt 0 (outcomes_of row.evidence).unanswered) rows;
@@ -56,7 +55,6 @@ with_row scope totals row =
       clean_pairs = totals.clean_pairs + (if is_clean scope.tail row.evidence then 1 else 0);
       unclean_pairs = totals.unclean_pairs + (if is_unclean scope.tail row.evidence then 1 else 0);
       tail_pairs = totals.tail_pairs + (if is_clean_tail scope.tail row.evidence then 1 else 0);
-      late_pairs = totals.late_pairs + (if is_late scope.from row.evidence then 1 else 0);
       missed_pairs = totals.missed_pairs + (if nat_lt 0 (outcomes_of row.evidence).missed then 1 else 0);
       unsent_pairs = totals.unsent_pairs + (if nat_lt 0 (outcomes_of row.evidence).unsent then 1 else 0);
       unanswered_pairs = totals.unanswered_pairs + (if nat_lt 0 (outcomes_of row.evidence).unanswered then 1 else 0);
@@ -80,7 +78,6 @@ pub record AreWithin (totals : Totals) : Type 0 where
   pub clean_pairs : totals.clean_pairs ≤ totals.pairs
   pub unclean_pairs : totals.unclean_pairs ≤ totals.pairs
   pub tail_pairs : totals.tail_pairs ≤ totals.pairs
-  pub late_pairs : totals.late_pairs ≤ totals.pairs
   pub missed_pairs : totals.missed_pairs ≤ totals.pairs
   pub unsent_pairs : totals.unsent_pairs ≤ totals.pairs
   pub unanswered_pairs : totals.unanswered_pairs ≤ totals.pairs

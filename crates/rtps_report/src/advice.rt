@@ -3,7 +3,7 @@ ghost use Rattle.std.specs.Option.{option_map};
 ghost use Rattle.rtps_evidence.specs.Explanation.{evidence_value};
 ghost use Rattle.rtps_evidence.specs.Locations.{sent_value};
 ghost use Rattle.rtps_wire.specs.Values.{payload_value};
-ghost use Rattle.rtps_report.specs.Advice.{advice_by, advice_of as advice_of_lem, are_alike as are_alike_lem, asked_advice as asked_advice_lem, came_last as came_last_lem, complete_advice as complete_advice_lem, conflict_advice as conflict_advice_lem, is_above as is_above_lem, ended_advice, ended_in as ended_in_lem, is_first_sent as is_first_sent_lem, is_last_second as is_last_second_lem, is_lost as is_lost_lem, loss_advice as loss_advice_lem, missed_advice as missed_advice_lem, sentence_of, stand_together as stand_together_lem, unanswered_advice as unanswered_advice_lem, unasked_advice as unasked_advice_lem, unfounded_advice as unfounded_advice_lem, untold_open_advice as untold_open_advice_lem};
+ghost use Rattle.rtps_report.specs.Advice.{advice_by, advice_of as advice_of_lem, are_alike as are_alike_lem, asked_advice as asked_advice_lem, came_last as came_last_lem, complete_advice as complete_advice_lem, conflict_advice as conflict_advice_lem, is_above as is_above_lem, ended_advice, ended_in as ended_in_lem, is_first_sent as is_first_sent_lem, is_known as is_known_lem, is_last_second as is_last_second_lem, is_lost as is_lost_lem, late_advice as late_advice_lem, loss_advice as loss_advice_lem, missed_advice as missed_advice_lem, participant_advice, sentence_of, stand_together as stand_together_lem, unanswered_advice as unanswered_advice_lem, unasked_advice as unasked_advice_lem, unfounded_advice as unfounded_advice_lem, untold_open_advice as untold_open_advice_lem};
 
 use crate::row_facts::{
     is_held, is_joined, is_tail, left_at, natural, number_of, outcomes_of, row_from,
@@ -31,12 +31,18 @@ pub struct Scope {
 /// What to do for a pair.
 #[derive(Clone, Copy)]
 pub enum Advice {
+    /// A participant of the pair has two lives under one GUID.
+    TwoLives,
     /// The reader's participant is silent since this datagram.
     ReaderEnded(u64),
     /// The writer's participant is.
     WriterEnded(u64),
+    /// The reader acknowledged nothing, and its participant was not told of endpoints of the writer's.
+    NotAnnounced,
     /// Of a pair that is held: numbers that were sent did not arrive, and not only a tail.
     Lost,
+    /// The two matched late, and numbers are unsent, or missed and nothing of the first one is sent to the reader.
+    MatchedLate,
     /// Missed: nothing of the first number is sent to the reader.
     MissedUnsent,
     /// Missed: the first number was sent again.
@@ -290,7 +296,7 @@ fn heard_advice(scope: Scope, evidence: &Evidence<'_>, times: &Times) -> Advice
 
 impl Silences {
     /// What to do for a pair of which one of the two participants is silent.
-    fn advice(self) -> Option<Advice>
+    fn ended(self) -> Option<Advice>
         ensures { result ≡ ended_advice self }
     {
         match (self.reader, self.writer) {
@@ -299,15 +305,46 @@ impl Silences {
             (None, None) => None,
         }
     }
+
+    /// What to do for a pair by its participants alone, of which the reader knows the writer or not.
+    fn advice(self, known: bool) -> Option<Advice>
+        ensures { result ≡ participant_advice self known }
+    {
+        if self.is_twice {
+            return Some(Advice::TwoLives);
+        }
+        match self.ended() {
+            Some(advice) => Some(advice),
+            None if self.is_not_told && !known => Some(Advice::NotAnnounced),
+            None => None,
+        }
+    }
 }
 
-/// What to do for a pair, of which one of the two participants may be silent.
+/// What to do where this would be done of a pair whose two did not match late.
+fn late_advice(matched_late: bool, advice: Advice) -> Advice
+    ensures { result ≡ late_advice_lem matched_late advice }
+{
+    match advice {
+        Advice::Unsent | Advice::MissedUnsent if matched_late => Advice::MatchedLate,
+        _ => advice,
+    }
+}
+
+/// Whether the reader of a row knows its writer: it acknowledged a number of the row, or all before it.
+fn is_known(evidence: &Evidence<'_>) -> bool
+    ensures { result ≡ is_known_lem (evidence_value evidence.now) }
+{
+    evidence.acknowledgement.is_some() || is_tail(evidence)
+}
+
+/// What to do for a pair, of whose participants this is known.
 pub fn advice_of(scope: Scope, evidence: &Evidence<'_>, silences: Silences, times: &Times) -> Advice
     ensures { result ≡ advice_of_lem times.now silences scope (evidence_value evidence.now) }
 {
-    match silences.advice() {
+    match silences.advice(is_known(evidence)) {
         Some(advice) => advice,
-        None => heard_advice(scope, evidence, times),
+        None => late_advice(silences.matched_late, heard_advice(scope, evidence, times)),
     }
 }
 
@@ -328,12 +365,18 @@ impl Advice {
         ensures { result.now ≡ sentence_of self }
     {
         match self {
+            Advice::TwoLives =>
+                "two processes use the GUID of a participant of this pair, as after a copied disk image or a restart: the pair is a mixture of both",
             Advice::ReaderEnded(_) =>
                 "the reader's process ended without leaving, or was cut off: see what it did",
             Advice::WriterEnded(_) =>
                 "the writer's process ended without leaving, or was cut off: see what it did",
+            Advice::NotAnnounced =>
+                "its announcements are lost on the way: look at large announcements in IP fragments, and at multicast",
             Advice::Lost =>
                 "it was sent and did not reach the reader's host: look at the network; raise the history depth, so that the writer still has what is asked for again",
+            Advice::MatchedLate =>
+                "the two matched late: what was written before that was not for it; use transient local, or wait for the match",
             Advice::MissedUnsent =>
                 "the reader asked for it and the recording has none: it was lost before this recording, or record at the writer's side",
             Advice::MissedAgain =>

@@ -1,9 +1,10 @@
 ghost use Rattle.std.specs.Prelude.{◌≡◌, Option};
 ghost use Rattle.rtps_report.specs.Asked.{asked_value};
-ghost use Rattle.rtps_report.specs.Findings.{are_none, ending_by, few_of as few_of_lem, findings_of as findings_of_lem, lossy_of as lossy_of_lem, no_findings};
+ghost use Rattle.rtps_report.specs.Findings.{are_none, ending_by, few_of as few_of_lem, findings_of as findings_of_lem, lossy_of as lossy_of_lem, no_findings, nobody};
 
 use crate::asked::Asked;
 use crate::best_effort::BestEffortNumbers;
+use crate::not_told::NotToldCounts;
 use crate::order::Order;
 use crate::recording::{Links, Reasons, known, no_links};
 use rtps_audit::Counts;
@@ -43,10 +44,27 @@ pub struct Findings {
     pub links: Links,
     /// Writers and readers of one topic that do not match.
     pub unmatched: u64,
+    /// Participants that were not told of endpoints, and how many these are.
+    pub not_told: NotToldCounts,
+    /// Participants of which two lives have one GUID.
+    pub lives: u64,
     /// Pairs that are the wrong way round, where the two recordings look swapped.
     pub swapped: u128,
     /// One recording was given twice.
     pub twice: bool,
+}
+
+/// What is known of who does not talk.
+#[derive(Clone, Copy)]
+pub struct TalkFacts {
+    /// How many writers and readers of one topic do not match.
+    pub unmatched: u64,
+    /// How many participants were not told of how many endpoints.
+    pub not_told: NotToldCounts,
+    /// How many participants have two lives.
+    pub lives: u64,
+    /// The pairs of best effort.
+    pub best_effort: BestEffortNumbers,
 }
 
 /// What is known of a report, to hold it against what was asked.
@@ -57,12 +75,19 @@ pub struct Facts {
     pub met: bool,
     pub counts: Counts,
     pub reasons: Option<Reasons>,
-    /// How many writers and readers of one topic do not match.
-    pub unmatched: u64,
-    /// Its pairs of best effort.
-    pub best_effort: BestEffortNumbers,
+    pub talk: TalkFacts,
     /// In which order two recordings were given.
     pub order: Order,
+}
+
+/// Nobody was not told of anything.
+fn none_not_told() -> NotToldCounts
+    ensures { result ≡ nobody }
+{
+    NotToldCounts {
+        participants: 0,
+        endpoints: 0,
+    }
 }
 
 impl Findings {
@@ -79,6 +104,8 @@ impl Findings {
             cut: 0,
             links: no_links(),
             unmatched: 0,
+            not_told: none_not_told(),
+            lives: 0,
             swapped: 0,
             twice: false,
         }
@@ -96,6 +123,8 @@ impl Findings {
             && self.cut == 0
             && self.links.number == 0
             && self.unmatched == 0
+            && self.not_told.participants == 0
+            && self.lives == 0
             && self.swapped == 0
             && !self.twice
     }
@@ -126,13 +155,15 @@ fn findings_of(asked: &Asked<'_>, facts: &Facts) -> Findings
     let reasons = known(facts.reasons);
     Findings {
         few: few_of(asked.expect, facts.rows),
-        empty: facts.rows == 0 && facts.best_effort.numbers == 0,
-        lossy: lossy_of(facts.rows, facts.best_effort),
+        empty: facts.rows == 0 && facts.talk.best_effort.numbers == 0,
+        lossy: lossy_of(facts.rows, facts.talk.best_effort),
         unsettled: facts.counts.unsettled,
         pieces: reasons.pieces,
         cut: reasons.cut,
         links: reasons.links,
-        unmatched: facts.unmatched,
+        unmatched: facts.talk.unmatched,
+        not_told: facts.talk.not_told,
+        lives: facts.talk.lives,
         swapped: facts.order.swapped(),
         twice: facts.order.is_given_twice(),
     }

@@ -1,4 +1,4 @@
-ghost use Rattle.std.specs.Prelude.{IfOk, Option};
+ghost use Rattle.std.specs.Prelude.{◌≡◌, IfOk, Option};
 ghost use Rattle.rtps_audit.specs.Index.{IsIndexBy};
 ghost use Rattle.rtps_audit.specs.Intake.{Intake};
 ghost use Rattle.rtps_evidence.specs.OtherSide.{AreSides, Beside, IsOtherSide, OtherRecording};
@@ -6,12 +6,13 @@ ghost use Rattle.rtps_fragments.specs.RecordedSamples.{intake_as};
 ghost use Rattle.rtps_fragments.specs.declared.fragments.Fragments.TheVariants.{Read};
 ghost use Rattle.rtps_policies.specs.Silence.{Traffic};
 ghost use Rattle.rtps_report.specs.Asked.{asked_value};
-ghost use Rattle.rtps_report.specs.FullReport.{AreRowsOf, IsReportOf};
+ghost use Rattle.rtps_report.specs.FullReport.{AreRowsOf, IsReportOf, talk_facts};
 ghost use Rattle.rtps_report.specs.ReaderSide.{arrived_value};
 ghost use Rattle.rtps_report.specs.Talk.{IsKeptOf, IsTalkAs, talk_value, traffic_of};
 
 use crate::asked::Asked;
-use crate::findings::{Ending, ending_of};
+use crate::findings::{Ending, TalkFacts, ending_of};
+use crate::not_told::not_told_counts;
 use crate::order::{Order, order_by};
 use crate::reader_side::{beside, side_by};
 use crate::recording::{Recording, datagrams_of};
@@ -135,6 +136,18 @@ fn explained_of<'a, P: Watch>(
     })
 }
 
+/// What is known of who does not talk.
+fn talk_facts_of(alloc: Global, talk: &Talk<'_>) -> Result<TalkFacts, Memory>
+    ensures { IfOk result (λ facts. facts ≡ talk_facts (talk_value talk.now)) }
+{
+    Ok(TalkFacts {
+        unmatched: talk.unmatched.len() as u64,
+        not_told: not_told_counts(alloc, &talk.participants, &talk.not_told)?,
+        lives: talk.lives.len() as u64,
+        best_effort: talk.best_effort_total.told(),
+    })
+}
+
 /// The report on a recording, of what is asked. Its rows are held against the other recording, where there is one. `samples` is where
 /// the samples are put that it borrows. It tells how far it is. `Memory` is answered where what is kept cannot grow.
 pub fn report_on<'a, P: Watch>(
@@ -161,8 +174,8 @@ pub fn report_on<'a, P: Watch>(
     };
     let explained = explained_of(alloc, &sides, asked, &talk, watch)?;
     let order = order_by(alloc, subject, &explained.rows, talk.ways)?;
-    let told = (talk.unmatched.len(), talk.best_effort_total.told(), order);
-    let facts = facts_of(asked, &explained, recording, told);
+    let told = talk_facts_of(alloc, &talk)?;
+    let facts = facts_of(asked, &explained, recording, (told, order));
     let ending = ending_of(asked, &facts);
     Ok(FullReport {
         recording,

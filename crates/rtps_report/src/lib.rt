@@ -9,15 +9,19 @@ mod audited;
 mod best_effort;
 mod datagram_list;
 mod datagram_span;
+mod discovered;
 mod early;
 mod end;
 mod event_rows;
 mod events;
 mod findings;
 mod full_report;
+mod late_matches;
+mod late_row;
 pub mod laws;
 mod naming_walk;
 mod no_pair;
+mod not_told;
 mod note_facts;
 mod one_side;
 mod order;
@@ -35,6 +39,8 @@ mod talk;
 mod topics;
 mod totals;
 mod twice;
+mod two_lives;
+mod visits;
 mod ways;
 
 pub use advice::{Advice, Scope, advice_of};
@@ -46,9 +52,12 @@ pub use datagram_span::{DatagramSpan, make_room, push_octets};
 pub use end::End;
 pub use event_rows::{EventKey, EventRows};
 pub use events::{Event, events_of};
-pub use findings::{Ending, Facts, FewRows, Findings, ending_of};
+pub use findings::{Ending, Facts, FewRows, Findings, TalkFacts, ending_of};
 pub use full_report::{FullReport, Subject, report_on};
+pub use late_matches::LateMatch;
+pub use late_row::{LateRow, is_late_alone, late_rows};
 pub use no_pair::{InDomain, NoPair, WhyNoPair, no_pair_of};
+pub use not_told::{NotTold, NotToldCounts, TopicEnd};
 pub use note_facts::{NoteFacts, notes_on, scope_of};
 pub use one_side::OneSided;
 pub use order::Order;
@@ -57,8 +66,8 @@ pub use pattern::fits;
 pub use presence::Stay;
 pub use recording::{Links, Reasons, Recording, datagrams_of};
 pub use row_facts::{
-    absent_of, asked_about, is_clean, is_clean_tail, is_complete, is_held, is_late, is_noted,
-    is_tail_alone, left_at, number_of, outcomes_of, row_from, way_of,
+    absent_of, asked_about, is_clean, is_clean_tail, is_complete, is_held, is_noted, is_tail_alone,
+    left_at, number_of, outcomes_of, row_from, way_of,
 };
 pub use rtps_audit::{Unwatched, Watch};
 pub use rtps_evidence::{Seconds, Times};
@@ -68,3 +77,4 @@ pub use silences::Silences;
 pub use talk::{LeftOut, Talk};
 pub use topics::{by_topic, topics_of};
 pub use totals::{Totals, totals_of};
+pub use two_lives::TwoLives;

@@ -45,7 +45,8 @@ pub enum NoPair {
     OneHost,
     /// Two participants are in two domains.
     TwoDomains(InDomain, InDomain),
-    // Here is the place of discovery that is not complete.
+    /// Discovery is not complete.
+    NotTold,
     /// A participant never answers another.
     OneWay,
     /// Writers and readers do not match.
@@ -180,6 +181,7 @@ fn by_participants(talk: &Talk<'_>, known: &[InDomain], one_side: bool) -> NoPai
     }
     match apart_in(known) {
         Some((one, other)) => NoPair::TwoDomains(one, other),
+        None if !talk.not_told.is_empty() => NoPair::NotTold,
         None => by_endpoints(talk, one_side),
     }
 }

@@ -2,10 +2,11 @@ ghost use Rattle.std.specs.Prelude.{◌≡◌, map};
 ghost use Rattle.rtps_evidence.specs.Explanation.{evidence_value, explanation_value};
 ghost use Rattle.rtps_report.specs.Asked.{asked_value};
 ghost use Rattle.rtps_report.specs.FullReport.{report_value};
-ghost use Rattle.rtps_report.specs.NoteFacts.{back_in as back_in_lem, clean_tail_of as clean_tail_of_lem, facts_by as facts_by_lem, is_unread as is_unread_lem, longest_clean_tail as longest_clean_tail_lem, note_facts as note_facts_lem, scope_of as scope_of_lem, short_in as short_in_lem};
+ghost use Rattle.rtps_report.specs.NoteFacts.{back_in as back_in_lem, clean_tail_of as clean_tail_of_lem, is_unread as is_unread_lem, longest_clean_tail as longest_clean_tail_lem, note_facts as note_facts_lem, scope_of as scope_of_lem, short_in as short_in_lem};
 
 use crate::advice::Scope;
 use crate::full_report::FullReport;
+use crate::late_row::{count_lacking_before, count_late_alone};
 use crate::recording::{Links, Reasons, Recording, known};
 use crate::row_facts::{is_clean_tail, outcomes_of};
 use crate::totals::totals_of;
@@ -17,8 +18,10 @@ use rtps_evidence::{Evidence, Explanation, Times};
 pub struct NoteFacts {
     /// By how many nanoseconds the times of the recording go back; 0 where that is a millisecond or less.
     pub back: u64,
-    /// The complete rows before which all numbers stand that their writer announced.
+    /// The complete rows before which all numbers stand that their writer announced, and whose two did not match late.
     pub late: u64,
+    /// The rows whose two matched late, and before which numbers stand that are asked for.
+    pub late_before: u64,
     /// The rows that are clean with a tail.
     pub tails: u64,
     /// How many numbers the longest of these tails has.
@@ -93,19 +96,20 @@ fn clean_tail_of(tail: u64, evidence: &Evidence<'_>) -> u64
     }
 }
 
-fn facts_by(
-    rows: &[Explanation<'_>],
-    scope: Scope,
-    counts: &Counts,
-    recording: &Recording,
-) -> NoteFacts
-    ensures { result ≡ facts_by_lem (map explanation_value rows.now) scope counts.now recording.now }
+/// What weakens a report.
+pub fn notes_on(report: &FullReport<'_>) -> NoteFacts
+    ensures { result ≡ note_facts_lem (asked_value report.now.asked.now) report.now.recording.now (report_value report.now) }
 {
+    let recording = report.recording;
+    let rows = &report.explained.rows;
+    let counts = &report.explained.counts;
+    let scope = scope_of(report);
     let totals = totals_of(rows, scope);
     let reasons = known(recording.reasons());
     NoteFacts {
         back: back_in(recording.times()),
-        late: totals.late_pairs,
+        late: count_late_alone(&report.talk, scope.from, rows),
+        late_before: count_lacking_before(&report.talk, scope.from, rows),
         tails: totals.tail_pairs,
         longest: longest_clean_tail(scope.tail, rows),
         likely: totals.likely.saturating_sub(totals.lost),
@@ -117,17 +121,4 @@ fn facts_by(
         unsettled: counts.unsettled,
         refused: counts.refused.saturating_sub(short_in(recording)),
     }
-}
-
-/// What weakens a report.
-pub fn notes_on(report: &FullReport<'_>) -> NoteFacts
-    ensures { result ≡ note_facts_lem (asked_value report.now.asked.now) report.now.recording.now (report_value report.now) }
-{
-    let explained = &report.explained;
-    facts_by(
-        &explained.rows,
-        scope_of(report),
-        &explained.counts,
-        report.recording,
-    )
 }

@@ -8,8 +8,7 @@ ghost use Rattle.rtps_report.specs.Reported.{is_complete as completes, number_of
 ghost use Rattle.rtps_report.specs.RowFacts.{absent_in, asked_about as asked_about_lem, is_certain as is_certain_lem, is_clean as is_clean_lem, is_clean_tail as is_clean_tail_lem, is_held_in, is_joined_in, is_late as is_late_lem, is_noted as is_noted_lem, is_tail as is_tail_lem, is_tail_alone as is_tail_alone_lem, left_in, outcomes_of as outcomes_of_lem, row_from as row_from_lem, way_in, wrote_before_in};
 
 use crate::asked::Asked;
-use crate::best_effort::BestEffortNumbers;
-use crate::findings::Facts;
+use crate::findings::{Facts, TalkFacts};
 use crate::order::Order;
 use crate::recording::Recording;
 use crate::silences::Silences;
@@ -181,7 +180,7 @@ fn wrote_before(evidence: &Evidence<'_>) -> bool
 }
 
 /// Whether a row is complete, and its writer announced numbers, all of which stand before it.
-pub fn is_late(from: u64, evidence: &Evidence<'_>) -> bool
+pub(crate) fn is_late(from: u64, evidence: &Evidence<'_>) -> bool
     ensures { result ≡ is_late_lem from (evidence_value evidence.now) }
 {
     is_complete(&evidence.verdict) && wrote_before(evidence) && from < row_from(from, evidence)
@@ -210,24 +209,22 @@ fn are_met(asked: &Asked<'_>, rows: &[Explanation<'_>]) -> bool
     true
 }
 
-/// What is known of a report, and that so many writers and readers do not match, pairs of best effort have so many numbers, and two
-/// recordings were given in this order.
+/// What is known of a report, of who does not talk, and that two recordings were given in this order.
 pub(crate) fn facts_of(
     asked: &Asked<'_>,
     explained: &Explained<'_>,
     recording: &Recording,
-    told: (usize, BestEffortNumbers, Order),
+    told: (TalkFacts, Order),
 ) -> Facts
-    ensures { result ≡ facts_with told.0 told.1 told.2 (asked_value asked.now) (map explanation_value explained.now.rows.items) explained.now.counts recording.now }
+    ensures { result ≡ facts_with told.0 told.1 (asked_value asked.now) (map explanation_value explained.now.rows.items) explained.now.counts recording.now }
 {
-    let (unmatched, best_effort, order) = told;
+    let (talk, order) = told;
     Facts {
         rows: explained.rows.len() as u64,
         met: are_met(asked, &explained.rows),
         counts: explained.counts,
         reasons: recording.reasons(),
-        unmatched: unmatched as u64,
-        best_effort,
+        talk,
         order,
     }
 }

@@ -16,7 +16,8 @@ ghost use Rattle.rtps_receiver.specs.Values.{ActValue};
 ghost use Rattle.rtps_report.specs.Asked.{asked_value};
 ghost use Rattle.rtps_report.specs.BestEfforts.{counted_value};
 ghost use Rattle.rtps_report.specs.Ends.{end_value};
-ghost use Rattle.rtps_report.specs.Participants.{participant_told};
+ghost use Rattle.rtps_report.specs.Participants.{AreJoined, participant_told};
+ghost use Rattle.rtps_report.specs.Stays.{ArePresencesOf};
 ghost use Rattle.rtps_report.specs.Rows.{chosen_by};
 ghost use Rattle.rtps_who.specs.Recorded.{node_in};
 ghost use Rattle.rtps_who.specs.Samples.{node_value};
@@ -27,12 +28,15 @@ use crate::asked::Asked;
 use crate::best_effort::{
     BestEffort, Counted, HeldPair, arrived_among, held_among, sums_of, total_of,
 };
+use crate::discovered::{Discovered, discovered_in};
 use crate::end::{End, who_of};
-use crate::naming_walk::namings_of;
-use crate::participant::{Participant, is_silent, joined_of};
-use crate::presence::Presences;
+use crate::late_matches::{LateMatch, judged_pairs, late_among};
+use crate::not_told::NotTold;
+use crate::participant::{Participant, is_silent};
 use crate::rows::{are_observed, is_chosen};
 use crate::topics::topic_of;
+use crate::two_lives::TwoLives;
+use crate::visits::Seen;
 use crate::ways::{Ways, ways_of_counted};
 use rtps_audit::{Index, Placed};
 use rtps_discovery::{Directory, Match, Pair};
@@ -46,7 +50,7 @@ use rtps_policies::{
 };
 use rtps_who::{Node, Who};
 use std::alloc::{AllocError, Global};
-use std::collections::BTreeSet;
+use std::collections::{BTreeMap, BTreeSet};
 
 /// Who does not talk, and what is known of those who do beside their rows.
 #[derive(Drop)]
@@ -79,6 +83,12 @@ pub struct Talk<'a> {
     pub(crate) ways: Ways,
     /// Those that are announced, by GUID.
     pub participants: Vec<Participant>,
+    /// Who of them was never told of which endpoints of another, by that one and then by the one that was not told.
+    pub not_told: Vec<NotTold<'a>>,
+    /// Participants of which two lives have one GUID, by GUID. There are none of a recording without times.
+    pub lives: Vec<TwoLives>,
+    /// Which pairs matched late, of those of which rows may be.
+    pub(crate) late: BTreeMap<Pair, LateMatch>,
 }
 
 /// A match of which the recording cannot speak: the reader's participant never names the writer's.
@@ -131,6 +141,13 @@ impl<'a> Talk<'a> {
         ensures { result ≡ silence_by self.now.announced self.now.namings pair }
     {
         reason_of_silence(&self.announced, &self.namings, pair)
+    }
+
+    /// That the two of a pair matched late, if they did. Of pairs of which no row can be nothing is said.
+    pub fn late(&self, pair: Pair) -> Option<LateMatch>
+        ensures { result ≡ (talk_value self.now).late pair }
+    {
+        self.late.get(&pair).copied()
     }
 
     /// Whether the two of a pair do not match.
@@ -305,30 +322,30 @@ fn left_of(index: &Index<'_>, guid: Guid, place: Option<Location>) -> Option<u64
     }
 }
 
-/// What is told of each participant.
-fn participants_of(
+/// What is told of each participant, of those that are seen so.
+pub(crate) fn participants_of(
     alloc: Global,
     announced: &Announced<'_>,
     heard: &Heard<'_, '_, '_, '_>,
+    seen: Seen<'_>,
 ) -> Result<Vec<Participant>, Memory>
     ensures { IfOk result (λ participants. (intake : Intake) → IsIndexBy intake heard.now.index.now
-        → map placed_value heard.now.announcements.now ≡ announcements_in intake.announcing
+        → AreJoined (placed_in intake.announcing) seen.entry.joined.now
+        → ArePresencesOf (map (λ datagram. datagram.now) heard.now.datagrams.now) heard.now.times.now.of_datagrams seen.entry.presences.now
         → IsAnnouncedBy (acts_together intake.announcing) announced.now
         → participants.items
         ≡ map (participant_told intake (map (λ datagram. datagram.now) heard.now.datagrams.now) heard.now.times.now) heard.now.directory.now.participants) }
 {
-    let joined = joined_of(alloc, heard.announcements)?;
-    let presences = Presences::of(alloc, heard.datagrams, heard.times)?;
     let end = heard.times.of_last_frame();
     let mut participants = Vec::new(alloc);
     for guid in &heard.directory.participants()? {
         let host = announced.host(*guid);
-        let left = left_of(heard.index, *guid, joined.get(guid).copied());
-        let latest = presences.latest(guid.prefix);
+        let left = left_of(heard.index, *guid, seen.joined.get(guid).copied());
+        let latest = seen.presences.latest(guid.prefix);
         participants.push(Participant {
             guid: *guid,
             host,
-            stay: presences.stay(guid.prefix),
+            stay: seen.presences.stay(guid.prefix),
             left,
             silent: is_silent(host.lease, left, latest, end),
         })?;
@@ -362,9 +379,14 @@ pub(crate) fn talk_in<'a>(alloc: Global, heard: &Heard<'_, 'a, '_, '_>) -> Resul
         → IsKeptOf (asked_value heard.now.asked.now) (intake_as Read (map (λ datagram. datagram.now) heard.now.datagrams.now))
         (traffic_of (map (λ datagram. datagram.now) heard.now.datagrams.now)) heard.now.directory.now.endpoints talk) }
 {
-    let namings = namings_of(alloc, heard.datagrams)?;
     let announced = announced_in(alloc, heard.announcements)?;
-    let participants = participants_of(alloc, &announced, heard)?;
+    let Discovered {
+        participants,
+        namings,
+        not_told,
+        lives,
+        matches,
+    } = discovered_in(alloc, &announced, heard)?;
     let who = who_of(alloc, heard.announcements, heard.index, heard.directory)?;
     let unfit = unfit_in(&announced, &who, heard)?;
     let mut talk = Talk {
@@ -383,11 +405,16 @@ pub(crate) fn talk_in<'a>(alloc: Global, heard: &Heard<'_, 'a, '_, '_>) -> Resul
         who,
         namings,
         participants,
+        not_told,
+        lives,
+        late: BTreeMap::new(alloc),
     };
     let parted = parted_unfit(alloc, heard.index, unfit)?;
     talk.unmatched = parted.silent;
     talk.talking = parted.talking;
     let matched = heard.directory.matched()?;
+    let judged = judged_pairs(alloc, &matched, &talk.talking)?;
+    talk.late = late_among(alloc, &matches, &talk.lives, &judged)?;
     talk.left_out = left_out_of(alloc, &talk, heard, &matched)?;
     let mut counted = counted_of(alloc, &talk, heard, &matched)?;
     talk.best_effort_total = total_of(&counted);

@@ -4,8 +4,7 @@ ghost use Rattle.rtps_report.specs.Totals.{before_of as before_of_lem, is_unclea
 
 use crate::advice::Scope;
 use crate::row_facts::{
-    asked_about, is_certain, is_clean, is_clean_tail, is_complete, is_held, is_late, outcomes_of,
-    row_from,
+    asked_about, is_certain, is_clean, is_clean_tail, is_complete, is_held, outcomes_of, row_from,
 };
 use rtps_evidence::{Evidence, Explanation};
 
@@ -22,8 +21,6 @@ pub struct Totals {
     pub unclean_pairs: u64,
     /// Those that are clean with a tail.
     pub tail_pairs: u64,
-    /// Complete ones, before which all numbers stand that their writer announced.
-    pub late_pairs: u64,
     /// Those with missed numbers.
     pub missed_pairs: u64,
     /// Those with unsent numbers.
@@ -63,7 +60,7 @@ fn is_unclean(tail: u64, evidence: &Evidence<'_>) -> bool
 }
 
 /// How many of the numbers from `from` on stand before the first of a row.
-fn before_of(from: u64, evidence: &Evidence<'_>) -> u64
+pub(crate) fn before_of(from: u64, evidence: &Evidence<'_>) -> u64
     ensures { result ≡ before_of_lem from (evidence_value evidence.now) }
 {
     row_from(from, evidence).saturating_sub(from)
@@ -103,7 +100,6 @@ impl Totals {
             clean_pairs: 0,
             unclean_pairs: 0,
             tail_pairs: 0,
-            late_pairs: 0,
             missed_pairs: 0,
             unsent_pairs: 0,
             unanswered_pairs: 0,
@@ -136,7 +132,6 @@ impl Totals {
             clean_pairs: self.clean_pairs + u64::from(is_clean(scope.tail, evidence)),
             unclean_pairs: self.unclean_pairs + u64::from(is_unclean(scope.tail, evidence)),
             tail_pairs: self.tail_pairs + u64::from(is_clean_tail(scope.tail, evidence)),
-            late_pairs: self.late_pairs + u64::from(is_late(scope.from, evidence)),
             missed_pairs: self.missed_pairs + u64::from(outcomes.missed > 0),
             unsent_pairs: self.unsent_pairs + u64::from(outcomes.unsent > 0),
             unanswered_pairs: self.unanswered_pairs + u64::from(outcomes.unanswered > 0),

@@ -17,8 +17,10 @@ use Rattle.rtps_report.specs.Reported.{number_of}
 use Rattle.rtps_report.specs.RowFacts.{is_clean, outcomes_of}
 use Rattle.rtps_report.specs.Silences.{silences_of}
 use Rattle.rtps_report.specs.Talk.{TalkValue, talk_value}
+use Rattle.rtps_report.specs.declared.late_matches.LateMatch.{LateMatch}
 use Rattle.rtps_lines.specs.CheckMembers.{report_last}
 use Rattle.rtps_lines.specs.EndText.{paired_text}
+use Rattle.rtps_lines.specs.LateNotes.{late_text}
 use Rattle.rtps_lines.specs.Lines.{line_of, verdict_text, acknowledged_line, advice_text, announced_line, asked_line, claimed_line, inner_line, kind_text, place_comma, place_text, questions_line, second_text, sent_line, silence_lines, told_line, wait_text}
 use Rattle.rtps_lines.specs.NumberRanges.{lost_lines}
 use Rattle.rtps_parts.specs.Names.{name_text}
@@ -123,6 +125,11 @@ abbrev pub wait_line : TimesValue → Option InSpan → List ℕ
 wait_line times None = []
 wait_line times (Some in_span) = wait_by times in_span.wait
 
+-- the line of where two matched late, if they did
+abbrev pub late_line : TimesValue → Option LateMatch → List ℕ
+late_line times None = []
+late_line times (Some late) = sentence_line (late_text times late)
+
 -- by what rows are told beside themselves: what is asked, who does not talk, which numbers of each are lost, and when datagrams came
 pub record RowTold : Type 0 where
   pub scope : Scope
@@ -144,6 +151,11 @@ advice_line told row =
     if is_clean told.scope.tail row.evidence then []
     else codes "  -> " ++ (advice_text told.times (advice_of told.times (silences_of told.talk row.pair) told.scope row.evidence) ++ codes "\n")
 
+-- the lines of the two of a pair: where they matched late, who is silent, and what to do
+abbrev pub ends_lines : RowTold → ExplanationValue → List ℕ
+ends_lines told row =
+    late_line told.times (told.talk.late row.pair) ++ (flat_map sentence_line (silence_lines told.times (silences_of told.talk row.pair)) ++ advice_line told row)
+
 -- all lines of a pair
 abbrev pub row_text : RowTold → ExplanationValue → List ℕ
 row_text told row =
@@ -151,7 +163,7 @@ row_text told row =
     ++ (explanation_text told.times row
     ++ (numbers_lines told row
     ++ (wait_line told.times row.evidence.in_span
-    ++ (flat_map sentence_line (silence_lines told.times (silences_of told.talk row.pair)) ++ advice_line told row))))
+    ++ ends_lines told row)))
 
 -- by what the rows of this report are told
 abbrev pub report_told : AskedValue → RecordingValue → ReportValue → RowTold

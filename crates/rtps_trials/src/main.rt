@@ -4,6 +4,7 @@
 //!     rtps_trials judge         judges each recording on standard input by each judge; an empty line stands between two
 //!     rtps_trials who           tells by which names people know the participants and the endpoints of each of them
 //!     rtps_trials known         tells what discovery has told whom in each of them; before a datagram stands when it came
+//!     rtps_trials matched       tells when writers and readers matched in each of them, in the same form
 //!     rtps_trials refuse CALL   makes this call on a recording, and once more if it is refused memory
 //!     rtps_trials rewrite       writes each message of a recording again from its items, and prints the results
 //!     rtps_trials read N        reads each of its messages N times
@@ -17,6 +18,7 @@ mod cases;
 mod discoveries;
 mod fault;
 mod judged;
+mod matching;
 mod people;
 mod recording;
 mod refusals;
@@ -78,6 +80,7 @@ fn try_mode(
         "judge" => judged::judge_each(alloc, input, text),
         "who" => people::tell_each(alloc, input, text),
         "known" => discoveries::tell_each(alloc, input, text),
+        "matched" => matching::tell_each(alloc, input, text),
         "refuse" => refusals::refuse(alloc, word, input, text),
         "rewrite" => rewriting::rewrite_each(alloc, input, text),
         "read" | "write" => rewriting::repeat(alloc, (mode, word), input, text),

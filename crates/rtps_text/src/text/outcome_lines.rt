@@ -1,10 +1,10 @@
 ghost use Rattle.std.specs.Prelude.{◌≡◌, ◌++◌, OnOk, flat_map, map, option_copied, string_bytes};
 ghost use Rattle.rtps_lines.specs.Lines.{silence_lines as silence_lines_lem};
-ghost use Rattle.rtps_text.specs.WhyText.{outcome_line, outcome_lines, sentence_line, wait_line};
+ghost use Rattle.rtps_text.specs.WhyText.{late_line, outcome_line, outcome_lines, sentence_line, wait_line};
 
 use rtps_evidence::{InSpan, Outcomes, Times};
-use rtps_lines::{WaitText, push_field, silence_lines};
-use rtps_report::Silences;
+use rtps_lines::{LateText, WaitText, push_field, silence_lines};
+use rtps_report::{LateMatch, Silences};
 use std::alloc::{AllocError, Global};
 
 fn push_outcome(text: &mut String, name: &str, count: u64) -> Result<(), AllocError>
@@ -44,6 +44,20 @@ pub(crate) fn push_wait(
             },
         ) => writeln!(text, "  {}", WaitText(times, *wait)),
         _ => Ok(()),
+    }
+}
+
+/// Appends where the two of a row matched late, if they did.
+pub(crate) fn push_late(
+    text: &mut String,
+    late: Option<LateMatch>,
+    times: &Times,
+) -> Result<(), AllocError>
+    ensures { OnOk result (string_bytes text.new ≡ string_bytes text.old ++ late_line times.now late) }
+{
+    match late {
+        Some(late) => writeln!(text, "  {}", LateText(times, late)),
+        None => Ok(()),
     }
 }
 

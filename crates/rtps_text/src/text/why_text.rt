@@ -5,10 +5,10 @@ ghost use Rattle.rtps_report.specs.Asked.{asked_value};
 ghost use Rattle.rtps_report.specs.FullReport.{report_value};
 ghost use Rattle.rtps_report.specs.Reported.{number_of as number_of_lem};
 ghost use Rattle.rtps_report.specs.Talk.{talk_value};
-ghost use Rattle.rtps_text.specs.WhyText.{IsWhyText, advice_line, explanation_text, kept_text, missed_lines, not_received_line, numbers_lines, pair_line, rest_lines, row_text, row_told, shown_by, span_line, until_text};
+ghost use Rattle.rtps_text.specs.WhyText.{IsWhyText, advice_line, ends_lines, explanation_text, kept_text, missed_lines, not_received_line, numbers_lines, pair_line, rest_lines, row_text, row_told, shown_by, span_line, until_text};
 
 use crate::text::audit_text::ReportCountsLine;
-use crate::text::outcome_lines::{push_outcomes, push_silences, push_wait};
+use crate::text::outcome_lines::{push_late, push_outcomes, push_silences, push_wait};
 use rtps_evidence::{
     Evidence, Explanation, FirstMissed, Grounds, Location, NotReceived, Teller, Times,
 };
@@ -83,7 +83,22 @@ fn push_told_row(
     push_row(text, row, times)?;
     push_numbers(text, row, telling)?;
     push_wait(text, row.evidence.in_span.as_ref(), times)?;
-    push_silences(alloc, text, talk.silences(row.pair), times)?;
+    push_ends(alloc, text, row, telling)
+}
+
+/// Appends the lines of the two of a row: where they matched late, who is silent, and what to do.
+fn push_ends(
+    alloc: Global,
+    text: &mut String,
+    row: &Explanation<'_>,
+    telling: RowTelling<'_, '_>,
+) -> Result<(), AllocError>
+    ensures { OnOk result (string_bytes text.new
+        ≡ string_bytes text.old ++ ends_lines (row_told telling.entry) (explanation_value row.now)) }
+{
+    let RowTelling { talk, lost, .. } = telling;
+    push_late(text, talk.late(row.pair), lost.times)?;
+    push_silences(alloc, text, talk.silences(row.pair), lost.times)?;
     push_advice(text, row, telling)
 }
 

@@ -25,8 +25,8 @@ use Rattle.rtps_report.proofs.Offered.{same_talk}
 use Rattle.rtps_lines.specs.NoPairText.{no_pair_text}
 use Rattle.rtps_lines.specs.Notes.{talking_names}
 use Rattle.rtps_check.specs.ArrivedText.{AreByTopic as LossyByTopic, is_lossy, lossy_lines}
-use Rattle.rtps_check.specs.CheckText.{Beside, IsCheckText, IsRemedyBy, IsTextBy, beside_of, ending_text, first_lines, told_beside, topics_text}
-use Rattle.rtps_check.specs.TalkText.{AreByTopic as UnmatchedByTopic, AreLeftByTopic, one_way_block, unmatched_lines}
+use Rattle.rtps_check.specs.CheckText.{Beside, IsCheckText, IsRemedyBy, IsTextBy, beside_of, discovery_text, ending_text, first_lines, told_beside, topics_text}
+use Rattle.rtps_check.specs.TalkText.{AreByTopic as UnmatchedByTopic, AreLeftByTopic, unmatched_lines}
 use Rattle.rtps_report.proofs.Offered.{sorted_once, sorted_same}
 use Rattle.rtps_check.proofs.laws.one_text.Goals as goal
 
@@ -69,7 +69,7 @@ text_by_once scope beside rows one other is also =
     ∙ ap₂ (λ (first : List UnmatchedValue) (second : List HeldValue). first_lines totals beside
     ++ (topics_text (told_beside scope beside) beside.events totals rows
     ++ (unmatched_lines beside.talk.ends first
-    ++ (one_way_block beside.talk ++ (lossy_lines beside.talk.ends second ++ ending_text scope beside totals rows)))))
+    ++ (discovery_text beside ++ (lossy_lines beside.talk.ends second ++ ending_text scope beside totals rows)))))
     (unmatched_once beside.talk.unmatched beside.talk.unmatched is.unmatched also.unmatched refl is.unmatched_by_topic also.unmatched_by_topic)
     (lossy_once (filter is_lossy beside.talk.held) is.lossy also.lossy is.lossy_by_topic also.lossy_by_topic)
     ∙ sym also.is_text
@@ -94,12 +94,12 @@ text_once unique asked recording one other text last same is also =
     rows_once one.explained.rows.items other.explained.rows.items is.rows also.rows is.rows_by_topic also.rows_by_topic same.rows in
     let talking : is.talking ≡ also.talking = unmatched_once one.talk.talking other.talk.talking is.talking also.talking same.talk.talking is.talking_by_topic also.talking_by_topic in
     let left_out : is.left_out ≡ also.left_out = left_once one.talk.left_out other.talk.left_out is.left_out also.left_out same.talk.left_out is.left_out_by_topic also.left_out_by_topic in
+    let talk = same_talk one.talk other.talk same.talk in
     let scope_by : Counts → Scope = λ counts. record { from = asked.from; tail = asked.tail; unread = is_unread counts recording.reasons } in
     let scope : scope_of asked recording one ≡ scope_of asked recording other = ap scope_by same.counts in
     let facts : note_facts asked recording one ≡ note_facts asked recording other =
-    ap₂ (λ (rows : List ExplanationValue) (counts : Counts). facts_by rows (scope_by counts) counts recording) same.rows same.counts in
+    λ i. facts_by (talk i) (same.rows i) (scope_by (same.counts i)) (same.counts i) recording in
     let side : side_facts one ≡ side_facts other = λ i. facts_if (same.rows i) (same.order i) (same.arrived i) in
-    let talk = same_talk one.talk other.talk same.talk in
     let remedy : is.remedy ≡ also.remedy = remedy_once unique asked recording one.explained.rows.items other.explained.rows.items one other is.remedy also.remedy talk same.rows is.is_remedy also.is_remedy in
     let beside : beside_of asked recording one is.remedy (talking_names is.talking) is.left_out ≡ beside_of asked recording other also.remedy (talking_names also.talking) also.left_out =
     λ i. record (beside_of asked recording one is.remedy (talking_names is.talking) is.left_out) { lost = same.lost i; remedy = remedy i; events = events_by asked (talk i) (same.lost i) (same.rows i); facts = facts i; side = side i; talking = talking_names (talking i); left_out = left_out i; talk = talk i; ending = same.ending i } in

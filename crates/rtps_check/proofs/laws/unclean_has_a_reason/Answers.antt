@@ -17,7 +17,7 @@ use Rattle.rtps_report.specs.declared.findings.FewRows.{FewRows}
 use Rattle.rtps_report.specs.declared.findings.Findings.{Findings}
 use Rattle.rtps_report.specs.declared.advice.Scope.{Scope}
 use Rattle.rtps_report.specs.declared.totals.Totals.{Totals}
-use Rattle.rtps_lines.specs.Causes.{cause, causes_of, empty_cause, few_cause, findings_in, incomplete_words, lossy_cause, lost_cause, lost_words, missed_words, order_causes, row_causes, unanswered_words, uncertain_of, uncertain_words, unsent_words}
+use Rattle.rtps_lines.specs.Causes.{cause, causes_of, discovery_causes, empty_cause, few_cause, findings_in, incomplete_words, lossy_cause, lost_cause, lost_words, missed_words, not_told_cause, order_causes, row_causes, unanswered_words, uncertain_of, uncertain_words, unsent_words}
 use Rattle.rtps_lines.specs.WayNotes.{swapped_cause, twice_cause}
 use Rattle.rtps_parts.specs.Parts.{WordsValue}
 use Rattle.rtps_check.specs.CheckText.{TellsWhyUnclean}
@@ -335,7 +335,9 @@ nothing_found certain totals findings e =
     let empty = both_empty (empty_cause findings.empty) _ e in
     let rows = both_empty (row_causes totals certain) _ empty.1 in
     let unmatched = both_empty _ _ rows.1 in
-    let order = both_empty (order_causes findings) _ unmatched.1 in
+    let discovery = both_empty (discovery_causes findings) _ unmatched.1 in
+    let not_told = both_empty (not_told_cause findings.not_told) _ discovery.0 in
+    let order = both_empty (order_causes findings) _ discovery.1 in
     let swapped = both_empty (swapped_cause findings.swapped) _ order.0 in
     let lossy = both_empty (lossy_cause findings.lossy) _ order.1 in
     let few = both_empty (few_cause findings.few) _ lossy.1 in
@@ -350,7 +352,9 @@ nothing_found certain totals findings e =
     (and_from _ _ (if_some (findings.cut == 0) _ cut.0)
     (and_from _ _ (if_some (findings.links.number == 0) _ cut.1)
     (and_from _ _ (if_some (findings.unmatched == 0) _ unmatched.0)
-    (and_from _ _ (if_some (findings.swapped == 0) _ swapped.0) (not_twice findings.twice swapped.1)))))))))
+    (and_from _ _ (if_some (findings.not_told.participants == 0) _ not_told.0)
+    (and_from _ _ (if_some (findings.lives == 0) _ not_told.1)
+    (and_from _ _ (if_some (findings.swapped == 0) _ swapped.0) (not_twice findings.twice swapped.1)))))))))))
 
 -- ---- the law
 
@@ -369,8 +373,8 @@ by_found certain totals findings met false is all some found = (
 )
 
 clean_without_reasons : TellsWhyUnclean
-clean_without_reasons unmatched best_effort order asked unread rows counts recording =
-    let findings = findings_of asked (facts_with unmatched best_effort order asked rows counts recording) in
+clean_without_reasons talk order asked unread rows counts recording =
+    let findings = findings_of asked (facts_with talk order asked rows counts recording) in
     let totals = totals_of (record { from = asked.from; tail = asked.tail; unread = unread }) rows in
     by_found asked.certain totals findings (list_all (λ (row : ExplanationValue). is_met_by asked.from asked.tail asked.certain row.evidence) rows) (are_none findings) refl
     (met_without_reasons asked.certain asked.tail asked.from unread rows) (not_met_has_a_reason asked.certain asked.tail asked.from unread rows)

@@ -1,4 +1,4 @@
-use Rattle.std.proofs.Common.{◌≡◌, ◌++◌, ◌∙◌, List, ap, flat_map, string_bytes}
+use Rattle.std.proofs.Common.{◌++◌, ◌∙◌, List, ap, flat_map, string_bytes}
 use Rattle.std.proofs.lemmas.List.{take_all}
 use Rattle.rtps_policies.specs.Unmatched.{unmatched_value}
 use Rattle.rtps_policies.specs.declared.fitting.Policy.{Policy}

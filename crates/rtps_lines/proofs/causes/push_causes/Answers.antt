@@ -1,8 +1,8 @@
 use Rattle.std.proofs.Common.{◌≡◌, ◌++◌, List, ℕ, map, rules}
 use Rattle.std.proofs.lemmas.Result.{on_ok_weaker}
 use Rattle.std.specs.String.{string_bytes}
-use Rattle.rtps_lines.specs.Causes.{cause, empty_cause, few_cause, lossy_cause, order_causes, row_causes, unmatched_words, unread_causes}
-use Rattle.rtps_lines.proofs.PartLemmas.{seven_parts}
+use Rattle.rtps_lines.specs.Causes.{cause, discovery_causes, empty_cause, few_cause, lossy_cause, order_causes, row_causes, unmatched_words, unread_causes}
+use Rattle.rtps_lines.proofs.PartLemmas.{eight_parts}
 use Rattle.rtps_lines.proofs.causes.push_causes.Goals as goal
 
 pub returns : goal.returns
@@ -11,7 +11,7 @@ returns c =
     let found = c.args.found.now in
     let unmatched : map string_bytes c.push_cause.new.causes.items ≡ map string_bytes c.push_row_causes.new.causes.items ++ cause found.unmatched unmatched_words = search rules in
     on_ok_weaker c.push_unread.result
-    (seven_parts start (empty_cause found.empty) (row_causes c.args.judged.totals.now c.args.judged.certain) (cause found.unmatched unmatched_words) (order_causes found)
+    (eight_parts start (empty_cause found.empty) (row_causes c.args.judged.totals.now c.args.judged.certain) (cause found.unmatched unmatched_words) (discovery_causes found) (order_causes found)
     (lossy_cause found.lossy) (few_cause found.few) (unread_causes found)
-    c.in_ok-push_empty.ensures c.in_ok-push_row_causes.ensures unmatched c.in_ok-push_order.ensures c.in_ok-push_lossy.ensures c.in_ok-push_few.ensures)
+    c.in_ok-push_empty.ensures c.in_ok-push_row_causes.ensures unmatched c.in_ok-push_discovery.ensures c.in_ok-push_order.ensures c.in_ok-push_lossy.ensures c.in_ok-push_few.ensures)
     c.push_unread.ensures

@@ -1,7 +1,8 @@
-use Rattle.std.proofs.Common.{◌++◌, ◌∙◌, ap, length, map}
+use Rattle.std.proofs.Common.{◌++◌, ◌∙◌, ℕ, List, ap, length, map}
 use Rattle.std.specs.List.{flat_map}
 use Rattle.std.specs.String.{string_bytes}
 use Rattle.rtps_report.specs.BestEfforts.{best_effort_value}
+use Rattle.rtps_lines.specs.LateNotes.{matched_note}
 use Rattle.rtps_lines.specs.Notes.{best_effort_note, host_note, late_note, left_out_notes, names_if, note, noted_value, notes as notes_lem, order_note, shares_if, side_notes, tail_names_if, tail_note, talking_note, weaknesses}
 use Rattle.rtps_lines.proofs.NoteLemmas.{behind}
 use Rattle.rtps_lines.proofs.notes.notes_of.Goals as goal
@@ -21,11 +22,13 @@ returns c =
     let fourth = map string_bytes c.push_best_effort.new.notes.items in
     let fifth = map string_bytes c.push_beside.new.notes.items in
     let sixth = map string_bytes c.push_late.new.notes.items in
+    let of_matched = map string_bytes c.push_matched.new.notes.items in
     let seventh = map string_bytes c.push_tails.new.notes.items in
     let last = map string_bytes c.push_weaknesses.new.notes.items in
     let weak = flat_map (note arrow) (weaknesses facts) in
     let of_tails = tail_note facts (tail_names_if rows.named noted.tails) in
     let tails = of_tails ++ weak in
+    let matched = matched_note arrow (length noted.matched_late) facts.late_before noted.late_lines in
     let of_late = late_note arrow facts.late (names_if rows.named noted.late) in
     let of_side = side_notes arrow noted rows.side in
     let of_best = best_effort_note arrow total (shares_if rows.named (map best_effort_value rows.talk.now.best_effort.items)) in
@@ -36,13 +39,18 @@ returns c =
     let shares = c.deref-2.ensures ∙ c.in_ok-shares.ensures ∙ ap (λ sums. shares_if rows.named (map best_effort_value sums)) c.deref.ensures.value in
     let best = c.in_ok-push_best_effort.ensures ∙ ap (λ text. third ++ best_effort_note arrow total text) shares in
     let late = c.in_ok-push_late.ensures ∙ ap (λ text. fifth ++ late_note arrow facts.late text) (c.deref-3.ensures ∙ c.in_ok-late.ensures) in
-    let tail = c.in_ok-push_tails.ensures ∙ ap (λ text. sixth ++ tail_note facts text) (c.deref-4.ensures ∙ c.in_ok-tails.ensures) in
-    let from_tails = behind sixth seventh last of_tails weak tail c.in_ok-push_weaknesses.ensures in
-    let from_late = behind fifth sixth last of_late tails late from_tails in
-    let from_side = behind fourth fifth last of_side (of_late ++ tails) c.in_ok-push_beside.ensures from_late in
-    let from_best = behind third fourth last of_best (of_side ++ (of_late ++ tails)) best from_side in
-    let from_left = behind of_talk third last of_left (of_best ++ (of_side ++ (of_late ++ tails))) c.in_ok-push_left_out.ensures from_best in
-    let from_talking = behind second of_talk last of_talking (of_left ++ (of_best ++ (of_side ++ (of_late ++ tails)))) c.in_ok-push_talking.ensures from_left in
-    let from_hosts = behind first second last of_hosts (of_talking ++ (of_left ++ (of_best ++ (of_side ++ (of_late ++ tails))))) c.in_ok-push_hosts.ensures from_talking in
-    behind new first last of_order (of_hosts ++ (of_talking ++ (of_left ++ (of_best ++ (of_side ++ (of_late ++ tails)))))) c.in_ok-push_order.ensures from_hosts
+    let told = c.matched_in.result in
+    let late_pairs = c.in_ok-push_matched.ensures ∙ ap (λ (pairs : ℕ). sixth ++ matched_note arrow pairs told.before told.lines.now) c.matched_in.ensures.pairs
+    ∙ ap (λ (before : ℕ). sixth ++ matched_note arrow (length noted.matched_late) before told.lines.now) c.matched_in.ensures.before
+    ∙ ap (λ (lines : List ℕ). sixth ++ matched_note arrow (length noted.matched_late) facts.late_before lines) c.matched_in.ensures.lines in
+    let tail = c.in_ok-push_tails.ensures ∙ ap (λ text. of_matched ++ tail_note facts text) (c.deref-4.ensures ∙ c.in_ok-tails.ensures) in
+    let from_tails = behind of_matched seventh last of_tails weak tail c.in_ok-push_weaknesses.ensures in
+    let from_matched = behind sixth of_matched last matched tails late_pairs from_tails in
+    let from_late = behind fifth sixth last of_late (matched ++ tails) late from_matched in
+    let from_side = behind fourth fifth last of_side (of_late ++ (matched ++ tails)) c.in_ok-push_beside.ensures from_late in
+    let from_best = behind third fourth last of_best (of_side ++ (of_late ++ (matched ++ tails))) best from_side in
+    let from_left = behind of_talk third last of_left (of_best ++ (of_side ++ (of_late ++ (matched ++ tails)))) c.in_ok-push_left_out.ensures from_best in
+    let from_talking = behind second of_talk last of_talking (of_left ++ (of_best ++ (of_side ++ (of_late ++ (matched ++ tails))))) c.in_ok-push_talking.ensures from_left in
+    let from_hosts = behind first second last of_hosts (of_talking ++ (of_left ++ (of_best ++ (of_side ++ (of_late ++ (matched ++ tails)))))) c.in_ok-push_hosts.ensures from_talking in
+    behind new first last of_order (of_hosts ++ (of_talking ++ (of_left ++ (of_best ++ (of_side ++ (of_late ++ (matched ++ tails))))))) c.in_ok-push_order.ensures from_hosts
     ∙ ap (λ items. map string_bytes items ++ notes_lem arrow facts noted) c.new-notes.ensures.items

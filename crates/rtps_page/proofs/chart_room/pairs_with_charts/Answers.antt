@@ -9,8 +9,8 @@ use Rattle.rtps_page.proofs.chart_room.pairs_with_charts.Goals as goal
 pub returns : goal.returns
 returns c = λ intake is.
     let acts = placed_in intake.acts in
-    let needs : List Need = map (need_of acts) (map explanation_value c.args.rows.now) in
-    let begins : c.deref.result.now ≡ needs = c.deref.ensures.value ∙ c.in_ok-needs.ensures intake is ∙ mapped_twice explanation_value (need_of acts) c.args.rows.now in
+    let needs : List Need = map (need_of c.args.tail acts) (map explanation_value c.args.rows.now) in
+    let begins : c.deref.result.now ≡ needs = c.deref.ensures.value ∙ c.in_ok-needs.ensures intake is ∙ mapped_twice explanation_value (need_of c.args.tail acts) c.args.rows.now in
     let middle = c.deref-2.ensures.value ∙ c.in_ok-room.ensures.needs in
     let end = c.deref-3.ensures.value ∙ c.in_ok-needs-2.ensures.needs in
     let all = in_both_turns needs c.deref.result.now c.deref-2.result.now c.deref-3.result.now c.in_ok-room.room begins c.in_ok-room.ensures.room middle end in

@@ -16,9 +16,9 @@ use Rattle.rtps_page.proofs.laws.one_page.Goals as goal
 same_json : (origin : OriginValue) (asked : AskedValue) (recording : RecordingValue) (one other : ReportValue) (directory map : DirectoryValue) → AreSame one other → directory ≡ map
     → page_json origin asked recording one directory ≡ page_json origin asked recording other map
 same_json origin asked recording one other directory map same maps =
-    ap₂ (λ (members : List Member) (rows : List ExplanationValue). object_of (members ++ own_members origin asked recording rows directory (charted_pairs (acts_judged recording) rows)))
+    ap₂ (λ (members : List Member) (rows : List ExplanationValue). object_of (members ++ own_members origin asked recording rows directory (charted_pairs asked.tail (acts_judged recording) rows)))
     (same_members asked recording one other same) same.rows
-    ∙ ap (λ (d : DirectoryValue). object_of (check_members asked recording other ++ own_members origin asked recording (rows_of other) d (pairs_with_charts recording other))) maps
+    ∙ ap (λ (d : DirectoryValue). object_of (check_members asked recording other ++ own_members origin asked recording (rows_of other) d (pairs_with_charts asked recording other))) maps
 
 pub returns : goal.returns
 returns c = λ origin asked theirs recording one other plain page last is also by too.

@@ -6,23 +6,22 @@ use Rattle.rtps_report.proofs.TalkLemmas.{leaves_then, participant_is, participa
 use Rattle.rtps_report.proofs.talk.participants_of.Goals as goal
 
 pub loop-guid-preserved : goal.loop-guid-preserved
-loop-guid-preserved c = λ intake index same announced.
+loop-guid-preserved c = λ intake index joined presences announced.
     let heard = c.args.heard.now in
     let recording = map (λ (datagram : Bor (List ℕ)). datagram.now) heard.datagrams.now in
     let times = heard.times.now in
-    let presences = c.in_ok-presences.ensures in
-    let left = leaves_then intake c.args.heard.now.announcements.now c.in_ok-joined.joined _ c.copied.result c.left_of-left.result c.in_ok-joined.ensures same
+    let left = leaves_then intake c.args.seen.joined.now _ c.copied.result c.left_of-left.result joined
     (c.copied.ensures ∙ c.get.ensures.value) (c.left_of-left.ensures intake index) in
     participants_more (participant_told intake recording times) c.deref-guid-items.result.now c.loop-guid.participants.items c.push.new.self.items c.loop-guid.guid-index _ _
     c.loop-guid-test.true c.in_ok-push.ensures.items
     (participant_is intake recording times _ c.host-host.result c.stay.result c.left_of-left.result c.latest-latest.result c.of_last_frame-end.result c.is_silent.result
     (c.host-host.ensures.announced (acts_together intake.announcing) announced) (c.stay.ensures recording times.of_datagrams presences) left
     (c.latest-latest.ensures recording times.of_datagrams presences) c.of_last_frame-end.ensures c.is_silent.ensures)
-    (c.loop-guid.invariant intake index same announced)
+    (c.loop-guid.invariant intake index joined presences announced)
 
 pub returns : goal.returns
-returns c = λ intake index same announced.
+returns c = λ intake index joined presences announced.
     let heard = c.args.heard.now in
-    c.loop-guid.invariant intake index same announced
+    c.loop-guid.invariant intake index joined presences announced
     ∙ ap (map (participant_told intake (map (λ (datagram : Bor (List ℕ)). datagram.now) heard.datagrams.now) heard.times.now))
     (take_all c.loop-guid.guid-index c.deref-guid-items.result.now c.loop-guid-test.false ∙ c.deref-guid-items.ensures.value ∙ c.in_ok-participants.ensures)

@@ -4,9 +4,11 @@ use Rattle.rtps_fragments.specs.declared.fragments.Fragments.TheVariants.{Read}
 use Rattle.rtps_policies.specs.Unmatched.{UnmatchedValue, pair_of, unmatched_value}
 use Rattle.rtps_policies.specs.declared.unmatched.Unmatched.{Unmatched}
 use Rattle.rtps_discovery.specs.declared.matching.Match.{Match}
+use Rattle.rtps_discovery.specs.declared.matching.Pair.{Pair}
+use Rattle.rtps_report.specs.declared.two_lives.TwoLives.{TwoLives}
 use Rattle.rtps_report.specs.Asked.{asked_value}
 use Rattle.rtps_report.specs.BestEfforts.{AreSumsOf, CountedValue, arrived_among, best_effort_value, counted_value, held_among, total_of}
-use Rattle.rtps_report.specs.Talk.{AreCounted, AreUnfit, IsHeardIn, IsKeptOf, is_counted_of, is_left_out_of, left_out_of, left_out_value, talks, traffic_of, unfit_in}
+use Rattle.rtps_report.specs.Talk.{AreCounted, AreUnfit, IsHeardIn, IsKeptOf, acts_of_matching, is_counted_of, is_left_out_of, judged_pairs, late_among, left_out_of, left_out_value, talks, traffic_of, unfit_in}
 use Rattle.rtps_report.specs.Ways.{ways_of_counted}
 use Rattle.rtps_report.specs.declared.best_effort.Counted.{Counted}
 use Rattle.rtps_report.specs.declared.talk.Talk.{Talk}
@@ -37,42 +39,55 @@ returns-clause-talks c = λ other is.
     let parted = c.in_ok-parted.ensures intake is.index in
     let counted = map counted_value c.in_ok-counted.counted.items in
     let arrived : map counted_value c.in_ok-arrived.arrived.items ≡ arrived_among counted =
-    c.in_ok-arrived.ensures ∙ ap (λ (items : List Counted). arrived_among (map counted_value items)) c.deref-7.ensures.value in
+    c.in_ok-arrived.ensures ∙ ap (λ (items : List Counted). arrived_among (map counted_value items)) c.deref-11.ensures.value in
     let talk : Talk = record {
       announced = c.in_ok-announced.announced;
       who = c.in_ok-who.who;
-      namings = c.in_ok-namings.namings;
+      namings = c.in_ok-participants.field-0.namings;
       unfit = c.in_ok-unfit_of.field-0;
       unmatched = c.in_ok-parted.parted.silent;
       talking = c.in_ok-parted.parted.talking;
-      left_out = c.in_ok-talk.field-0;
+      left_out = c.in_ok-talk-2.field-0;
       one_way = c.in_ok-one_way_namings.field-0;
-      best_effort = c.in_ok-talk-4.field-0;
+      best_effort = c.in_ok-talk-5.field-0;
       best_effort_total = c.total_of-talk.result;
-      held = c.in_ok-talk-2.field-0;
-      held_sums = c.in_ok-talk-3.field-0;
+      held = c.in_ok-talk-3.field-0;
+      held_sums = c.in_ok-talk-4.field-0;
       held_total = c.total_of-talk-2.result;
       ways = c.ways_of_counted-talk.result;
-      participants = c.in_ok-participants.participants;
+      participants = c.in_ok-participants.field-0.participants;
+      not_told = c.in_ok-participants.field-0.not_told;
+      lives = c.in_ok-participants.field-0.lives;
+      late = c.in_ok-talk.field-0;
     } in
+    let lives = c.in_ok-participants.field-0.lives.items in
+    let acts = acts_of_matching intake recording heard.times.now.of_datagrams in
+    let judged : c.deref-5.result.now ≡ judged_pairs (matches_among (settled_in entries)) (map unmatched_value talk.talking.items) =
+    c.deref-5.ensures.value ∙ c.in_ok-judged.ensures
+    ∙ ap (λ (matched : List Match). judged_pairs matched (map unmatched_value c.deref-3.result.now)) (c.deref-2.ensures.value ∙ c.in_ok-matched.ensures)
+    ∙ ap (λ (items : List Unmatched). judged_pairs (matches_among (settled_in entries)) (map unmatched_value items)) c.deref-3.ensures.value in
     let kept : IsKeptOf asked intake traffic entries talk =
     kept_is asked intake traffic entries talk (map unmatched_value unfit) same
-    (subst (λ (items : List Unmatched). AreUnfit (map unmatched_value items) c.in_ok-unfit_of.field-0) c.deref.ensures.value c.in_ok-unfit_of.ensures) c.in_ok-namings.ensures parted.1 who in
+    (subst (λ (items : List Unmatched). AreUnfit (map unmatched_value items) c.in_ok-unfit_of.field-0) c.deref.ensures.value c.in_ok-unfit_of.ensures) c.in_ok-participants.ensures.namings parted.1 who in
     talk_is asked other recording heard.times.now heard.directory.now talk counted is.directory announced who kept
     (parted.0 ∙ ap (filter (λ (one : UnmatchedValue). not (talks intake (pair_of one)))) same)
-    (c.in_ok-talk.ensures ∙ ap (λ (those : List Match). map (left_out_of entries) (filter (is_left_out_of talk.unfit talk.namings (chosen_by asked (node_in talk.who)) entries) those)) (c.deref-2.ensures.value ∙ c.in_ok-matched.ensures)
+    (c.in_ok-talk-2.ensures ∙ ap (λ (those : List Match). map (left_out_of entries) (filter (is_left_out_of talk.unfit talk.namings (chosen_by asked (node_in talk.who)) entries) those)) (c.deref-6.ensures.value ∙ c.in_ok-matched.ensures)
     ∙ ap (λ (chosen : Choice). map (left_out_of entries) (filter (is_left_out_of talk.unfit talk.namings chosen entries) (matches_among (settled_in entries)))) choice)
-    (c.in_ok-one_way_namings.ensures traffic announced c.in_ok-namings.ensures)
+    (c.in_ok-one_way_namings.ensures traffic announced c.in_ok-participants.ensures.namings)
     (subst (λ (chosen : Choice). AreCounted asked other intake entries (filter (is_counted_of talk.unfit talk.namings chosen entries) (matches_among (settled_in entries))) counted) choice
-    (subst (λ (those : List Match). AreCounted asked other intake entries (filter (is_counted_of talk.unfit talk.namings (chosen_by asked (node_in talk.who)) entries) those) counted) (c.deref-3.ensures.value ∙ c.in_ok-matched.ensures)
+    (subst (λ (those : List Match). AreCounted asked other intake entries (filter (is_counted_of talk.unfit talk.namings (chosen_by asked (node_in talk.who)) entries) those) counted) (c.deref-7.ensures.value ∙ c.in_ok-matched.ensures)
     (c.in_ok-counted.ensures intake other is.index is.beside)))
-    c.in_ok-talk-4.ensures
-    (c.total_of-talk.ensures ∙ ap (λ (items : List Counted). total_of (map counted_value items)) c.deref-4.ensures.value)
-    (c.in_ok-talk-2.ensures ∙ ap (λ (items : List Counted). held_among (map counted_value items)) c.deref-6.ensures.value)
-    (subst (λ (counted : List CountedValue). AreSumsOf counted (map best_effort_value c.in_ok-talk-3.field-0.items)) arrived c.in_ok-talk-3.ensures)
-    (c.total_of-talk-2.ensures ∙ ap (λ (items : List Counted). total_of (map counted_value items)) c.deref-8.ensures.value ∙ ap total_of arrived)
-    (c.ways_of_counted-talk.ensures ∙ ap (λ (items : List Counted). ways_of_counted (map counted_value items)) c.deref-5.ensures.value)
-    (c.in_ok-participants.ensures intake is.index is.announcements announced)
+    c.in_ok-talk-5.ensures
+    (c.total_of-talk.ensures ∙ ap (λ (items : List Counted). total_of (map counted_value items)) c.deref-8.ensures.value)
+    (c.in_ok-talk-3.ensures ∙ ap (λ (items : List Counted). held_among (map counted_value items)) c.deref-10.ensures.value)
+    (subst (λ (counted : List CountedValue). AreSumsOf counted (map best_effort_value c.in_ok-talk-4.field-0.items)) arrived c.in_ok-talk-4.ensures)
+    (c.total_of-talk-2.ensures ∙ ap (λ (items : List Counted). total_of (map counted_value items)) c.deref-12.ensures.value ∙ ap total_of arrived)
+    (c.ways_of_counted-talk.ensures ∙ ap (λ (items : List Counted). ways_of_counted (map counted_value items)) c.deref-9.ensures.value)
+    (c.in_ok-participants.ensures.participants intake is.index is.announcements announced) (c.in_ok-participants.ensures.not_told intake is.index is.announcements announced)
+    c.in_ok-participants.ensures.lives
+    (λ pair. c.in_ok-talk.ensures acts (c.in_ok-participants.ensures.matches intake is.announcements) pair
+    ∙ ap (λ (those : List TwoLives). late_among acts those c.deref-5.result.now pair) c.deref-4.ensures.value
+    ∙ ap (λ (pairs : List Pair). late_among acts lives pairs pair) judged)
 
 pub returns-clause-kept : goal.returns-clause-kept
 returns-clause-kept c = λ other is.
@@ -87,5 +102,5 @@ returns-clause-kept c = λ other is.
     let choice = choice_kept asked intake entries c.in_ok-who.who (node_is (recorded_in intake entries) c.in_ok-who.who who) in
     kept_is asked intake traffic entries _ (map unmatched_value c.in_ok-unfit.unfit.items)
     (c.in_ok-unfit.ensures traffic announced ∙ ap (λ (chosen : Choice). unfit_in chosen traffic entries) choice)
-    (subst (λ (items : List Unmatched). AreUnfit (map unmatched_value items) c.in_ok-unfit_of.field-0) c.deref.ensures.value c.in_ok-unfit_of.ensures) c.in_ok-namings.ensures
+    (subst (λ (items : List Unmatched). AreUnfit (map unmatched_value items) c.in_ok-unfit_of.field-0) c.deref.ensures.value c.in_ok-unfit_of.ensures) c.in_ok-participants.ensures.namings
     (c.in_ok-parted.ensures intake is.index).1 who

@@ -1,0 +1,73 @@
+-- One act more of what is kept of matches, and what that tells.
+use Rattle.std.proofs.Common.{◌≡◌, ◌∙◌, ℕ, Bool, true, false, List, [], ◌∷◌, ◌++◌, Option, Some, None, ap, ap₂, cond, map, refl, sym}
+use Rattle.std.specs.BTreeMap.{get, is_at}
+use Rattle.std.specs.List.{cons_option, filter_map}
+use Rattle.std.specs.Map.{lookup}
+use Rattle.std.specs.Option.{option_or}
+use Rattle.std.proofs.lemmas.List.Elements.{filter_map-append}
+use Rattle.rtps_ids.specs.declared.identity.Guid.{Guid}
+use Rattle.rtps_ids.specs.declared.identity.GuidPrefix.{GuidPrefix}
+use Rattle.rtps_discovery.specs.GuidOrder.{guid_cmp}
+use Rattle.rtps_policies.specs.Announcing.{first_of}
+use Rattle.rtps_policies.specs.Told.{KeepsFirst}
+use Rattle.rtps_known.specs.Bulletins.{prefix_cmp}
+use Rattle.rtps_known.specs.Learning.{claims, learned, seen_value}
+use Rattle.rtps_known.specs.Places.{PlacedAct, place_of}
+use Rattle.rtps_known.specs.Spreads.{IsQuietIn, IsSpreadOf, TellsTheSame, inquiry_of}
+use Rattle.rtps_known.specs.declared.spread.Spread.{Spread}
+use Rattle.rtps_known.specs.declared.step.Inquiry.{Inquiry}
+
+-- ---- the first value of a GUID
+
+lookup_append : {X : Type 0} (test : Guid → Bool) (xs ys : List (Guid × X)) → lookup test (xs ++ ys) ≡ option_or (lookup test xs) (lookup test ys)
+lookup_append test [] ys = refl
+lookup_append test (x ∷ xs) ys = by (test x.0) (lookup_append test xs ys)
+  where
+    by : (b : Bool) → lookup test (xs ++ ys) ≡ option_or (lookup test xs) (lookup test ys)
+        → cond b (Some x.1) (lookup test (xs ++ ys)) ≡ option_or (cond b (Some x.1) (lookup test xs)) (lookup test ys)
+    by true onward = refl
+    by false onward = onward
+
+nothing_more : {X : Type 0} (one : Option X) → option_or one None ≡ one
+nothing_more None = refl
+nothing_more (Some x) = refl
+
+told_more : {X : Type 0} (tells : PlacedAct → Option (Guid × X)) (acts : List PlacedAct) (placed : PlacedAct) (guid : Guid)
+    → first_of guid (filter_map tells (acts ++ placed ∷ [])) ≡ option_or (first_of guid (filter_map tells acts)) (first_of guid (cons_option (tells placed) []))
+told_more tells acts placed guid =
+    ap (first_of guid) (filter_map-append tells acts (placed ∷ [])) ∙ lookup_append (is_at (guid_cmp guid)) (filter_map tells acts) (cons_option (tells placed) [])
+
+-- an act tells one
+pub first_more : {X : Type 0} (tells : PlacedAct → Option (Guid × X)) (acts : List PlacedAct) (placed : PlacedAct) (old new : List (Guid × X)) (told : Guid × X) → Some told ≡ tells placed
+    → KeepsFirst old new told.0 told.1 → ((guid : Guid) → first_of guid old ≡ first_of guid (filter_map tells acts))
+    → (guid : Guid) → first_of guid new ≡ first_of guid (filter_map tells (acts ++ placed ∷ []))
+first_more tells acts placed old new told is kept were guid =
+    kept guid ∙ ap (λ o. option_or o (first_of guid (told ∷ []))) (were guid)
+    ∙ ap (λ t. option_or (first_of guid (filter_map tells acts)) (first_of guid (cons_option t []))) is ∙ sym (told_more tells acts placed guid)
+
+-- an act tells none
+pub first_same : {X : Type 0} (tells : PlacedAct → Option (Guid × X)) (acts : List PlacedAct) (placed : PlacedAct) (old : List (Guid × X)) → None ≡ tells placed
+    → ((guid : Guid) → first_of guid old ≡ first_of guid (filter_map tells acts)) → (guid : Guid) → first_of guid old ≡ first_of guid (filter_map tells (acts ++ placed ∷ []))
+first_same tells acts placed old none were guid =
+    were guid ∙ sym (nothing_more (first_of guid (filter_map tells acts)))
+    ∙ ap (λ t. option_or (first_of guid (filter_map tells acts)) (first_of guid (cons_option t []))) none ∙ sym (told_more tells acts placed guid)
+
+-- ---- what is kept tells
+
+learned_same : (inquiry : Inquiry) (one other : List PlacedAct) → TellsTheSame inquiry one other → learned inquiry one ≡ learned inquiry other
+learned_same inquiry one other same = ap₂ option_or same.again same.first
+
+-- where a participant learned of a number, by what is kept of a writer
+pub learned_kept : (acts : List PlacedAct) (writer : Guid) (prefix : GuidPrefix) (n : ℕ) (spread : Spread) → IsSpreadOf writer acts spread
+    → learned (inquiry_of writer prefix n) (map seen_value spread.steps.items) ≡ learned (inquiry_of writer prefix n) acts
+learned_kept acts writer prefix n spread were = learned_same (inquiry_of writer prefix n) (map seen_value spread.steps.items) acts (were.steps prefix n)
+
+pub learned_never : (acts : List PlacedAct) (writer : Guid) (prefix : GuidPrefix) (n : ℕ) → IsQuietIn writer acts → None ≡ learned (inquiry_of writer prefix n) acts
+learned_never acts writer prefix n were = learned_same (inquiry_of writer prefix n) [] acts (were.steps prefix n)
+
+pub claimed_kept : (acts : List PlacedAct) (writer : Guid) (prefix : GuidPrefix) (spread : Spread) → IsSpreadOf writer acts spread
+    → get prefix_cmp spread.firsts prefix ≡ place_of (claims (inquiry_of writer prefix 1)) acts
+claimed_kept acts writer prefix spread were = were.firsts prefix ∙ (were.steps prefix 1).claimed
+
+pub claimed_never : (acts : List PlacedAct) (writer : Guid) (prefix : GuidPrefix) (n : ℕ) → IsQuietIn writer acts → None ≡ place_of (claims (inquiry_of writer prefix n)) acts
+claimed_never acts writer prefix n were = (were.steps prefix n).claimed

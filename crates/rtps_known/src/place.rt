@@ -1,0 +1,36 @@
+//! Where acts stand in a recording.
+
+ghost use Rattle.std.specs.Prelude.{◌≡◌};
+ghost use Rattle.rtps_known.specs.Places.{later as later_lem, later_of, precedes as precedes_lem};
+
+/// The place of an act in a recording, and when its datagram came.
+#[derive(Clone, Copy)]
+pub struct Place {
+    /// Its datagram, counted from 1.
+    pub datagram: u64,
+    /// The place of its first octet in the datagram, from 0.
+    pub at: usize,
+    /// In nanoseconds since 1970 began, if that is known.
+    pub time: Option<u64>,
+}
+
+/// Whether the first place stands before the second one.
+pub(crate) fn precedes(one: Place, other: Place) -> bool
+    ensures { result ≡ precedes_lem one other }
+{
+    one.datagram < other.datagram || (one.datagram == other.datagram && one.at < other.at)
+}
+
+/// The later of two places.
+fn later(one: Place, other: Place) -> Place
+    ensures { result ≡ later_lem one other }
+{
+    if precedes(one, other) { other } else { one }
+}
+
+/// The later of two places, where there are both.
+pub(crate) fn later_known(one: Option<Place>, other: Option<Place>) -> Option<Place>
+    ensures { result ≡ later_of one other }
+{
+    Some(later(one?, other?))
+}
