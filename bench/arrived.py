@@ -66,6 +66,7 @@ from importlib import import_module
 from itertools import islice
 
 import reference
+import sentences
 from asked import Asked
 from random_recordings import some_asked, text_of_datagrams
 from random_systems import some_both, some_other
@@ -81,23 +82,8 @@ NAMED = 10
 # What is told where both recordings are standard input.
 TWICE = ["error: the argument '--arrived <OTHER>' cannot be standard input: FILE is", '', "For more information, try '--help'."]
 
-BEST_EFFORT = 'by best effort nothing is sent again: look at the network, or make both reliable'
-ALONE = "the recording at the reader's host has nothing of the reader to the writer: it was not made at that host"
-SWAPPED = 'give the other one first'
-SOME_SWAPPED = 'the other order judges them'
-TOGETHER = 'nothing tells the two recordings apart: nothing was lost, or both were made at one place'
-GIVEN_TWICE = 'one recording was given twice'
-LACKING = 'it lacks something: see that it ran all the time, and that tcpdump dropped nothing'
-
 # What weakens OTHER: its name among the counts of a capture, text of one, text of many, what to do.
-UNREAD = [
-    ('pieces', 'frame is a fragment of a packet that is not whole', 'frames are fragments of packets that are not whole',
-     'the other parts were lost on the way: what such packets carry did not arrive'),
-    ('cut', 'frame is cut', 'frames are cut',
-     'record whole frames, without a snap length (tcpdump -s), and end tcpdump with Ctrl-C: what is cut is told as not arrived'),
-    ('links', 'frame is of a link that is not read', 'frames are of links that are not read',
-     'record on an Ethernet, loopback or raw IP interface, or with tcpdump -i any: what is not read is told as not arrived'),
-]
+UNREAD = [(name.lower(), *sentences.noted.words(name), sentences.noted[f'{name}_THERE']) for name in ('PIECES', 'CUT', 'LINKS')]
 
 # ---- the other recording
 
@@ -159,7 +145,7 @@ def lost_reasons(rows):
     """why rows are not clean that would be so without the other recording"""
     some = [row for row in rows if row.held and row.counts['likely']]
     total = sum(row.counts['likely'] for row in some)
-    return [in_pairs(total, 'likely number did not arrive', 'likely numbers did not arrive', len(some))] if some else []
+    return [in_pairs(total, *sentences.reason.words('LOST'), len(some))] if some else []
 
 
 # ---- pairs of best effort
@@ -205,20 +191,19 @@ class BothSides:
         return bool(self.ways) and set(self.ways) == {'alike'}
 
     def swapped(self):
-        return f"the two recordings look swapped: {amount(self.wrong, 'pair is', 'pairs are')} the wrong way round"
+        return sentences.ways.SWAPPED + amount(self.wrong, *sentences.ways.words('WRONG'))
 
     def reasons(self):
         """why no report by these two recordings is clean"""
-        return ([self.swapped()] if self.wrong and not self.right else []) + ([GIVEN_TWICE] if self.are_alike() and self.is_twice else [])
+        return ([self.swapped()] if self.wrong and not self.right else []) + ([sentences.ways.TWICE] if self.are_alike() and self.is_twice else [])
 
     def order_notes(self):
         if self.wrong and not self.right:
-            yield self.swapped(), None, SWAPPED
+            yield self.swapped(), None, sentences.ways.SWAPPED_REMEDY
         elif self.wrong:
-            are = 'it is' if self.wrong == 1 else 'they are'
-            yield f"{amount(self.wrong, 'pair is', 'pairs are')} judged by the first recording alone: {are} the wrong way round", None, SOME_SWAPPED
+            yield amount(self.wrong, *sentences.ways.words('MIXED')), None, sentences.ways.MIXED_REMEDY
         elif self.are_alike() and not self.is_twice:
-            yield TOGETHER, None, None
+            yield sentences.ways.UNTOLD, None, None
 
     def by_topic(self):
         """by topic how many numbers of best-effort pairs there are, and how many arrived"""
@@ -233,21 +218,21 @@ class BothSides:
         """what is told, the topics that it is about, or None, and what to do, or None"""
         if self.best_effort:
             numbers, arrived = (sum(counts[i] for _, counts in self.by_topic()) for i in (0, 1))
-            pairs = amount(len(self.best_effort), 'best-effort pair has', 'best-effort pairs have')
-            what = 'number' if numbers == 1 else 'numbers'
+            pairs = amount(len(self.best_effort), *sentences.noted.words('BEST_EFFORT'))
+            one, many = sentences.noted.words('HELD')
             by_topic = ', '.join(f'{topic_text(topic)} {of(arrived, numbers)}' for topic, (numbers, arrived) in self.by_topic())
-            yield f"{pairs} {of(arrived, numbers)} {what} at the reader's host", by_topic, None
+            yield f'{pairs}{of(arrived, numbers)}{one if numbers == 1 else many}', by_topic, None
         if self.alone:
             topics = ', '.join(topic_text(topic) for topic, _ in sorted(set(self.alone)))
-            yield f"{amount(len(self.alone), 'pair is', 'pairs are')} judged by this recording alone", topics, ALONE
+            yield amount(len(self.alone), *sentences.noted.words('ALONE')), topics, sentences.noted.ALONE_REMEDY
         absent = [row for row in self.rows if row.absent]
         if absent:
-            told = in_pairs(sum(row.absent for row in absent), 'number is received for certain', 'numbers are received for certain', len(absent))
+            told = in_pairs(sum(row.absent for row in absent), *sentences.noted.words('ABSENT'), len(absent))
             topics = ', '.join(topic_text(topic) for topic, _ in sorted({row.key for row in absent}))
-            yield f"{told} and not in the recording at the reader's host", topics, LACKING
+            yield told + sentences.noted.ABSENT, topics, sentences.noted.ABSENT_REMEDY
         for name, one, many, advice in UNREAD:
             if self.other.ignored.get(name, 0):
-                yield f"at the reader's host: {amount(self.other.ignored[name], one, many)}", None, advice
+                yield sentences.noted.THERE + amount(self.other.ignored[name], one, many), None, advice
         yield from self.order_notes()
 
     def lines(self, hosted, topic_text):
@@ -262,7 +247,7 @@ class BothSides:
             last = pair.w[2]
             shares = f'arrived {of(pair.arrived, pair.numbers)}, not {listed(pair.lacking, pair.numbers - pair.arrived)}'
             lines += [f'  writer {hosted(pair.w[0])}', f'  reader {hosted(pair.r[0])}', f'    {shares}']
-        return lines + ['  -> ' + BEST_EFFORT]
+        return lines + ['  -> ' + sentences.block.LOST_REMEDY]
 
     def members(self):
         return {'arrived': [pair.values() for pair in self.best_effort]}

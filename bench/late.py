@@ -15,6 +15,7 @@ late in `seconds`, and the place where the two `matched`.
 of missed ones of which the recording has none; and by the note, where numbers that are asked for stand before one of the rows that it is about. Such a
 row is not told among those whose writer wrote nothing since their reader joined.
 """
+import sentences
 from times import SECOND, Seconds, place_values, standing
 from wording import amount, grouped
 
@@ -52,7 +53,7 @@ def late_match(matches, w, r):
     return None if delay is None or delay <= LATE else LateMatch(delay, place)
 
 
-def late_notes(rows, topic_text, sentence):
+def late_notes(rows, topic_text):
     """the note on rows that matched late: what is told, the lines of the latest, and what to do, or None"""
     late = [row for row in rows if row.late]
     if not late:
@@ -60,7 +61,7 @@ def late_notes(rows, topic_text, sentence):
     longest = sorted(sorted(late, key=lambda row: row.key), key=lambda row: -row.late.delay)
     lines = [f'{topic_text(row.key[0])}: {row.late.text()}{row.late.when(row.times)}' for row in longest[:NAMED]]
     lines += [f'and {grouped(len(late) - NAMED)} more'] if len(late) > NAMED else []
-    return [(amount(len(late), 'pair matched late', 'pairs matched late'), lines, sentence if any(row.before > 0 for row in late) else None)]
+    return [(amount(len(late), *sentences.noted.words('MATCHED_LATE')), lines, sentences.advice.MATCHED_LATE if any(row.before > 0 for row in late) else None)]
 
 
 def late_members(talk, named):

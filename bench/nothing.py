@@ -13,22 +13,12 @@
 - A topic that is asked for has writers and no reader, or readers and no writer: of endpoints that announced themselves in one way. Where nodes are
   asked for, an end of the topic is of one of them.
 """
+from sentences import no_pair
 from talk import PARTICIPANT
 from told import topic_text
-from wording import grouped
+from wording import amount, grouped
 
 NAMED = 10      # so many topics are named
-
-NO_RTPS = 'nothing of RTPS is in this recording: see that it has the ports of DDS (udp, 7400 and above)'
-NOT_ANNOUNCED = 'no participant is announced'
-ONE_HOST = 'nothing of another host is in this recording'
-IN_MEMORY = 'both ends are on this host and use shared memory, which no capture has'
-NOT_TOLD = 'discovery is not complete: see below who was never told of what'
-NOT_ANSWERED = 'see below which participants never answer'
-NOT_MATCHING = 'see below which writers and readers do not match'
-NOT_SEEN = 'record where the datagrams of the readers and the writers pass, and switch off shared memory'
-BEST_EFFORT = 'all pairs that match are of best effort: they are counted below, and not judged'
-ELSE = 'see in rtps-audit list --any FILE what is announced'
 
 # ---- who speaks before it is announced
 
@@ -55,8 +45,7 @@ def began_late(talk):
     count = len(unannounced(talk))
     if not count:
         return None
-    speak = 'participant speaks before it is announced, or is' if count == 1 else 'participants speak before they are announced, or are'
-    return f'record from before the start: {grouped(count)} {speak} never announced'
+    return no_pair.EARLY + amount(count, *no_pair.words('EARLY')) + no_pair.NEVER_ANNOUNCED
 
 
 # ---- hosts, and domains
@@ -65,7 +54,7 @@ def began_late(talk):
 def one_host(talk):
     if not talk.announced.one_address():
         return None
-    return IN_MEMORY if any(talk.announced.sharing.values()) else ONE_HOST
+    return no_pair.SHARED_MEMORY if any(talk.announced.sharing.values()) else no_pair.ONE_HOST
 
 
 def two_domains(talk):
@@ -91,7 +80,7 @@ def one_sided(talk):
         nodes.setdefault(topic, []).append(talk.who.node(guid))
     alone = [(topic, *found) for topic, found in sorted(sides.items()) if len(found) == 1 and talk.asked.chooses(topic)
              and any(talk.asked.chooses_nodes(node, None) for node in nodes[topic])]
-    told = [f"{topic_text(topic)} has a {side} and no {'reader' if side == 'writer' else 'writer'}" for topic, side in alone]
+    told = [topic_text(topic) + no_pair[f'{side.upper()}_ALONE'] for topic, side in alone]
     return ', '.join(told[:NAMED]) + (f' and {grouped(len(told) - NAMED)} more' if len(told) > NAMED else '') or None
 
 
@@ -102,17 +91,17 @@ def cause(talk):
     """what is told where there is no pair to judge"""
     has_numbers = any(numbers for _, (_, numbers, _) in talk.best_effort_counts)
     cases = [
-        lambda: has_numbers and BEST_EFFORT,
-        lambda: not talk.datagrams_by and NO_RTPS,
+        lambda: has_numbers and no_pair.BEST_EFFORT,
+        lambda: not talk.datagrams_by and no_pair.NO_RTPS,
         lambda: began_late(talk),
-        lambda: not talk.announced.participants and NOT_ANNOUNCED,
+        lambda: not talk.announced.participants and no_pair.NO_PARTICIPANT,
         lambda: one_host(talk),
         lambda: two_domains(talk),
-        lambda: talk.not_told and NOT_TOLD,
-        lambda: talk.one_way and NOT_ANSWERED,
-        lambda: talk.unmatched and NOT_MATCHING,
-        lambda: talk.unobserved and NOT_SEEN,
-        lambda: talk.best_effort and BEST_EFFORT,
+        lambda: talk.not_told and no_pair.NOT_TOLD,
+        lambda: talk.one_way and no_pair.ONE_WAY,
+        lambda: talk.unmatched and no_pair.UNMATCHED,
+        lambda: talk.unobserved and no_pair.LEFT_OUT,
+        lambda: talk.best_effort and no_pair.BEST_EFFORT,
         lambda: one_sided(talk),
     ]
-    return next((told for told in (case() for case in cases) if told), ELSE)
+    return next((told for told in (case() for case in cases) if told), no_pair.UNKNOWN)

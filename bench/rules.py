@@ -19,6 +19,7 @@ from life import Span
 from random_recordings import some_asked, text_of_datagrams
 from random_systems import some_both, some_other, some_recorded
 from random_times import some_asked_of
+from sentences import advice as said, no_pair
 from times import NO_TIMES, SILENCE
 
 
@@ -75,9 +76,9 @@ def rules_of(found):
         'silent': bool(talk.silent),
         'silent by its lease': bool(by_lease),
         'silent by a frame that gives nothing': any(talk.times.end(len(found.datagrams)) - talk.times.of(when) <= SILENCE for when in talk.silent.values()),
-        'advice on who is silent': any('ended without leaving' in one for one in advice),
-        'record longer': 'record longer' in advice,
-        'never asked, and left': any('it was never asked' in one for one in advice),
+        'advice on who is silent': any(one.startswith((said.READER_ENDED, said.WRITER_ENDED)) for one in advice),
+        'record longer': said.JUST_ASKED in advice,
+        'never asked, and left': said.LEFT in advice,
         'none is known to be lost': 'none is known' in last,
         'clean': last == 'clean',
         'a row has a node': any(talk.who.node(guid) for row in rows for guid in (row.w, row.r)),
@@ -95,12 +96,12 @@ def rules_of_discovery(found, advice):
         'not told': bool(talk.not_told), 'not told of what is not named': any(one.unnamed for one in talk.not_told),
         'not told of a writer': any(one.named[PUBLICATIONS] for one in talk.not_told), 'not told of a reader': any(one.named[SUBSCRIPTIONS] for one in talk.not_told),
         'several were not told': len({one.dest for one in talk.not_told}) > 1, 'one was not told of several': len(talk.not_told) > len({one.dest for one in talk.not_told}),
-        'two lives': bool(talk.lives), 'a row of two lives': any('a mixture of both' in one for one in advice),
+        'two lives': bool(talk.lives), 'a row of two lives': said.TWO_LIVES in advice,
         'matched late': any(row.late for row in rows), 'several matched late': sum(bool(row.late) for row in rows) > 1,
         'matched late, and clean': any(row.late and row.is_clean() for row in rows), 'matched late, and not clean': any(row.late and not row.is_clean() for row in rows),
         'numbers before one that matched late': any(row.late and row.before for row in rows),
-        'advice on what matched late': any('the two matched late' in one for one in advice),
-        'nothing comes back': any(talk.address_behind(one.source, one.dest) for one in talk.not_told), 'lost on the way': any('lost on the way' in one for one in advice),
+        'advice on what matched late': said.MATCHED_LATE in advice,
+        'nothing comes back': any(talk.address_behind(one.source, one.dest) for one in talk.not_told), 'lost on the way': said.NOT_ANNOUNCED in advice,
     }
 
 
@@ -129,11 +130,11 @@ def rules_of_nothing(found):
     """by which cause there is no pair to judge"""
     told = '' if found.rows else nothing.cause(found.talk)
     causes = {
-        'nothing of RTPS': told == nothing.NO_RTPS, 'it began late, by several': 'participants speak' in told, 'it began late, by one': 'participant speaks' in told,
-        'one host': told == nothing.ONE_HOST, 'shared memory': told == nothing.IN_MEMORY, 'two domains': 'in domain' in told,
-        'not told': told == nothing.NOT_TOLD, 'one way': told == nothing.NOT_ANSWERED, 'no match': told == nothing.NOT_MATCHING, 'nothing seen': told == nothing.NOT_SEEN,
-        'best effort alone': told == nothing.BEST_EFFORT, 'a topic of one side': ' and no ' in told, 'more than ten topics': told.endswith(' more'),
-        'no cause': told == nothing.ELSE,
+        'nothing of RTPS': told == no_pair.NO_RTPS, 'it began late, by several': no_pair.EARLY_MANY in told, 'it began late, by one': no_pair.EARLY_ONE in told,
+        'one host': told == no_pair.ONE_HOST, 'shared memory': told == no_pair.SHARED_MEMORY, 'two domains': 'in domain' in told,
+        'not told': told == no_pair.NOT_TOLD, 'one way': told == no_pair.ONE_WAY, 'no match': told == no_pair.UNMATCHED, 'nothing seen': told == no_pair.LEFT_OUT,
+        'best effort alone': told == no_pair.BEST_EFFORT, 'a topic of one side': ' and no ' in told, 'more than ten topics': told.endswith(' more'),
+        'no cause': told == no_pair.UNKNOWN,
     }
     return {f'no pair: {cause}': is_met for cause, is_met in causes.items()}
 

@@ -19,9 +19,9 @@ import tempfile
 from typing import Callable, NamedTuple, Sequence
 
 import make
-from figures import announcement, prefix, reader_at, size_text, writer_at
-from make import A, B, RELIABLE, WRITER, ack_nack, data_frag, gap, header, heartbeat, to
-from option_figures import of_audiences, run_of
+from figures import announcement, frame, prefix, reader_at, size_text, writer_at
+from make import A, B, RELIABLE, WRITER, ack_nack, data, data_frag, gap, header, heartbeat, to
+from option_figures import CLASSIC, of_audiences, run_of
 from random_recordings import parameter, u
 from random_systems import text
 
@@ -99,11 +99,56 @@ def silent_pairs(count):
     return make.ends_of_one_topic(RELIABLE, RELIABLE, count)
 
 
+# ---- discovery
+
+# Who tells of its endpoints by which writer, and to which reader.
+TELLING = {A: (b'\0\0\3\xc2', b'\0\0\3\xc7'), B: (b'\0\0\4\xc2', b'\0\0\4\xc7')}
+
+
+def stamp(place):
+    """a source time: milliseconds, each later than the one before"""
+    return b'\x09\0\0\x08' + (place // 1000).to_bytes(4, 'big') + (place % 1000 * 4294967).to_bytes(4, 'big')
+
+
+def told(source, place, number):
+    """the DATA by which a participant tells of the endpoint with this number"""
+    entity = (writer_at if source == A else reader_at)(number)
+    value = b'\0\2\0\0' + b'\0\x5a\0\x10' + source + entity + make.NAMES + RELIABLE + b'\0\1\0\0'
+    return header(source) + stamp(place) + data(TELLING[source][0], number, value)
+
+
+def joining(source):
+    value = b'\0\2\0\0' + b'\0\x50\0\x10' + source + b'\0\0\1\xc1' + b'\0\1\0\0'
+    return header(source) + stamp(1) + data(b'\0\1\0\xc2', 1, value)
+
+
+def answered(source, number, asked=0):
+    """the other participant acknowledges what is before a number, and asks for this and so many in all"""
+    writer, reader = TELLING[source]
+    return header(B if source == A else A) + to(source) + ack_nack(reader, writer, number, [(1 << 32) - (1 << 32 - asked)] if asked else [], asked)
+
+
+def announced(count, ends=100, asks=False):
+    """as many writers in a participant as readers in another, of one topic; each endpoint is announced again and again, so often in all, with
+    HEARTBEATs and answers; or each of these is asked for before"""
+    yield joining(A)
+    yield joining(B)
+    for place in range(max(count, 2 * ends)):
+        source, number = (A, B)[place % 2], place // 2 % ends + 1
+        if asks and place >= 2 * ends:
+            yield answered(source, number, 1)
+        yield told(source, place, number)
+        if place % 10 < 2:
+            yield header(source) + heartbeat(TELLING[source][0], 1, min(place // 2 + 1, ends))
+    yield from (answered(source, ends + 1) for source in (A, B) for _ in range(1 + count // 100))
+
+
 class Slow(NamedTuple):
-    """a recording by its size, the size that is measured, and options of `audit`"""
+    """a recording by its size, the size that is measured, and options of `audit`; one with times is measured as a capture"""
     size: int
     datagrams: Callable
     words: Sequence = ()
+    timed: bool = False
 
 
 # The size of those that make.py makes by octets is in thousands of them.
@@ -117,6 +162,9 @@ RECORDINGS = {
     'in_turns': Slow(500, lambda size: make.of_turns('in_turns', size * 1000)),
     'partitions': Slow(5000, partitions),
     'silent_pairs': Slow(400, silent_pairs),
+    'announced': Slow(20000, announced, timed=True),
+    'asked_again': Slow(20000, lambda size: announced(size, asks=True), timed=True),
+    'many_announced': Slow(200, lambda size: announced(0, size), timed=True),
     'alike': Slow(200000, lambda size: make.of_named(False, size, 5000)),
     'named': Slow(200000, lambda size: make.of_named(True, size, 5000)),
 }
@@ -124,11 +172,21 @@ RECORDINGS = {
 # ---- measuring
 
 
+def write_timed(path, datagrams):
+    """a capture of datagrams, a millisecond between two"""
+    with open(path, 'wb') as f:
+        f.write(CLASSIC)
+        for place, datagram in enumerate(datagrams):
+            f.write((place // 1000).to_bytes(4, 'little') + (place % 1000 * 1000).to_bytes(4, 'little') + frame(datagram)[8:])
+
+
 def path_of(name, size, folder):
     """the file of a recording, which is made if it is not there"""
-    path = os.path.join(folder, f'slow_{name}_{size}.rec')
+    slow = RECORDINGS[name]
+    write, ending = (write_timed, 'pcap') if slow.timed else (make.write, 'rec')
+    path = os.path.join(folder, f'slow_{name}_{size}.{ending}')
     if not os.path.exists(path):
-        make.write(path + '.part', RECORDINGS[name].datagrams(size))
+        write(path + '.part', slow.datagrams(size))
         os.rename(path + '.part', path)
     return path
 

@@ -69,6 +69,8 @@ import json
 import re
 from typing import NamedTuple, Optional
 
+from sentences import noted
+
 MILLISECOND, SECOND = 10 ** 6, 10 ** 9
 MOST_BACK = MILLISECOND        # times may go back by so much, and nothing is said
 SILENCE = 10 * SECOND          # who says nothing at the end for longer is silent
@@ -194,12 +196,10 @@ def json_text(value, **words):
 
 # ---- times that go back
 
-SORTED = 'the datagrams are out of order: reordercap FILE OUT sorts them by time, and OUT can be checked'
-
 
 def order_notes(times):
     step = times.step_back()
-    return [(f'times go back by up to {Seconds(step)} s', None, SORTED)] if step > MOST_BACK else []
+    return [(f'{noted.BACK}{Seconds(step)} s', None, noted.BACK_REMEDY)] if step > MOST_BACK else []
 
 
 # ---- participants that are silent

@@ -5,26 +5,15 @@ from policies import address_text, value_text
 from reference import guid_text, name_text
 from ros import ros_topic, ros_type
 from known import PUBLICATIONS, SUBSCRIPTIONS
+from sentences import block, no_pair, noted, reason
 from talk import PARTICIPANT
 from times import SECOND, Seconds, alone
 from wording import amount, of
 
 # Why a pair is not observed, in the order in which it is told, and what is said of it.
-SILENCES = {
-    'one participant': 'of one participant (it needs no network)',
-    'two domains': 'of two domains (they never meet)',
-    'one way': 'talking one way (the reader never answers)',
-    'silent': 'silent here (shared memory, another host or interface)',
-}
+SILENCES = {'one participant': noted.ONE_PARTICIPANT, 'two domains': noted.TWO_DOMAINS, 'one way': noted.ONE_WAY, 'silent': noted.SILENT}
 
-# What to do.
-UNMATCHED = 'by the standard nothing passes between them: change what one offers or what the other asks for'
-ONE_WAY = 'a firewall, or its datagrams are not in this recording'
 MOST = 2 ** 64 - 1      # no more endpoints of two participants are counted
-
-TWO_LIVES = 'two processes use one GUID, as after a copied disk image or a restart: give each its own, and record again'
-HOSTS = 'if there are other hosts, multicast may be blocked between them'
-BEST_EFFORT = "at the reader's side the others were lost; at the writer's side the recording lacks them"
 
 # ---- names
 
@@ -46,7 +35,7 @@ def topics_text(pairs):
 
 
 def unmatched_amount(talk):
-    return amount(len(talk.unmatched), 'pair does not match', 'pairs do not match')
+    return amount(len(talk.unmatched), *reason.words('UNMATCHED'))
 
 
 def words(policy):
@@ -76,20 +65,24 @@ def unmatched_lines(talk):
     for one in sorted(talk.unmatched, key=lambda one: one.w[2]):
         lines += ([] if one.w[2] == last else [topic_text(one.w[2])]) + unmatched_block(talk, one)
         last = one.w[2]
-    return lines + ['  -> ' + UNMATCHED]
+    return lines + ['  -> ' + block.UNMATCHED_REMEDY]
 
 
 # ---- discovery that is not complete
+
+
+def lives_amount(talk):
+    return amount(len(talk.lives), *reason.words('LIVES'))
 
 
 def discovery_reasons(talk):
     """how many participants were not told of how many endpoints, and how many have two lives"""
     reasons = []
     if talk.not_told:
-        told = amount(len({one.dest for one in talk.not_told}), 'participant was', 'participants were')
-        reasons.append(f"{told} not told of {amount(sum(min(one.count(), MOST) for one in talk.not_told), 'endpoint', 'endpoints')}")
+        told = amount(len({one.dest for one in talk.not_told}), *reason.words('NOT_TOLD'))
+        reasons.append(told + amount(sum(min(one.count(), MOST) for one in talk.not_told), 'endpoint', 'endpoints'))
     if talk.lives:
-        reasons.append(amount(len(talk.lives), 'participant has', 'participants have') + ' two lives under one GUID')
+        reasons.append(lives_amount(talk))
     return reasons
 
 
@@ -101,7 +94,7 @@ def endpoints_named(one):
 def not_told_block(talk, one):
     """the lines of one that was not told of endpoints of another"""
     source, dest = (talk.end(prefix + PARTICIPANT).process_text() for prefix in (one.source, one.dest))
-    lines = [f'  {dest} was never told of the {side} of {topic_text(talk.topic(guid))} {talk.end(guid).text()}' for side, guid in endpoints_named(one)]
+    lines = [f"  {dest}{block[f'NOT_TOLD_{side.upper()}']}{topic_text(talk.topic(guid))} {talk.end(guid).text()}" for side, guid in endpoints_named(one)]
     unnamed = [f"  {dest} was never told of {amount(one.unnamed, 'endpoint', 'endpoints')} of {source} that this recording does not name"]
     return lines + (unnamed if one.unnamed else [])
 
@@ -127,11 +120,11 @@ def seconds_of(talk, sent):
 def lives_lines(talk):
     if not talk.lives:
         return []
-    lines = [amount(len(talk.lives), 'participant has two lives', 'participants have two lives') + ' under one GUID']
+    lines = [lives_amount(talk)]
     for prefix, sent in talk.lives.items():
         one, other = (seconds_of(talk, time) for time in sent)
         lines.append(f'  participant {talk.end(prefix + PARTICIPANT).text()}, announced by one number at {one} s and at {other} s of its clock')
-    return lines + ['  -> ' + TWO_LIVES]
+    return lines + ['  -> ' + block.LIVES_REMEDY]
 
 
 # ---- participants that talk one way
@@ -140,18 +133,18 @@ def lives_lines(talk):
 def one_way_lines(talk):
     if not talk.one_way:
         return []
-    lines = [amount(len(talk.one_way), 'pair of participants talks one way', 'pairs of participants talk one way')]
+    lines = [amount(len(talk.one_way), *block.words('ONE_WAY'))]
     for one, other, count in talk.one_way:
         silent, talking = (talk.end(prefix + PARTICIPANT).text() for prefix in (other, one))
         lines += [f'  participant {silent} never answers', f"  participant {talking}, which names it in {amount(count, 'datagram', 'datagrams')}"]
-    return lines + ['  -> ' + ONE_WAY]
+    return lines + ['  -> ' + block.ONE_WAY_REMEDY]
 
 
 # ---- notes: what is told, the topics that it is about, or None, and what to do, or None
 
 
 def host_notes(talk):
-    return [('nothing of another host is in this recording', None, HOSTS)] if talk.announced.one_address() else []
+    return [(no_pair.ONE_HOST, None, noted.ONE_HOST_REMEDY)] if talk.announced.one_address() else []
 
 
 def unobserved_notes(talk):
@@ -159,7 +152,7 @@ def unobserved_notes(talk):
     for silence, words in SILENCES.items():
         pairs = [pair for pair in talk.unobserved if talk.silence(*pair) == silence]
         if pairs:
-            yield f"{amount(len(pairs), 'pair is', 'pairs are')} left out, {words}", topics_text(pairs), None
+            yield amount(len(pairs), *noted.words('LEFT_OUT')) + words, topics_text(pairs), None
 
 
 def best_effort_totals(talk):
@@ -170,8 +163,8 @@ def best_effort_totals(talk):
 def best_effort_shares(talk):
     """how many of their numbers the recording has"""
     pairs, numbers, recorded = best_effort_totals(talk)
-    shares = f"{of(recorded, numbers)} {'number' if numbers == 1 else 'numbers'}"
-    return f"{amount(pairs, 'best-effort pair has', 'best-effort pairs have')} {shares} in this recording"
+    one, many = noted.words('RECORDED')
+    return amount(pairs, *noted.words('BEST_EFFORT')) + of(recorded, numbers) + (one if numbers == 1 else many)
 
 
 def best_effort_notes(talk):
@@ -180,16 +173,15 @@ def best_effort_notes(talk):
         return []
     _, numbers, recorded = best_effort_totals(talk)
     by_topic = ', '.join(f'{topic_text(topic)} {of(recorded, numbers)}' for topic, (_, numbers, recorded) in topics)
-    return [(best_effort_shares(talk), by_topic, BEST_EFFORT if recorded < numbers else None)]
+    return [(best_effort_shares(talk), by_topic, noted.BEST_EFFORT_REMEDY if recorded < numbers else None)]
 
 
 def talking_notes(talk):
     """the pairs that talk though they do not match, each with the policies for which they do not"""
     if not talk.talking:
         return []
-    told = amount(len(talk.talking), 'pair talks though it does not match', 'pairs talk though they do not match')
     pairs = [f"{topic_text(one.w[2])} ({', '.join(words(name) for name in one.because)})" for one in sorted(talk.talking, key=lambda one: one.w[2])]
-    return [(f'{told} by the standard', ', '.join(pairs), None)]
+    return [(amount(len(talk.talking), *noted.words('TALKING')), ', '.join(pairs), None)]
 
 
 def talk_notes(talk):

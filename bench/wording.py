@@ -10,7 +10,8 @@ def amount(number, one, many):
 
 
 def in_pairs(number, one, many, pairs):
-    return f"{amount(number, one, many)} in {amount(pairs, 'pair', 'pairs')}"
+    """the words end with `in`"""
+    return f"{amount(number, one, many)} {amount(pairs, 'pair', 'pairs')}"
 
 
 def of(part, whole):

@@ -103,15 +103,19 @@ def parts(path):
 
 
 def uses():
-    """For each pair of a module of specs/ and a name, the files of src/ that bring the name in for their clauses."""
+    """For each pair of a module of specs/ and a name, the files of src/ that bring the name in for their clauses, or its module."""
     found = {}
     for crate in crates():
         for path in files(f"crates/{crate}/src", ".rt"):
             if os.path.basename(path).startswith("test") or "/tests/" in path:
                 continue
-            for module, names in re.findall(r"ghost use Rattle\.(\w+\.specs\.[\w.]+?)\.\{([^}]*)\}", read(path)):
+            text = read(path)
+            for module, names in re.findall(r"ghost use Rattle\.(\w+\.specs\.[\w.]+?)\.\{([^}]*)\}", text):
                 for name in names.split(","):
                     found.setdefault((module, name.split(" as ")[0].strip()), set()).add((crate, path))
+            for module, called in re.findall(r"ghost use Rattle\.(\w+\.specs\.[\w.]+) as (\w+);", text):
+                for name in re.findall(rf"(?<![\w.]){called}\.(\w+)", text):
+                    found.setdefault((module, name), set()).add((crate, path))
     return found
 
 

@@ -22,6 +22,10 @@ from program import ROOT, Counts, file_of
 # Each page, and the most lines that it may have.
 PAGES = {'README.md': 130, 'CONTRIBUTING.md': 120, 'CHANGELOG.md': None, 'docs/GUIDE.md': 250, 'docs/ARCHITECTURE.md': None,
          'docs/JSON.md': None, 'docs/NOT_THERE.md': None, 'docs/BOTH_SIDES.md': None, 'docs/PROOFS.md': None, 'docs/PERFORMANCE.md': None, 'docs/DECISIONS.md': 120}
+# A sentence has so many octets, and what is shorter is a part of one.
+LONG = 40
+# What to do, in words that no table of a page has: they stand around an address, or for another number of what the table tells.
+IN_NO_TABLE = ['advice.BY_FIREWALL', 'advice.NOTHING_BACK', 'no_pair.EARLY_ONE', 'no_pair.READER_ALONE']
 EXAMPLES = sorted(name for name in os.listdir(os.path.join(ROOT, 'examples')) if name.endswith(('.rec', '.pcap')))
 COMMANDS = 'bin/rtps-audit ', 'grep '
 ANSWERS = re.compile(r'(pairs?|announced|acknowledged|payloads|received|missed|number|claimed|datagrams) ["0-9a-z]|[0-9,]+ of [0-9,]+ pairs? |topic +pairs|(not )?clean(:|$)|\{"pairs"|[0-9a-f]{24}\.[0-9a-f]{8} ')
@@ -100,31 +104,27 @@ def names(tests, name, page):
             tests.holds(f'{name} names {path}', True, os.path.exists(os.path.join(ROOT, path)))
 
 
-def rows_of(page):
-    """the rows of the tables of a page, each as its cells; an empty first cell is that of the row above"""
-    rows = []
-    for line in page.splitlines():
-        cells = [cell.strip().strip('*') for cell in line.strip('|').split(' | ')] if line.startswith('| ') else []
-        rows += [[cells[0] or rows[-1][0], *cells[1:]]] if cells else []
-    return rows
-
-
 def advice(tests):
-    """what to do: the guide has each sentence behind what happened and what one sees of it, and the sentences are those of the definition. Those of no pair
-    stand in a page of their own"""
-    sys.path.insert(0, os.path.join(ROOT, 'bench'))
-    import check
-    import nothing
-    guide, definition = (file_of(*path).decode() for path in (('docs', 'GUIDE.md'), ('crates', 'rtps_report', 'specs', 'Advice.antt')))
-    rows = rows_of(guide)
-    for name, *row in check.ADVICE:
-        tests.holds(f'the guide tells what to do for {name}', True, row in rows)
-    seen = [row[0] for row in rows_of(file_of('docs', 'NOT_THERE.md').decode())]
-    for name, sentence in vars(nothing).items():
-        if name.isupper() and isinstance(sentence, str):
-            tests.holds(f'NOT_THERE.md has the sentence {name}', True, sentence in seen)
-    sentences = re.findall(r'^sentence_of .* = codes "(.*)"$', definition, re.MULTILINE)
-    tests.holds('the sentences are those of the definition', [sentence for *_, sentence in check.ADVICE], sentences)
+    """what to do: each table of it is what the script makes of the sentences of the program, and has all of them but IN_NO_TABLE"""
+    sys.path.insert(0, os.path.join(ROOT, 'docs'))
+    import tables
+    for name, page, made in tables.pages():
+        tests.holds(f'{name} has the table that docs/tables.py makes', made, page)
+    tests.holds('the sentences that are in no table', IN_NO_TABLE, sorted(tables.lacking()))
+    said = [text for constants in tables.sentences.modules().values() for text in constants.values()]
+    tests.holds('no two sentences are one', sorted(set(said)), sorted(said))
+    tests.holds('files that say a sentence in words of their own', [], sorted(repeating([text for text in said if len(text) >= LONG])))
+
+
+def repeating(sentences):
+    """files of the program and of the second implementation that have one of these in quotes, but for the file of them all"""
+    for folder in ('crates', 'bench', 'docs'):
+        for at, folders, names in os.walk(os.path.join(ROOT, folder)):
+            folders[:] = [name for name in folders if name != 'out']
+            for name in names:
+                if name.endswith(('.rt', '.antt', '.py')) and name != 'sentences.rt':
+                    text = file_of(os.path.join(at, name)).decode()
+                    yield from (os.path.join(at, name) for one in sentences if f'"{one}' in text or f"'{one}" in text)
 
 
 def main():

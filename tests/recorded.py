@@ -8,8 +8,8 @@ import sys
 
 sys.path.insert(0, os.path.join(os.path.dirname(os.path.dirname(os.path.realpath(__file__))), 'bench'))
 import make
-from check import SENTENCES
 from make import ack_nack, data, data_frag, gap, header, heartbeat, to
+from sentences import advice as said
 
 RELIABLE, BEST_EFFORT = 2, 1
 VOLATILE, TRANSIENT_LOCAL = 0, 1
@@ -289,9 +289,9 @@ def some_verdict(at):
     told = {'by': 'data', 'datagram': 12, 'at': 20}
     if at % 1000 == 1:
         claim = {'below': 13, 'datagram': 11, 'at': 36}
-        late = {'claimed': claim, 'told': told} | spanned(11, False, SENTENCES['late'])
+        late = {'claimed': claim, 'told': told} | spanned(11, False, said.LATE)
         return {'verdict': 'unfounded', 'number': 12, 'datagram': 11} | common | late
-    return {'verdict': 'open', 'number': 12} | common | {'told': told, 'asked_since': 0, 'last_asked': None} | spanned(11, False, SENTENCES['not_asked'])
+    return {'verdict': 'open', 'number': 12} | common | {'told': told, 'asked_since': 0, 'last_asked': None} | spanned(11, False, said.NOT_ASKED)
 
 
 def spanned(received, is_clean, advice):

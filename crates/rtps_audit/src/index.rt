@@ -5,7 +5,7 @@ ghost use Rattle.rtps_audit.specs.Delivered.{IsExactVerdict, IsExactVerdictFrom}
 ghost use Rattle.rtps_audit.specs.Index.{IsIndexBy, IsIndexOf};
 ghost use Rattle.rtps_audit.specs.Intake.{Intake, acts_together, intake_more, no_intake};
 ghost use Rattle.rtps_audit.specs.Placed.{announced_among, answers_among, is_from, placed_in, placed_value};
-ghost use Rattle.rtps_audit.specs.Report.{is_undirected as is_undirected_lem};
+ghost use Rattle.rtps_audit.specs.Report as report;
 ghost use Rattle.rtps_audit.specs.Said.{datagrams_until};
 ghost use Rattle.rtps_audit.specs.Speech.{speech_by};
 
@@ -156,7 +156,7 @@ impl<'a> Index<'a> {
 
 /// Whether an act is an ACKNACK for everyone.
 fn is_undirected(act: &Spoken<'_>) -> bool
-    ensures { result ≡ is_undirected_lem (spoken_value act.now) }
+    ensures { result ≡ report.is_undirected (spoken_value act.now) }
 {
     match &act.body {
         SpokenBody::Act(ActBody::AckNack(_)) => act.dest.is_none(),
@@ -170,7 +170,7 @@ fn is_undirected(act: &Spoken<'_>) -> bool
 
 /// How many ACKNACKs for everyone are among acts.
 fn undirected_among(acts: &[Spoken<'_>]) -> u64
-    ensures { result ≡ count_by is_undirected_lem (map spoken_value acts.now) }
+    ensures { result ≡ count_by report.is_undirected (map spoken_value acts.now) }
 {
     let mut undirected = 0u64;
     for act in acts {

@@ -3,13 +3,13 @@ ghost use Rattle.std.specs.List.{AllWithin};
 ghost use Rattle.std.specs.Ordering.{is_eq};
 ghost use Rattle.rtps_ids.specs.declared.identity.Guid.{Guid as GuidValue};
 ghost use Rattle.rtps_receiver.specs.Speech.{origin_of};
-ghost use Rattle.rtps_receiver.specs.Values.{spoken_body_value, spoken_value};
+ghost use Rattle.rtps_receiver.specs.Values.{spoken_value};
 ghost use Rattle.rtps_discovery.specs.GuidOrder.{guid_cmp};
 ghost use Rattle.rtps_audit.specs.Placed.{AddsActs, placed_at, placed_value, values_at};
 
 use crate::groups::Groups;
 use rtps_ids::{Guid, Memory};
-use rtps_receiver::{FragmentBody, Spoken, SpokenBody};
+use rtps_receiver::Spoken;
 use std::slice;
 
 /// An act, and the datagram of a recording that it stands in, counted from 1.
@@ -19,23 +19,6 @@ pub struct Placed<'a> {
     pub act: Spoken<'a>,
 }
 
-/// A copy of a body.
-fn body_of<'a>(body: &SpokenBody<'a>) -> SpokenBody<'a>
-    ensures { spoken_body_value result ≡ spoken_body_value body.now }
-{
-    match body {
-        SpokenBody::Act(body) => SpokenBody::Act(body.copied()),
-        SpokenBody::DataFrag(fragment) => SpokenBody::DataFrag(FragmentBody {
-            reader: fragment.reader,
-            writer: fragment.writer,
-            number: fragment.number,
-            sent: fragment.sent,
-            told: fragment.told,
-        }),
-        SpokenBody::NackFrag(nack_frag) => SpokenBody::NackFrag(*nack_frag),
-    }
-}
-
 /// A copy of an act, in its datagram.
 pub fn place<'a>(datagram: usize, act: &Spoken<'a>) -> Placed<'a>
     ensures datagram { result.datagram ≡ datagram }
@@ -43,16 +26,7 @@ pub fn place<'a>(datagram: usize, act: &Spoken<'a>) -> Placed<'a>
 {
     Placed {
         datagram,
-        act: Spoken {
-            at: act.at,
-            source: act.source,
-            version: act.version,
-            vendor: act.vendor,
-            dest: act.dest,
-            stamp: act.stamp,
-            order: act.order,
-            body: body_of(&act.body),
-        },
+        act: act.copied(),
     }
 }
 

@@ -1,7 +1,8 @@
 ghost use Rattle.std.specs.Prelude.{◌≡◌, ◌<◌, ◌≤◌, length, map, IfOk};
 ghost use Rattle.std.specs.List.{AllWithin};
 ghost use Rattle.rtps_audit.specs.Delivered.{IsExactReport, IsExactReportFrom};
-ghost use Rattle.rtps_audit.specs.Index.{IsIndexBy, counts_with as counts_with_lem};
+ghost use Rattle.rtps_audit.specs.Index.{IsIndexBy};
+ghost use Rattle.rtps_audit.specs.Index as index_spec;
 ghost use Rattle.rtps_audit.specs.Intake.{Intake};
 ghost use Rattle.rtps_audit.specs.Account.{AreRowsOf};
 
@@ -124,7 +125,7 @@ impl<'a> Index<'a> {
 
 /// The counts by these sums, where so many GUIDs are unsettled.
 fn counts_with(tallies: &Tallies, unsettled: usize) -> Counts
-    ensures { result ≡ counts_with_lem tallies.now unsettled }
+    ensures { result ≡ index_spec.counts_with tallies.now unsettled }
 {
     Counts {
         datagrams: tallies.datagrams,

@@ -1,8 +1,9 @@
 ghost use Rattle.std.specs.Prelude.{◌≡◌, ◌≤◌, ◌<◌, ◌+◌, ◌^◌, [], ◌∷◌, length, take, IfOk, IfSome, OnOk, None};
 ghost use Rattle.std.specs.List.{position};
-ghost use Rattle.rtps_capture.specs.Assembly.{IsJoined, StandsInPacket, datagram_of_whole as datagram_of_whole_lem, fresh_making, given, taken_piece};
+ghost use Rattle.rtps_capture.specs.Assembly.{IsJoined, StandsInPacket, fresh_making, given, taken_piece};
+ghost use Rattle.rtps_capture.specs.Assembly as assembly;
 ghost use Rattle.rtps_capture.specs.Packets.{fragment_size};
-ghost use Rattle.rtps_capture.specs.Pieces.{piece_of as piece_of_lem};
+ghost use Rattle.rtps_capture.specs.Pieces as pieces;
 ghost use Rattle.rtps_capture.specs.Recent.{TakesFragment, TakesPiece, hosts_of, is_of, making_in, recent_of, without};
 ghost use Rattle.rtps_capture.specs.declared.fragment.FragmentHosts.{FragmentHosts as HostsValue};
 ghost use Rattle.rtps_capture.specs.declared.layout.packet.TheConstants.{MOST_KEPT};
@@ -117,7 +118,7 @@ impl Making {
 
 #[tactic(auto, unfolding(crate::specs::Assembly::has_right_datagram))]
 fn datagram_of_whole(key: &FragmentKey, packet: &[u8]) -> Option<ByteRange>
-    ensures datagram { result ≡ datagram_of_whole_lem key.now packet.now }
+    ensures datagram { result ≡ assembly.datagram_of_whole key.now packet.now }
     ensures within { IfSome result (λ range. (range.from ≤ range.to) × (range.to ≤ length packet.now)) }
 {
     if packet.len() < udp::SIZE {
@@ -237,7 +238,7 @@ impl Assembly {
     ) -> Result<Taken, Memory>
         requires stands { fragment.now.start + fragment_size fragment.now < 2 ^ 32 }
         requires none { packet.old.items ≡ [] }
-        ensures taken { IfOk result (λ taken. TakesFragment (taken_piece file.now fragment.now.key (making_in (recent_of self.old.recents (hosts_of fragment.now.key)) fragment.now.key.identification) (piece_of_lem fragment.now)) fragment.now.key taken self.old.recents self.new.recents packet.new.items) }
+        ensures taken { IfOk result (λ taken. TakesFragment (taken_piece file.now fragment.now.key (making_in (recent_of self.old.recents (hosts_of fragment.now.key)) fragment.now.key.identification) (pieces.piece_of fragment.now)) fragment.now.key taken self.old.recents self.new.recents packet.new.items) }
         ensures within { IfOk result (λ taken. StandsInPacket packet.new.items taken.datagram) }
     {
         let piece = piece_of(fragment);

@@ -1,5 +1,6 @@
 ghost use Rattle.std.specs.Prelude.{◌≡◌, ◌≤◌, ◌+◌, length};
-ghost use Rattle.rtps_capture.specs.Blocks.{BlockStands, block_at as block_at_lem, block_with as block_with_lem, fixed_size as fixed_size_lem, is_pcapng as is_pcapng_lem, order_told as order_told_lem};
+ghost use Rattle.rtps_capture.specs.Blocks.{BlockStands};
+ghost use Rattle.rtps_capture.specs.Blocks as blocks;
 
 use crate::layout::{block, interface, packet_block, section};
 use crate::octet_number::{four_octets, two_octets};
@@ -40,14 +41,14 @@ pub(crate) struct Interface {
 
 /// Whether a file begins as a pcapng file does: with the type of a section header.
 pub fn is_pcapng(octets: &[u8]) -> bool
-    ensures { result ≡ is_pcapng_lem octets.now }
+    ensures { result ≡ blocks.is_pcapng octets.now }
 {
     octets.len() >= 4 && four_octets(Order::Big, octets, 0) == block::SECTION
 }
 
 fn order_told(octets: &[u8], at: usize) -> Option<Order>
     requires { at + 4 ≤ length octets.now }
-    ensures { result ≡ order_told_lem octets.now at }
+    ensures { result ≡ blocks.order_told octets.now at }
 {
     if four_octets(Order::Big, octets, at) == section::BYTE_ORDER {
         return Some(Order::Big);
@@ -60,7 +61,7 @@ fn order_told(octets: &[u8], at: usize) -> Option<Order>
 
 #[inline]
 fn fixed_size(kind: u32) -> usize
-    ensures size { result ≡ fixed_size_lem kind }
+    ensures size { result ≡ blocks.fixed_size kind }
     ensures few { result ≤ 20 }
 {
     match kind {
@@ -78,7 +79,7 @@ fn fixed_size(kind: u32) -> usize
 #[inline]
 fn block_with(kind: u32, order: Order, octets: &[u8], at: usize) -> Block
     requires { at + 8 ≤ length octets.now }
-    ensures block { result ≡ block_with_lem kind order octets.now at }
+    ensures block { result ≡ blocks.block_with kind order octets.now at }
     ensures stands { BlockStands at octets.now result }
 {
     let size = four_octets(order, octets, at + block::LENGTH) as usize;
@@ -103,7 +104,7 @@ fn block_with(kind: u32, order: Order, octets: &[u8], at: usize) -> Block
 #[tactic(auto, unfolding(crate::specs::Blocks::block_at))]
 pub(crate) fn block_at(order: Order, octets: &[u8], at: usize) -> Block
     requires { at ≤ length octets.now }
-    ensures block { result ≡ block_at_lem order octets.now at }
+    ensures block { result ≡ blocks.block_at order octets.now at }
     ensures stands { BlockStands at octets.now result }
 {
     let rest = octets.len() - at;

@@ -1,5 +1,5 @@
 ghost use Rattle.std.specs.Prelude.{◌≡◌, ◌≤◌, ◌<◌, ◌^◌, length};
-ghost use Rattle.rtps_capture.specs.Checksum.{is_right as is_right_lem, word_sum as word_sum_lem};
+ghost use Rattle.rtps_capture.specs.Checksum as checksum;
 
 use crate::fragment::FragmentKey;
 use crate::layout::{packet, udp};
@@ -8,7 +8,7 @@ use rtps_ids::Order;
 
 fn word_sum(octets: &[u8]) -> u32
     requires { length octets.now < 2 ^ 16 }
-    ensures sum { result ≡ word_sum_lem octets.now }
+    ensures sum { result ≡ checksum.word_sum octets.now }
     ensures small { result < 2 ^ 32 }
 {
     let mut sum = 0;
@@ -25,7 +25,7 @@ fn word_sum(octets: &[u8]) -> u32
 pub(crate) fn is_right(key: &FragmentKey, octets: &[u8]) -> bool
     requires header { 8 ≤ length octets.now }
     requires small { length octets.now < 2 ^ 16 }
-    ensures { result ≡ is_right_lem key.now octets.now }
+    ensures { result ≡ checksum.is_right key.now octets.now }
 {
     if key.version == packet::VERSION && two_octets(Order::Big, octets, udp::CHECKSUM) == 0 {
         return true;

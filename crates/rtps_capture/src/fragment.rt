@@ -1,5 +1,6 @@
 ghost use Rattle.std.specs.Prelude.{◌≡◌, ◌≤◌, ◌<◌, ◌+◌, ◌^◌, length};
-ghost use Rattle.rtps_capture.specs.Packets.{StandsIn, fragment_of as fragment_of_lem, key_4, key_6};
+ghost use Rattle.rtps_capture.specs.Packets.{StandsIn, key_4, key_6};
+ghost use Rattle.rtps_capture.specs.Packets as packets_spec;
 ghost use Rattle.rtps_capture.specs.Recent.{hosts_of};
 
 use crate::byte_range::ByteRange;
@@ -57,7 +58,7 @@ pub(crate) fn fragment_of(fragment: Fragment) -> Contents
     requires ordered { fragment.range.from ≤ fragment.range.to }
     requires small { fragment.start < 2 ^ 32 }
     requires few { fragment.range.to < 2 ^ 63 }
-    ensures contents { result ≡ fragment_of_lem fragment }
+    ensures contents { result ≡ packets_spec.fragment_of fragment }
     ensures within { StandsIn fragment.range.to result }
 {
     let size = fragment.range.to - fragment.range.from;

@@ -1,6 +1,8 @@
 ghost use Rattle.std.specs.Prelude.{◌≡◌, ◌≤◌, ◌<◌, ◌+◌, length, IfOk, IfSome, MatchOption, None, Some};
-ghost use Rattle.rtps_capture.specs.Blocks.{BlockStands, block_at as block_at_lem};
-ghost use Rattle.rtps_capture.specs.Frames.{GivesNext, StandsInFile, TakesStep, end_with, opened, frame_of_block as frame_of_block_lem, frame_of_interface as frame_of_interface_lem, framed as framed_lem, interfaces_behind, simple_size as simple_size_lem, snap_of as snap_of_lem, step_of_block, step_of_record, time_of, unread_of};
+ghost use Rattle.rtps_capture.specs.Blocks.{BlockStands};
+ghost use Rattle.rtps_capture.specs.Blocks as blocks;
+ghost use Rattle.rtps_capture.specs.Frames.{GivesNext, StandsInFile, TakesStep, end_with, opened, interfaces_behind, step_of_block, step_of_record, time_of, unread_of};
+ghost use Rattle.rtps_capture.specs.Frames as frames_spec;
 ghost use Rattle.rtps_capture.specs.declared.blocks.Block.TheVariants.{Whole};
 
 use crate::blocks::{Block, Interface, WholeBlock, block_at};
@@ -85,7 +87,7 @@ pub(crate) struct Frames {
 
 #[inline]
 fn frame_of_interface(interface: Option<Interface>, ticks: Option<u64>, range: ByteRange) -> Frame
-    ensures { result ≡ frame_of_interface_lem ticks range interface }
+    ensures { result ≡ frames_spec.frame_of_interface ticks range interface }
 {
     let Some(interface) = interface else {
         return Frame::Unread {
@@ -110,7 +112,7 @@ fn frame_of_interface(interface: Option<Interface>, ticks: Option<u64>, range: B
 #[inline]
 fn framed(interface: Option<Interface>, ticks: Option<u64>, size: usize, range: ByteRange) -> Frame
     requires { range.from ≤ range.to }
-    ensures framed { result ≡ framed_lem interface ticks size range }
+    ensures framed { result ≡ frames_spec.framed interface ticks size range }
     ensures within { StandsInFile range.to result }
 {
     if size > record::MOST {
@@ -125,7 +127,7 @@ fn framed(interface: Option<Interface>, ticks: Option<u64>, size: usize, range: 
 
 #[inline]
 fn simple_size(first: Option<Interface>, original: u32, room: usize) -> usize
-    ensures { result ≡ simple_size_lem (snap_of_lem first) original room }
+    ensures { result ≡ frames_spec.simple_size (frames_spec.snap_of first) original room }
 {
     let limit = match first {
         Some(interface) if interface.snap != 0 => room.min(interface.snap as usize),
@@ -138,7 +140,7 @@ fn simple_size(first: Option<Interface>, original: u32, room: usize) -> usize
 #[inline]
 fn frame_of_block(interfaces: &[Interface], whole: WholeBlock, octets: &[u8], at: usize) -> Frame
     requires { BlockStands at octets.now (Whole whole) }
-    ensures gives { result ≡ frame_of_block_lem interfaces.now whole octets.now at }
+    ensures gives { result ≡ frames_spec.frame_of_block interfaces.now whole octets.now at }
     ensures within { StandsInFile (length octets.now) result }
 {
     let body = at + block::BODY;
@@ -274,7 +276,7 @@ impl Frames {
 
     fn next_block(&mut self, octets: &[u8]) -> Result<Frame, Memory>
         requires { self.old.at < length octets.now }
-        ensures step { IfOk result (λ frame. TakesStep (step_of_block (unread_of octets.now self.old) (block_at_lem self.old.order octets.now self.old.at)) frame (unread_of octets.now self.new)) }
+        ensures step { IfOk result (λ frame. TakesStep (step_of_block (unread_of octets.now self.old) (blocks.block_at self.old.order octets.now self.old.at)) frame (unread_of octets.now self.new)) }
         ensures within { IfOk result (λ frame. StandsInFile (length octets.now) frame) }
     {
         let whole = match block_at(self.order, octets, self.at) {

@@ -1,5 +1,5 @@
 ghost use Rattle.std.specs.Prelude.{◌≡◌};
-ghost use Rattle.rtps_capture.specs.LinkTypes.{link_read as link_read_lem, link_type_numbered as link_type_numbered_lem};
+ghost use Rattle.rtps_capture.specs.LinkTypes as link_types;
 
 use crate::captures::Captures;
 use crate::layout::link_type;
@@ -21,7 +21,7 @@ pub enum LinkType {
 
 /// What the frames of this link type are, if they are read: the number is one of the registry of link types.
 pub fn link_type_numbered(number: u32) -> Option<LinkType>
-    ensures { result ≡ link_type_numbered_lem number }
+    ensures { result ≡ link_types.link_type_numbered number }
 {
     match number {
         link_type::LOOPBACK | link_type::LOOP => Some(LinkType::Loopback),
@@ -37,7 +37,7 @@ pub fn link_type_numbered(number: u32) -> Option<LinkType>
 
 /// What the frames of this link type are, if they are read from these captures.
 pub(crate) fn link_read(captures: Captures, number: u32) -> Option<LinkType>
-    ensures { result ≡ link_read_lem captures number }
+    ensures { result ≡ link_types.link_read captures number }
 {
     match captures {
         Captures::Classic if number != link_type::ETHERNET && number != link_type::RAW => None,

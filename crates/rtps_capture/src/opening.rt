@@ -1,5 +1,6 @@
 ghost use Rattle.std.specs.Prelude.{◌≡◌};
-ghost use Rattle.rtps_capture.specs.Opening.{link_type_in as link_type_in_lem, order_of, unread_link_type_of};
+ghost use Rattle.rtps_capture.specs.Opening.{order_of, unread_link_type_of};
+ghost use Rattle.rtps_capture.specs.Opening as opening;
 ghost use Rattle.rtps_capture.specs.declared.layout.file.TheConstants.{SIZE};
 
 use crate::captures::Captures;
@@ -40,7 +41,7 @@ pub fn unread_link_type(octets: &[u8]) -> Option<u32>
 
 #[tactic(auto, unfolding(crate::specs::Opening::link_type_in))]
 pub(crate) fn link_type_in(order: Order, octets: &[u8]) -> Option<u32>
-    ensures { result ≡ link_type_in_lem order octets.now }
+    ensures { result ≡ opening.link_type_in order octets.now }
 {
     if octets.len() < file::SIZE {
         return None;

@@ -1,5 +1,5 @@
 ghost use Rattle.std.specs.Prelude.{◌≡◌, ◌≤◌, ◌<◌, ◌+◌, ◌*◌, length, IfSome};
-ghost use Rattle.rtps_capture.specs.Options.{found_option as found_option_lem, offset_told as offset_told_lem, option_at as option_at_lem, option_passed as option_passed_lem, resolution_told as resolution_told_lem, value_told as value_told_lem};
+ghost use Rattle.rtps_capture.specs.Options as options_spec;
 
 use crate::layout::option;
 use crate::octet_number::two_octets;
@@ -9,7 +9,7 @@ use rtps_ids::Order;
 
 fn option_at(order: Order, options: &[u8], at: usize) -> Header
     requires { at ≤ length options.now }
-    ensures { result ≡ option_at_lem order options.now at }
+    ensures { result ≡ options_spec.option_at order options.now at }
 {
     if options.len() - at < option::VALUE {
         return Header {
@@ -26,7 +26,7 @@ fn option_at(order: Order, options: &[u8], at: usize) -> Header
 /// The option behind one of another code than this. None where it is of this code, or none is behind it.
 fn option_passed(order: Order, code: u16, options: &[u8], header: Header) -> Option<Header>
     requires { header.at ≤ length options.now }
-    ensures passed { result ≡ option_passed_lem order code options.now header }
+    ensures passed { result ≡ options_spec.option_passed order code options.now header }
     ensures onward { IfSome result (λ behind. (header.at < behind.at) × (behind.at ≤ length options.now)) }
 {
     let room = options.len() - header.at;
@@ -43,7 +43,7 @@ fn option_passed(order: Order, code: u16, options: &[u8], header: Header) -> Opt
 
 /// The first option of this code, or the last one that is read.
 fn found_option(order: Order, code: u16, options: &[u8]) -> Header
-    ensures found { result ≡ found_option_lem order code options.now }
+    ensures found { result ≡ options_spec.found_option order code options.now }
     ensures within { result.at ≤ length options.now }
 {
     let mut header = option_at(order, options, 0);
@@ -55,7 +55,7 @@ fn found_option(order: Order, code: u16, options: &[u8]) -> Header
 
 fn value_told(order: Order, code: u16, size: usize, options: &[u8]) -> Option<usize>
     requires { size ≤ 8 }
-    ensures told { result ≡ value_told_lem order code size options.now }
+    ensures told { result ≡ options_spec.value_told order code size options.now }
     ensures within { IfSome result (λ at. at + size ≤ length options.now) }
 {
     let header = found_option(order, code, options);
@@ -69,7 +69,7 @@ fn value_told(order: Order, code: u16, size: usize, options: &[u8]) -> Option<us
 }
 
 pub(crate) fn resolution_told(order: Order, options: &[u8]) -> u8
-    ensures { result ≡ resolution_told_lem order options.now }
+    ensures { result ≡ options_spec.resolution_told order options.now }
 {
     match value_told(order, option::RESOLUTION, 1, options) {
         Some(at) => options[at],
@@ -79,7 +79,7 @@ pub(crate) fn resolution_told(order: Order, options: &[u8]) -> u8
 
 #[tactic(auto, unfolding(rtps_ids::specs::Octets::number_of))]
 pub(crate) fn offset_told(order: Order, options: &[u8]) -> u64
-    ensures { result ≡ offset_told_lem order options.now }
+    ensures { result ≡ options_spec.offset_told order options.now }
 {
     let Some(at) = value_told(order, option::OFFSET, 8, options) else {
         return 0;

@@ -1,5 +1,6 @@
 ghost use Rattle.std.specs.Prelude.{◌≡◌, ◌≤◌, ◌<◌, ◌+◌, ◌-◌, ◌^◌, length};
-ghost use Rattle.rtps_capture.specs.Packets.{StandsIn, packet_of as packet_of_lem, carried_behind as carried_behind_lem, carried_at as carried_at_lem, contents_of_ipv4 as contents_of_ipv4_lem, contents_of_ipv6 as contents_of_ipv6_lem, is_within, contents_of_whole as contents_of_whole_lem, contents_read as contents_read_lem, moved_contents, size_in_front as size_in_front_lem, udp_within as udp_within_lem};
+ghost use Rattle.rtps_capture.specs.Packets.{StandsIn, is_within, moved_contents};
+ghost use Rattle.rtps_capture.specs.Packets as packets;
 
 use crate::byte_range::ByteRange;
 use crate::captures::Captures;
@@ -41,7 +42,7 @@ enum Carried {
 #[tactic(auto, unfolding(crate::specs::Packets::contents_read))]
 #[inline]
 pub(crate) fn contents_read(captures: Captures, link: LinkType, frame: &[u8]) -> Contents
-    ensures contents { result ≡ contents_read_lem captures link frame.now }
+    ensures contents { result ≡ packets.contents_read captures link frame.now }
     ensures within { StandsIn (length frame.now) result }
 {
     match captures {
@@ -64,7 +65,7 @@ pub(crate) fn contents_read(captures: Captures, link: LinkType, frame: &[u8]) ->
 }
 
 fn size_in_front(link: LinkType) -> usize
-    ensures { result ≡ size_in_front_lem link }
+    ensures { result ≡ packets.size_in_front link }
 {
     match link {
         LinkType::Ethernet => ethernet::SIZE,
@@ -97,7 +98,7 @@ pub(crate) fn moved(by: usize, contents: Contents) -> Contents
 
 #[tactic(auto, unfolding(crate::specs::Packets::packet_of))]
 fn packet_of(link: LinkType, frame: &[u8]) -> Carried
-    ensures carried { result ≡ packet_of_lem link frame.now }
+    ensures carried { result ≡ packets.packet_of link frame.now }
     ensures within { is_within (length frame.now) result }
 {
     match link {
@@ -114,7 +115,7 @@ fn packet_of(link: LinkType, frame: &[u8]) -> Carried
 /// The packet that begins there, of the version that the high half of its first octet tells, if it may be of that one.
 #[inline]
 fn carried_at(frame: &[u8], at: usize, only: Option<u8>) -> Carried
-    ensures carried { result ≡ carried_at_lem frame.now at only }
+    ensures carried { result ≡ packets.carried_at frame.now at only }
     ensures within { is_within (length frame.now) result }
 {
     if frame.len() <= at {
@@ -135,7 +136,7 @@ fn carried_at(frame: &[u8], at: usize, only: Option<u8>) -> Carried
 #[inline]
 fn carried_behind(type_at: usize, size: usize, frame: &[u8]) -> Carried
     requires { type_at + 2 ≤ size }
-    ensures carried { result ≡ carried_behind_lem type_at size frame.now }
+    ensures carried { result ≡ packets.carried_behind type_at size frame.now }
     ensures within { is_within (length frame.now) result }
 {
     if frame.len() < size {
@@ -157,7 +158,7 @@ fn carried_behind(type_at: usize, size: usize, frame: &[u8]) -> Carried
 /// What a packet of version 4 contains (RFC 791, 3.1 "Internet Header Format").
 #[tactic(auto, unfolding(crate::specs::Packets::contents_of_ipv4))]
 fn contents_of_ipv4(octets: &[u8]) -> Contents
-    ensures contents { result ≡ contents_of_ipv4_lem octets.now }
+    ensures contents { result ≡ packets.contents_of_ipv4 octets.now }
     ensures within { StandsIn (length octets.now) result }
 {
     if octets.len() < packet::LEAST {
@@ -193,7 +194,7 @@ fn contents_of_ipv4(octets: &[u8]) -> Contents
 /// What a packet of version 6 contains (RFC 8200, 3 "IPv6 Header Format").
 #[tactic(auto, unfolding(crate::specs::Packets::contents_of_ipv6))]
 fn contents_of_ipv6(octets: &[u8]) -> Contents
-    ensures contents { result ≡ contents_of_ipv6_lem octets.now }
+    ensures contents { result ≡ packets.contents_of_ipv6 octets.now }
     ensures within { StandsIn (length octets.now) result }
 {
     if octets.len() < packet_6::SIZE {
@@ -217,7 +218,7 @@ fn contents_of_ipv6(octets: &[u8]) -> Contents
 #[tactic(auto, unfolding(crate::specs::Packets::contents_of_whole))]
 fn contents_of_whole(octets: &[u8]) -> Contents
     requires { 40 ≤ length octets.now }
-    ensures contents { result ≡ contents_of_whole_lem octets.now }
+    ensures contents { result ≡ packets.contents_of_whole octets.now }
     ensures within { StandsIn (length octets.now) result }
 {
     let first = Header {
@@ -256,7 +257,7 @@ fn contents_of_whole(octets: &[u8]) -> Contents
 pub(crate) fn udp_within(octets: &[u8], range: ByteRange) -> Contents
     requires ordered { range.from ≤ range.to }
     requires within { range.to ≤ length octets.now }
-    ensures contents { result ≡ udp_within_lem octets.now range }
+    ensures contents { result ≡ packets.udp_within octets.now range }
     ensures within { StandsIn (length octets.now) result }
 {
     if range.to - range.from < udp::SIZE {

@@ -1,5 +1,6 @@
 ghost use Rattle.std.specs.Prelude.{◌≡◌, ◌≤◌, ◌<◌, ◌+◌, IfSome, length};
-ghost use Rattle.rtps_capture.specs.Passed.{extension_passed as extension_passed_lem, last_within, tag_passed as tag_passed_lem};
+ghost use Rattle.rtps_capture.specs.Passed.{last_within};
+ghost use Rattle.rtps_capture.specs.Passed as passed_spec;
 
 use crate::layout::{extension, tag};
 use crate::octet_number::two_octets;
@@ -16,7 +17,7 @@ pub(crate) struct Header {
 #[inline]
 fn tag_passed(frame: &[u8], header: Header) -> Option<Header>
     requires { header.at ≤ length frame.now }
-    ensures passed { result ≡ tag_passed_lem frame.now header }
+    ensures passed { result ≡ passed_spec.tag_passed frame.now header }
     ensures onward { IfSome result (λ behind. (header.at < behind.at) × (behind.at ≤ length frame.now)) }
 {
     let is_tag = matches!(header.kind, tag::CUSTOMER | tag::SERVICE | tag::OLDER);
@@ -31,7 +32,7 @@ fn tag_passed(frame: &[u8], header: Header) -> Option<Header>
 
 pub(crate) fn behind_tags(first: Header, frame: &[u8]) -> Header
     requires { first.at ≤ length frame.now }
-    ensures last { result ≡ last_within (tag_passed_lem frame.now) (length frame.now) first }
+    ensures last { result ≡ last_within (passed_spec.tag_passed frame.now) (length frame.now) first }
     ensures within { result.at ≤ length frame.now }
 {
     let mut header = first;
@@ -47,7 +48,7 @@ pub(crate) fn behind_tags(first: Header, frame: &[u8]) -> Header
 #[inline]
 fn extension_passed(packet: &[u8], header: Header) -> Option<Header>
     requires { header.at ≤ length packet.now }
-    ensures passed { result ≡ extension_passed_lem packet.now header }
+    ensures passed { result ≡ passed_spec.extension_passed packet.now header }
     ensures onward { IfSome result (λ behind. (header.at < behind.at) × (behind.at ≤ length packet.now)) }
 {
     let room = packet.len() - header.at;
@@ -73,7 +74,7 @@ fn extension_passed(packet: &[u8], header: Header) -> Option<Header>
 
 pub(crate) fn behind_extensions(first: Header, packet: &[u8]) -> Header
     requires { first.at ≤ length packet.now }
-    ensures last { result ≡ last_within (extension_passed_lem packet.now) (length packet.now) first }
+    ensures last { result ≡ last_within (passed_spec.extension_passed packet.now) (length packet.now) first }
     ensures within { result.at ≤ length packet.now }
 {
     let mut header = first;

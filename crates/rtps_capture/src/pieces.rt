@@ -1,5 +1,6 @@
 ghost use Rattle.std.specs.Prelude.{◌≡◌, ◌≤◌, ◌<◌, ◌+◌, ◌-◌, ◌^◌, ◌++◌, ◌∷◌, [], drop, false, not, count_by, OnOk};
-ghost use Rattle.rtps_capture.specs.Pieces.{clashes_with, fills, in_order, is_repeat, is_same as is_same_lem, joined, piece_octets as piece_octets_lem, piece_of as piece_of_lem, pieces_with, stands_before as stands_before_lem};
+ghost use Rattle.rtps_capture.specs.Pieces.{clashes_with, fills, in_order, is_repeat, joined, pieces_with};
+ghost use Rattle.rtps_capture.specs.Pieces as pieces_spec;
 ghost use Rattle.rtps_capture.specs.Packets.{fragment_size};
 
 use crate::fragment::Fragment;
@@ -24,7 +25,7 @@ pub(crate) struct Piece {
 /// The fragment, whose range is one of the file, as it is kept.
 pub(crate) fn piece_of(fragment: &Fragment) -> Piece
     requires { fragment.now.start + fragment_size fragment.now < 2 ^ 32 }
-    ensures { result ≡ piece_of_lem fragment.now }
+    ensures { result ≡ pieces_spec.piece_of fragment.now }
 {
     let size = fragment.range.to.saturating_sub(fragment.range.from);
     Piece {
@@ -37,7 +38,7 @@ pub(crate) fn piece_of(fragment: &Fragment) -> Piece
 
 #[inline]
 pub(crate) fn piece_octets<'a>(file: &'a [u8], piece: &Piece) -> &'a [u8]
-    ensures { result.now ≡ piece_octets_lem file.now piece.now }
+    ensures { result.now ≡ pieces_spec.piece_octets file.now piece.now }
 {
     if file.len() <= piece.at {
         return &[];
@@ -48,7 +49,7 @@ pub(crate) fn piece_octets<'a>(file: &'a [u8], piece: &Piece) -> &'a [u8]
 }
 
 fn is_same(file: &[u8], one: &Piece, other: &Piece) -> bool
-    ensures { result ≡ is_same_lem file.now one.now other.now }
+    ensures { result ≡ pieces_spec.is_same file.now one.now other.now }
 {
     one.start == other.start
         && one.end == other.end
@@ -58,7 +59,7 @@ fn is_same(file: &[u8], one: &Piece, other: &Piece) -> bool
 
 #[inline]
 fn stands_before(one: &Piece, other: &Piece) -> bool
-    ensures { result ≡ stands_before_lem one.now other.now }
+    ensures { result ≡ pieces_spec.stands_before one.now other.now }
 {
     one.start < other.start
         && one.end <= other.start

@@ -1,5 +1,6 @@
 ghost use Rattle.std.specs.Prelude.{◌≡◌, ◌≤◌, ◌<◌, ◌+◌, ◌*◌, ◌^◌, length};
-ghost use Rattle.rtps_capture.specs.Times.{block_time as block_time_lem, later_by as later_by_lem, later_of, nanoseconds_of as nanoseconds_of_lem, pair_at as pair_at_lem, record_time as record_time_lem};
+ghost use Rattle.rtps_capture.specs.Times.{later_of};
+ghost use Rattle.rtps_capture.specs.Times as times_spec;
 ghost use Rattle.rtps_capture.specs.declared.layout.time.TheConstants.{SECOND};
 
 use crate::blocks::Interface;
@@ -10,7 +11,7 @@ use rtps_ids::Order;
 #[inline]
 pub(crate) fn record_time(nanoseconds: bool, order: Order, octets: &[u8], at: usize) -> u64
     requires { at + 16 ≤ length octets.now }
-    ensures { result ≡ record_time_lem nanoseconds order octets.now at }
+    ensures { result ≡ times_spec.record_time nanoseconds order octets.now at }
 {
     let seconds = u64::from(four_octets(order, octets, at + record::SECONDS));
     let fraction = u64::from(four_octets(order, octets, at + record::FRACTION));
@@ -25,7 +26,7 @@ pub(crate) fn record_time(nanoseconds: bool, order: Order, octets: &[u8], at: us
 #[inline]
 pub(crate) fn pair_at(order: Order, octets: &[u8], at: usize) -> u64
     requires { at + 8 ≤ length octets.now }
-    ensures { result ≡ pair_at_lem order octets.now at }
+    ensures { result ≡ times_spec.pair_at order octets.now at }
 {
     let high = u64::from(four_octets(order, octets, at));
     high * (1 << 32) + u64::from(four_octets(order, octets, at + 4))
@@ -33,7 +34,7 @@ pub(crate) fn pair_at(order: Order, octets: &[u8], at: usize) -> u64
 
 #[tactic(auto, unfolding(crate::specs::Times::nanoseconds_of))]
 fn nanoseconds_of(resolution: u8, ticks: u64) -> u128
-    ensures value { result ≡ nanoseconds_of_lem resolution ticks }
+    ensures value { result ≡ times_spec.nanoseconds_of resolution ticks }
     ensures few { result ≤ ticks * SECOND }
 {
     let (base, power) = if resolution < 128 {
@@ -52,7 +53,7 @@ fn nanoseconds_of(resolution: u8, ticks: u64) -> u128
 #[tactic(auto, unfolding(crate::specs::Times::later_by))]
 fn later_by(offset: u64, nanoseconds: u128) -> Option<u128>
     requires { nanoseconds < 2 ^ 94 }
-    ensures { result ≡ later_by_lem offset nanoseconds }
+    ensures { result ≡ times_spec.later_by offset nanoseconds }
 {
     if offset < 1 << 63 {
         return Some(nanoseconds + u128::from(offset) * u128::from(time::SECOND));
@@ -64,7 +65,7 @@ fn later_by(offset: u64, nanoseconds: u128) -> Option<u128>
 /// The time of a frame of this interface, whose block tells it in so many units. None where it is before 1970, or past what
 /// 64 bits count.
 pub(crate) fn block_time(interface: Interface, ticks: u64) -> Option<u64>
-    ensures { result ≡ block_time_lem interface ticks }
+    ensures { result ≡ times_spec.block_time interface ticks }
 {
     let nanoseconds = nanoseconds_of(interface.resolution, ticks);
     let counted = later_by(interface.offset, nanoseconds)?;

@@ -9,17 +9,19 @@ use Rattle.rtps_report.specs.NotTold.{NotToldValue}
 use Rattle.rtps_report.specs.Talk.{TalkValue}
 use Rattle.rtps_report.specs.declared.two_lives.TwoLives.{TwoLives}
 use Rattle.rtps_check.specs.DiscoveryText.{lives_by, lives_line, not_told_by, not_told_lines}
+use Rattle.rtps_check.specs.TalkText.{remedy_line}
 use Rattle.rtps_check.proofs.OneWayLemmas.{lines_more}
+use Rattle.rtps_lines.specs.declared.sentences.block.TheConstants as said
 
 -- the lines of some participants with two lives
 pub some_lives : (times : TimesValue) (talk : TalkValue) (ones : List TwoLives) (number : ℕ) → length ones ≡ number → (number == 0) ≡ false
     → concat (codes "\n" ∷ amount number lives_words ∷ codes "\n" ∷ [])
-    ++ (flat_map (lives_line times talk) ones ++ codes "  -> two processes use one GUID, as after a copied disk image or a restart: give each its own, and record again\n")
+    ++ (flat_map (lives_line times talk) ones ++ remedy_line said.LIVES_REMEDY.now)
     ≡ lives_by times talk ones
 some_lives times talk [] number long some = absurd (true≢false (ap (λ n. n == 0) long ∙ some))
 some_lives times talk (one ∷ more) number long some =
     ap (λ n. concat (codes "\n" ∷ amount n lives_words ∷ codes "\n" ∷ [])
-    ++ (flat_map (lives_line times talk) (one ∷ more) ++ codes "  -> two processes use one GUID, as after a copied disk image or a restart: give each its own, and record again\n"))
+    ++ (flat_map (lives_line times talk) (one ∷ more) ++ remedy_line said.LIVES_REMEDY.now))
     (sym long)
 
 -- the lines of one more, of values

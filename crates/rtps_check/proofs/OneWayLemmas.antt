@@ -8,7 +8,8 @@ use Rattle.rtps_lines.proofs.Offered.{two_parts}
 use Rattle.rtps_parts.specs.Parts.{amount}
 use Rattle.rtps_policies.specs.declared.one_way.OneWay.{OneWay}
 use Rattle.rtps_report.specs.Ends.{EndValue}
-use Rattle.rtps_check.specs.TalkText.{one_way_by, one_way_lines}
+use Rattle.rtps_check.specs.TalkText.{one_way_by, one_way_lines, remedy_line}
+use Rattle.rtps_lines.specs.declared.sentences.block.TheConstants as said
 
 -- parts behind others
 pub parts_behind : {A : Type 0} (a b c d e more : List A) → (a ++ (b ++ (c ++ (d ++ e)))) ++ more ≡ a ++ (b ++ (c ++ (d ++ (e ++ more))))
@@ -27,9 +28,9 @@ lines_more line items i one start told new within so_far more =
 
 -- the lines of some
 pub some_one_way : (ends : Guid → EndValue) (ones : List OneWay) (number : ℕ) → length ones ≡ number → (number == 0) ≡ false
-    → concat (codes "\n" ∷ amount number (record { one = codes "pair of participants talks one way"; many = codes "pairs of participants talk one way" }) ∷ codes "\n" ∷ [])
-    ++ (flat_map (one_way_lines ends) ones ++ codes "  -> a firewall, or its datagrams are not in this recording\n") ≡ one_way_by ends ones
+    → concat (codes "\n" ∷ amount number (record { one = said.ONE_WAY_ONE.now; many = said.ONE_WAY_MANY.now }) ∷ codes "\n" ∷ [])
+    ++ (flat_map (one_way_lines ends) ones ++ remedy_line said.ONE_WAY_REMEDY.now) ≡ one_way_by ends ones
 some_one_way ends [] number long some = absurd (true≢false (ap (λ n. n == 0) long ∙ some))
 some_one_way ends (one ∷ more) number long some =
-    ap (λ n. concat (codes "\n" ∷ amount n (record { one = codes "pair of participants talks one way"; many = codes "pairs of participants talk one way" }) ∷ codes "\n" ∷ [])
-    ++ (flat_map (one_way_lines ends) (one ∷ more) ++ codes "  -> a firewall, or its datagrams are not in this recording\n")) (sym long)
+    ap (λ n. concat (codes "\n" ∷ amount n (record { one = said.ONE_WAY_ONE.now; many = said.ONE_WAY_MANY.now }) ∷ codes "\n" ∷ [])
+    ++ (flat_map (one_way_lines ends) (one ∷ more) ++ remedy_line said.ONE_WAY_REMEDY.now)) (sym long)

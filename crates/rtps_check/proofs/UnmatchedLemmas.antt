@@ -7,7 +7,8 @@ use Rattle.rtps_lines.specs.Causes.{unmatched_words}
 use Rattle.rtps_parts.specs.Parts.{amount}
 use Rattle.rtps_policies.specs.Unmatched.{UnmatchedValue}
 use Rattle.rtps_report.specs.Ends.{EndValue}
-use Rattle.rtps_check.specs.TalkText.{AreByTopic, topic_line, unmatched_lines, unmatched_pair, unmatched_pairs}
+use Rattle.rtps_check.specs.TalkText.{AreByTopic, remedy_line, topic_line, unmatched_lines, unmatched_pair, unmatched_pairs}
+use Rattle.rtps_lines.specs.declared.sentences.block.TheConstants as said
 
 -- the lines of one more
 pub pairs_more : (ends : Guid → EndValue) (before : Option (List ℕ)) (one : UnmatchedValue) (more : List UnmatchedValue) (start headed told all : List ℕ)
@@ -24,8 +25,8 @@ none_by_topic (one ∷ more) none = absurd (omega (arith, eqb-true (length (one 
 -- the lines of some
 pub some_lines : (ends : Guid → EndValue) (sorted : List UnmatchedValue) (number : ℕ) → length sorted ≡ number → (number == 0) ≡ false
     → (codes "\n" ++ (amount number unmatched_words ++ (codes "\n" ++ []))) ++ (unmatched_pairs ends None sorted
-    ++ codes "  -> by the standard nothing passes between them: change what one offers or what the other asks for\n") ≡ unmatched_lines ends sorted
+    ++ remedy_line said.UNMATCHED_REMEDY.now) ≡ unmatched_lines ends sorted
 some_lines ends [] number long some = absurd (true≢false (ap (λ n. n == 0) long ∙ some))
 some_lines ends (one ∷ more) number long some =
     ap (λ n. (codes "\n" ++ (amount n unmatched_words ++ (codes "\n" ++ []))) ++ (unmatched_pairs ends None (one ∷ more)
-    ++ codes "  -> by the standard nothing passes between them: change what one offers or what the other asks for\n")) (sym long)
+    ++ remedy_line said.UNMATCHED_REMEDY.now)) (sym long)

@@ -15,7 +15,8 @@ use Rattle.rtps_parts.specs.Parts.{WordsValue, amount, share}
 use Rattle.rtps_report.specs.Ends.{EndValue}
 use Rattle.rtps_report.specs.BestEfforts.{HeldValue}
 use Rattle.rtps_report.specs.Talk.{TalkValue}
-use Rattle.rtps_check.specs.TalkText.{ended, topic_line}
+use Rattle.rtps_check.specs.TalkText.{ended, remedy_line, topic_line}
+use Rattle.rtps_lines.specs.declared.sentences.block.TheConstants as said
 
 -- ---- numbers
 
@@ -76,7 +77,7 @@ abbrev pub lossy_lines : (Guid → EndValue) → List HeldValue → List ℕ
 lossy_lines ends [] = []
 lossy_lines ends (one ∷ more) =
     lossy_head (sum_by lost_of (one ∷ more)) (length (one ∷ more))
-    ++ (lossy_pairs ends None (one ∷ more) ++ codes "  -> by best effort nothing is sent again: look at the network, or make both reliable\n")
+    ++ (lossy_pairs ends None (one ∷ more) ++ remedy_line said.LOST_REMEDY.now)
 
 -- those of a report are appended to a text
 pub record IsArrivedBlock (talk : TalkValue) (before text : List ℕ) : Type 0 where

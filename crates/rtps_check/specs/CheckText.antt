@@ -34,6 +34,7 @@ use Rattle.rtps_evidence.specs.declared.waits.Wait.{Wait}
 use Rattle.rtps_report.specs.declared.advice.Advice.TheVariants.{Tail}
 use Rattle.rtps_report.specs.declared.note_facts.NoteFacts.{NoteFacts}
 use Rattle.rtps_report.specs.declared.order.Order.{Order}
+use Rattle.rtps_lines.specs.AdviceText.{sentence_of}
 use Rattle.rtps_lines.specs.Causes.{causes_of, findings_in, last_line}
 use Rattle.rtps_lines.specs.LateNotes.{late_lines}
 use Rattle.rtps_lines.specs.Notes.{NotedValue, joined_names, notes, number_words, talking_names, topic_name}
@@ -44,25 +45,26 @@ use Rattle.rtps_lines.specs.TailNames.{longest_tail}
 use Rattle.rtps_parts.specs.RosNames.{topic_text, type_text}
 use Rattle.rtps_policies.specs.Unmatched.{UnmatchedValue}
 use Rattle.rtps_report.specs.Talk.{LeftOutValue, TalkValue, left_out_value, talk_value}
-use Rattle.rtps_report.specs.Advice.{advice_of, sentence_of}
+use Rattle.rtps_report.specs.Advice.{advice_of}
 use Rattle.rtps_report.specs.Reported.{number_of}
 use Rattle.rtps_lines.specs.Lines.{acknowledged_line, advice_text, announced_line, asked_line, claimed_line, questions_line, second_text, sent_line, silence_lines, told_line, verdict_text, wait_text}
 use Rattle.rtps_parts.specs.Table.{table}
-use Rattle.rtps_lines.specs.CheckMembers.{check_members}
-use Rattle.rtps_lines.specs.JsonText.{IsJsonLine, object_of}
+use Rattle.rtps_json.specs.CheckMembers.{check_members}
+use Rattle.rtps_json.specs.JsonText.{IsJsonLine, object_of}
 use Rattle.rtps_report.specs.Findings.{ending_as}
 use Rattle.rtps_check.specs.ArrivedText.{AreByTopic as LossyByTopic, is_lossy, lossy_lines}
 use Rattle.rtps_check.specs.DiscoveryText.{lives_block, not_told_block}
 use Rattle.rtps_check.specs.TalkText.{AreByTopic as UnmatchedByTopic, AreLeftByTopic as LeftOutByTopic, ended, one_way_block, unmatched_lines}
 use Rattle.rtps_check.specs.declared.checked_text.Told.{Told}
 use Rattle.rtps_check.specs.declared.sections.RowTelling.{RowTelling}
+use Rattle.rtps_lines.specs.declared.sentences.block.TheConstants as said
 
 -- how many of the pairs are clean, and how many of the numbers are received
 abbrev pub clean_line : Totals → List ℕ
 clean_line totals = concat (share totals.clean_pairs totals.pairs
-    ∷ words_for totals.pairs (record { one = codes " pair is clean, "; many = codes " pairs are clean, " })
+    ∷ words_for totals.pairs (record { one = said.CLEAN_ONE.now; many = said.CLEAN_MANY.now })
     ∷ share totals.received totals.numbers
-    ∷ words_for totals.numbers (record { one = codes " number received"; many = codes " numbers received" }) ∷ [])
+    ∷ words_for totals.numbers (record { one = said.RECEIVED_ONE.now; many = said.RECEIVED_MANY.now }) ∷ [])
 
 -- how many more numbers arrived, where there is another recording
 abbrev pub arrived_text : Option SideFacts → Totals → List ℕ
@@ -75,7 +77,7 @@ clean_lines side totals = clean_line totals ++ (arrived_text side totals ++ code
 
 -- that there is no pair, and what to do
 abbrev pub no_pair_lines : List ℕ → List ℕ
-no_pair_lines remedy = concat (codes "there is no pair to judge\n  -> " ∷ remedy ∷ codes "\n" ∷ [])
+no_pair_lines remedy = concat (said.NO_PAIR.now ∷ codes "\n  -> " ∷ remedy ∷ codes "\n" ∷ [])
 
 -- what to do where a report has no row; nothing where it has some
 abbrev pub IsRemedyBy : List Explanation → AskedValue → RecordingValue → ReportValue → List ℕ → Type 0
@@ -281,7 +283,7 @@ event_block told rows event = event_lines told event (rows_with told.talk told.s
 -- that so many pairs lack only a tail, and what lets them pass
 abbrev pub tails_text : ℕ → ℕ → List ℕ → List ℕ
 tails_text pairs longest names =
-    concat (codes "\n" ∷ amount pairs (record { one = codes "pair lacks only a tail"; many = codes "pairs lack only a tail" })
+    concat (codes "\n" ∷ amount pairs (record { one = said.TAIL_ONE.now; many = said.TAIL_MANY.now })
     ∷ codes " of at most " ∷ amount longest number_words ∷ [])
     ++ ((codes " (--tail " ++ decimal longest)
     ++ concat (codes " lets them pass)" ∷ names ∷ codes "\n  -> " ∷ sentence_of Tail ∷ codes "\n" ∷ []))

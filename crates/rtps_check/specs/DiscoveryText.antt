@@ -4,7 +4,7 @@ use Rattle.std.specs.Prelude.{ℕ, ◌++◌, ◌==◌, if◌then◌else◌, List
 use Rattle.std.specs.List.{concat, flat_map}
 use Rattle.rtps_evidence.specs.Times.{TimesValue}
 use Rattle.rtps_lines.specs.Causes.{endpoint_words, lives_words}
-use Rattle.rtps_lines.specs.DiscoveryMembers.{sent_second}
+use Rattle.rtps_lines.specs.Lines.{sent_second}
 use Rattle.rtps_lines.specs.EventText.{called}
 use Rattle.rtps_lines.specs.Lines.{not_told_advice, seconds_text}
 use Rattle.rtps_parts.specs.Parts.{amount}
@@ -13,7 +13,8 @@ use Rattle.rtps_report.specs.NotTold.{NotToldValue, TopicEndValue}
 use Rattle.rtps_report.specs.Silences.{address_behind}
 use Rattle.rtps_report.specs.Talk.{TalkValue}
 use Rattle.rtps_report.specs.declared.two_lives.TwoLives.{TwoLives}
-use Rattle.rtps_check.specs.TalkText.{ended}
+use Rattle.rtps_check.specs.TalkText.{ended, remedy_line}
+use Rattle.rtps_lines.specs.declared.sentences.block.TheConstants as said
 
 -- ---- who was never told of which endpoints
 
@@ -36,8 +37,8 @@ unnamed_line talk one =
 -- what a participant was never told of another, and what to do
 abbrev pub not_told_lines : TalkValue → NotToldValue → List ℕ
 not_told_lines talk one =
-    end_lines talk one (codes " was never told of the writer of ") one.writers
-    ++ (end_lines talk one (codes " was never told of the reader of ") one.readers
+    end_lines talk one (said.NOT_TOLD_WRITER.now) one.writers
+    ++ (end_lines talk one (said.NOT_TOLD_READER.now) one.readers
     ++ (unnamed_line talk one ++ concat (codes "  -> " ∷ not_told_advice (address_behind talk one.from one.to) ∷ codes "\n" ∷ [])))
 
 -- those of all, behind an empty line; nothing where there is none
@@ -63,7 +64,7 @@ lives_by times talk [] = []
 lives_by times talk (one ∷ more) =
     concat (codes "\n" ∷ amount (length (one ∷ more)) lives_words ∷ codes "\n" ∷ [])
     ++ (flat_map (lives_line times talk) (one ∷ more)
-    ++ codes "  -> two processes use one GUID, as after a copied disk image or a restart: give each its own, and record again\n")
+    ++ remedy_line said.LIVES_REMEDY.now)
 
 -- those of all of a report
 abbrev pub lives_block : TimesValue → TalkValue → List ℕ

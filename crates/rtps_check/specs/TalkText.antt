@@ -20,6 +20,11 @@ use Rattle.rtps_policies.specs.declared.fitting.Policy.{Policy}
 use Rattle.rtps_policies.specs.declared.one_way.OneWay.{OneWay}
 use Rattle.rtps_report.specs.Ends.{EndValue}
 use Rattle.rtps_report.specs.Talk.{LeftOutValue, TalkValue}
+use Rattle.rtps_lines.specs.declared.sentences.block.TheConstants as said
+
+-- what to do, in a line behind an arrow
+abbrev pub remedy_line : List ℕ → List ℕ
+remedy_line sentence = codes "  -> " ++ (sentence ++ codes "\n")
 
 -- an end, where these are the ends by their GUIDs
 abbrev pub ended : (Guid → EndValue) → Guid → List ℕ
@@ -66,7 +71,7 @@ unmatched_lines ends [] = []
 unmatched_lines ends (one ∷ more) =
     concat (codes "\n" ∷ amount (length (one ∷ more)) unmatched_words ∷ codes "\n" ∷ [])
     ++ (unmatched_pairs ends None (one ∷ more)
-    ++ codes "  -> by the standard nothing passes between them: change what one offers or what the other asks for\n")
+    ++ remedy_line said.UNMATCHED_REMEDY.now)
 
 -- they are appended to a text
 pub record IsUnmatchedBlock (talk : TalkValue) (before text : List ℕ) : Type 0 where
@@ -99,9 +104,9 @@ one_way_lines ends one =
 abbrev pub one_way_by : (Guid → EndValue) → List OneWay → List ℕ
 one_way_by ends [] = []
 one_way_by ends (one ∷ more) =
-    concat (codes "\n" ∷ amount (length (one ∷ more)) (record { one = codes "pair of participants talks one way"; many = codes "pairs of participants talk one way" })
+    concat (codes "\n" ∷ amount (length (one ∷ more)) (record { one = said.ONE_WAY_ONE.now; many = said.ONE_WAY_MANY.now })
     ∷ codes "\n" ∷ [])
-    ++ (flat_map (one_way_lines ends) (one ∷ more) ++ codes "  -> a firewall, or its datagrams are not in this recording\n")
+    ++ (flat_map (one_way_lines ends) (one ∷ more) ++ remedy_line said.ONE_WAY_REMEDY.now)
 
 -- the lines of all of them in a report
 abbrev pub one_way_block : TalkValue → List ℕ

@@ -2,19 +2,21 @@ ghost use Rattle.std.specs.Prelude.{◌≡◌, ◌++◌, IfOk, OnOk, None, filte
 ghost use Rattle.rtps_parts.specs.Parts.{part_text};
 ghost use Rattle.rtps_report.specs.BestEfforts.{held_value};
 ghost use Rattle.rtps_report.specs.Talk.{talk_value};
-ghost use Rattle.rtps_check.specs.ArrivedText.{AreByTopic, IsArrivedBlock, arrived_share as arrived_share_lem, is_lossy, lossy_head as lossy_head_lem, lossy_pair, lossy_pairs, lost_of as lost_of_lem, two_lines};
+ghost use Rattle.rtps_check.specs.ArrivedText.{AreByTopic, IsArrivedBlock, is_lossy, lossy_pair, lossy_pairs, two_lines};
+ghost use Rattle.rtps_check.specs.ArrivedText as arrived_text;
 
 use crate::not_arrived::push_listed;
 use crate::unmatched_block::{end_by, push_topic};
 use rtps_discovery::Pair;
 use rtps_lines::number_words;
+use rtps_lines::sentences::block as said;
 use rtps_parts::{Part, Words, render};
 use rtps_report::{HeldPair, Talk};
 use std::alloc::{AllocError, Global};
 
 /// How many numbers of a pair did not arrive.
 fn lost_of(one: &HeldPair<'_>) -> u64
-    ensures { result ≡ lost_of_lem (held_value one.now) }
+    ensures { result ≡ arrived_text.lost_of (held_value one.now) }
 {
     one.numbers.saturating_sub(one.arrived.arrived)
 }
@@ -38,7 +40,7 @@ fn lossy_by_topic<'h, 'a>(
 
 /// How many numbers of these pairs did not arrive.
 fn lost_among(pairs: &[&HeldPair<'_>]) -> u128
-    ensures { result ≡ sum_by lost_of_lem (map (λ one. held_value one.now) pairs.now) }
+    ensures { result ≡ sum_by arrived_text.lost_of (map (λ one. held_value one.now) pairs.now) }
 {
     let mut lost = 0;
     for one in pairs {
@@ -48,7 +50,7 @@ fn lost_among(pairs: &[&HeldPair<'_>]) -> u128
 }
 
 fn lossy_head(lost: u128, pairs: usize) -> [Part<'static>; 5]
-    ensures { flat_map part_text result ≡ lossy_head_lem lost pairs }
+    ensures { flat_map part_text result ≡ arrived_text.lossy_head lost pairs }
 {
     let words = Words {
         one: "best-effort pair",
@@ -74,7 +76,7 @@ fn push_two(text: &mut String, pair: Pair, talk: &Talk<'_>) -> Result<(), AllocE
 
 /// How many numbers of a pair arrived, of how many.
 fn arrived_share(one: &HeldPair<'_>) -> [Part<'static>; 3]
-    ensures { flat_map part_text result ≡ arrived_share_lem (held_value one.now) }
+    ensures { flat_map part_text result ≡ arrived_text.arrived_share (held_value one.now) }
 {
     let arrived = u128::from(one.arrived.arrived);
     let numbers = u128::from(one.numbers);
@@ -127,7 +129,5 @@ pub(crate) fn push_arrived_block(
     }
     render(text, &lossy_head(lost_among(&sorted), sorted.len()))?;
     push_pairs(text, sorted, talk)?;
-    text.push_str(
-        "  -> by best effort nothing is sent again: look at the network, or make both reliable\n",
-    )
+    writeln!(text, "  -> {}", said::LOST_REMEDY)
 }

@@ -7,7 +7,8 @@ ghost use Rattle.rtps_parts.specs.Parts.{part_text};
 ghost use Rattle.rtps_report.specs.Asked.{asked_value};
 ghost use Rattle.rtps_report.specs.FullReport.{report_value};
 ghost use Rattle.rtps_report.specs.Talk.{left_out_value, talk_value};
-ghost use Rattle.rtps_check.specs.CheckText.{IsCheckJson, IsCheckText, IsRemedyIn, IsTextBy, arrived_text, beside_value, clean_line as clean_line_lem, clean_lines, discovery_text, ending_text, first_lines, notes_block, told_beside, told_notes as told_notes_lem, topics_text};
+ghost use Rattle.rtps_check.specs.CheckText.{IsCheckJson, IsCheckText, IsRemedyIn, IsTextBy, arrived_text, beside_value, clean_lines, discovery_text, ending_text, first_lines, notes_block, told_beside, topics_text};
+ghost use Rattle.rtps_check.specs.CheckText as check_text_spec;
 
 use crate::arrived_block::push_arrived_block;
 use crate::event_blocks::push_events;
@@ -20,9 +21,11 @@ use crate::topic_table::push_topic_table;
 use crate::unmatched_block::{left_by_topic, push_unmatched_block, unmatched_by_topic};
 use json::Writer;
 use rtps_evidence::Explanation;
+use rtps_json::{json_line, push_check_members};
+use rtps_lines::sentences::block as said;
 use rtps_lines::{
-    Judged, LostRows, NotedRows, causes_of, json_line, late_lines, no_pair_remedy, notes_of,
-    push_check_members, push_last, talking_names,
+    Judged, LostRows, NotedRows, causes_of, late_lines, no_pair_remedy, notes_of, push_last,
+    talking_names,
 };
 use rtps_parts::{Part, Words, render, words_for};
 use rtps_report::{
@@ -54,16 +57,16 @@ struct Told<'r, 'a> {
 
 /// How many of the pairs are clean, and how many of the numbers are received.
 fn clean_line(totals: &Totals) -> [Part<'static>; 4]
-    ensures { flat_map part_text result ≡ clean_line_lem totals.now }
+    ensures { flat_map part_text result ≡ check_text_spec.clean_line totals.now }
 {
     let pairs = u128::from(totals.pairs);
     let pair_words = Words {
-        one: " pair is clean, ",
-        many: " pairs are clean, ",
+        one: said::CLEAN_ONE,
+        many: said::CLEAN_MANY,
     };
     let number_words = Words {
-        one: " number received",
-        many: " numbers received",
+        one: said::RECEIVED_ONE,
+        many: said::RECEIVED_MANY,
     };
     [
         Part::Share(u128::from(totals.clean_pairs), pairs),
@@ -107,7 +110,8 @@ fn push_first(text: &mut String, totals: &Totals, told: &Told<'_, '_>) -> Result
 {
     if totals.pairs == 0 {
         let parts = [
-            Part::Text("there is no pair to judge\n  -> "),
+            Part::Text(said::NO_PAIR),
+            Part::Text("\n  -> "),
             Part::Text(told.remedy),
             Part::Text("\n"),
         ];
@@ -151,7 +155,7 @@ fn push_topics(
 
 fn told_notes(alloc: Global, told: &Told<'_, '_>) -> Result<Vec<String>, AllocError>
     ensures { IfOk result (λ notes. map string_bytes notes.items
-        ≡ told_notes_lem told.now.scope (beside_value told.now) (map explanation_value told.now.rows.now)) }
+        ≡ check_text_spec.told_notes told.now.scope (beside_value told.now) (map explanation_value told.now.rows.now)) }
 {
     let late = late_among(alloc, told.talk, told.scope.from, told.rows)?;
     let matched_late = late_rows(alloc, told.talk, told.rows)?;

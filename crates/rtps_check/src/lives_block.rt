@@ -4,6 +4,7 @@ ghost use Rattle.rtps_check.specs.DiscoveryText.{lives_block, lives_line};
 
 use crate::unmatched_block::end_by;
 use rtps_evidence::Times;
+use rtps_lines::sentences::block as said;
 use rtps_lines::{SecondsText, lives_words, sent_second};
 use rtps_parts::{Part, render};
 use rtps_report::{Talk, TwoLives};
@@ -47,7 +48,5 @@ pub(crate) fn push_lives_block(
     for one in &talk.lives {
         push_lives(text, *one, talk, times)?;
     }
-    text.push_str(
-        "  -> two processes use one GUID, as after a copied disk image or a restart: give each its own, and record again\n",
-    )
+    writeln!(text, "  -> {}", said::LIVES_REMEDY)
 }

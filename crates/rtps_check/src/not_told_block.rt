@@ -4,6 +4,7 @@ ghost use Rattle.rtps_report.specs.Talk.{talk_value};
 ghost use Rattle.rtps_check.specs.DiscoveryText.{end_line, end_lines, not_told_block, not_told_lines, unnamed_line};
 
 use crate::unmatched_block::end_by;
+use rtps_lines::sentences::block as said;
 use rtps_lines::{NotToldAdvice, called, endpoint_words};
 use rtps_parts::{Part, render};
 use rtps_report::{NotTold, Talk, TopicEnd};
@@ -64,8 +65,8 @@ fn push_unnamed(text: &mut String, one: &NotTold<'_>, talk: &Talk<'_>) -> Result
 fn push_not_told(text: &mut String, one: &NotTold<'_>, talk: &Talk<'_>) -> Result<(), AllocError>
     ensures { OnOk result (string_bytes text.new ≡ string_bytes text.old ++ not_told_lines (talk_value talk.now) (not_told_value one.now)) }
 {
-    let writer = " was never told of the writer of ";
-    let reader = " was never told of the reader of ";
+    let writer = said::NOT_TOLD_WRITER;
+    let reader = said::NOT_TOLD_READER;
     push_ends(text, one, writer, (&one.writers, talk))?;
     push_ends(text, one, reader, (&one.readers, talk))?;
     push_unnamed(text, one, talk)?;

@@ -3,6 +3,7 @@ ghost use Rattle.rtps_report.specs.Talk.{talk_value};
 ghost use Rattle.rtps_check.specs.TalkText.{one_way_block, one_way_lines};
 
 use crate::unmatched_block::end_by;
+use rtps_lines::sentences::block as said;
 use rtps_parts::{Part, Words, render};
 use rtps_policies::{OneWay, participant_of};
 use rtps_report::Talk;
@@ -36,8 +37,8 @@ pub(crate) fn push_one_way_block(text: &mut String, talk: &Talk<'_>) -> Result<(
         return Ok(());
     }
     let words = Words {
-        one: "pair of participants talks one way",
-        many: "pairs of participants talk one way",
+        one: said::ONE_WAY_ONE,
+        many: said::ONE_WAY_MANY,
     };
     let head = [
         Part::Text("\n"),
@@ -48,5 +49,5 @@ pub(crate) fn push_one_way_block(text: &mut String, talk: &Talk<'_>) -> Result<(
     for one in &talk.one_way {
         push_one_way(text, *one, talk)?;
     }
-    text.push_str("  -> a firewall, or its datagrams are not in this recording\n")
+    writeln!(text, "  -> {}", said::ONE_WAY_REMEDY)
 }

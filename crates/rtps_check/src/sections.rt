@@ -1,9 +1,10 @@
 ghost use Rattle.std.specs.Prelude.{◌≡◌, ◌++◌, OnOk, IfOk, map, flat_map, option_copied, option_map, string_bytes};
 ghost use Rattle.rtps_evidence.specs.Explanation.{evidence_value, explanation_value};
 ghost use Rattle.rtps_evidence.specs.Locations.{sent_value};
-ghost use Rattle.rtps_lines.specs.Lines.{silence_lines as silence_lines_lem};
+ghost use Rattle.rtps_lines.specs.Lines as lines_spec;
 ghost use Rattle.rtps_parts.specs.Parts.{part_text};
-ghost use Rattle.rtps_check.specs.CheckText.{advice_line, headed, kind_text, kinds_text, left_text, missed_line, noted_lines, pair_lines, payload_line, reason_lines, row_head, row_lines, row_told, section, sentence_line, topic_head as topic_head_lem, verdict_lines, wait_line};
+ghost use Rattle.rtps_check.specs.CheckText.{advice_line, headed, kind_text, kinds_text, left_text, missed_line, noted_lines, pair_lines, payload_line, reason_lines, row_head, row_lines, row_told, section, sentence_line, verdict_lines, wait_line};
+ghost use Rattle.rtps_check.specs.CheckText as check_text;
 
 use crate::unmatched_block::end_by;
 use rtps_evidence::{Evidence, Explanation, Grounds, InSpan, Outcomes, Sent, Times};
@@ -183,7 +184,7 @@ fn push_silences(
     silences: Silences,
     times: &Times,
 ) -> Result<(), AllocError>
-    ensures { OnOk result (string_bytes text.new ≡ string_bytes text.old ++ flat_map sentence_line (silence_lines_lem times.now silences)) }
+    ensures { OnOk result (string_bytes text.new ≡ string_bytes text.old ++ flat_map sentence_line (lines_spec.silence_lines times.now silences)) }
 {
     let sentences = silence_lines(alloc, times, silences)?;
     push_sentences(text, &sentences)
@@ -249,7 +250,7 @@ fn lines_of(
 
 /// The line of a topic: its name and its type; nothing where there is no row.
 fn topic_head<'a>(rows: &[Explanation<'a>]) -> [Part<'a>; 4]
-    ensures { flat_map part_text result ≡ topic_head_lem (map explanation_value rows.now) }
+    ensures { flat_map part_text result ≡ check_text.topic_head (map explanation_value rows.now) }
 {
     match rows.first() {
         Some(row) => [

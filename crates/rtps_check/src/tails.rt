@@ -1,13 +1,14 @@
 ghost use Rattle.std.specs.Prelude.{◌≡◌, ◌++◌, IfOk, OnOk, filter, map, string_bytes};
 ghost use Rattle.rtps_evidence.specs.Explanation.{explanation_value};
-ghost use Rattle.rtps_report.specs.RowFacts.{is_clean_tail as is_clean_tail_lem};
-ghost use Rattle.rtps_report.specs.LateRows.{is_late_alone as is_late_alone_lem};
+ghost use Rattle.rtps_report.specs.RowFacts as row_facts;
+ghost use Rattle.rtps_report.specs.LateRows as late_rows;
 ghost use Rattle.rtps_report.specs.Talk.{talk_value};
 ghost use Rattle.rtps_check.specs.CheckText.{lacks_tail_alone, row_told, tail_block, tails_text};
 
 use crate::sections::RowTelling;
 use rtps_evidence::Explanation;
-use rtps_lines::{longest_tail, names_of, number_words, push_field};
+use rtps_lines::sentences::block as said;
+use rtps_lines::{longest_tail, names_of, number_words, push_field, sentence_of};
 use rtps_parts::{Part, Words, render};
 use rtps_report::{Advice, Talk, is_clean_tail, is_late_alone, is_tail_alone};
 use std::alloc::{AllocError, Global};
@@ -35,7 +36,7 @@ pub(crate) fn late_among<'a>(
     from: u64,
     rows: &[Explanation<'a>],
 ) -> Result<Vec<Explanation<'a>>, AllocError>
-    ensures { IfOk result (λ late. map explanation_value late.items ≡ filter (is_late_alone_lem (talk_value talk.now) from) (map explanation_value rows.now)) }
+    ensures { IfOk result (λ late. map explanation_value late.items ≡ filter (late_rows.is_late_alone (talk_value talk.now) from) (map explanation_value rows.now)) }
 {
     let mut late = Vec::new(alloc);
     for row in rows {
@@ -52,7 +53,7 @@ pub(crate) fn clean_tails_among<'a>(
     rows: &[Explanation<'a>],
     tail: u64,
 ) -> Result<Vec<Explanation<'a>>, AllocError>
-    ensures { IfOk result (λ tails. map explanation_value tails.items ≡ filter (λ row. is_clean_tail_lem tail row.evidence) (map explanation_value rows.now)) }
+    ensures { IfOk result (λ tails. map explanation_value tails.items ≡ filter (λ row. row_facts.is_clean_tail tail row.evidence) (map explanation_value rows.now)) }
 {
     let mut tails = Vec::new(alloc);
     for row in rows {
@@ -67,8 +68,8 @@ fn push_tails(text: &mut String, pairs: usize, longest: u64, names: &str) -> Res
     ensures { OnOk result (string_bytes text.new ≡ string_bytes text.old ++ tails_text pairs longest names.now) }
 {
     let words = Words {
-        one: "pair lacks only a tail",
-        many: "pairs lack only a tail",
+        one: said::TAIL_ONE,
+        many: said::TAIL_MANY,
     };
     let head = [
         Part::Text("\n"),
@@ -80,7 +81,7 @@ fn push_tails(text: &mut String, pairs: usize, longest: u64, names: &str) -> Res
         Part::Text(" lets them pass)"),
         Part::Text(names),
         Part::Text("\n  -> "),
-        Part::Text(Advice::Tail.sentence()),
+        Part::Text(sentence_of(Advice::Tail)),
         Part::Text("\n"),
     ];
     render(text, &head)?;

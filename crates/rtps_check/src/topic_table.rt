@@ -1,7 +1,8 @@
 ghost use Rattle.std.specs.Prelude.{◌≡◌, ◌++◌, ◌∷◌, IfOk, OnOk, map, string_bytes};
 ghost use Rattle.rtps_evidence.specs.Explanation.{explanation_value};
 ghost use Rattle.rtps_parts.specs.Parts.{part_text};
-ghost use Rattle.rtps_check.specs.CheckText.{shown_places as shown_places_lem, shown_where, table_head as table_head_lem, topic_row as topic_row_lem, topic_table};
+ghost use Rattle.rtps_check.specs.CheckText.{shown_where, topic_table};
+ghost use Rattle.rtps_check.specs.CheckText as check_text;
 
 use rtps_evidence::Explanation;
 use rtps_lines::topic_name;
@@ -10,7 +11,7 @@ use rtps_report::{Scope, Totals, totals_of};
 use std::alloc::{AllocError, Global};
 
 fn table_head<'a>() -> [Part<'a>; 11]
-    ensures { map part_text result ≡ table_head_lem }
+    ensures { map part_text result ≡ check_text.table_head }
 {
     [
         Part::Text("topic"),
@@ -28,7 +29,7 @@ fn table_head<'a>() -> [Part<'a>; 11]
 }
 
 fn topic_row<'a>(rows: &[Explanation<'a>], scope: Scope) -> [Part<'a>; 11]
-    ensures { map part_text result ≡ topic_row_lem scope (map explanation_value rows.now) }
+    ensures { map part_text result ≡ check_text.topic_row scope (map explanation_value rows.now) }
 {
     let totals = totals_of(rows, scope);
     [
@@ -52,7 +53,7 @@ fn table_rows<'a>(
     scope: Scope,
 ) -> Result<Vec<Vec<Part<'a>>>, AllocError>
     ensures { IfOk result (λ rows. map (λ row. map part_text row.items) rows.items
-        ≡ table_head_lem ∷ map (topic_row_lem scope) (map (λ topic. map explanation_value topic.now) topics.now)) }
+        ≡ check_text.table_head ∷ map (check_text.topic_row scope) (map (λ topic. map explanation_value topic.now) topics.now)) }
 {
     let mut rows = Vec::new(alloc);
     rows.push(Vec::from_array(alloc, table_head())?)?;
@@ -74,7 +75,7 @@ fn push_place(places: &mut Vec<usize>, place: usize, sum: u128) -> Result<(), Al
 
 /// The places of the columns that are shown, by the sums of their entries.
 fn shown_places(alloc: Global, totals: &Totals) -> Result<Vec<usize>, AllocError>
-    ensures { IfOk result (λ places. places.items ≡ shown_places_lem totals.now) }
+    ensures { IfOk result (λ places. places.items ≡ check_text.shown_places totals.now) }
 {
     let mut places = Vec::from_array(alloc, [0, 1, 2, 3])?;
     push_place(&mut places, 4, totals.received)?;

@@ -5,6 +5,7 @@ ghost use Rattle.rtps_report.specs.Talk.{left_out_value, talk_value};
 ghost use Rattle.rtps_check.specs.TalkText.{AreByTopic, AreLeftByTopic, IsUnmatchedBlock, policy_line, topic_line, unmatched_pair, unmatched_pairs};
 
 use rtps_ids::Guid;
+use rtps_lines::sentences::block as said;
 use rtps_lines::{EndText, Naming, PolicyValue, unmatched_words, words_of_policy};
 use rtps_parts::{Part, render};
 use rtps_policies::{Policy, Unmatched};
@@ -129,7 +130,5 @@ pub(crate) fn push_unmatched_block(
     let sorted = unmatched_by_topic(alloc, &talk.unmatched)?;
     render(text, &head)?;
     push_pairs(text, sorted, talk)?;
-    text.push_str(
-        "  -> by the standard nothing passes between them: change what one offers or what the other asks for\n",
-    )
+    writeln!(text, "  -> {}", said::UNMATCHED_REMEDY)
 }

@@ -1,6 +1,7 @@
 ghost use Rattle.std.specs.Prelude.{◌≡◌, ◌≤◌, length, option_and_then, option_copied};
 ghost use Rattle.rtps_params.specs.Values.{guid_of};
-ghost use Rattle.rtps_discovery.specs.Announcement.{ReadsOrFaults, default_reliability, durability_of_kind, endpoint_in, endpoint_of, fields_of as fields_of_lem, kind_in, order_of, participant_in, participant_of, reliability_of_kind};
+ghost use Rattle.rtps_discovery.specs.Announcement.{ReadsOrFaults, default_reliability, durability_of_kind, endpoint_in, endpoint_of, kind_in, order_of, participant_in, participant_of, reliability_of_kind};
+ghost use Rattle.rtps_discovery.specs.Announcement as announcement;
 ghost use Rattle.rtps_discovery.specs.Endpoint.{endpoint_value};
 ghost use Rattle.rtps_discovery.specs.Fields.{fields_value};
 
@@ -40,7 +41,7 @@ pub fn read_endpoint(payload: &[u8], side: Side) -> Result<Endpoint<'_>, NoticeF
 /// ignored.
 #[tactic(auto, unfolding(crate::specs::Announcement::fields_of))]
 pub(crate) fn fields_of(payload: &[u8]) -> Result<ParamList<'_>, NoticeFault>
-    ensures { ReadsOrFaults fields_value result (fields_of_lem payload.now) }
+    ensures { ReadsOrFaults fields_value result (announcement.fields_of payload.now) }
 {
     if payload.len() < representation::SIZE {
         return Err(NoticeFault::CutRepresentation);

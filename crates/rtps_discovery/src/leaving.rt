@@ -5,8 +5,9 @@ ghost use Rattle.rtps_params.specs.Values.{guid_of};
 ghost use Rattle.rtps_receiver.specs.Speech.{origin_of};
 ghost use Rattle.rtps_receiver.specs.Values.{ActValue, spoken_value};
 ghost use Rattle.rtps_wire.specs.Values.{data_value, payload_value};
-ghost use Rattle.rtps_discovery.specs.Leaving.{guid_in_payload as guid_in_payload_lem, has_key_of as has_key_of_lem, inline_value as inline_value_lem, is_one_of, is_ending as is_ending_lem, key_of as key_of_lem, leaves as leaves_lem};
-ghost use Rattle.rtps_discovery.specs.Notice.{subject_of as subject_of_lem};
+ghost use Rattle.rtps_discovery.specs.Leaving.{is_one_of};
+ghost use Rattle.rtps_discovery.specs.Leaving as leaving;
+ghost use Rattle.rtps_discovery.specs.Notice as notice;
 
 use crate::announcement::{fields_of, guid_in};
 use crate::endpoint::Side;
@@ -20,7 +21,7 @@ use rtps_wire::{DataBody, Payload};
 
 /// The value of a parameter of one sample alone.
 fn inline_value<'a>(qos: &Option<ParamList<'a>>, pid: u16) -> Option<&'a [u8]>
-    ensures { option_copied result ≡ inline_value_lem pid (option_map list_value qos.now) }
+    ensures { option_copied result ≡ leaving.inline_value pid (option_map list_value qos.now) }
 {
     match qos {
         Some(list) => list.first(pid),
@@ -30,7 +31,7 @@ fn inline_value<'a>(qos: &Option<ParamList<'a>>, pid: u16) -> Option<&'a [u8]>
 
 /// Whether a status says that what has the key is disposed or unregistered.
 fn is_ending(value: Option<&[u8]>) -> bool
-    ensures { result ≡ is_ending_lem (option_copied value.entry) }
+    ensures { result ≡ leaving.is_ending (option_copied value.entry) }
 {
     match value {
         Some(value) => value.len() == status::SIZE && value[status::FLAGS] % status::ENDS != 0,
@@ -40,7 +41,7 @@ fn is_ending(value: Option<&[u8]>) -> bool
 
 /// The GUID under an id in a payload, a whole one or a key.
 fn guid_in_payload(payload: &Payload<'_>, pid: u16) -> Option<Guid>
-    ensures { result ≡ guid_in_payload_lem pid (payload_value payload.now) }
+    ensures { result ≡ leaving.guid_in_payload pid (payload_value payload.now) }
 {
     let octets = match payload {
         Payload::Whole(octets) => *octets,
@@ -55,7 +56,7 @@ fn guid_in_payload(payload: &Payload<'_>, pid: u16) -> Option<Guid>
 
 /// The GUID under an id in the payload of a DATA, or else the one in its key hash.
 fn key_of(body: &DataBody<'_>, pid: u16) -> Option<Guid>
-    ensures { result ≡ key_of_lem pid (data_value body.now) }
+    ensures { result ≡ leaving.key_of pid (data_value body.now) }
 {
     match guid_in_payload(&body.payload, pid) {
         Some(guid) => Some(guid),
@@ -65,7 +66,7 @@ fn key_of(body: &DataBody<'_>, pid: u16) -> Option<Guid>
 
 /// Whether a DATA of what announces readers, or participants, has the key of the reader, or of its participant.
 fn has_key_of(body: &DataBody<'_>, reader: Guid) -> bool
-    ensures { result ≡ has_key_of_lem reader (subject_of_lem body.now.writer) (data_value body.now) }
+    ensures { result ≡ leaving.has_key_of reader (notice.subject_of body.now.writer) (data_value body.now) }
 {
     match subject_of(body.writer) {
         Some(Subject::Participant) => match key_of(body, PARTICIPANT_GUID) {
@@ -84,7 +85,7 @@ fn has_key_of(body: &DataBody<'_>, reader: Guid) -> bool
 /// Whether an act says that this reader leaves: its participant disposes or unregisters the reader, or itself, to whomever
 /// (DDSI-RTPS 2.5, 9.6.4.9 "StatusInfo_t (PID_STATUS_INFO)").
 pub fn leaves(act: &Spoken<'_>, reader: Guid) -> bool
-    ensures { result ≡ leaves_lem reader (spoken_value act.now) }
+    ensures { result ≡ leaving.leaves reader (spoken_value act.now) }
 {
     if act.source != reader.prefix {
         return false;
@@ -105,7 +106,7 @@ pub fn leaves(act: &Spoken<'_>, reader: Guid) -> bool
 /// The built-in writers of a reader's participant: of its readers, and of itself. No other says that the reader leaves.
 #[tactic(auto, using(crate::proofs::Leavers::left_by_one))]
 pub fn leaving_writers(reader: Guid) -> (Guid, Guid)
-    ensures { (act : ActValue) → leaves_lem reader act ≡ true → is_one_of result.0 result.1 (origin_of act) ≡ true }
+    ensures { (act : ActValue) → leaving.leaves reader act ≡ true → is_one_of result.0 result.1 (origin_of act) ≡ true }
 {
     let readers = Guid {
         prefix: reader.prefix,

@@ -1,6 +1,7 @@
 ghost use Rattle.std.specs.Prelude.{◌≡◌, ◌↔◌, filter, IfOk, IsTrue};
 ghost use Rattle.rtps_discovery.specs.Endpoint.{endpoint_value};
-ghost use Rattle.rtps_discovery.specs.Matching.{Matches, is_match, is_reliable, match_of as match_of_lem, reliable_pairs as reliable_pairs_lem};
+ghost use Rattle.rtps_discovery.specs.Matching.{Matches, is_match, is_reliable};
+ghost use Rattle.rtps_discovery.specs.Matching as matching;
 
 use crate::endpoint::{Endpoint, Reliability, Side};
 use rtps_ids::{Guid, Memory};
@@ -45,7 +46,7 @@ fn suits(writer: &Endpoint<'_>, reader: &Endpoint<'_>) -> bool
 
 /// The match of a writer and a reader that match.
 pub(crate) fn match_of(writer: &Endpoint<'_>, reader: &Endpoint<'_>) -> Match
-    ensures { result ≡ match_of_lem (endpoint_value writer.now) (endpoint_value reader.now) }
+    ensures { result ≡ matching.match_of (endpoint_value writer.now) (endpoint_value reader.now) }
 {
     Match {
         pair: Pair {
@@ -75,7 +76,7 @@ pub(crate) fn reliable_among<'a>(
 
 /// The pairs of the reliable matches.
 pub(crate) fn reliable_pairs(alloc: Global, found: &[Match]) -> Result<Vec<Pair>, Memory>
-    ensures { IfOk result (λ pairs. pairs.items ≡ reliable_pairs_lem found.now) }
+    ensures { IfOk result (λ pairs. pairs.items ≡ matching.reliable_pairs found.now) }
 {
     let mut pairs = Vec::new(alloc);
     for one in found {

@@ -1,6 +1,7 @@
 ghost use Rattle.std.specs.Prelude.{◌≡◌};
 ghost use Rattle.std.specs.Option.{option_map};
-ghost use Rattle.rtps_discovery.specs.Notice.{notice_in, subject_of as subject_of_lem};
+ghost use Rattle.rtps_discovery.specs.Notice.{notice_in};
+ghost use Rattle.rtps_discovery.specs.Notice as notice_spec;
 ghost use Rattle.rtps_receiver.specs.Values.{spoken_value};
 
 use crate::endpoint::Side;
@@ -45,7 +46,7 @@ pub(crate) fn notice<'a>(act: &Spoken<'a>) -> Option<(Subject, &'a [u8])>
 /// What this built-in writer announces. The last octet is compared first, since most writers differ in it.
 #[tactic(auto, using(crate::proofs::OtherWriters::of_another_kind))]
 pub(crate) fn subject_of(writer: EntityId) -> Option<Subject>
-    ensures { result ≡ subject_of_lem writer }
+    ensures { result ≡ notice_spec.subject_of writer }
 {
     let EntityId([.., kind]) = writer;
     if kind != entity::KIND {

@@ -1,7 +1,8 @@
 ghost use Rattle.std.specs.Prelude.{◌≡◌, ◌<◌, length, IfOk};
 ghost use Rattle.std.specs.List.{list_any};
-ghost use Rattle.rtps_discovery.specs.Matching.{durability_rank as durability_rank_lem, reliability_rank as reliability_rank_lem};
-ghost use Rattle.rtps_discovery.specs.Offers.{AreWithin, asks_within as asks_within_lem, makes, offer_of as offer_of_lem, readers_within as readers_within_lem};
+ghost use Rattle.rtps_discovery.specs.Matching as matching;
+ghost use Rattle.rtps_discovery.specs.Offers.{AreWithin, makes};
+ghost use Rattle.rtps_discovery.specs.Offers as offers_spec;
 
 use crate::endpoint::{Durability, Endpoint, Reliability, Side};
 use rtps_ids::Memory;
@@ -12,7 +13,7 @@ const OFFERS: usize = 8;
 
 /// How strong a reliability is.
 fn reliability_rank(reliability: Reliability) -> usize
-    ensures { result ≡ reliability_rank_lem reliability }
+    ensures { result ≡ matching.reliability_rank reliability }
 {
     match reliability {
         Reliability::BestEffort => 0,
@@ -22,7 +23,7 @@ fn reliability_rank(reliability: Reliability) -> usize
 
 /// How strong a durability is.
 fn durability_rank(durability: Durability) -> usize
-    ensures value { result ≡ durability_rank_lem durability }
+    ensures value { result ≡ matching.durability_rank durability }
     ensures within { result < 4 }
 {
     match durability {
@@ -35,7 +36,7 @@ fn durability_rank(durability: Durability) -> usize
 
 /// What an endpoint offers of reliability and durability, as a number.
 pub(crate) fn offer_of(endpoint: &Endpoint<'_>) -> usize
-    ensures value { result ≡ offer_of_lem endpoint.now }
+    ensures value { result ≡ offers_spec.offer_of endpoint.now }
     ensures within { result < 8 }
 {
     4 * reliability_rank(endpoint.reliability) + durability_rank(endpoint.durability)
@@ -43,7 +44,7 @@ pub(crate) fn offer_of(endpoint: &Endpoint<'_>) -> usize
 
 /// Whether a reader asks for no more than this offer.
 fn asks_within(reader: &Endpoint<'_>, offer: usize) -> bool
-    ensures { result ≡ asks_within_lem offer reader.now }
+    ensures { result ≡ offers_spec.asks_within offer reader.now }
 {
     reliability_rank(reader.reliability) <= offer / 4
         && durability_rank(reader.durability) <= offer % 4
@@ -71,7 +72,7 @@ fn readers_within<'a>(
     readers: &[Endpoint<'a>],
     offer: usize,
 ) -> Result<Vec<Endpoint<'a>>, Memory>
-    ensures { IfOk result (λ list. list.items ≡ readers_within_lem endpoints.now readers.now offer) }
+    ensures { IfOk result (λ list. list.items ≡ offers_spec.readers_within endpoints.now readers.now offer) }
 {
     let mut list = Vec::new(alloc);
     if !is_made(endpoints, offer) {

@@ -1,7 +1,9 @@
 ghost use Rattle.std.specs.Prelude.{◌≡◌, ◌++◌, IfOk, OnOk, filter, map};
 ghost use Rattle.rtps_discovery.specs.Endpoint.{endpoint_value};
-ghost use Rattle.rtps_discovery.specs.Matching.{matches_among as matches_among_lem, matches_of};
-ghost use Rattle.rtps_discovery.specs.TopicIndex.{IsByTopic, IsByType, IsByTypeInTopics, KeepsTypes, has_topic, has_type, readers_among as readers_among_lem};
+ghost use Rattle.rtps_discovery.specs.Matching.{matches_of};
+ghost use Rattle.rtps_discovery.specs.Matching as matching;
+ghost use Rattle.rtps_discovery.specs.TopicIndex.{IsByTopic, IsByType, IsByTypeInTopics, KeepsTypes, has_topic, has_type};
+ghost use Rattle.rtps_discovery.specs.TopicIndex as topic_index;
 
 use crate::endpoint::{Endpoint, Side};
 use crate::matching::{Match, match_of, matches};
@@ -12,7 +14,7 @@ use std::alloc::Global;
 /// The matches among endpoints, writer by writer. A writer is compared only with the readers of its topic and its type
 /// that ask for no more than it offers.
 pub(crate) fn matches_among(alloc: Global, endpoints: &[Endpoint<'_>]) -> Result<Vec<Match>, Memory>
-    ensures { IfOk result (λ found. found.items ≡ matches_among_lem (map endpoint_value endpoints.now)) }
+    ensures { IfOk result (λ found. found.items ≡ matching.matches_among (map endpoint_value endpoints.now)) }
 {
     let readers = readers_by_topic(alloc, endpoints)?;
     let by_offer = readers_by_offer(alloc, endpoints, &readers)?;
@@ -34,7 +36,7 @@ fn readers_by_topic<'a>(
 ) -> Result<Vec<Endpoint<'a>>, Memory>
     ensures sorted { IfOk result (λ readers. IsByTopic readers.items) }
     ensures typed { IfOk result (λ readers. IsByTypeInTopics readers.items) }
-    ensures stable { IfOk result (λ readers. KeepsTypes (readers_among_lem endpoints.now) readers.items) }
+    ensures stable { IfOk result (λ readers. KeepsTypes (topic_index.readers_among endpoints.now) readers.items) }
 {
     let mut readers = readers_among(alloc, endpoints)?;
     readers.sort_by_key(|reader| reader.type_name)?;
@@ -44,7 +46,7 @@ fn readers_by_topic<'a>(
 
 /// The readers among endpoints.
 fn readers_among<'a>(alloc: Global, endpoints: &[Endpoint<'a>]) -> Result<Vec<Endpoint<'a>>, Memory>
-    ensures { IfOk result (λ readers. readers.items ≡ readers_among_lem endpoints.now) }
+    ensures { IfOk result (λ readers. readers.items ≡ topic_index.readers_among endpoints.now) }
 {
     let mut readers = Vec::new(alloc);
     for endpoint in endpoints {

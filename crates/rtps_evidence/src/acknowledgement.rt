@@ -7,7 +7,8 @@ ghost use Rattle.rtps_audit.specs.Index.{IsIndexBy};
 ghost use Rattle.rtps_audit.specs.Intake.{Intake};
 ghost use Rattle.rtps_audit.specs.Placed.{answers_among, placed_in};
 ghost use Rattle.rtps_receiver.specs.Said.{natural};
-ghost use Rattle.rtps_evidence.specs.Locations.{acknowledgement_of, acknowledges as acknowledges_lem, claim_in as claim_in_lem, claim_of};
+ghost use Rattle.rtps_evidence.specs.Locations.{acknowledgement_of, claim_of};
+ghost use Rattle.rtps_evidence.specs.Locations as locations;
 
 use crate::location::Location;
 use rtps_audit::{Answer, FirstAsked, Index};
@@ -23,7 +24,7 @@ pub struct Claim {
 
 /// What an answer claims, and where it stands.
 pub(crate) fn claim_in(answer: &Answer) -> Claim
-    ensures { result ≡ claim_in_lem answer.now }
+    ensures { result ≡ locations.claim_in answer.now }
 {
     Claim {
         below: answer.natural_base().cast_signed(),
@@ -48,14 +49,14 @@ pub(crate) fn greatest_base(answers: &[Answer]) -> u64
 
 /// Whether a reader acknowledges some number of a writer, any two GUIDs, by whatever answer of an index's recording.
 pub fn acknowledges(index: &Index<'_>, pair: Pair) -> bool
-    ensures { (intake : Intake) → IsIndexBy intake index.now → result ≡ acknowledges_lem pair.writer pair.reader (placed_in intake.acts) }
+    ensures { (intake : Intake) → IsIndexBy intake index.now → result ≡ locations.acknowledges pair.writer pair.reader (placed_in intake.acts) }
 {
     greatest_base(index.answers_of(pair)) > 1
 }
 
 /// The first of these answers that has the base.
 fn first_with(answers: &[Answer], base: u64) -> Option<Claim>
-    ensures { result ≡ find (λ claim. natural claim.below == base) (map claim_in_lem answers.now) }
+    ensures { result ≡ find (λ claim. natural claim.below == base) (map locations.claim_in answers.now) }
 {
     for answer in answers {
         if answer.natural_base() == base {
@@ -67,7 +68,7 @@ fn first_with(answers: &[Answer], base: u64) -> Option<Claim>
 
 /// The first of these answers, in a datagram counted from 1, that has a base above the number.
 fn first_above(answers: &[Answer], datagram: u64, number: u64) -> Option<Claim>
-    ensures { result ≡ find (λ claim. (claim.place.datagram == datagram) && nat_lt number (natural claim.below)) (map claim_in_lem answers.now) }
+    ensures { result ≡ find (λ claim. (claim.place.datagram == datagram) && nat_lt number (natural claim.below)) (map locations.claim_in answers.now) }
 {
     for answer in answers {
         if answer.datagram as u64 == datagram && number < answer.natural_base() {

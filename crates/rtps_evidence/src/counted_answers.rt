@@ -1,10 +1,11 @@
 ghost use Rattle.std.specs.Prelude.{◌≡◌, ◌+◌, ◌-◌, ◌<◌, ◌≤◌, ◌^◌, ◌++◌, ◌∷◌, [], true, if◌then◌else◌, map, filter, IfOk, OnOk, List};
 ghost use Rattle.rtps_discovery.specs.declared.matching.Pair.{Pair as PairValue};
-ghost use Rattle.rtps_receiver.specs.Speech.{is_ack_nack as is_ack_nack_lem};
+ghost use Rattle.rtps_receiver.specs.Speech as speech;
 ghost use Rattle.rtps_receiver.specs.Values.{ActValue, spoken_body_value};
 ghost use Rattle.rtps_audit.specs.Placed.{is_from, placed_in, placed_value};
 ghost use Rattle.rtps_evidence.specs.CountedAnswers.{counted_among, counted_with};
-ghost use Rattle.rtps_evidence.specs.LostAnswers.{answers, asks_for_fragments as asks_for_fragments_lem, count_of as count_of_lem, is_more, left_out as left_out_lem};
+ghost use Rattle.rtps_evidence.specs.LostAnswers.{answers, is_more};
+ghost use Rattle.rtps_evidence.specs.LostAnswers as lost_answers;
 
 use crate::location::{Location, location_of};
 use rtps_audit::Placed;
@@ -43,7 +44,7 @@ struct FragmentRequests {
 
 /// The count of an ACKNACK; 0 of another act.
 fn count_of(body: &SpokenBody<'_>) -> u32
-    ensures { result ≡ count_of_lem (spoken_body_value body.now) }
+    ensures { result ≡ lost_answers.count_of (spoken_body_value body.now) }
 {
     match body {
         SpokenBody::Act(ActBody::AckNack(ack_nack)) => ack_nack.count,
@@ -57,14 +58,14 @@ fn count_of(body: &SpokenBody<'_>) -> u32
 
 /// Whether an act is an ACKNACK.
 fn is_ack_nack(body: &SpokenBody<'_>) -> bool
-    ensures { result ≡ is_ack_nack_lem (spoken_body_value body.now) }
+    ensures { result ≡ speech.is_ack_nack (spoken_body_value body.now) }
 {
     matches!(body, SpokenBody::Act(ActBody::AckNack(_)))
 }
 
 /// Whether an act is a NACK_FRAG of the pair's reader to its writer.
 fn asks_for_fragments(placed: &Placed<'_>, pair: Pair) -> bool
-    ensures { result ≡ asks_for_fragments_lem pair.writer pair.reader (placed_value placed.now) }
+    ensures { result ≡ lost_answers.asks_for_fragments pair.writer pair.reader (placed_value placed.now) }
 {
     placed.act.asks(pair.reader, pair.writer) && !is_ack_nack(&placed.act.body)
 }
@@ -169,14 +170,14 @@ pub(crate) fn counted_answers(
 
 /// How many counts are left out between one and another behind it.
 fn left_out(one: u32, other: u32) -> u64
-    ensures { result ≡ left_out_lem one other }
+    ensures { result ≡ lost_answers.left_out one other }
 {
     (other as u64 + (COUNTS - 1) - one as u64) % COUNTS
 }
 
 /// Whether so many counts are left out that an answer lacks, where there are so many datagrams in between that ask for fragments alone.
 pub(crate) fn lacks_between(one: &CountedAnswer, other: &CountedAnswer) -> bool
-    ensures { result ≡ is_more (other.now.alone - one.now.alone) (left_out_lem one.now.count other.now.count) }
+    ensures { result ≡ is_more (other.now.alone - one.now.alone) (lost_answers.left_out one.now.count other.now.count) }
 {
     let left = left_out(one.count, other.count);
     other.alone.saturating_sub(one.alone) < left && left < HALF_OF_COUNTS

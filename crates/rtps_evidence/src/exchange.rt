@@ -1,5 +1,5 @@
 ghost use Rattle.std.specs.Prelude.{◌≡◌};
-ghost use Rattle.rtps_evidence.specs.Spans.{since_of as since_of_lem};
+ghost use Rattle.rtps_evidence.specs.Spans as spans_spec;
 
 use crate::listener::Listener;
 use crate::span::Span;
@@ -41,7 +41,7 @@ impl<'s, 'a> Exchange<'s, 'a> {
     /// The two, and where the reader is there.
     pub(crate) fn listener(&self) -> Listener
         ensures pair { result.pair ≡ self.now.pair }
-        ensures since { result.since ≡ since_of_lem self.now.span }
+        ensures since { result.since ≡ spans_spec.since_of self.now.span }
     {
         Listener {
             pair: self.pair,

@@ -8,7 +8,7 @@ ghost use Rattle.rtps_audit.specs.Said.{IsSaid};
 ghost use Rattle.rtps_coverage.specs.Rising.{AreRising};
 ghost use Rattle.rtps_coverage.specs.Stretches.{stretches_have};
 ghost use Rattle.rtps_evidence.specs.LastAsks.{AreResends, asked_before};
-ghost use Rattle.rtps_evidence.specs.LostAnswers.{answers_another as answers_another_lem};
+ghost use Rattle.rtps_evidence.specs.LostAnswers as lost_answers;
 ghost use Rattle.rtps_evidence.specs.Missed.{is_excused};
 ghost use Rattle.rtps_evidence.specs.declared.counted_answers.CountedAnswer.{CountedAnswer};
 ghost use Rattle.rtps_evidence.specs.declared.last_asks.LastAsk.{LastAsk as LastAskValue};
@@ -39,7 +39,7 @@ struct Resends {
 
 /// Whether an act of the pair's reader answers another writer.
 fn is_to_another(placed: &Placed<'_>, pair: Pair) -> bool
-    ensures { is_from pair.reader (placed_value placed.now) ≡ true → result ≡ answers_another_lem pair.writer pair.reader (placed_value placed.now) }
+    ensures { is_from pair.reader (placed_value placed.now) ≡ true → result ≡ lost_answers.answers_another pair.writer pair.reader (placed_value placed.now) }
 {
     match placed.act.answered() {
         Some(writer) => writer != pair.writer,
@@ -50,7 +50,7 @@ fn is_to_another(placed: &Placed<'_>, pair: Pair) -> bool
 /// Whether one of the acts of the pair's reader does.
 fn answers_another(acts: &[Placed<'_>], pair: Pair) -> bool
     ensures { (placed : List PlacedValue) → map placed_value acts.now ≡ filter (is_from pair.reader) placed
-        → result ≡ list_any (answers_another_lem pair.writer pair.reader) placed }
+        → result ≡ list_any (lost_answers.answers_another pair.writer pair.reader) placed }
 {
     for placed in acts {
         if is_to_another(placed, pair) {

@@ -4,8 +4,10 @@ ghost use Rattle.std.specs.Option.{option_map};
 ghost use Rattle.rtps_receiver.specs.Values.{ActValue};
 ghost use Rattle.rtps_audit.specs.Placed.{placed_in, placed_value};
 ghost use Rattle.rtps_audit.specs.Said.{IsSaid};
-ghost use Rattle.rtps_evidence.specs.Locations.{find_last, location_of as location_of_lem};
-ghost use Rattle.rtps_evidence.specs.Missed.{again_behind, asks_for, brings as brings_lem, gone_behind, missed_by, withdraws_behind as withdraws_behind_lem};
+ghost use Rattle.rtps_evidence.specs.Locations.{find_last};
+ghost use Rattle.rtps_evidence.specs.Locations as locations;
+ghost use Rattle.rtps_evidence.specs.Missed.{again_behind, asks_for, gone_behind, missed_by};
+ghost use Rattle.rtps_evidence.specs.Missed as missed_spec;
 
 use crate::exchange::Exchange;
 use crate::listener::brings;
@@ -43,7 +45,7 @@ fn asks(placed: &Placed<'_>, pair: Pair, number: u64) -> bool
 /// Where the last of these acts stands by which the pair's reader asks its writer for the number.
 fn last_asking(acts: &[Placed<'_>], pair: Pair, number: u64) -> Option<Location>
     requires { number < 2 ^ 63 }
-    ensures { result ≡ option_map location_of_lem (find_last (asks_for pair.writer pair.reader number) (map placed_value acts.now)) }
+    ensures { result ≡ option_map locations.location_of (find_last (asks_for pair.writer pair.reader number) (map placed_value acts.now)) }
 {
     let mut last = None;
     for placed in acts {
@@ -57,7 +59,7 @@ fn last_asking(acts: &[Placed<'_>], pair: Pair, number: u64) -> Option<Location>
 /// Whether the reader hears by an act, behind a place, that the number will not come.
 fn withdraws_behind(placed: &Placed<'_>, pair: Pair, number: u64, place: Location) -> bool
     requires { number < 2 ^ 63 }
-    ensures { result ≡ withdraws_behind_lem place pair.writer pair.reader number (placed_value placed.now) }
+    ensures { result ≡ missed_spec.withdraws_behind place pair.writer pair.reader number (placed_value placed.now) }
 {
     is_behind(Some(place), placed) && withdraws(placed, pair, number)
 }
@@ -94,7 +96,7 @@ fn first_again(acts: &[Placed<'_>], pair: Pair, number: u64, place: Location) ->
 
 /// Whether one of these acts brings the reader the number.
 fn is_sent(acts: &[Placed<'_>], pair: Pair, number: u64) -> bool
-    ensures { result ≡ list_any (brings_lem pair.writer pair.reader number) (map placed_value acts.now) }
+    ensures { result ≡ list_any (missed_spec.brings pair.writer pair.reader number) (map placed_value acts.now) }
 {
     for placed in acts {
         if brings(placed, pair, number) {

@@ -2,11 +2,12 @@ ghost use Rattle.std.specs.Prelude.{◌≡◌, ◌<◌, ◌^◌, filter, map, Li
 ghost use Rattle.rtps_receiver.specs.Values.{ActValue};
 ghost use Rattle.rtps_audit.specs.Placed.{answers_among, is_from, placed_in, placed_value};
 ghost use Rattle.rtps_audit.specs.Said.{IsSaid};
-ghost use Rattle.rtps_receiver.specs.Said.{natural as natural_lem};
+ghost use Rattle.rtps_receiver.specs.Said as said;
 ghost use Rattle.rtps_evidence.specs.Grounds.{grounds_by, grounds_value, number_in};
 ghost use Rattle.rtps_evidence.specs.Grounds.GroundsValue.{ConflictGrounds, OpenGrounds};
-ghost use Rattle.rtps_evidence.specs.Locations.{first_sent as first_sent_lem, other_sent as other_sent_lem, teller_of};
-ghost use Rattle.rtps_evidence.specs.Questions.{asked_since as asked_since_lem, first_asked as first_asked_lem, last_asked as last_asked_lem};
+ghost use Rattle.rtps_evidence.specs.Locations.{teller_of};
+ghost use Rattle.rtps_evidence.specs.Locations as locations;
+ghost use Rattle.rtps_evidence.specs.Questions as questions_spec;
 
 use crate::acknowledgement::{Claim, find_claim};
 use crate::exchange::Exchange;
@@ -48,7 +49,7 @@ pub enum Grounds<'a> {
 
 /// A number of a verdict, or 0 for one below it.
 fn natural(number: i64) -> u64
-    ensures value { result ≡ natural_lem number }
+    ensures value { result ≡ said.natural number }
     ensures in_range { result < 2 ^ 63 }
 {
     number.max(0).cast_unsigned()
@@ -73,8 +74,8 @@ fn open_grounds<'a>(acts: &[Placed<'a>], answers: &[Answer], pair: Pair, number:
     ensures { (recording : List (List ActValue)) → map placed_value acts.now ≡ filter (is_from pair.writer) (placed_in recording)
         → answers.now ≡ answers_among pair (placed_in recording)
         → grounds_value result ≡ OpenGrounds (teller_of pair.writer pair.reader number (placed_in recording))
-        (asked_since_lem pair.writer pair.reader (placed_in recording)) (first_asked_lem pair.writer pair.reader (placed_in recording))
-        (last_asked_lem pair.writer pair.reader (placed_in recording)) }
+        (questions_spec.asked_since pair.writer pair.reader (placed_in recording)) (questions_spec.first_asked pair.writer pair.reader (placed_in recording))
+        (questions_spec.last_asked pair.writer pair.reader (placed_in recording)) }
 {
     let questions = questions_since(acts, answers, pair);
     Grounds::Open {
@@ -88,8 +89,8 @@ fn open_grounds<'a>(acts: &[Placed<'a>], answers: &[Answer], pair: Pair, number:
 /// Where the verdict is conflict, by what the writer says.
 fn conflict_grounds<'a>(acts: &[Placed<'a>], pair: Pair, number: u64) -> Grounds<'a>
     ensures { (recording : List (List ActValue)) → map placed_value acts.now ≡ filter (is_from pair.writer) (placed_in recording)
-        → grounds_value result ≡ ConflictGrounds (first_sent_lem pair.writer pair.reader number (placed_in recording))
-        (other_sent_lem pair.writer pair.reader number (placed_in recording)) }
+        → grounds_value result ≡ ConflictGrounds (locations.first_sent pair.writer pair.reader number (placed_in recording))
+        (locations.other_sent pair.writer pair.reader number (placed_in recording)) }
 {
     Grounds::Conflict {
         first: first_sent(acts, pair, number),

@@ -4,10 +4,11 @@ ghost use Rattle.rtps_audit.specs.Delivery.{last_announced_from};
 ghost use Rattle.rtps_audit.specs.Placed.{placed_in, placed_value};
 ghost use Rattle.rtps_audit.specs.Said.{IsSaid};
 ghost use Rattle.rtps_audit.specs.Speech.{speech_by};
-ghost use Rattle.rtps_evidence.specs.Clean.{has_all as has_all_lem, is_clean as is_clean_lem, is_complete as is_complete_lem, is_open as is_open_lem, is_tail as is_tail_lem, is_whole as is_whole_lem, loses_none as loses_none_lem};
+ghost use Rattle.rtps_evidence.specs.Clean as clean_spec;
 ghost use Rattle.rtps_evidence.specs.Ledger.{IsLongest};
 ghost use Rattle.rtps_coverage.specs.Rising.{AreRising};
-ghost use Rattle.rtps_evidence.specs.Spans.{since_of, wrote_before as wrote_before_lem};
+ghost use Rattle.rtps_evidence.specs.Spans.{since_of};
+ghost use Rattle.rtps_evidence.specs.Spans as spans_spec;
 
 use crate::acknowledgement::greatest_base;
 use crate::amount::AskedNumbers;
@@ -59,7 +60,7 @@ pub struct InSpan {
 
 /// Whether each number that is asked about is acknowledged.
 fn is_complete(verdict: &Verdict) -> bool
-    ensures { result ≡ is_complete_lem verdict.now }
+    ensures { result ≡ clean_spec.is_complete verdict.now }
 {
     match *verdict {
         Verdict::Complete { .. } => true,
@@ -71,7 +72,7 @@ fn is_complete(verdict: &Verdict) -> bool
 
 /// Whether some number is not.
 fn is_open(verdict: &Verdict) -> bool
-    ensures { result ≡ is_open_lem verdict.now }
+    ensures { result ≡ clean_spec.is_open verdict.now }
 {
     match *verdict {
         Verdict::Open { .. } => true,
@@ -84,7 +85,7 @@ fn is_open(verdict: &Verdict) -> bool
 /// Whether the writer of an exchange announced numbers in it, and all of them stand before the first one of its span.
 fn wrote_before(exchange: &Exchange<'_, '_>) -> bool
     ensures { (recording : List (List ActValue)) → IsSaid exchange.now.pair recording exchange.now.said
-        → result ≡ wrote_before_lem exchange.now.span.from exchange.now.pair.writer (placed_in recording) }
+        → result ≡ spans_spec.wrote_before exchange.now.span.from exchange.now.pair.writer (placed_in recording) }
 {
     let announced = greatest_number(exchange.said.acts, exchange.pair.writer);
     0 < announced && announced < exchange.span.from.get()
@@ -93,7 +94,7 @@ fn wrote_before(exchange: &Exchange<'_, '_>) -> bool
 impl Outcomes {
     /// Whether no number is lost, or looks so.
     fn has_all(&self) -> bool
-        ensures { result ≡ has_all_lem self.now }
+        ensures { result ≡ clean_spec.has_all self.now }
     {
         self.missed == 0 && self.unsent == 0 && self.unanswered == 0
     }
@@ -167,7 +168,7 @@ impl InSpan {
 
     /// Whether no number is lost, or looks so. Of a pair that is held, a likely one is lost too: it did not arrive.
     fn loses_none(&self) -> bool
-        ensures { result ≡ loses_none_lem self.now.is_held self.now.outcomes }
+        ensures { result ≡ clean_spec.loses_none self.now.is_held self.now.outcomes }
     {
         self.outcomes.has_all() && (!self.is_held || self.outcomes.likely == 0)
     }
@@ -175,21 +176,21 @@ impl InSpan {
     /// Whether what a row of this verdict lacks is a tail alone: numbers behind all that the reader acknowledged, which is something,
     /// and all that stands before the row. Nothing says that they are lost.
     pub fn is_tail(&self, verdict: &Verdict) -> bool
-        ensures { result ≡ is_tail_lem self.now.is_held verdict.now self.now.outcomes self.now.from self.now.base }
+        ensures { result ≡ clean_spec.is_tail self.now.is_held verdict.now self.now.outcomes self.now.from self.now.base }
     {
         is_open(verdict) && 1 < self.base && self.from <= self.base && self.loses_none()
     }
 
     /// Whether a row of this verdict lacks nothing, though it is open: its pair is held, and each number is received or arrived.
     fn is_whole(&self, verdict: &Verdict) -> bool
-        ensures { result ≡ is_whole_lem self.now.is_held verdict.now self.now.outcomes }
+        ensures { result ≡ clean_spec.is_whole self.now.is_held verdict.now self.now.outcomes }
     {
         self.is_held && is_open(verdict) && self.loses_none() && self.outcomes.unconfirmed == 0
     }
 
     /// Whether a row of this verdict is clean, where a reader that did not leave may lack a tail of so many numbers.
     pub fn is_clean(&self, verdict: &Verdict, tail: u64) -> bool
-        ensures { result ≡ is_clean_lem tail (is_some self.now.until) self.now.is_held verdict.now self.now.outcomes self.now.from self.now.base }
+        ensures { result ≡ clean_spec.is_clean tail (is_some self.now.until) self.now.is_held verdict.now self.now.outcomes self.now.from self.now.base }
     {
         if is_complete(verdict) {
             return self.loses_none();

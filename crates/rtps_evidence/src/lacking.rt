@@ -4,7 +4,8 @@ ghost use Rattle.rtps_receiver.specs.Values.{ActValue};
 ghost use Rattle.rtps_audit.specs.Delivery.{greatest};
 ghost use Rattle.rtps_receiver.specs.Said.{natural};
 ghost use Rattle.rtps_coverage.specs.Stretches.{stretches_have};
-ghost use Rattle.rtps_evidence.specs.Claimed.{is_unfounded as is_unfounded_lem, withdrawn_unclaimed};
+ghost use Rattle.rtps_evidence.specs.Claimed.{withdrawn_unclaimed};
+ghost use Rattle.rtps_evidence.specs.Claimed as claimed_spec;
 
 use crate::acknowledgement::greatest_base;
 use crate::amount::{AskedNumbers, HeardNumbers};
@@ -56,7 +57,7 @@ fn gone_or_unclaimed(
 
 /// Whether a verdict is unfounded.
 fn is_unfounded(verdict: &Verdict) -> bool
-    ensures { result ≡ is_unfounded_lem verdict.now }
+    ensures { result ≡ claimed_spec.is_unfounded verdict.now }
 {
     match *verdict {
         Verdict::Unfounded { .. } => true,

@@ -3,7 +3,8 @@ ghost use Rattle.std.specs.List.{find};
 ghost use Rattle.std.specs.Option.{option_map};
 ghost use Rattle.rtps_audit.specs.Delivery.{greatest};
 ghost use Rattle.rtps_audit.specs.Placed.{placed_value};
-ghost use Rattle.rtps_evidence.specs.Locations.{announcement_at, announcement_of, number_said as number_said_lem};
+ghost use Rattle.rtps_evidence.specs.Locations.{announcement_at, announcement_of};
+ghost use Rattle.rtps_evidence.specs.Locations as locations;
 
 use crate::location::{Kind, Location, kind_of, location_of};
 use rtps_audit::{FirstAsked, Placed, announced_number};
@@ -21,7 +22,7 @@ pub struct Announcement {
 
 /// The greatest number that the writer announces by these acts, or 0.
 pub(crate) fn greatest_number(acts: &[Placed<'_>], writer: Guid) -> u64
-    ensures value { result ≡ greatest (map (number_said_lem writer) (map placed_value acts.now)) }
+    ensures value { result ≡ greatest (map (locations.number_said writer) (map placed_value acts.now)) }
     ensures in_range { result < 2 ^ 63 }
 {
     let mut greatest = 0u64;
@@ -35,7 +36,7 @@ pub(crate) fn greatest_number(acts: &[Placed<'_>], writer: Guid) -> u64
 fn first_announcing(acts: &[Placed<'_>], writer: Guid, number: u64) -> Option<Announcement>
     requires { number < 2 ^ 63 }
     ensures { result ≡ option_map (announcement_at number)
-        (find (λ placed. number_said_lem writer placed == number) (map placed_value acts.now)) }
+        (find (λ placed. locations.number_said writer placed == number) (map placed_value acts.now)) }
 {
     for placed in acts {
         if announced_number(&placed.act, writer) == number {

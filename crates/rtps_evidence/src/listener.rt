@@ -1,7 +1,8 @@
 ghost use Rattle.std.specs.Prelude.{ℕ, ◌≡◌, ◌<◌, ◌^◌, is_some, IfSome};
 ghost use Rattle.rtps_audit.specs.Placed.{placed_value};
 ghost use Rattle.rtps_receiver.specs.Said.{is_at};
-ghost use Rattle.rtps_evidence.specs.Missed.{brings as brings_lem, brings_behind, brings_some};
+ghost use Rattle.rtps_evidence.specs.Missed.{brings_behind, brings_some};
+ghost use Rattle.rtps_evidence.specs.Missed as missed;
 
 use crate::location::{Location, is_behind};
 use crate::said_to::said_to;
@@ -30,7 +31,7 @@ pub(crate) fn number_behind(placed: &Placed<'_>, listener: &Listener) -> Option<
 
 /// Whether the reader hears, by an act, a payload for the number, or a fragment of one.
 pub(crate) fn brings(placed: &Placed<'_>, pair: Pair, number: u64) -> bool
-    ensures { result ≡ brings_lem pair.writer pair.reader number (placed_value placed.now) }
+    ensures { result ≡ missed.brings pair.writer pair.reader number (placed_value placed.now) }
 {
     said_to(placed, pair).brought == Some(number)
 }

@@ -5,9 +5,10 @@ ghost use Rattle.std.specs.Option.{option_map};
 ghost use Rattle.rtps_receiver.specs.Said.{numbers_have};
 ghost use Rattle.rtps_audit.specs.Placed.{placed_value};
 ghost use Rattle.rtps_coverage.specs.Stretches.{stretches_have};
-ghost use Rattle.rtps_evidence.specs.Locations.{location_of as location_of_lem};
+ghost use Rattle.rtps_evidence.specs.Locations as locations;
 ghost use Rattle.rtps_evidence.specs.Missed.{asks_for};
-ghost use Rattle.rtps_evidence.specs.Requests.{is_in_vain as is_in_vain_lem, met_by, new_request as new_request_lem, requested};
+ghost use Rattle.rtps_evidence.specs.Requests.{met_by, requested};
+ghost use Rattle.rtps_evidence.specs.Requests as requests_spec;
 ghost use Rattle.rtps_coverage.specs.Rising.{AreRising};
 ghost use Rattle.rtps_evidence.specs.WriterSummary.{option_any};
 
@@ -38,7 +39,7 @@ pub(crate) struct Request {
 
 /// A request of which nothing became yet.
 fn new_request(place: Location) -> Request
-    ensures { result ≡ new_request_lem place }
+    ensures { result ≡ requests_spec.new_request place }
 {
     Request {
         place,
@@ -56,7 +57,7 @@ fn note_number(
 ) -> Result<(), Memory>
     requires { AreRising lacking.now }
     ensures { OnOk result ((n : ℕ) → get nat_cmp requests.new n
-        ≡ (if (number == n) && stretches_have lacking.now n then Some (new_request_lem place) else get nat_cmp requests.old n)) }
+        ≡ (if (number == n) && stretches_have lacking.now n then Some (requests_spec.new_request place) else get nat_cmp requests.old n)) }
 {
     if number < end_at(lacking, number) {
         requests.insert(number, new_request(place))?;
@@ -74,7 +75,7 @@ fn note_range(
     requires rising { AreRising lacking.now }
     requires ordered { numbers.now.start ≤ numbers.now.end }
     ensures { OnOk result ((n : ℕ) → get nat_cmp requests.new n
-        ≡ (if (nat_le numbers.now.start n && nat_lt n numbers.now.end) && stretches_have lacking.now n then Some (new_request_lem place)
+        ≡ (if (nat_le numbers.now.start n && nat_lt n numbers.now.end) && stretches_have lacking.now n then Some (requests_spec.new_request place)
         else get nat_cmp requests.old n)) }
 {
     for number in numbers.start..numbers.end {
@@ -92,7 +93,7 @@ fn note_numbers(
 ) -> Result<(), Memory>
     requires { AreRising lacking.now }
     ensures { OnOk result ((n : ℕ) → get nat_cmp requests.new n
-        ≡ (if numbers_have numbers.now n && stretches_have lacking.now n then Some (new_request_lem place) else get nat_cmp requests.old n)) }
+        ≡ (if numbers_have numbers.now n && stretches_have lacking.now n then Some (requests_spec.new_request place) else get nat_cmp requests.old n)) }
 {
     let mut at = 0;
     'apart: while let Some(range) = numbers.range_from(at) {
@@ -113,7 +114,7 @@ fn note_asking(
     requires { AreRising lacking.now }
     ensures { OnOk result ((n : ℕ) → get nat_cmp requests.new n
         ≡ (if asks_for exchange.now.pair.writer exchange.now.pair.reader n (placed_value placed.now) && stretches_have lacking.now n
-        then Some (new_request_lem (location_of_lem (placed_value placed.now))) else get nat_cmp requests.old n)) }
+        then Some (requests_spec.new_request (locations.location_of (placed_value placed.now))) else get nat_cmp requests.old n)) }
 {
     if !placed.act.asks(exchange.pair.reader, exchange.pair.writer) {
         return Ok(());
@@ -155,7 +156,7 @@ impl Request {
 
     /// Whether the number is asked for in vain: nothing of it comes behind the request, or it came before.
     fn is_in_vain(&self) -> bool
-        ensures { result ≡ is_in_vain_lem self.now }
+        ensures { result ≡ requests_spec.is_in_vain self.now }
     {
         !self.is_met || self.is_again
     }
@@ -186,7 +187,7 @@ pub(crate) fn in_vain(
     alloc: Global,
     requests: &BTreeMap<u64, Request>,
 ) -> Result<Vec<Stretch>, Memory>
-    ensures { IfOk result (λ missed. (n : ℕ) → n < 2 ^ 63 → stretches_have missed.items n ≡ option_any is_in_vain_lem (get nat_cmp requests.now n)) }
+    ensures { IfOk result (λ missed. (n : ℕ) → n < 2 ^ 63 → stretches_have missed.items n ≡ option_any requests_spec.is_in_vain (get nat_cmp requests.now n)) }
 {
     let mut missed = Vec::new(alloc);
     for (number, request) in requests.iter() {

@@ -4,8 +4,9 @@ ghost use Rattle.rtps_receiver.specs.Values.{ActValue};
 ghost use Rattle.rtps_audit.specs.Placed.{placed_in, placed_value};
 ghost use Rattle.rtps_audit.specs.Said.{IsSaid};
 ghost use Rattle.rtps_receiver.specs.Said.{natural};
-ghost use Rattle.rtps_evidence.specs.Locations.{claim_in as claim_in_lem};
-ghost use Rattle.rtps_evidence.specs.Received.{first_claiming, gone_before, kept_by, withdraws as withdraws_lem, withdraws_before as withdraws_before_lem};
+ghost use Rattle.rtps_evidence.specs.Locations as locations;
+ghost use Rattle.rtps_evidence.specs.Received.{first_claiming, gone_before, kept_by};
+ghost use Rattle.rtps_evidence.specs.Received as received_spec;
 
 use crate::acknowledgement::{Claim, claim_in};
 use crate::exchange::Exchange;
@@ -28,7 +29,7 @@ pub struct NotReceived {
 
 /// The first of these answers that claims the number.
 fn first_claim(answers: &[Answer], number: u64) -> Option<Claim>
-    ensures { result ≡ find (λ claim. nat_lt number (natural claim.below)) (map claim_in_lem answers.now) }
+    ensures { result ≡ find (λ claim. nat_lt number (natural claim.below)) (map locations.claim_in answers.now) }
 {
     for answer in answers {
         if number < answer.natural_base() {
@@ -41,7 +42,7 @@ fn first_claim(answers: &[Answer], number: u64) -> Option<Claim>
 /// Whether the reader hears, by an act, that the number will not come.
 pub(crate) fn withdraws(placed: &Placed<'_>, pair: Pair, number: u64) -> bool
     requires { number < 2 ^ 63 }
-    ensures { result ≡ withdraws_lem pair.writer pair.reader number (placed_value placed.now) }
+    ensures { result ≡ received_spec.withdraws pair.writer pair.reader number (placed_value placed.now) }
 {
     let said = said_to(placed, pair);
     said.gone.has(number)
@@ -50,7 +51,7 @@ pub(crate) fn withdraws(placed: &Placed<'_>, pair: Pair, number: u64) -> bool
 /// Whether the reader hears that in a datagram before this one.
 fn withdraws_before(placed: &Placed<'_>, pair: Pair, number: u64, datagram: u64) -> bool
     requires { number < 2 ^ 63 }
-    ensures { result ≡ withdraws_before_lem pair.writer pair.reader number datagram (placed_value placed.now) }
+    ensures { result ≡ received_spec.withdraws_before pair.writer pair.reader number datagram (placed_value placed.now) }
 {
     (placed.datagram as u64) < datagram && withdraws(placed, pair, number)
 }

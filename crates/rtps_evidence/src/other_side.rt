@@ -3,7 +3,7 @@ ghost use Rattle.rtps_audit.specs.Intake.{Intake};
 ghost use Rattle.rtps_audit.specs.Placed.{placed_in};
 ghost use Rattle.rtps_coverage.specs.Stretches.{stretches_have};
 ghost use Rattle.rtps_evidence.specs.Amount.{is_sent};
-ghost use Rattle.rtps_evidence.specs.OtherSide.{holds_by as holds_by_lem};
+ghost use Rattle.rtps_evidence.specs.OtherSide as other_side;
 
 use crate::recorded::sent_among;
 use crate::times::Times;
@@ -33,12 +33,13 @@ pub struct Sides<'i, 'a, 'o, 'b> {
 }
 
 impl<'o, 'b> OtherSide<'o, 'b> {
-    ghost use Rattle.rtps_evidence.specs.OtherSide.{IsSideOf, OtherRecording, has_reader as has_reader_lem};
+    ghost use Rattle.rtps_evidence.specs.OtherSide.{IsSideOf, OtherRecording};
+    ghost use Rattle.rtps_evidence.specs.OtherSide as other_side;
 
     /// Whether it was made at the host of a pair's reader: it has an act whose source is the reader's participant and whose
     /// destination is the writer's.
     fn has_reader(&self, pair: Pair) -> bool
-        ensures { (other : OtherRecording) → IsSideOf other self.now → result ≡ has_reader_lem other pair }
+        ensures { (other : OtherRecording) → IsSideOf other self.now → result ≡ other_side.has_reader other pair }
     {
         let answer = Naming {
             source: pair.reader.prefix,
@@ -79,7 +80,7 @@ impl<'i, 'a, 'o, 'b> Sides<'i, 'a, 'o, 'b> {
 
 /// Whether a pair is held against the other recording: that was made at its reader's host, and the two are not the wrong way round.
 fn holds_by(way: Option<Way>) -> bool
-    ensures { result ≡ holds_by_lem way }
+    ensures { result ≡ other_side.holds_by way }
 {
     match way {
         Some(Way::Wrong) => false,
@@ -102,7 +103,8 @@ pub(crate) struct Arrivals {
 }
 
 impl Arrivals {
-    ghost use Rattle.rtps_evidence.specs.OtherSide.{AreSides, AreThere, Beside, is_held as is_held_lem, is_there};
+    ghost use Rattle.rtps_evidence.specs.OtherSide.{AreSides, AreThere, Beside, is_there};
+    ghost use Rattle.rtps_evidence.specs.OtherSide as other_side;
 
     /// The numbers that are there of a pair; none where it is not held.
     fn numbers_of(
@@ -111,7 +113,7 @@ impl Arrivals {
         pair: Pair,
         is_held: bool,
     ) -> Result<Vec<Stretch>, Memory>
-        ensures { (intake : Intake) (beside : Beside) → AreSides intake beside sides.now → is_held ≡ is_held_lem intake.acts beside.other pair
+        ensures { (intake : Intake) (beside : Beside) → AreSides intake beside sides.now → is_held ≡ other_side.is_held intake.acts beside.other pair
             → IfOk result (λ numbers. (n : ℕ) → stretches_have numbers.items n ≡ is_there intake.acts beside.other pair n) }
     {
         if is_held {

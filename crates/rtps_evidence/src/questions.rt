@@ -3,8 +3,9 @@ ghost use Rattle.std.specs.List.{find, last_or};
 ghost use Rattle.std.specs.Option.{option_map};
 ghost use Rattle.rtps_receiver.specs.Values.{ActValue, spoken_body_value};
 ghost use Rattle.rtps_audit.specs.Placed.{answers_among, is_from, placed_in, placed_value};
-ghost use Rattle.rtps_evidence.specs.Locations.{location_of as location_of_lem};
-ghost use Rattle.rtps_evidence.specs.Questions.{AreAsked, AreQuestions, first_asked as first_asked_lem, is_question as is_question_lem, place_of as place_of_lem, questions_behind};
+ghost use Rattle.rtps_evidence.specs.Locations as locations;
+ghost use Rattle.rtps_evidence.specs.Questions.{AreAsked, AreQuestions, questions_behind};
+ghost use Rattle.rtps_evidence.specs.Questions as questions;
 
 use crate::location::{Location, is_behind, location_of};
 use rtps_audit::{Answer, Placed};
@@ -23,7 +24,7 @@ pub(crate) struct Questions {
 
 /// Whether an act is a HEARTBEAT that asks for an answer.
 fn is_question(body: &SpokenBody<'_>) -> bool
-    ensures { result ≡ is_question_lem (spoken_body_value body.now) }
+    ensures { result ≡ questions.is_question (spoken_body_value body.now) }
 {
     match body {
         SpokenBody::Act(ActBody::Heartbeat(heartbeat)) => !heartbeat.is_final,
@@ -46,7 +47,7 @@ pub(crate) fn asks_behind(placed: &Placed<'_>, pair: Pair, place: Option<Locatio
 
 /// Where the pair's writer asks its reader first by these acts, behind a place.
 fn first_question(acts: &[Placed<'_>], pair: Pair, place: Option<Location>) -> Option<Location>
-    ensures { result ≡ option_map location_of_lem (find (questions_behind place pair.writer pair.reader) (map placed_value acts.now)) }
+    ensures { result ≡ option_map locations.location_of (find (questions_behind place pair.writer pair.reader) (map placed_value acts.now)) }
 {
     for placed in acts {
         if asks_behind(placed, pair, place) {
@@ -77,7 +78,7 @@ fn questions_among(acts: &[Placed<'_>], pair: Pair, place: Option<Location>) -> 
 
 /// Where an answer stands.
 fn place_of(answer: &Answer) -> Location
-    ensures { result ≡ place_of_lem answer.now }
+    ensures { result ≡ questions.place_of answer.now }
 {
     Location {
         datagram: answer.datagram as u64,
@@ -87,7 +88,7 @@ fn place_of(answer: &Answer) -> Location
 
 /// Where the last of these answers stands.
 fn last_place(answers: &[Answer]) -> Option<Location>
-    ensures { result ≡ option_map place_of_lem (last_or None answers.now) }
+    ensures { result ≡ option_map questions.place_of (last_or None answers.now) }
 {
     let mut last = None;
     for answer in answers {
@@ -126,7 +127,7 @@ pub(crate) fn questions_since(acts: &[Placed<'_>], answers: &[Answer], pair: Pai
 /// Where a pair's writer asks its reader first since the reader's last answer, by what the writer says and the answers.
 pub(crate) fn first_asked(acts: &[Placed<'_>], answers: &[Answer], pair: Pair) -> Option<Location>
     ensures { (recording : List (List ActValue)) → map placed_value acts.now ≡ filter (is_from pair.writer) (placed_in recording)
-        → answers.now ≡ answers_among pair (placed_in recording) → result ≡ first_asked_lem pair.writer pair.reader (placed_in recording) }
+        → answers.now ≡ answers_among pair (placed_in recording) → result ≡ questions.first_asked pair.writer pair.reader (placed_in recording) }
 {
     let Some(place) = last_place(answers) else {
         return first_question(acts, pair, None);

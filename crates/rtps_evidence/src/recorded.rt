@@ -6,7 +6,8 @@ ghost use Rattle.rtps_audit.specs.Placed.{placed_value};
 ghost use Rattle.rtps_coverage.specs.Stretches.{stretches_have};
 ghost use Rattle.rtps_evidence.specs.Amount.{is_sent};
 ghost use Rattle.rtps_evidence.specs.OtherSide.{AreSides, Beside};
-ghost use Rattle.rtps_evidence.specs.Recorded.{IsArrivedBy, IsRecordedBy, number_sent as number_sent_lem};
+ghost use Rattle.rtps_evidence.specs.Recorded.{IsArrivedBy, IsRecordedBy};
+ghost use Rattle.rtps_evidence.specs.Recorded as recorded_spec;
 
 use crate::amount::{AskedNumbers, push_number};
 use crate::exchange::Extent;
@@ -51,7 +52,7 @@ pub struct Arrived {
 
 /// The number of which the writer sends a payload, or a part of one, by an act, to whomever; 0 where it sends none.
 fn number_sent(placed: &Placed<'_>, writer: Guid) -> u64
-    ensures value { result ≡ number_sent_lem writer (placed_value placed.now) }
+    ensures value { result ≡ recorded_spec.number_sent writer (placed_value placed.now) }
     ensures in_range { result < 2 ^ 63 }
 {
     if placed.act.spoken_by(writer) {
@@ -63,7 +64,7 @@ fn number_sent(placed: &Placed<'_>, writer: Guid) -> u64
 
 /// The greatest of these numbers, or 0.
 fn greatest_sent(acts: &[Placed<'_>], writer: Guid) -> u64
-    ensures value { result ≡ greatest (map (number_sent_lem writer) (map placed_value acts.now)) }
+    ensures value { result ≡ greatest (map (recorded_spec.number_sent writer) (map placed_value acts.now)) }
     ensures in_range { result < 2 ^ 63 }
 {
     let mut greatest = 0u64;
@@ -113,7 +114,7 @@ pub fn recorded_of(
 /// The numbers from `from` on, up to the greatest that the writer sends by these acts, to whomever.
 fn sent_from(from: FirstAsked, acts: &[Placed<'_>], writer: Guid) -> AskedNumbers
     ensures from { result.from ≡ from }
-    ensures last { result.last ≡ max (greatest (map (number_sent_lem writer) (map placed_value acts.now))) (from - 1) }
+    ensures last { result.last ≡ max (greatest (map (recorded_spec.number_sent writer) (map placed_value acts.now))) (from - 1) }
 {
     let before = from.get() - 1;
     let last = greatest_sent(acts, writer).max(before);

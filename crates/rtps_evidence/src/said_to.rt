@@ -3,7 +3,8 @@ ghost use Rattle.std.specs.Option.{option_map};
 ghost use Rattle.rtps_receiver.specs.Said.{Says, is_at, numbers_have};
 ghost use Rattle.rtps_wire.specs.Values.{payload_value};
 ghost use Rattle.rtps_audit.specs.Placed.{placed_value};
-ghost use Rattle.rtps_evidence.specs.Locations.{payload_for, said_to as said_to_lem, sends, tells};
+ghost use Rattle.rtps_evidence.specs.Locations.{payload_for, sends, tells};
+ghost use Rattle.rtps_evidence.specs.Locations as locations;
 ghost use Rattle.rtps_evidence.specs.Missed.{brings};
 ghost use Rattle.rtps_evidence.specs.Received.{withdraws};
 
@@ -13,7 +14,7 @@ use rtps_receiver::SaidNumbers;
 
 /// What an act says of numbers to the pair's reader, where that hears it from the pair's writer; of any other act nothing.
 pub(crate) fn said_to<'x, 'a>(placed: &'x Placed<'a>, pair: Pair) -> SaidNumbers<'x, 'a>
-    ensures said { Says (said_to_lem pair.writer pair.reader (placed_value placed.now)) result }
+    ensures said { Says (locations.said_to pair.writer pair.reader (placed_value placed.now)) result }
 
     // The same by what the reader hears of each number.
     ensures gone { (n : ℕ) → numbers_have result.gone n ≡ withdraws pair.writer pair.reader n (placed_value placed.now) }

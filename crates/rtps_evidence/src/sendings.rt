@@ -4,7 +4,8 @@ ghost use Rattle.std.specs.Ordering.{nat_cmp};
 ghost use Rattle.rtps_audit.specs.Placed.{PlacedValue, placed_value};
 ghost use Rattle.rtps_coverage.specs.Rising.{AreRising};
 ghost use Rattle.rtps_coverage.specs.Stretches.{stretches_have};
-ghost use Rattle.rtps_evidence.specs.Runs.{AreSendings, span_with as span_with_lem};
+ghost use Rattle.rtps_evidence.specs.Runs.{AreSendings};
+ghost use Rattle.rtps_evidence.specs.Runs as runs;
 ghost use Rattle.rtps_evidence.specs.Kinds.{first_brought};
 
 use crate::location::{Location, location_of, precedes};
@@ -37,7 +38,7 @@ pub(crate) struct Sendings {
 
 /// The places from the first to the last of these, and one more.
 fn span_with(span: Option<SentSpan>, place: Location) -> SentSpan
-    ensures { result ≡ span_with_lem span place }
+    ensures { result ≡ runs.span_with span place }
 {
     let Some(span) = span else {
         return SentSpan {

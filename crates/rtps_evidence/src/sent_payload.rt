@@ -3,7 +3,8 @@ ghost use Rattle.std.specs.List.{find};
 ghost use Rattle.std.specs.Option.{option_map};
 ghost use Rattle.rtps_wire.specs.Values.{payload_value};
 ghost use Rattle.rtps_audit.specs.Placed.{placed_value};
-ghost use Rattle.rtps_evidence.specs.Locations.{differs, first_sent as first_sent_lem, is_same as is_same_lem, other_sent as other_sent_lem, payload_for as payload_for_lem, sent_at, sent_value};
+ghost use Rattle.rtps_evidence.specs.Locations.{differs, sent_at, sent_value};
+ghost use Rattle.rtps_evidence.specs.Locations as locations;
 
 use crate::location::{Location, location_of};
 use crate::said_to::said_to;
@@ -20,7 +21,7 @@ pub struct Sent<'a> {
 
 /// The payload that the reader hears for the number from the writer by an act.
 fn payload_for<'a>(placed: &Placed<'a>, pair: Pair, number: u64) -> Option<Payload<'a>>
-    ensures { option_map payload_value result ≡ payload_for_lem pair.writer pair.reader number (placed_value placed.now) }
+    ensures { option_map payload_value result ≡ locations.payload_for pair.writer pair.reader number (placed_value placed.now) }
 {
     let said = said_to(placed, pair);
     if said.told == Some(number) {
@@ -32,7 +33,7 @@ fn payload_for<'a>(placed: &Placed<'a>, pair: Pair, number: u64) -> Option<Paylo
 
 /// Whether two payloads are equal in kind and octets.
 fn is_same(one: Payload<'_>, other: Payload<'_>) -> bool
-    ensures { result ≡ is_same_lem (payload_value one.entry) (payload_value other.entry) }
+    ensures { result ≡ locations.is_same (payload_value one.entry) (payload_value other.entry) }
 {
     match (one, other) {
         (Payload::Absent, Payload::Absent) => true,
@@ -44,7 +45,7 @@ fn is_same(one: Payload<'_>, other: Payload<'_>) -> bool
 
 /// The first payload for the number by these acts.
 pub(crate) fn first_sent<'a>(acts: &[Placed<'a>], pair: Pair, number: u64) -> Option<Sent<'a>>
-    ensures { option_map sent_value result ≡ first_sent_lem pair.writer pair.reader number (map placed_value acts.now) }
+    ensures { option_map sent_value result ≡ locations.first_sent pair.writer pair.reader number (map placed_value acts.now) }
 {
     for placed in acts {
         if let Some(payload) = payload_for(placed, pair, number) {
@@ -65,7 +66,7 @@ fn another_sent<'a>(
     first: Payload<'_>,
 ) -> Option<Sent<'a>>
     ensures { option_map sent_value result ≡ option_map (sent_at pair.writer pair.reader number)
-        (find (λ placed. differs (payload_value first.entry) (payload_for_lem pair.writer pair.reader number placed)) (map placed_value acts.now)) }
+        (find (λ placed. differs (payload_value first.entry) (locations.payload_for pair.writer pair.reader number placed)) (map placed_value acts.now)) }
 {
     for placed in acts {
         if let Some(payload) = payload_for(placed, pair, number) {
@@ -82,7 +83,7 @@ fn another_sent<'a>(
 
 /// The first payload for the number by these acts that is another one than the first of all.
 pub(crate) fn other_sent<'a>(acts: &[Placed<'a>], pair: Pair, number: u64) -> Option<Sent<'a>>
-    ensures { option_map sent_value result ≡ other_sent_lem pair.writer pair.reader number (map placed_value acts.now) }
+    ensures { option_map sent_value result ≡ locations.other_sent pair.writer pair.reader number (map placed_value acts.now) }
 {
     let first = first_sent(acts, pair, number)?;
     another_sent(acts, pair, number, first.payload)

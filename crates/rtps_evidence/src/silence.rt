@@ -1,7 +1,8 @@
 ghost use Rattle.std.specs.Prelude.{ℕ, ◌≡◌, ◌≤◌, ◌++◌, ◌∷◌, [], nat_lt, drop, length, if◌then◌else◌, OnOk, List};
 ghost use Rattle.rtps_receiver.specs.Said.{numbers_have};
 ghost use Rattle.rtps_audit.specs.Placed.{PlacedValue, placed_value};
-ghost use Rattle.rtps_evidence.specs.Outcomes.{Silence, answered, answers_before as answers_before_lem, answers_left, heard as heard_lem, is_answered, told_gone};
+ghost use Rattle.rtps_evidence.specs.Outcomes.{Silence, answered, answers_left, is_answered, told_gone};
+ghost use Rattle.rtps_evidence.specs.Outcomes as outcomes;
 ghost use Rattle.rtps_evidence.specs.Outcomes.Silence.{Unasked};
 ghost use Rattle.rtps_evidence.specs.SilentNumbers.{AreSilent, IsAtIn};
 
@@ -29,7 +30,7 @@ pub(crate) struct SilentNumbers {
 
 /// Whether an answer stands before a place.
 fn answers_before(answer: &Answer, place: Location) -> bool
-    ensures { result ≡ answers_before_lem place answer.now }
+    ensures { result ≡ outcomes.answers_before place answer.now }
 {
     let datagram = answer.datagram as u64;
     datagram < place.datagram || (datagram == place.datagram && answer.at < place.at)
@@ -85,7 +86,7 @@ impl SilentNumbers {
         times: &Times,
     ) -> Result<(), Memory>
         ensures heard { OnOk result ((n : ℕ) (silence : Silence) → IsAtIn n silence self.old
-            → IsAtIn n (heard_lem times.now.of_datagrams listener.now.since listener.now.pair n (placed_value placed.now) silence) self.new) }
+            → IsAtIn n (outcomes.heard times.now.of_datagrams listener.now.since listener.now.pair n (placed_value placed.now) silence) self.new) }
         ensures passed { self.new.passed ≡ self.old.passed }
     {
         let said = said_to(placed, listener.pair);

@@ -5,8 +5,10 @@ ghost use Rattle.rtps_receiver.specs.Said.{numbers_have};
 ghost use Rattle.rtps_audit.specs.Index.{IsIndexBy};
 ghost use Rattle.rtps_audit.specs.Intake.{Intake};
 ghost use Rattle.rtps_audit.specs.Placed.{placed_in, placed_value};
-ghost use Rattle.rtps_evidence.specs.Missed.{asks_for, brings_behind, brings_some, first_place as first_place_lem};
-ghost use Rattle.rtps_evidence.specs.Spans.{IsEndOf, IsFirstIn, IsFirstOwed, IsLeastFrom, IsOwedFrom, IsVolatileIn, announced_before, claims_at_before, gaps_behind, is_joined_here, is_lowest as is_lowest_lem, leaves_behind as leaves_behind_lem, left_in as left_in_lem, lesser_of, number_before as number_before_lem};
+ghost use Rattle.rtps_evidence.specs.Missed.{asks_for, brings_behind, brings_some};
+ghost use Rattle.rtps_evidence.specs.Missed as missed;
+ghost use Rattle.rtps_evidence.specs.Spans.{IsEndOf, IsFirstIn, IsFirstOwed, IsLeastFrom, IsOwedFrom, IsVolatileIn, announced_before, claims_at_before, gaps_behind, is_joined_here, lesser_of};
+ghost use Rattle.rtps_evidence.specs.Spans as spans;
 
 use crate::listener::{Listener, number_behind};
 use crate::location::{Location, is_before, is_behind, is_gap};
@@ -53,7 +55,7 @@ fn claims_before(answers: &[Answer], place: Location) -> bool
 
 /// The number that the writer announces by an act before a place, or 0.
 fn number_before(placed: &Placed<'_>, writer: Guid, place: Location) -> u64
-    ensures value { result ≡ number_before_lem place writer (placed_value placed.now) }
+    ensures value { result ≡ spans.number_before place writer (placed_value placed.now) }
     ensures in_range { result < 2 ^ 63 }
 {
     if is_before(place, placed) {
@@ -147,7 +149,7 @@ fn least_asked(acts: &[Placed<'_>], pair: Pair, lo: u64) -> Option<u64>
 
 /// Whether it is the durability of a reader that asks for nothing that was written before.
 fn is_lowest(durability: Durability) -> bool
-    ensures { result ≡ is_lowest_lem durability }
+    ensures { result ≡ spans.is_lowest durability }
 {
     match durability {
         Durability::Volatile => true,
@@ -249,7 +251,7 @@ fn first_owed(index: &Index<'_>, pair: Pair, place: Location, owed: u64) -> u64
 
 /// The datagram of the first of these acts, behind the place where the reader joins, that says that it leaves.
 fn left_among(acts: &[Placed<'_>], reader: Guid, place: Location) -> Option<u64>
-    ensures { result ≡ option_map (λ placed. placed.datagram) (find (leaves_behind_lem place reader) (map placed_value acts.now)) }
+    ensures { result ≡ option_map (λ placed. placed.datagram) (find (spans.leaves_behind place reader) (map placed_value acts.now)) }
 {
     for placed in acts {
         if leaves_behind(placed, reader, place) {
@@ -261,14 +263,14 @@ fn left_among(acts: &[Placed<'_>], reader: Guid, place: Location) -> Option<u64>
 
 /// Whether an act behind the place where the reader joins says that it leaves.
 fn leaves_behind(placed: &Placed<'_>, reader: Guid, place: Location) -> bool
-    ensures { result ≡ leaves_behind_lem place reader (placed_value placed.now) }
+    ensures { result ≡ spans.leaves_behind place reader (placed_value placed.now) }
 {
     is_behind(Some(place), placed) && leaves(&placed.act, reader)
 }
 
 /// The datagram in which a reader, or a participant, that joins at a place leaves; None where it does not.
 pub fn left_in(index: &Index<'_>, reader: Guid, place: Location) -> Option<u64>
-    ensures { (intake : Intake) → IsIndexBy intake index.now → result ≡ left_in_lem (Some place) reader (placed_in intake.acts) }
+    ensures { (intake : Intake) → IsIndexBy intake index.now → result ≡ spans.left_in (Some place) reader (placed_in intake.acts) }
 {
     let (readers, participants) = leaving_writers(reader);
     let reader_left = left_among(index.acts_of(readers), reader, place);
@@ -290,7 +292,7 @@ fn first_number(index: &Index<'_>, pair: Pair, place: Location, from: SeqNum) ->
 
 /// The first of these places.
 fn first_place(places: &[AnnouncedPlace]) -> Option<Location>
-    ensures { result ≡ first_place_lem places.now }
+    ensures { result ≡ missed.first_place places.now }
 {
     if places.is_empty() {
         return None;

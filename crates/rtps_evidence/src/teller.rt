@@ -1,6 +1,7 @@
 ghost use Rattle.std.specs.Prelude.{◌≡◌, ◌<◌, ◌^◌, map};
 ghost use Rattle.rtps_audit.specs.Placed.{placed_value};
-ghost use Rattle.rtps_evidence.specs.Locations.{teller_at as teller_at_lem, teller_of, tells as tells_lem};
+ghost use Rattle.rtps_evidence.specs.Locations.{teller_of};
+ghost use Rattle.rtps_evidence.specs.Locations as locations;
 
 use crate::location::{Kind, Location, kind_of, location_of};
 use crate::said_to::said_to;
@@ -18,7 +19,7 @@ pub struct Teller {
 /// Whether the reader hears a word for the number from the writer by an act.
 fn tells(placed: &Placed<'_>, pair: Pair, number: u64) -> bool
     requires { number < 2 ^ 63 }
-    ensures { result ≡ tells_lem pair.writer pair.reader number (placed_value placed.now) }
+    ensures { result ≡ locations.tells pair.writer pair.reader number (placed_value placed.now) }
 {
     let said = said_to(placed, pair);
     said.gone.has(number) || said.told == Some(number)
@@ -26,7 +27,7 @@ fn tells(placed: &Placed<'_>, pair: Pair, number: u64) -> bool
 
 /// An act as one that tells a number.
 pub(crate) fn teller_at(placed: &Placed<'_>) -> Teller
-    ensures { result ≡ teller_at_lem (placed_value placed.now) }
+    ensures { result ≡ locations.teller_at (placed_value placed.now) }
 {
     Teller {
         kind: kind_of(&placed.act.body),

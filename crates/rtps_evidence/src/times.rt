@@ -1,6 +1,7 @@
 ghost use Rattle.std.specs.Prelude.{◌≡◌, take, IfOk, None};
 ghost use Rattle.rtps_audit.specs.Said.{datagrams_until};
-ghost use Rattle.rtps_evidence.specs.Times.{AreEnds, are_there as are_there_lem, back_from, end_of, frame_of, is_long_between, later_of, no_times, second_of, seconds_between, seconds_of, step_back as step_back_lem, time_of};
+ghost use Rattle.rtps_evidence.specs.Times.{AreEnds, back_from, end_of, frame_of, is_long_between, later_of, no_times, second_of, seconds_between, seconds_of, time_of};
+ghost use Rattle.rtps_evidence.specs.Times as times_spec;
 
 use rtps_ids::Memory;
 use std::alloc::Global;
@@ -162,7 +163,7 @@ impl Times {
 
     /// Whether some datagram has a time.
     pub fn are_there(&self) -> bool
-        ensures { result ≡ are_there_lem self.now.of_datagrams }
+        ensures { result ≡ times_spec.are_there self.now.of_datagrams }
     {
         self.end(self.of_datagrams.len()).is_some()
     }
@@ -212,7 +213,7 @@ impl Times {
     /// By how much times go back, in nanoseconds: how much the time of a datagram is before that of an earlier one, the
     /// greatest of all pairs that have times; or 0.
     pub fn step_back(&self) -> u64
-        ensures { result ≡ step_back_lem self.now.of_datagrams }
+        ensures { result ≡ times_spec.step_back self.now.of_datagrams }
     {
         let mut step = 0u64;
         let mut latest = None;

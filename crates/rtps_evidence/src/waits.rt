@@ -1,7 +1,8 @@
 ghost use Rattle.std.specs.Prelude.{◌≡◌, find, slice_get, List, None};
 ghost use Rattle.rtps_audit.specs.Placed.{placed_value};
-ghost use Rattle.rtps_evidence.specs.Questions.{place_of as place_of_lem};
-ghost use Rattle.rtps_evidence.specs.Waits.{HasPassed, answered_at, answers_behind, is_told as is_told_lem, longer_of, told_of, wait_between as wait_between_lem};
+ghost use Rattle.rtps_evidence.specs.Questions as questions;
+ghost use Rattle.rtps_evidence.specs.Waits.{HasPassed, answered_at, answers_behind, longer_of, told_of};
+ghost use Rattle.rtps_evidence.specs.Waits as waits_spec;
 
 use crate::exchange::Exchange;
 use crate::location::{Location, location_of, precedes};
@@ -26,7 +27,7 @@ pub struct Wait {
 impl Wait {
     /// Whether it is longer than a second.
     fn is_told(&self) -> bool
-        ensures { result ≡ is_told_lem self.now }
+        ensures { result ≡ waits_spec.is_told self.now }
     {
         MOST_WAIT < self.nanoseconds
     }
@@ -61,7 +62,7 @@ fn longer(one: Option<Wait>, other: Option<Wait>) -> Option<Wait>
 
 /// Where an answer stands.
 fn place_of(answer: &Answer) -> Location
-    ensures { result ≡ place_of_lem answer.now }
+    ensures { result ≡ questions.place_of answer.now }
 {
     Location {
         datagram: answer.datagram as u64,
@@ -143,7 +144,7 @@ fn wait_between(
     asked: Location,
     answered: Option<Location>,
 ) -> Option<Wait>
-    ensures { result ≡ wait_between_lem times.now.of_datagrams end asked answered }
+    ensures { result ≡ waits_spec.wait_between times.now.of_datagrams end asked answered }
 {
     let since = times.of_datagram(asked.datagram)?;
     let until = match answered {

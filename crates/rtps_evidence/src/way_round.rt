@@ -3,9 +3,10 @@ ghost use Rattle.std.specs.List.{list_any};
 ghost use Rattle.rtps_audit.specs.Index.{IsIndexBy};
 ghost use Rattle.rtps_audit.specs.Intake.{Intake};
 ghost use Rattle.rtps_audit.specs.Placed.{placed_value};
-ghost use Rattle.rtps_receiver.specs.Speech.{is_ack_nack as is_ack_nack_lem};
-ghost use Rattle.rtps_evidence.specs.Locations.{location_of as location_of_lem};
-ghost use Rattle.rtps_evidence.specs.WayRound.{AreByKey, has_lone_act, has_lone_answer, is_shared, is_within, way_between as way_between_lem, way_by as way_by_lem, way_of_pair};
+ghost use Rattle.rtps_receiver.specs.Speech as speech;
+ghost use Rattle.rtps_evidence.specs.Locations as locations;
+ghost use Rattle.rtps_evidence.specs.WayRound.{AreByKey, has_lone_act, has_lone_answer, is_shared, is_within, way_of_pair};
+ghost use Rattle.rtps_evidence.specs.WayRound as way_round_spec;
 
 use crate::location::{Location, location_of};
 use crate::way::Way;
@@ -58,7 +59,7 @@ fn lone_among<'a>(
 
 /// Where acts stand.
 fn places_of(alloc: Global, acts: &[Placed<'_>]) -> Result<Vec<Location>, Memory>
-    ensures { IfOk result (λ places. places.items ≡ map location_of_lem (map placed_value acts.now)) }
+    ensures { IfOk result (λ places. places.items ≡ map locations.location_of (map placed_value acts.now)) }
 {
     let mut places = Vec::new(alloc);
     for placed in acts {
@@ -69,7 +70,7 @@ fn places_of(alloc: Global, acts: &[Placed<'_>]) -> Result<Vec<Location>, Memory
 
 /// Whether an act is an answer of a reader.
 fn is_ack_nack(placed: &Placed<'_>) -> bool
-    ensures { result ≡ is_ack_nack_lem (placed_value placed.now).act.body }
+    ensures { result ≡ speech.is_ack_nack (placed_value placed.now).act.body }
 {
     match &placed.act.body {
         SpokenBody::Act(ActBody::AckNack(_)) => true,
@@ -83,21 +84,21 @@ fn is_ack_nack(placed: &Placed<'_>) -> bool
 
 /// Whether an act is one of the writer that stands in the window.
 fn is_act_within(placed: &Placed<'_>, window: &Window) -> bool
-    ensures { result ≡ (not (is_ack_nack_lem (placed_value placed.now).act.body) && is_within window.now.lo window.now.hi (location_of_lem (placed_value placed.now))) }
+    ensures { result ≡ (not (speech.is_ack_nack (placed_value placed.now).act.body) && is_within window.now.lo window.now.hi (locations.location_of (placed_value placed.now))) }
 {
     !is_ack_nack(placed) && window.has(placed)
 }
 
 /// Whether an act is an answer of the reader that does.
 fn is_answer_within(placed: &Placed<'_>, window: &Window) -> bool
-    ensures { result ≡ (is_ack_nack_lem (placed_value placed.now).act.body && is_within window.now.lo window.now.hi (location_of_lem (placed_value placed.now))) }
+    ensures { result ≡ (speech.is_ack_nack (placed_value placed.now).act.body && is_within window.now.lo window.now.hi (locations.location_of (placed_value placed.now))) }
 {
     is_ack_nack(placed) && window.has(placed)
 }
 
 /// Whether an act of the writer among these stands in the window.
 fn has_act_within(lone: &[Placed<'_>], window: &Window) -> bool
-    ensures { result ≡ list_any (λ at. not (is_ack_nack_lem at.act.body) && is_within window.now.lo window.now.hi (location_of_lem at))
+    ensures { result ≡ list_any (λ at. not (speech.is_ack_nack at.act.body) && is_within window.now.lo window.now.hi (locations.location_of at))
         (map placed_value lone.now) }
 {
     for placed in lone {
@@ -110,7 +111,7 @@ fn has_act_within(lone: &[Placed<'_>], window: &Window) -> bool
 
 /// Whether an answer of the reader among these does.
 fn has_answer_within(lone: &[Placed<'_>], window: &Window) -> bool
-    ensures { result ≡ list_any (λ at. is_ack_nack_lem at.act.body && is_within window.now.lo window.now.hi (location_of_lem at))
+    ensures { result ≡ list_any (λ at. speech.is_ack_nack at.act.body && is_within window.now.lo window.now.hi (locations.location_of at))
         (map placed_value lone.now) }
 {
     for placed in lone {
@@ -133,9 +134,9 @@ struct Lone {
 /// What stands in the window of these acts, if there is one.
 fn lone_within(lone: &[Placed<'_>], window: Option<Window>) -> Lone
     ensures act { MatchOption window (result.act ≡ false)
-        (λ window. result.act ≡ list_any (λ at. not (is_ack_nack_lem at.act.body) && is_within window.lo window.hi (location_of_lem at)) (map placed_value lone.now)) }
+        (λ window. result.act ≡ list_any (λ at. not (speech.is_ack_nack at.act.body) && is_within window.lo window.hi (locations.location_of at)) (map placed_value lone.now)) }
     ensures answer { MatchOption window (result.answer ≡ false)
-        (λ window. result.answer ≡ list_any (λ at. is_ack_nack_lem at.act.body && is_within window.lo window.hi (location_of_lem at)) (map placed_value lone.now)) }
+        (λ window. result.answer ≡ list_any (λ at. speech.is_ack_nack at.act.body && is_within window.lo window.hi (locations.location_of at)) (map placed_value lone.now)) }
 {
     match window {
         Some(window) => Lone {
@@ -164,7 +165,7 @@ fn lone_in(alloc: Global, own: &[Placed<'_>], other: &[Placed<'_>]) -> Result<Lo
 
 /// Which way round two recordings are, by what each has that the other lacks.
 fn way_by(here: Lone, there: Lone) -> Way
-    ensures { result ≡ way_by_lem (here.act || there.answer) (there.act || here.answer) }
+    ensures { result ≡ way_round_spec.way_by (here.act || there.answer) (there.act || here.answer) }
 {
     let right = here.act || there.answer;
     let wrong = there.act || here.answer;
@@ -181,7 +182,7 @@ fn way_by(here: Lone, there: Lone) -> Way
 fn way_between(alloc: Global, ours: &[Placed<'_>], theirs: &[Placed<'_>]) -> Result<Way, Memory>
     requires ours { AreByKey ours.now }
     requires theirs { AreByKey theirs.now }
-    ensures { IfOk result (λ way. way ≡ way_between_lem (map placed_value ours.now) (map placed_value theirs.now)) }
+    ensures { IfOk result (λ way. way ≡ way_round_spec.way_between (map placed_value ours.now) (map placed_value theirs.now)) }
 {
     let here = lone_in(alloc, ours, theirs)?;
     let there = lone_in(alloc, theirs, ours)?;

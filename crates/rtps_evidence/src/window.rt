@@ -1,6 +1,6 @@
 ghost use Rattle.std.specs.Prelude.{◌≡◌, false, filter, length, nat_le, IfOk, MatchOption};
 ghost use Rattle.rtps_audit.specs.Placed.{placed_value};
-ghost use Rattle.rtps_evidence.specs.Locations.{location_of as location_of_lem};
+ghost use Rattle.rtps_evidence.specs.Locations as locations;
 ghost use Rattle.rtps_evidence.specs.WayRound.{IsWindow, goes_before, is_within};
 ghost use Rattle.rtps_evidence.specs.declared.location.Location.{Location as Place};
 
@@ -38,7 +38,7 @@ pub(crate) fn window_of(places: &mut Vec<Location>) -> Result<Option<Window>, Me
 impl Window {
     /// Whether an act stands in it.
     pub(crate) fn has(&self, placed: &Placed<'_>) -> bool
-        ensures { result ≡ is_within self.now.lo self.now.hi (location_of_lem (placed_value placed.now)) }
+        ensures { result ≡ is_within self.now.lo self.now.hi (locations.location_of (placed_value placed.now)) }
     {
         let place = location_of(placed);
         self.lo < place && place < self.hi

@@ -5,7 +5,8 @@ ghost use Rattle.rtps_audit.specs.Intake.{Intake};
 ghost use Rattle.rtps_audit.specs.Placed.{placed_in, placed_value};
 ghost use Rattle.rtps_receiver.specs.Speech.{is_answer};
 ghost use Rattle.rtps_receiver.specs.Values.{spoken_body_value};
-ghost use Rattle.rtps_evidence.specs.WayRound.{AreAsOften, AreByKey, is_act_sent, is_said_to as is_said_to_lem, is_same, is_shared, words_of};
+ghost use Rattle.rtps_evidence.specs.WayRound.{AreAsOften, AreByKey, is_act_sent, is_same, is_shared, words_of};
+ghost use Rattle.rtps_evidence.specs.WayRound as way_round;
 
 use crate::act_key::key_of;
 use crate::same_act::is_same_act;
@@ -29,7 +30,7 @@ fn is_sent(body: &SpokenBody<'_>) -> bool
 
 /// Whether an act is one that the pair's writer says to its reader.
 fn is_said_to(placed: &Placed<'_>, pair: Pair) -> bool
-    ensures { result ≡ is_said_to_lem pair (placed_value placed.now) }
+    ensures { result ≡ way_round.is_said_to pair (placed_value placed.now) }
 {
     is_sent(&placed.act.body)
         && placed.act.spoken_by(pair.writer)
@@ -39,7 +40,7 @@ fn is_said_to(placed: &Placed<'_>, pair: Pair) -> bool
 /// Adds those of these acts that the pair's writer says to its reader. After `Memory` the words are of no use.
 fn add_acts<'a>(words: &mut Vec<Placed<'a>>, acts: &[Placed<'a>], pair: Pair) -> Result<(), Memory>
     ensures { OnOk result (map placed_value words.new.items ≡ map placed_value words.old.items
-        ++ filter (is_said_to_lem pair) (map placed_value acts.now)) }
+        ++ filter (way_round.is_said_to pair) (map placed_value acts.now)) }
 {
     for placed in acts {
         if is_said_to(placed, pair) {

@@ -4,7 +4,8 @@ ghost use Rattle.rtps_audit.specs.Index.{IsIndexBy};
 ghost use Rattle.rtps_audit.specs.Intake.{Intake};
 ghost use Rattle.rtps_audit.specs.Placed.{placed_value};
 ghost use Rattle.rtps_audit.specs.Said.{IsSaid};
-ghost use Rattle.rtps_evidence.specs.WriterSummary.{IsHeardBy, IsSplit, IsSummary, IsSummaryOf, is_for_everyone as is_for_everyone_lem};
+ghost use Rattle.rtps_evidence.specs.WriterSummary.{IsHeardBy, IsSplit, IsSummary, IsSummaryOf};
+ghost use Rattle.rtps_evidence.specs.WriterSummary as writer_summary;
 
 use crate::amount::{AskedNumbers, HeardNumbers};
 use crate::exchange::Exchange;
@@ -33,7 +34,7 @@ pub(crate) struct WriterSummary {
 
 /// Whether an act is for every reader of every participant.
 fn is_for_everyone(act: &Spoken<'_>) -> bool
-    ensures { result ≡ is_for_everyone_lem (spoken_value act.now) }
+    ensures { result ≡ writer_summary.is_for_everyone (spoken_value act.now) }
 {
     match act.audience() {
         Some(audience) => audience.dest.is_none() && audience.reader == EVERY_READER,

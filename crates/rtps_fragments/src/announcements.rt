@@ -2,8 +2,9 @@ ghost use Rattle.std.specs.Prelude.{◌≡◌, ◌+◌, ◌<◌, ◌^◌, ◌++�
 ghost use Rattle.rtps_receiver.specs.Values.{spoken_body_value, spoken_value};
 ghost use Rattle.rtps_audit.specs.Intake.{Intake, intake_more, no_intake};
 ghost use Rattle.rtps_audit.specs.Placed.{placed_at, placed_value};
-ghost use Rattle.rtps_fragments.specs.Announcing.{is_built_in as is_built_in_lem};
-ghost use Rattle.rtps_fragments.specs.Announcements.{IsIndexedBy, is_announcement, is_of_built_in as is_of_built_in_lem};
+ghost use Rattle.rtps_fragments.specs.Announcing as announcing_spec;
+ghost use Rattle.rtps_fragments.specs.Announcements.{IsIndexedBy, is_announcement};
+ghost use Rattle.rtps_fragments.specs.Announcements as announcements_spec;
 
 use rtps_audit::{Index, Placed, place};
 use rtps_ids::{EntityId, Memory};
@@ -36,14 +37,14 @@ const BUILT_IN: u8 = 0xc0;
 
 /// Whether an entity is a built-in one.
 pub(crate) fn is_built_in(entity: EntityId) -> bool
-    ensures { result ≡ is_built_in_lem entity }
+    ensures { result ≡ announcing_spec.is_built_in entity }
 {
     entity.0[3] >= BUILT_IN
 }
 
 /// Whether an act is a DATA of a built-in writer: no other announces something.
 fn is_of_built_in(body: &SpokenBody<'_>) -> bool
-    ensures { result ≡ is_of_built_in_lem (spoken_body_value body.now) }
+    ensures { result ≡ announcements_spec.is_of_built_in (spoken_body_value body.now) }
 {
     match body {
         SpokenBody::Act(ActBody::Data(data)) => is_built_in(data.writer),

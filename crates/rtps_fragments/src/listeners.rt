@@ -2,7 +2,8 @@ ghost use Rattle.std.specs.Prelude.{ℕ, ◌≡◌, ◌<◌, ◌++◌, [], true,
 ghost use Rattle.std.specs.List.{list_any};
 ghost use Rattle.rtps_receiver.specs.declared.speech.Audience.{Audience as AudienceValue};
 ghost use Rattle.rtps_fragments.specs.FragmentDelivery.{last_fragment};
-ghost use Rattle.rtps_fragments.specs.Listeners.{AreNamed, AudienceNews, begins, has_name as has_name_lem, has_no_name as has_no_name_lem, hears, is_for_audience as is_for_audience_lem, is_had as is_had_lem, is_known as is_known_lem, is_same_dest as is_same_dest_lem, is_wider as is_wider_lem, named_so as named_so_lem, silence, tells, told_between, told_by_audience, with_news};
+ghost use Rattle.rtps_fragments.specs.Listeners.{AreNamed, AudienceNews, begins, hears, silence, tells, told_between, told_by_audience, with_news};
+ghost use Rattle.rtps_fragments.specs.Listeners as listeners_spec;
 ghost use Rattle.rtps_fragments.specs.Making.{AreListeners, IsListener};
 ghost use Rattle.rtps_fragments.specs.ToldSamples.{IsSent, offer_of, sent_value, shape_of, told_each, told_value};
 
@@ -29,7 +30,7 @@ pub(crate) enum Name {
 
 /// Whether two destinations are the same.
 fn is_same_dest(one: Option<GuidPrefix>, other: Option<GuidPrefix>) -> bool
-    ensures { result ≡ is_same_dest_lem one other }
+    ensures { result ≡ listeners_spec.is_same_dest one other }
 {
     match (one, other) {
         (Some(one), Some(other)) => one == other,
@@ -40,7 +41,7 @@ fn is_same_dest(one: Option<GuidPrefix>, other: Option<GuidPrefix>) -> bool
 
 /// Whether all of the other audience hear what is sent to this one.
 pub(crate) fn is_for_audience(one: &Audience, other: &Audience) -> bool
-    ensures { result ≡ is_for_audience_lem one.now other.now }
+    ensures { result ≡ listeners_spec.is_for_audience one.now other.now }
 {
     (one.dest.is_none() || is_same_dest(one.dest, other.dest))
         && (one.reader == EVERY_READER || one.reader == other.reader)
@@ -48,7 +49,7 @@ pub(crate) fn is_for_audience(one: &Audience, other: &Audience) -> bool
 
 /// Whether this audience is wider.
 fn is_wider(one: &Audience, other: &Audience) -> bool
-    ensures { result ≡ is_wider_lem one.now other.now }
+    ensures { result ≡ listeners_spec.is_wider one.now other.now }
 {
     is_for_audience(one, other) && !is_for_audience(other, one)
 }
@@ -56,7 +57,7 @@ fn is_wider(one: &Audience, other: &Audience) -> bool
 impl Name {
     /// Whether the audience has this name.
     fn is_of(self, audience: &Audience) -> bool
-        ensures { result ≡ has_name_lem self audience.now }
+        ensures { result ≡ listeners_spec.has_name self audience.now }
     {
         match self {
             Name::Dest(dest) => is_same_dest(audience.dest, dest),
@@ -66,7 +67,7 @@ impl Name {
 
     /// Whether the audience has no such name.
     fn is_free_in(self, audience: &Audience) -> bool
-        ensures { result ≡ has_no_name_lem self audience.now }
+        ensures { result ≡ listeners_spec.has_no_name self audience.now }
     {
         match self {
             Name::Dest(_) => audience.dest.is_none(),
@@ -76,7 +77,7 @@ impl Name {
 
     /// Those of the audience that have the name.
     fn among(self, audience: &Audience) -> Audience
-        ensures { result ≡ named_so_lem self audience.now }
+        ensures { result ≡ listeners_spec.named_so self audience.now }
     {
         match self {
             Name::Dest(dest) => Audience {
@@ -118,7 +119,7 @@ impl<'a> Listener<'a> {
         requires { IsSent sent.now }
         ensures audience { OnOk result (self.new.audience ≡ self.old.audience) }
         ensures came { OnOk result ((before came : List (ℕ × List ℕ)) → IsListener (last_fragment (shape_of sent.now.key)) before came self.old
-            → IsListener (last_fragment (shape_of sent.now.key)) before (came ++ (if is_for_audience_lem sent.now.audience self.old.audience then (sent_value sent.now).came else [])) self.new) }
+            → IsListener (last_fragment (shape_of sent.now.key)) before (came ++ (if listeners_spec.is_for_audience sent.now.audience self.old.audience then (sent_value sent.now).came else [])) self.new) }
     {
         if is_for_audience(&sent.audience, &self.audience) {
             self.heard.take_sent(sent)?;
@@ -152,7 +153,7 @@ impl<'a> Listeners<'a> {
     /// Whether all to whom fragments are sent have them already.
     fn know(&self, sent: &SentFragments<'_>) -> bool
         requires { IsSent sent.now }
-        ensures { (last : ℕ) (hearing : AudienceNews) → AreListeners last hearing hearing self.now.each.items → result ≡ is_known_lem hearing (offer_of (sent_value sent.now)) }
+        ensures { (last : ℕ) (hearing : AudienceNews) → AreListeners last hearing hearing self.now.each.items → result ≡ listeners_spec.is_known hearing (offer_of (sent_value sent.now)) }
     {
         for listener in self.each.iter() {
             if is_for_audience(&listener.audience, &sent.audience)
@@ -166,7 +167,7 @@ impl<'a> Listeners<'a> {
 
     /// Whether some audience has the name.
     fn has_name(&self, name: Name) -> bool
-        ensures { result ≡ list_any (λ listener. has_name_lem name listener.audience) self.now.each.items }
+        ensures { result ≡ list_any (λ listener. listeners_spec.has_name name listener.audience) self.now.each.items }
     {
         self.each
             .iter()
@@ -176,9 +177,9 @@ impl<'a> Listeners<'a> {
     /// A copy of each that has no such name, for those of it that have this one.
     fn copies(&self, name: Name) -> Result<Vec<Listener<'a>>, Memory>
         ensures audiences { IfOk result (λ copies. map (λ listener. listener.audience) copies.items
-            ≡ map (named_so_lem name) (filter (has_no_name_lem name) (map (λ listener. listener.audience) self.now.each.items))) }
+            ≡ map (listeners_spec.named_so name) (filter (listeners_spec.has_no_name name) (map (λ listener. listener.audience) self.now.each.items))) }
         ensures same { IfOk result (λ copies. (last : ℕ) (heard : AudienceValue → List (ℕ × List ℕ))
-            → ((audience : AudienceValue) → has_no_name_lem name audience ≡ true → heard (named_so_lem name audience) ≡ heard audience)
+            → ((audience : AudienceValue) → listeners_spec.has_no_name name audience ≡ true → heard (listeners_spec.named_so name audience) ≡ heard audience)
             → All (λ listener. IsListener last (heard listener.audience) (heard listener.audience) listener) self.now.each.items
             → All (λ listener. IsListener last (heard listener.audience) (heard listener.audience) listener) copies.items) }
     {
@@ -221,7 +222,7 @@ impl<'a> Listeners<'a> {
         requires size { 0 < shape.fragment }
         requires some { 0 < last_fragment shape }
         ensures { IfOk result (λ have. (before now : AudienceNews) → AreListeners (last_fragment shape) before now self.now.each.items
-            → have ≡ is_had_lem (last_fragment shape) now audience.now octets.now) }
+            → have ≡ listeners_spec.is_had (last_fragment shape) now audience.now octets.now) }
     {
         for listener in self.each.iter() {
             if is_wider(&listener.audience, audience) && listener.heard.has(shape, octets)? {

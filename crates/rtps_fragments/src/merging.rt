@@ -1,7 +1,8 @@
 ghost use Rattle.std.specs.Prelude.{◌≡◌, ◌≤◌, ◌++◌, drop, length, map, take, OnOk};
 ghost use Rattle.rtps_receiver.specs.Values.{spoken_value};
 ghost use Rattle.rtps_wire.specs.Values.{payload_value};
-ghost use Rattle.rtps_fragments.specs.Merging.{act_as as act_as_lem, acts_told, merged_from, run_of, run_past};
+ghost use Rattle.rtps_fragments.specs.Merging.{acts_told, merged_from, run_of, run_past};
+ghost use Rattle.rtps_fragments.specs.Merging as merging;
 ghost use Rattle.rtps_fragments.specs.ToldSamples.{told_value};
 
 use crate::told_sample::ToldSample;
@@ -37,7 +38,7 @@ fn act_as<'s>(
     number: SeqNum,
     told: &'s ToldSample,
 ) -> Spoken<'s>
-    ensures { spoken_value result ≡ act_as_lem form (spoken_value act.now) number (told_value told.now) }
+    ensures { spoken_value result ≡ merging.act_as form (spoken_value act.now) number (told_value told.now) }
 {
     let writer = act.origin().entity;
     let payload = payload_of(told);

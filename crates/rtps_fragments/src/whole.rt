@@ -1,6 +1,7 @@
 ghost use Rattle.std.specs.Prelude.{◌≡◌, ◌≤◌, ◌<◌, ◌+◌, ◌^◌, [], length, List, map};
 ghost use Rattle.rtps_fragments.specs.ToldSamples.{SentValue, sent_value};
-ghost use Rattle.rtps_fragments.specs.Whole.{AreWholeIn, AreWholeOf, key_number as key_number_lem, left_among as left_among_lem, tally_with_fragments};
+ghost use Rattle.rtps_fragments.specs.Whole.{AreWholeIn, AreWholeOf, tally_with_fragments};
+ghost use Rattle.rtps_fragments.specs.Whole as whole;
 
 use crate::fragment_walk::FragmentWalk;
 use crate::piece::{SampleKey, SentFragments};
@@ -24,7 +25,7 @@ pub(crate) struct WholeNumbers {
 
 /// The number that a sample has.
 pub(crate) fn key_number(key: &SampleKey) -> SampleNumber
-    ensures { result ≡ key_number_lem key.now }
+    ensures { result ≡ whole.key_number key.now }
 {
     SampleNumber {
         writer: key.writer,
@@ -46,7 +47,7 @@ impl WholeNumbers {
     pub(crate) fn tally(&self, walk: &FragmentWalk<'_>) -> Tally
         requires { walk.now.unusable + length walk.now.sents.items < 2 ^ 64 }
         ensures { (all : List SentValue) → AreWholeIn all self.now
-            → result ≡ tally_with_fragments walk.now.plain (walk.now.unusable + left_among_lem all (map sent_value walk.now.sents.items)) }
+            → result ≡ tally_with_fragments walk.now.plain (walk.now.unusable + whole.left_among all (map sent_value walk.now.sents.items)) }
     {
         Tally {
             refused: walk.plain.refused,
@@ -58,7 +59,7 @@ impl WholeNumbers {
     /// How many of these fragments that acts send are of a number of which no sample can be put together.
     pub(crate) fn left_among(&self, sents: &[SentFragments<'_>]) -> u64
         ensures few { result ≤ length sents.now }
-        ensures left { (all : List SentValue) → AreWholeIn all self.now → result ≡ left_among_lem all (map sent_value sents.now) }
+        ensures left { (all : List SentValue) → AreWholeIn all self.now → result ≡ whole.left_among all (map sent_value sents.now) }
     {
         let mut left = 0;
         for sent in sents {

@@ -1,5 +1,6 @@
 ghost use Rattle.std.specs.Prelude.{◌≡◌, ◌<◌, ◌≤◌, ◌^◌, ◌/◌, length, ◌↔◌, ◌<ℤ◌, ℤ, pos, true, false, None, Some, All, IsTrue, IfSome, MatchOption, MatchResult, slice_index};
-ghost use Rattle.rtps_ids.specs.NumberSet.{IsKeptSet, IsMember, cleared_words, bit_of, is_bad as is_bad_lem, octets_of_count, set_fault, spelled_set, spelled_word, cleared as cleared_lem};
+ghost use Rattle.rtps_ids.specs.NumberSet.{IsKeptSet, IsMember, cleared_words, bit_of, octets_of_count, set_fault, spelled_set, spelled_word};
+ghost use Rattle.rtps_ids.specs.NumberSet as number_set;
 ghost use Rattle.rtps_ids.specs.Ranges.{IsRangeFrom, HasNoneFrom};
 ghost use Rattle.rtps_ids.specs.declared.layout.set.TheConstants.{WORD_BITS};
 
@@ -37,7 +38,7 @@ impl NumberSet {
     /// the first word. Later bits are cleared. None if the base is below 0, if the count is above 256, if the base is 0
     /// and the count is not, or if the last number is above 2^63 - 1.
     pub fn new(base: i64, count: u32, words: [u32; 8]) -> Option<NumberSet>
-        ensures exists { MatchOption result (is_bad_lem base count ≡ true) (λ set. is_bad_lem base count ≡ false) }
+        ensures exists { MatchOption result (number_set.is_bad base count ≡ true) (λ set. number_set.is_bad base count ≡ false) }
         ensures base { IfSome result (λ set. pos set.base ≡ base) }
         ensures count { IfSome result (λ set. set.count ≡ count) }
         ensures words { IfSome result (λ set. set.words ≡ cleared_words count (λ i. slice_index words i)) }
@@ -154,7 +155,7 @@ fn is_set(words: &[u32], bit: usize) -> bool
 /// Whether no set has this base and count.
 #[tactic(auto, unfolding(crate::specs::NumberSet::is_bad))]
 fn is_bad(base: i64, count: u32) -> bool
-    ensures { result ≡ is_bad_lem base count }
+    ensures { result ≡ number_set.is_bad base count }
 {
     if base < 0 || count > set::MOST_BITS {
         return true;
@@ -168,7 +169,7 @@ fn is_bad(base: i64, count: u32) -> bool
 /// Word `i` without the bits past `count`.
 fn cleared(count: u32, word: u32, i: usize) -> u32
     requires { i < 8 }
-    ensures { result ≡ cleared_lem count word i }
+    ensures { result ≡ number_set.cleared count word i }
 {
     let before = set::WORD_BITS * i as u32;
     if before >= count {
@@ -181,7 +182,7 @@ fn cleared(count: u32, word: u32, i: usize) -> u32
 /// The set of this base and count. Its words have no bit past the count.
 #[tactic(auto, unfolding(crate::specs::NumberSet::is_bad))]
 fn set_of(base: i64, count: u32, words: [u32; 8]) -> NumberSet
-    requires good { is_bad_lem base count ≡ false }
+    requires good { number_set.is_bad base count ≡ false }
     requires clear { words ≡ cleared_words count (λ i. slice_index words i) }
     ensures base { pos result.base ≡ base }
     ensures count { result.count ≡ count }
@@ -198,7 +199,7 @@ fn set_of(base: i64, count: u32, words: [u32; 8]) -> NumberSet
 fn word_at(order: Order, bytes: &[u8], count: u32, i: usize) -> u32
     requires place { i < 8 }
     requires whole { octets_of_count count ≤ length bytes.now }
-    ensures { result ≡ cleared_lem count (spelled_word order bytes.now i) i }
+    ensures { result ≡ number_set.cleared count (spelled_word order bytes.now i) i }
 {
     let Some(word) = u32_at(order, bytes, set::WORDS + set::WORD_SIZE * i) else {
         return 0;

@@ -6,7 +6,8 @@ mod BirthLemmas
 mod KnownLemmas
 mod LackingLemmas
 mod UntoldLemmas
-mod TrailLemmas
+mod HeardLemmas
+mod SendingLemmas
 mod SpreadLemmas
 mod MatchLemmas
 mod LawLemmas

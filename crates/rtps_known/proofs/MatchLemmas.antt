@@ -1,5 +1,5 @@
 -- One act more of what is kept of matches, and what that tells.
-use Rattle.std.proofs.Common.{◌≡◌, ◌∙◌, ℕ, Bool, true, false, List, [], ◌∷◌, ◌++◌, Option, Some, None, ap, ap₂, cond, map, refl, sym}
+use Rattle.std.proofs.Common.{◌≡◌, ◌∙◌, ℕ, Bool, true, false, List, [], ◌∷◌, ◌++◌, Option, Some, None, ap, ap₂, cond, refl, sym}
 use Rattle.std.specs.BTreeMap.{get, is_at}
 use Rattle.std.specs.List.{cons_option, filter_map}
 use Rattle.std.specs.Map.{lookup}
@@ -11,11 +11,10 @@ use Rattle.rtps_discovery.specs.GuidOrder.{guid_cmp}
 use Rattle.rtps_policies.specs.Announcing.{first_of}
 use Rattle.rtps_policies.specs.Told.{KeepsFirst}
 use Rattle.rtps_known.specs.Bulletins.{prefix_cmp}
-use Rattle.rtps_known.specs.Learning.{claims, learned, seen_value}
+use Rattle.rtps_known.specs.Learning.{Inquiry, claims, learned}
 use Rattle.rtps_known.specs.Places.{PlacedAct, place_of}
 use Rattle.rtps_known.specs.Spreads.{IsQuietIn, IsSpreadOf, TellsTheSame, inquiry_of}
 use Rattle.rtps_known.specs.declared.spread.Spread.{Spread}
-use Rattle.rtps_known.specs.declared.step.Inquiry.{Inquiry}
 
 -- ---- the first value of a GUID
 
@@ -57,17 +56,12 @@ first_same tells acts placed old none were guid =
 learned_same : (inquiry : Inquiry) (one other : List PlacedAct) → TellsTheSame inquiry one other → learned inquiry one ≡ learned inquiry other
 learned_same inquiry one other same = ap₂ option_or same.again same.first
 
--- where a participant learned of a number, by what is kept of a writer
-pub learned_kept : (acts : List PlacedAct) (writer : Guid) (prefix : GuidPrefix) (n : ℕ) (spread : Spread) → IsSpreadOf writer acts spread
-    → learned (inquiry_of writer prefix n) (map seen_value spread.steps.items) ≡ learned (inquiry_of writer prefix n) acts
-learned_kept acts writer prefix n spread were = learned_same (inquiry_of writer prefix n) (map seen_value spread.steps.items) acts (were.steps prefix n)
-
 pub learned_never : (acts : List PlacedAct) (writer : Guid) (prefix : GuidPrefix) (n : ℕ) → IsQuietIn writer acts → None ≡ learned (inquiry_of writer prefix n) acts
-learned_never acts writer prefix n were = learned_same (inquiry_of writer prefix n) [] acts (were.steps prefix n)
+learned_never acts writer prefix n were = learned_same (inquiry_of writer prefix n) [] acts (were prefix n)
 
 pub claimed_kept : (acts : List PlacedAct) (writer : Guid) (prefix : GuidPrefix) (spread : Spread) → IsSpreadOf writer acts spread
     → get prefix_cmp spread.firsts prefix ≡ place_of (claims (inquiry_of writer prefix 1)) acts
-claimed_kept acts writer prefix spread were = were.firsts prefix ∙ (were.steps prefix 1).claimed
+claimed_kept acts writer prefix spread were = were.firsts prefix
 
 pub claimed_never : (acts : List PlacedAct) (writer : Guid) (prefix : GuidPrefix) (n : ℕ) → IsQuietIn writer acts → None ≡ place_of (claims (inquiry_of writer prefix n)) acts
-claimed_never acts writer prefix n were = (were.steps prefix n).claimed
+claimed_never acts writer prefix n were = (were prefix n).claimed

@@ -10,7 +10,9 @@ use Rattle.rtps_ids.specs.declared.identity.GuidPrefix.{GuidPrefix}
 use Rattle.rtps_discovery.specs.GuidOrder.{guid_cmp}
 use Rattle.rtps_known.specs.Bulletins.{prefix_cmp}
 use Rattle.rtps_known.specs.Lives.{birth_cmp}
+use Rattle.rtps_known.specs.Spreads.{sending_cmp}
 use Rattle.rtps_known.specs.declared.life.Birth.{Birth}
+use Rattle.rtps_known.specs.declared.sending.Sending.{Sending}
 use Rattle.rtps_known.specs.declared.telling.Announcement.{Announcement}
 use Rattle.rtps_known.specs.declared.telling.Telling.{Telling}
 
@@ -68,3 +70,11 @@ birth_of_parts parts = record { participant = record { 0 = parts.0 }; number = p
 pub exact_births : CmpEqualImpliesEq birth_cmp
 unfolding birth_of_parts
 exact_births a b h = ap birth_of_parts (exact_pairs (slice_cmp nat_cmp) nat_cmp exact_bytes exact_unsigned (a.participant.0, a.number) (b.participant.0, b.number) h)
+
+sending_of_parts : ℕ × Option GuidPrefix → Sending
+sending_of_parts parts = record { number = parts.0; dest = parts.1 }
+
+pub exact_sendings : CmpEqualImpliesEq sending_cmp
+unfolding sending_of_parts
+exact_sendings a b h =
+    ap sending_of_parts (exact_pairs nat_cmp (option_cmp prefix_cmp) exact_unsigned (exact_options prefix_cmp exact_prefixes) (a.number, a.dest) (b.number, b.dest) h)

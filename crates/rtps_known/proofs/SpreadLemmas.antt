@@ -1,57 +1,40 @@
 -- One act more of what is kept of built-in writers.
-use Rattle.std.proofs.Common.{◌≡◌, ◌∙◌, ℕ, Bool, true, false, ◌||◌, ◌&&◌, ◌==◌, ◌-◌, List, [], ◌∷◌, ◌++◌, MatchOption, Option, Some, None, ap, ap₂, arith, cond, map, nat_le, nat_lt, refl, subst, suc, sym, zero}
+use Rattle.std.proofs.Common.{◌≡◌, ◌∙◌, ℕ, Bool, true, false, ◌||◌, ◌&&◌, List, [], ◌∷◌, ◌++◌, MatchOption, Option, Some, None, ap, ap₂, cond, nat_lt, not, refl, subst, sym, unwrap_or}
 use Rattle.std.specs.BTreeMap.{BTreeMap, get, is_at}
+use Rattle.std.specs.BTreeSet.{contains}
 use Rattle.std.specs.List.{list_any}
 use Rattle.std.specs.Option.{is_some, option_or}
-use Rattle.std.proofs.lemmas.Bool.{false≢true, le-ltb, lt-ltb}
+use Rattle.std.proofs.lemmas.Bool.{false≢true}
 use Rattle.std.proofs.lemmas.Map.Text.{is_eq-slice_cmp}
 use Rattle.std.proofs.lemmas.Map.Views.{tells_apart}
-use Rattle.rtps_ids.specs.NumberSet.{bit_of}
 use Rattle.rtps_ids.specs.declared.identity.Guid.{Guid}
 use Rattle.rtps_ids.specs.declared.identity.GuidPrefix.{GuidPrefix}
 use Rattle.rtps_discovery.specs.GuidOrder.{guid_cmp}
 use Rattle.rtps_receiver.specs.Said.{said}
 use Rattle.rtps_receiver.specs.Speech.{is_prefix}
-use Rattle.rtps_receiver.specs.Values.{ActBodyValue}
+use Rattle.rtps_receiver.specs.Values.{ActBodyValue, ActValue}
 use Rattle.rtps_receiver.specs.Values.ActBodyValue.{Data, Heartbeat, AckNack, Gap, DataFrag, NackFrag}
 use Rattle.rtps_known.specs.Bulletins.{prefix_cmp}
-use Rattle.rtps_known.specs.Learning.{asks, base_in, claims, hears, heard_again, is_about, seen_value, sends, subject_in}
+use Rattle.rtps_known.specs.Learning.{Inquiry, asks, base_in, claims, hears, heard_again, is_about, sends, subject_in}
 use Rattle.rtps_known.specs.Places.{PlacedAct, place_of}
-use Rattle.rtps_known.specs.Spreads.{AreSpreadsOf, IsQuietIn, IsSpreadOf, TellsTheSame, base_kept, inquiry_of, keeps_base, keeps_first, matters}
+use Rattle.rtps_known.specs.Spreads.{AnswerIsKept, AreSpreadsOf, HeardAgain, HearingIsKept, IsQuietIn, IsSpreadOf, LearnedFirst, TellsTheSame, again_kept, asks_by, base_kept, filled, first_kept, hearing_in, hears_by, inquiry_of, keeps_base, keeps_first, opens}
 use Rattle.rtps_known.specs.Tellings.{holds, is_guid, is_to}
 use Rattle.rtps_known.specs.declared.place.Place.{Place}
+use Rattle.rtps_known.specs.declared.sending.Hearing.{Hearing}
 use Rattle.rtps_known.specs.declared.spread.Spread.{Spread}
-use Rattle.rtps_known.specs.declared.step.Inquiry.{Inquiry}
-use Rattle.rtps_known.proofs.BoolLemmas.{and_all, and_none, or_none}
+use Rattle.rtps_known.proofs.BoolLemmas.{and_all, and_none}
 use Rattle.rtps_known.proofs.KnownLemmas.{guids_alike}
 use Rattle.rtps_known.proofs.OrderLemmas.{exact_guids, exact_prefixes}
-use Rattle.rtps_known.proofs.TrailLemmas.{again_with, any_more, heard_more, place_any, place_more}
+use Rattle.rtps_known.proofs.HeardLemmas.{again_with, any_more, heard_more, place_any, place_more}
 
-nothing_more : (kept : Option Place) → kept ≡ option_or kept None
+pub nothing_more : {X : Type 0} (kept : Option X) → kept ≡ option_or kept None
 nothing_more None = refl
-nothing_more (Some place) = refl
+nothing_more (Some kept) = refl
 
 -- ---- two lists that tell the same
 
 pub same_refl : (inquiry : Inquiry) (acts : List PlacedAct) → TellsTheSame inquiry acts acts
 same_refl inquiry acts = record { first = refl; claimed = refl; again = refl }
-
-same_trans : (inquiry : Inquiry) (one other last : List PlacedAct) → TellsTheSame inquiry one other → TellsTheSame inquiry other last → TellsTheSame inquiry one last
-same_trans inquiry one other last a b = record { first = a.first ∙ b.first; claimed = a.claimed ∙ b.claimed; again = a.again ∙ b.again }
-
--- with one act more each
-same_more : (inquiry : Inquiry) (one other : List PlacedAct) (placed : PlacedAct) → TellsTheSame inquiry one other → TellsTheSame inquiry (one ++ placed ∷ []) (other ++ placed ∷ [])
-same_more inquiry one other placed were =
-    let heard : Option Place = cond (hears inquiry placed) (Some placed.place) None in
-    let claimed : Option Place = cond (claims inquiry placed) (Some placed.place) None in
-    let any : list_any (claims inquiry) one ≡ list_any (claims inquiry) other =
-    sym (place_any (claims inquiry) one) ∙ ap is_some were.claimed ∙ place_any (claims inquiry) other in
-    record {
-      first = place_more (hears inquiry) one placed ∙ ap (λ o. option_or o heard) were.first ∙ sym (place_more (hears inquiry) other placed);
-      claimed = place_more (claims inquiry) one placed ∙ ap (λ o. option_or o claimed) were.claimed ∙ sym (place_more (claims inquiry) other placed);
-      again = heard_more inquiry one placed ∙ ap₂ (λ (b : Bool) (o : Option Place). again_with b (claims inquiry placed) (asks inquiry placed) o heard) any were.again
-          ∙ sym (heard_more inquiry other placed);
-    }
 
 -- with one act more that tells nothing new
 same_idle : (inquiry : Inquiry) (one other : List PlacedAct) (placed : PlacedAct) → hears inquiry placed ≡ false → asks inquiry placed ≡ false
@@ -92,28 +75,35 @@ elsewhere writer acts placed steps away were prefix n =
     gone : (b : Bool) → (is_about writer placed.act && b) ≡ false
     gone b = ap (λ a. a && b) away
 
--- the same of what claims
-unclaimed_more : (writer : Guid) (acts : List PlacedAct) (placed : PlacedAct) (prefix : GuidPrefix) (n : ℕ) → is_about writer placed.act ≡ false
-    → list_any (claims (inquiry_of writer prefix n)) acts ≡ list_any (claims (inquiry_of writer prefix n)) (acts ++ placed ∷ [])
-unclaimed_more writer acts placed prefix n away =
-    let i : Inquiry = inquiry_of writer prefix n in
-    or_none (list_any (claims i) acts)
-    ∙ ap (λ b. list_any (claims i) acts || b) (sym (ap (λ a. a && (is_prefix placed.act.source prefix && nat_lt n (base_in placed.act.body))) away))
-    ∙ sym (any_more (claims i) acts placed)
+any_same : (inquiry : Inquiry) (one other : List PlacedAct) → TellsTheSame inquiry one other → list_any (claims inquiry) one ≡ list_any (claims inquiry) other
+any_same inquiry one other same = sym (place_any (claims inquiry) one) ∙ ap is_some same.claimed ∙ place_any (claims inquiry) other
+
+again_same : (inquiry : Inquiry) (one other : List PlacedAct) (kept : Option (Option Place)) → TellsTheSame inquiry one other
+    → MatchOption kept (LearnedFirst inquiry one) (HeardAgain inquiry one) → MatchOption kept (LearnedFirst inquiry other) (HeardAgain inquiry other)
+again_same inquiry one other None same were =
+    record {
+      place = sym (ap₂ option_or same.again same.first) ∙ were.place ∙ same.first;
+      again = λ none. sym same.again ∙ were.again (any_same inquiry one other same ∙ none) ∙ same.first;
+    }
+again_same inquiry one other (Some again) same were = record { place = were.place ∙ same.again; heard = ap is_some (sym same.first) ∙ were.heard }
+
+-- what is kept of acts is that of others that tell the same
+spread_same : (writer : Guid) (acts others : List PlacedAct) (spread : Spread)
+    → ((prefix : GuidPrefix) (n : ℕ) → TellsTheSame (inquiry_of writer prefix n) acts others) → IsSpreadOf writer acts spread → IsSpreadOf writer others spread
+spread_same writer acts others spread same were =
+    record {
+      sent = λ prefix n. were.sent prefix n ∙ (same prefix n).first;
+      again = λ prefix n. again_same (inquiry_of writer prefix n) acts others (again_kept spread.again prefix n) (same prefix n) (were.again prefix n);
+      askers = were.askers;
+      bases = λ prefix n. were.bases prefix n ∙ any_same (inquiry_of writer prefix n) acts others (same prefix n);
+      firsts = λ prefix. were.firsts prefix ∙ (same prefix 1).claimed;
+    }
 
 spread_stays : (writer : Guid) (acts : List PlacedAct) (placed : PlacedAct) (kept : Option Spread) → is_about writer placed.act ≡ false
     → MatchOption kept (IsQuietIn writer acts) (IsSpreadOf writer acts) → MatchOption kept (IsQuietIn writer (acts ++ placed ∷ [])) (IsSpreadOf writer (acts ++ placed ∷ []))
-spread_stays writer acts placed None away were =
-    record {
-      steps = elsewhere writer acts placed [] away were.steps;
-      bases = λ prefix n. sym (unclaimed_more writer acts placed prefix n away) ∙ were.bases prefix n;
-    }
+spread_stays writer acts placed None away were = elsewhere writer acts placed [] away were
 spread_stays writer acts placed (Some spread) away were =
-    record {
-      steps = elsewhere writer acts placed (map seen_value spread.steps.items) away were.steps;
-      bases = λ prefix n. were.bases prefix n ∙ unclaimed_more writer acts placed prefix n away;
-      firsts = were.firsts;
-    }
+    spread_same writer acts (acts ++ placed ∷ []) spread (elsewhere writer acts placed acts away (λ prefix n. same_refl (inquiry_of writer prefix n) acts)) were
 
 -- an act about no writer
 pub about_nobody : (acts : List PlacedAct) (placed : PlacedAct) (spreads : BTreeMap Guid Spread) → None ≡ subject_in placed.act → AreSpreadsOf acts spreads
@@ -124,13 +114,7 @@ about_nobody acts placed spreads none were writer =
 -- what was kept of a writer, or what is kept of no acts
 taken_is : (writer : Guid) (acts : List PlacedAct) (kept : Option Spread) (spread : Spread)
     → MatchOption kept ((other : Guid) → IsSpreadOf other [] spread) (λ old. spread ≡ old) → MatchOption kept (IsQuietIn writer acts) (IsSpreadOf writer acts) → IsSpreadOf writer acts spread
-taken_is writer acts None spread new were =
-    let empty : IsSpreadOf writer [] spread = new writer in
-    record {
-      steps = λ prefix n. same_trans (inquiry_of writer prefix n) (map seen_value spread.steps.items) [] acts (empty.steps prefix n) (were.steps prefix n);
-      bases = λ prefix n. empty.bases prefix n ∙ sym (were.bases prefix n);
-      firsts = empty.firsts;
-    }
+taken_is writer acts None spread new were = spread_same writer [] acts spread were (new writer)
 taken_is writer acts (Some old) spread same were = let P : Spread → Type 0 = λ a. IsSpreadOf writer acts a in subst P (sym same) were
 
 -- an act about this writer
@@ -160,83 +144,8 @@ about_this acts placed old between new writer spread more some taken without not
 
 -- ---- an act about the writer
 
-one_prefix : (one other : GuidPrefix) → is_prefix one other ≡ true → one ≡ other
+pub one_prefix : (one other : GuidPrefix) → is_prefix one other ≡ true → one ≡ other
 one_prefix one other e = tells_apart exact_prefixes one other (is_eq-slice_cmp one.0 other.0 ∙ e)
-
-none_in : (base count : ℕ) (bit : Bool) (n : ℕ) (above : Bool) → (nat_lt 0 count || above) ≡ false → (nat_le base n && (nat_lt (n - base) count && bit)) ≡ false
-none_in base zero bit n above e = ap (λ b. nat_le base n && (b && bit)) (le-ltb (n - base) 0 (omega arith)) ∙ by (nat_le base n)
-  where
-    by : (b : Bool) → (b && false) ≡ false
-    by true = refl
-    by false = refl
-none_in base (suc count) bit n above e = absurd (false≢true (sym e ∙ ap (λ b. b || above) (lt-ltb 0 (suc count) (omega arith))))
-
-not_above : (listed : Bool) (base had n : ℕ) → (listed || nat_lt had base) ≡ false → nat_lt n base ≡ true → nat_lt n had ≡ true
-not_above true base had n e so = absurd (false≢true (sym e))
-not_above false base had n e so = grind (arith, e, so)
-
--- one that tells nothing new
-pub idle_more : (writer : Guid) (acts : List PlacedAct) (placed : PlacedAct) (spread : Spread)
-    → matters placed.act.body (base_kept spread.bases placed.act.source) ≡ false → IsSpreadOf writer acts spread → IsSpreadOf writer (acts ++ placed ∷ []) spread
-idle_more writer acts placed spread idle were =
-    record {
-      steps = λ prefix n. same_idle (inquiry_of writer prefix n) (map seen_value spread.steps.items) acts placed (unheard prefix n) (unasked prefix n)
-          (λ so. sym (were.bases prefix n) ∙ had prefix n so) (were.steps prefix n);
-      bases = λ prefix n. were.bases prefix n ∙ stays (list_any (claims (inquiry_of writer prefix n)) acts) (claims (inquiry_of writer prefix n) placed)
-          (λ so. sym (were.bases prefix n) ∙ had prefix n so) ∙ sym (any_more (claims (inquiry_of writer prefix n)) acts placed);
-      firsts = were.firsts;
-    }
-  where
-    stays : (old new : Bool) → (new ≡ true → old ≡ true) → old ≡ (old || new)
-    stays true new e = refl
-    stays false false e = refl
-    stays false true e = absurd (false≢true (e refl))
-
-    and_false : (a : Bool) → (a && false) ≡ false
-    and_false true = refl
-    and_false false = refl
-
-    unsent : (body : ActBodyValue) (n : ℕ) → matters body (base_kept spread.bases placed.act.source) ≡ false → sends body n ≡ false
-    unsent (AckNack value) n e = refl
-    unsent (Data value) n e = absurd (false≢true (sym e))
-    unsent (Heartbeat value) n e = refl
-    unsent (Gap value) n e = refl
-    unsent (DataFrag value) n e = refl
-    unsent (NackFrag value) n e = refl
-
-    unheard : (prefix : GuidPrefix) (n : ℕ) → hears (inquiry_of writer prefix n) placed ≡ false
-    unheard prefix n =
-        ap (λ b. is_about writer placed.act && (b && is_to placed.act.dest prefix)) (unsent placed.act.body n idle) ∙ and_false (is_about writer placed.act)
-
-    none_listed : (body : ActBodyValue) (n : ℕ) → matters body (base_kept spread.bases placed.act.source) ≡ false → (said body).lacked n ≡ false
-    none_listed (AckNack value) n e = none_in value.set.base value.set.count (bit_of value.set.words (n - value.set.base) == 1) n (nat_lt (base_kept spread.bases placed.act.source) value.set.base) e
-    none_listed (Data value) n e = refl
-    none_listed (Heartbeat value) n e = refl
-    none_listed (Gap value) n e = refl
-    none_listed (DataFrag value) n e = refl
-    none_listed (NackFrag value) n e = absurd (false≢true (sym e))
-
-    unasked : (prefix : GuidPrefix) (n : ℕ) → asks (inquiry_of writer prefix n) placed ≡ false
-    unasked prefix n =
-        ap (λ b. is_about writer placed.act && (is_prefix placed.act.source prefix && b)) (none_listed placed.act.body n idle)
-        ∙ ap (λ b. is_about writer placed.act && b) (and_false (is_prefix placed.act.source prefix)) ∙ and_false (is_about writer placed.act)
-
-    within : (body : ActBodyValue) (n : ℕ) → matters body (base_kept spread.bases placed.act.source) ≡ false → nat_lt n (base_in body) ≡ true
-        → nat_lt n (base_kept spread.bases placed.act.source) ≡ true
-    within (AckNack value) n e so = not_above (nat_lt 0 value.set.count) value.set.base (base_kept spread.bases placed.act.source) n e so
-    within (Data value) n e so = absurd (false≢true (sym e))
-    within (Heartbeat value) n e so = absurd (false≢true (sym e))
-    within (Gap value) n e so = absurd (false≢true (sym e))
-    within (DataFrag value) n e so = absurd (false≢true (sym e))
-    within (NackFrag value) n e so = absurd (false≢true (sym e))
-
-    had : (prefix : GuidPrefix) (n : ℕ) → claims (inquiry_of writer prefix n) placed ≡ true → nat_lt n (base_kept spread.bases prefix) ≡ true
-    had prefix n so = by (is_about writer placed.act) (is_prefix placed.act.source prefix) refl so
-      where
-        by : (about here : Bool) → is_prefix placed.act.source prefix ≡ here → (about && (here && nat_lt n (base_in placed.act.body))) ≡ true → nat_lt n (base_kept spread.bases prefix) ≡ true
-        by true true e so = ap (λ p. nat_lt n (base_kept spread.bases p)) (sym (one_prefix placed.act.source prefix e)) ∙ within placed.act.body n idle so
-        by true false e so = absurd (false≢true so)
-        by false here e so = absurd (false≢true so)
 
 -- where a participant acknowledges a number first: none was kept
 pub first_new : (old new : GuidPrefix → Option Place) (source : GuidPrefix) (holds : Bool) (place : Place) → holds ≡ true → is_some (old source) ≡ false
@@ -275,23 +184,234 @@ first_same old source holds place none prefix =
     nothing_more (old prefix)
     ∙ ap (λ b. option_or (old prefix) (cond b (Some place) None)) (sym (and_none (is_prefix source prefix)) ∙ ap (λ b. is_prefix source prefix && b) (sym none))
 
--- one that is kept
-pub step_more : (writer : Guid) (acts : List PlacedAct) (placed : PlacedAct) (old new : Spread) → is_about writer placed.act ≡ true
-    → map seen_value new.steps.items ≡ map seen_value old.steps.items ++ placed ∷ [] → keeps_base old.bases new.bases placed.act.source (base_in placed.act.body)
+-- ---- one number and one participant, with one act more
+
+-- what holds where nothing is kept, and where something is
+abbrev First : Option Place → Option Place → Bool → Type 0
+First first again claimed = (option_or again first ≡ first) × (claimed ≡ false → again ≡ first)
+
+abbrev Again : Option Place → Option Place → Option Place → Type 0
+Again first again kept = (kept ≡ again) × (is_some first ≡ true)
+
+or_assoc : (a b c : Option Place) → option_or (option_or a b) c ≡ option_or a (option_or b c)
+or_assoc None b c = refl
+or_assoc (Some a) b c = refl
+
+or_same : (a : Option Place) (place : Place) → option_or (option_or a (Some place)) (option_or a (Some place)) ≡ option_or a (Some place)
+or_same None place = refl
+or_same (Some a) place = refl
+
+some_or : (a b : Option Place) → is_some a ≡ true → is_some (option_or a b) ≡ true
+some_or (Some a) b e = refl
+some_or None b e = absurd (false≢true e)
+
+-- where the number is acknowledged what is kept stays
+stays : (first again here : Option Place) (was : Bool) (kept : Option (Option Place)) → MatchOption kept (First first again was) (Again first again)
+    → MatchOption kept (First (option_or first here) again true) (Again (option_or first here) again)
+stays first again here was None were =
+    (sym (or_assoc again first here) ∙ ap (λ o. option_or o here) were.0, λ e. absurd (false≢true (sym e)))
+stays first again here was (Some kept) were = (were.0, some_or first here were.1)
+
+step : (place : Place) (first again : Option Place) (claimed claiming asking hearing asker : Bool) (kept : Option (Option Place))
+    → MatchOption kept (First first again claimed) (Again first again) → (hearing ≡ true → asking ≡ false) → (is_some kept ≡ true → asker ≡ true)
+    → MatchOption (filled (not (claimed || claiming) && (hearing && asker)) place (cond (not (claimed || claiming) && (asking && is_some first)) (Some None) kept))
+    (First (option_or first (cond hearing (Some place) None)) (again_with claimed claiming asking again (cond hearing (Some place) None)) (claimed || claiming))
+    (Again (option_or first (cond hearing (Some place) None)) (again_with claimed claiming asking again (cond hearing (Some place) None)))
+step place first again true claiming asking hearing asker kept were apart known = stays first again (cond hearing (Some place) None) true kept were
+step place first again false true asking hearing asker kept were apart known = stays first again (cond hearing (Some place) None) false kept were
+step place first again false false true true asker kept were apart known = absurd (false≢true (sym (apart refl)))
+step place (Some first) again false false true false asker kept were apart known = (refl, refl)
+step place None again false false true false asker None were apart known = (refl, λ e. refl)
+step place None again false false true false asker (Some kept) were apart known = absurd (false≢true were.1)
+step place first again false false false false asker None were apart known =
+    (ap₂ option_or (sym (nothing_more again)) (sym (nothing_more first)) ∙ were.0 ∙ nothing_more first, λ e. sym (nothing_more again) ∙ were.1 e ∙ nothing_more first)
+step place first again false false false false asker (Some kept) were apart known =
+    (were.0 ∙ nothing_more again, ap is_some (sym (nothing_more first)) ∙ were.1)
+step place first again false false false true true None were apart known =
+    (ap (λ a. option_or (option_or a (Some place)) (option_or first (Some place))) (were.1 refl) ∙ or_same first place, λ e. ap (λ a. option_or a (Some place)) (were.1 refl))
+step place first again false false false true false None were apart known =
+    (ap (λ a. option_or (option_or a (Some place)) (option_or first (Some place))) (were.1 refl) ∙ or_same first place, λ e. ap (λ a. option_or a (Some place)) (were.1 refl))
+step place first again false false false true true (Some kept) were apart known =
+    (ap (λ a. option_or a (Some place)) were.0, some_or first (Some place) were.1)
+step place first again false false false true false (Some kept) were apart known = absurd (false≢true (known refl))
+
+parts_of : (inquiry : Inquiry) (acts : List PlacedAct) (kept : Option (Option Place)) → MatchOption kept (LearnedFirst inquiry acts) (HeardAgain inquiry acts)
+    → MatchOption kept (First (place_of (hears inquiry) acts) (heard_again inquiry acts) (list_any (claims inquiry) acts)) (Again (place_of (hears inquiry) acts) (heard_again inquiry acts))
+parts_of inquiry acts None were = (were.place, were.again)
+parts_of inquiry acts (Some kept) were = (were.place, were.heard)
+
+whole_of : (inquiry : Inquiry) (acts : List PlacedAct) (kept : Option (Option Place)) (first again : Option Place) (claimed : Bool) → place_of (hears inquiry) acts ≡ first
+    → heard_again inquiry acts ≡ again → list_any (claims inquiry) acts ≡ claimed → MatchOption kept (First first again claimed) (Again first again)
+    → MatchOption kept (LearnedFirst inquiry acts) (HeardAgain inquiry acts)
+whole_of inquiry acts None first again claimed f a c parts =
+    record { place = ap₂ option_or a f ∙ parts.0 ∙ sym f; again = λ none. a ∙ parts.1 (sym c ∙ none) ∙ sym f }
+whole_of inquiry acts (Some kept) first again claimed f a c parts = record { place = parts.0 ∙ sym a; heard = ap is_some f ∙ parts.1 }
+
+-- ---- what is kept, with one act more
+
+-- an act sends this number to this participant
+abbrev sends_by : ActValue → GuidPrefix → ℕ → Bool
+sends_by act prefix n = sends act.body n && is_to act.dest prefix
+
+not_both : (body : ActBodyValue) (to own : Bool) (n : ℕ) → (sends body n && to) ≡ true → (own && (said body).lacked n) ≡ false
+not_both (Data value) to own n e = and_none own
+not_both (AckNack value) to own n e = absurd (false≢true e)
+not_both (Heartbeat value) to own n e = absurd (false≢true e)
+not_both (Gap value) to own n e = absurd (false≢true e)
+not_both (DataFrag value) to own n e = absurd (false≢true e)
+not_both (NackFrag value) to own n e = absurd (false≢true e)
+
+asker_known : (closed asking first : Bool) (kept : Option (Option Place)) (fill asker : Bool) (place : Place) → (asking ≡ true → asker ≡ true) → (is_some kept ≡ true → asker ≡ true)
+    → is_some (filled fill place (cond (not closed && (asking && first)) (Some None) kept)) ≡ true → asker ≡ true
+asker_known closed asking first kept fill asker place asks was e = by closed asking first (unfilled fill (cond (not closed && (asking && first)) (Some None) kept) e) asks
+  where
+    unfilled : (fill : Bool) (kept : Option (Option Place)) → is_some (filled fill place kept) ≡ true → is_some kept ≡ true
+    unfilled true None e = e
+    unfilled true (Some kept) e = refl
+    unfilled false kept e = e
+
+    by : (closed asking first : Bool) → is_some (cond (not closed && (asking && first)) (Some None) kept) ≡ true → (asking ≡ true → asker ≡ true) → asker ≡ true
+    by true asking first e asks = was e
+    by false false first e asks = was e
+    by false true first e asks = asks refl
+
+one_more : (writer : Guid) (acts : List PlacedAct) (placed : PlacedAct) (old new : Spread) → is_about writer placed.act ≡ true
+    → ((prefix : GuidPrefix) (n : ℕ) → first_kept new.sent prefix n ≡ option_or (first_kept old.sent prefix n) (cond (sends_by placed.act prefix n) (Some placed.place) None))
+    → ((prefix : GuidPrefix) (n : ℕ) → again_kept new.again prefix n
+    ≡ filled (not (nat_lt n (base_kept new.bases prefix)) && (sends_by placed.act prefix n && contains prefix_cmp new.askers prefix)) placed.place
+    (cond (opens old.sent new.bases placed.act prefix n) (Some None) (again_kept old.again prefix n)))
+    → ((prefix : GuidPrefix) → contains prefix_cmp old.askers prefix ≡ true → contains prefix_cmp new.askers prefix ≡ true)
+    → ((prefix : GuidPrefix) (n : ℕ) → asks_by placed.act prefix n ≡ true → contains prefix_cmp new.askers prefix ≡ true)
+    → keeps_base old.bases new.bases placed.act.source (base_in placed.act.body)
     → keeps_first old.firsts new.firsts placed.act.source (nat_lt 1 (base_in placed.act.body)) placed.place → IsSpreadOf writer acts old → IsSpreadOf writer (acts ++ placed ∷ []) new
-step_more writer acts placed old new here pushed based firsted were =
+one_more writer acts placed old new here sent again askers asker based firsted were =
     record {
-      steps = λ prefix n.
-          let P : List PlacedAct → Type 0 = λ l. TellsTheSame (inquiry_of writer prefix n) l (acts ++ placed ∷ []) in
-          subst P (sym pushed) (same_more (inquiry_of writer prefix n) (map seen_value old.steps.items) acts placed (were.steps prefix n));
-      bases = λ prefix n.
-          based prefix n
-          ∙ ap₂ (λ (a b : Bool). a || (b && (is_prefix placed.act.source prefix && nat_lt n (base_in placed.act.body)))) (were.bases prefix n) (sym here)
-          ∙ sym (any_more (claims (inquiry_of writer prefix n)) acts placed);
+      sent = λ prefix n. sent_now prefix n;
+      again = λ prefix n. again_now prefix n;
+      askers = λ prefix n there.
+          asker_known (nat_lt n (base_kept new.bases prefix)) (asks_by placed.act prefix n) (is_some (first_kept old.sent prefix n)) (again_kept old.again prefix n)
+          (not (nat_lt n (base_kept new.bases prefix)) && (sends_by placed.act prefix n && contains prefix_cmp new.askers prefix))
+          (contains prefix_cmp new.askers prefix) placed.place (asker prefix n) (λ was. askers prefix (were.askers prefix n was)) (ap is_some (sym (again prefix n)) ∙ there);
+      bases = λ prefix n. closed prefix n ∙ sym (any_more (claims (inquiry_of writer prefix n)) acts placed);
       firsts = λ prefix.
           let i : Inquiry = inquiry_of writer prefix 1 in
           firsted prefix
           ∙ ap₂ (λ (o : Option Place) (b : Bool). option_or o (cond (b && (is_prefix placed.act.source prefix && nat_lt 1 (base_in placed.act.body))) (Some placed.place) None))
           (were.firsts prefix) (sym here)
-          ∙ sym (place_more (claims i) (map seen_value old.steps.items) placed) ∙ ap (place_of (claims i)) (sym pushed);
+          ∙ sym (place_more (claims i) acts placed);
     }
+  where
+    hearing : (prefix : GuidPrefix) (n : ℕ) → sends_by placed.act prefix n ≡ hears (inquiry_of writer prefix n) placed
+    hearing prefix n = ap (λ b. b && sends_by placed.act prefix n) (sym here)
+
+    asking : (prefix : GuidPrefix) (n : ℕ) → asks_by placed.act prefix n ≡ asks (inquiry_of writer prefix n) placed
+    asking prefix n = ap (λ b. b && asks_by placed.act prefix n) (sym here)
+
+    closed : (prefix : GuidPrefix) (n : ℕ)
+        → nat_lt n (base_kept new.bases prefix) ≡ (list_any (claims (inquiry_of writer prefix n)) acts || claims (inquiry_of writer prefix n) placed)
+    closed prefix n =
+        based prefix n ∙ ap₂ (λ (a b : Bool). a || (b && (is_prefix placed.act.source prefix && nat_lt n (base_in placed.act.body)))) (were.bases prefix n) (sym here)
+
+    sent_now : (prefix : GuidPrefix) (n : ℕ) → first_kept new.sent prefix n ≡ place_of (hears (inquiry_of writer prefix n)) (acts ++ placed ∷ [])
+    sent_now prefix n =
+        sent prefix n ∙ ap₂ (λ (o : Option Place) (b : Bool). option_or o (cond b (Some placed.place) None)) (were.sent prefix n) (hearing prefix n)
+        ∙ sym (place_more (hears (inquiry_of writer prefix n)) acts placed)
+
+    again_now : (prefix : GuidPrefix) (n : ℕ)
+        → MatchOption (again_kept new.again prefix n) (LearnedFirst (inquiry_of writer prefix n) (acts ++ placed ∷ [])) (HeardAgain (inquiry_of writer prefix n) (acts ++ placed ∷ []))
+    again_now prefix n =
+        let i : Inquiry = inquiry_of writer prefix n in
+        let kept = again_kept old.again prefix n in
+        let known = contains prefix_cmp new.askers prefix in
+        let ended : Bool = list_any (claims i) acts || claims i placed in
+        let is : again_kept new.again prefix n
+        ≡ filled (not ended && (hears i placed && known)) placed.place (cond (not ended && (asks i placed && is_some (place_of (hears i) acts))) (Some None) kept) =
+        again prefix n
+        ∙ ap (λ b. filled (not b && (sends_by placed.act prefix n && known)) placed.place (cond (not b && (asks_by placed.act prefix n && is_some (first_kept old.sent prefix n))) (Some None) kept)) (closed prefix n)
+        ∙ ap (λ b. filled (not ended && (b && known)) placed.place (cond (not ended && (asks_by placed.act prefix n && is_some (first_kept old.sent prefix n))) (Some None) kept)) (hearing prefix n)
+        ∙ ap₂ (λ (b : Bool) (o : Option Place). filled (not ended && (hears i placed && known)) placed.place (cond (not ended && (b && is_some o)) (Some None) kept)) (asking prefix n) (were.sent prefix n) in
+        let P : Option (Option Place) → Type 0 = λ o. MatchOption o (LearnedFirst i (acts ++ placed ∷ [])) (HeardAgain i (acts ++ placed ∷ [])) in
+        subst P (sym is)
+        (whole_of i (acts ++ placed ∷ []) _ _ _ _ (place_more (hears i) acts placed) (heard_more i acts placed) (any_more (claims i) acts placed)
+        (step placed.place (place_of (hears i) acts) (heard_again i acts) (list_any (claims i) acts) (claims i placed) (asks i placed) (hears i placed) known kept
+        (parts_of i acts kept (were.again prefix n))
+        (λ e. sym (asking prefix n) ∙ not_both placed.act.body (is_to placed.act.dest prefix) (is_prefix placed.act.source prefix) n (hearing prefix n ∙ e))
+        (λ was. askers prefix (were.askers prefix n was))))
+
+never : (closed to known : Bool) → (not closed && ((false && to) && known)) ≡ false
+never true to known = refl
+never false to known = refl
+
+-- one that sends nothing
+pub answer_more : (writer : Guid) (acts : List PlacedAct) (placed : PlacedAct) (old new : Spread) → is_about writer placed.act ≡ true → None ≡ hearing_in placed.act placed.place
+    → AnswerIsKept old new placed → IsSpreadOf writer acts old → IsSpreadOf writer (acts ++ placed ∷ []) new
+answer_more writer acts placed old new here none kept were =
+    one_more writer acts placed old new here
+    (λ prefix n.
+    ap (λ m. first_kept m prefix n) kept.sent ∙ nothing_more (first_kept old.sent prefix n)
+    ∙ ap (λ b. option_or (first_kept old.sent prefix n) (cond (b && is_to placed.act.dest prefix) (Some placed.place) None)) (sym (unsent placed.act.body n none)))
+    (λ prefix n.
+    kept.again prefix n
+    ∙ ap (λ b. filled b placed.place (cond (opens old.sent new.bases placed.act prefix n) (Some None) (again_kept old.again prefix n)))
+    (sym (never (nat_lt n (base_kept new.bases prefix)) (is_to placed.act.dest prefix) (contains prefix_cmp new.askers prefix))
+    ∙ ap (λ b. not (nat_lt n (base_kept new.bases prefix)) && ((b && is_to placed.act.dest prefix) && contains prefix_cmp new.askers prefix)) (sym (unsent placed.act.body n none))))
+    kept.askers kept.asker kept.bases kept.firsts were
+  where
+    unsent : (body : ActBodyValue) (n : ℕ) → None ≡ hearing_in (record placed.act { body = body }) placed.place → sends body n ≡ false
+    unsent (Data value) n e = absurd (let bad = e in cc)
+    unsent (AckNack value) n e = refl
+    unsent (Heartbeat value) n e = refl
+    unsent (Gap value) n e = refl
+    unsent (DataFrag value) n e = refl
+    unsent (NackFrag value) n e = refl
+
+-- what is heard is what the act sends
+heard_is : (act : ActValue) (body : ActBodyValue) (place : Place) (hearing : Hearing) → Some hearing ≡ hearing_in (record act { body = body }) place
+    → ((prefix : GuidPrefix) (n : ℕ) → hears_by hearing.sending prefix n ≡ (sends body n && is_to act.dest prefix)) × (hearing.place ≡ place)
+heard_is act (Data value) place hearing e =
+    (λ prefix n. ap (λ o. hears_by (unwrap_or o hearing).sending prefix n) e, ap (λ o. (unwrap_or o hearing).place) e)
+heard_is act (AckNack value) place hearing e = absurd (let bad = e in cc)
+heard_is act (Heartbeat value) place hearing e = absurd (let bad = e in cc)
+heard_is act (Gap value) place hearing e = absurd (let bad = e in cc)
+heard_is act (DataFrag value) place hearing e = absurd (let bad = e in cc)
+heard_is act (NackFrag value) place hearing e = absurd (let bad = e in cc)
+
+-- one that sends a number
+pub hearing_more : (writer : Guid) (acts : List PlacedAct) (placed : PlacedAct) (old between new : Spread) (hearing : Hearing) → is_about writer placed.act ≡ true
+    → Some hearing ≡ hearing_in placed.act placed.place → AnswerIsKept old between placed → HearingIsKept between new hearing → IsSpreadOf writer acts old
+    → IsSpreadOf writer (acts ++ placed ∷ []) new
+hearing_more writer acts placed old between new hearing here some answer kept were =
+    let is = heard_is placed.act placed.act.body placed.place hearing some in
+    one_more writer acts placed old new here
+    (λ prefix n.
+    kept.sent prefix n
+    ∙ ap (λ m. option_or (first_kept m prefix n) (cond (hears_by hearing.sending prefix n) (Some hearing.place) None)) answer.sent
+    ∙ ap₂ (λ (b : Bool) (place : Place). option_or (first_kept old.sent prefix n) (cond b (Some place) None)) (is.0 prefix n) is.1)
+    (λ prefix n.
+    kept.again prefix n
+    ∙ ap₂ (λ (b : Bool) (place : Place). filled (not (nat_lt n (base_kept between.bases prefix)) && (b && contains prefix_cmp between.askers prefix)) place (again_kept between.again prefix n)) (is.0 prefix n) is.1
+    ∙ ap (λ o. filled (not (nat_lt n (base_kept between.bases prefix)) && (sends_by placed.act prefix n && contains prefix_cmp between.askers prefix)) placed.place o) (answer.again prefix n)
+    ∙ ap (λ bases. filled (not (nat_lt n (base_kept bases prefix)) && (sends_by placed.act prefix n && contains prefix_cmp between.askers prefix)) placed.place
+    (cond (opens old.sent bases placed.act prefix n) (Some None) (again_kept old.again prefix n))) (sym kept.bases)
+    ∙ ap (λ askers. filled (not (nat_lt n (base_kept new.bases prefix)) && (sends_by placed.act prefix n && contains prefix_cmp askers prefix)) placed.place
+    (cond (opens old.sent new.bases placed.act prefix n) (Some None) (again_kept old.again prefix n))) (sym kept.askers))
+    (λ prefix there. ap (λ askers. contains prefix_cmp askers prefix) kept.askers ∙ answer.askers prefix there)
+    (λ prefix n there. ap (λ askers. contains prefix_cmp askers prefix) kept.askers ∙ answer.asker prefix n there)
+    (λ prefix n. ap (λ bases. nat_lt n (base_kept bases prefix)) kept.bases ∙ answer.bases prefix n)
+    (λ prefix. ap (λ firsts. get prefix_cmp firsts prefix) kept.firsts ∙ answer.firsts prefix) were
+
+-- ---- what is kept tells
+
+pub learned_kept : (writer : Guid) (acts : List PlacedAct) (spread : Spread) (prefix : GuidPrefix) (n : ℕ) → IsSpreadOf writer acts spread
+    → option_or (unwrap_or (again_kept spread.again prefix n) None) (first_kept spread.sent prefix n)
+    ≡ option_or (heard_again (inquiry_of writer prefix n) acts) (place_of (hears (inquiry_of writer prefix n)) acts)
+learned_kept writer acts spread prefix n were =
+    ap (λ o. option_or (unwrap_or (again_kept spread.again prefix n) None) o) (were.sent prefix n) ∙ by (again_kept spread.again prefix n) (were.again prefix n)
+  where
+    i : Inquiry
+    i = inquiry_of writer prefix n
+
+    by : (kept : Option (Option Place)) → MatchOption kept (LearnedFirst i acts) (HeardAgain i acts)
+        → option_or (unwrap_or kept None) (place_of (hears i) acts) ≡ option_or (heard_again i acts) (place_of (hears i) acts)
+    by None were = sym were.place
+    by (Some again) were = ap (λ o. option_or o (place_of (hears i) acts)) were.place

@@ -8,17 +8,17 @@ use Rattle.rtps_ids.specs.declared.identity.Guid.{Guid}
 use Rattle.rtps_ids.specs.declared.identity.GuidPrefix.{GuidPrefix}
 use Rattle.rtps_receiver.specs.Said.{said}
 use Rattle.rtps_receiver.specs.Speech.{is_prefix}
-use Rattle.rtps_receiver.specs.Values.{ActBodyValue, ActValue, spoken_value}
+use Rattle.rtps_receiver.specs.Values.{ActBodyValue, ActValue}
 use Rattle.rtps_receiver.specs.Values.ActBodyValue.{Data, Heartbeat, AckNack, Gap, DataFrag, NackFrag}
 use Rattle.rtps_known.specs.Places.{PlacedAct, before_first, behind_last, place_of}
 use Rattle.rtps_known.specs.Tellings.{are_built_in, holds, is_built_in, is_guid, is_to}
 use Rattle.rtps_known.specs.declared.place.Place.{Place}
-use Rattle.rtps_known.specs.declared.step.Inquiry.{Inquiry}
-use Rattle.rtps_known.specs.declared.step.Step.{Step}
 
--- an act in its place, with lists of octets where the type holds parts of the caller's datagrams
-abbrev pub seen_value : Step → PlacedAct
-seen_value step = record { act = spoken_value step.act; place = step.place }
+-- a number of a built-in writer of endpoints, and a participant
+pub record Inquiry : Type 0 where
+  pub writer : Guid
+  pub prefix : GuidPrefix
+  pub number : ℕ
 
 -- ---- which writer an act is about
 

@@ -10,6 +10,5 @@ pub mod Untold
 pub mod Laws
 pub mod Places
 pub mod Learning
-pub mod Trails
 pub mod Spreads
 pub mod Matched

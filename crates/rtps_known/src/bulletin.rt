@@ -5,7 +5,8 @@ ghost use Rattle.rtps_ids.specs.declared.identity.GuidPrefix.{GuidPrefix as Guid
 ghost use Rattle.rtps_receiver.specs.Speech.{is_prefix};
 ghost use Rattle.rtps_receiver.specs.Values.{spoken_value};
 ghost use Rattle.rtps_known.specs.Bulletins.{AreToldBy, IsBulletinOf, base_by, prefix_cmp, reaches};
-ghost use Rattle.rtps_known.specs.Tellings.{TimedAct, acknowledgement_in, announcement_in, holds, number_ended as number_ended_lem};
+ghost use Rattle.rtps_known.specs.Tellings.{TimedAct, acknowledgement_in, announcement_in, holds};
+ghost use Rattle.rtps_known.specs.Tellings as tellings;
 ghost use Rattle.rtps_known.specs.declared.telling.Announcement.{Announcement as AnnouncementValue};
 
 use crate::telling::{
@@ -103,7 +104,7 @@ fn keep_least(told: &mut BTreeMap<Telling, u64>, telling: Telling, time: u64) ->
 /// Keeps the number that says that an endpoint ends. After `Memory` it is of no use.
 fn note_ended(ended: &mut BTreeSet<u64>, act: &Spoken<'_>) -> Result<(), Memory>
     ensures { OnOk result ((test : ℕ → Bool) → list_any test ended.new.keys
-        ≡ (list_any test ended.old.keys || holds test (number_ended_lem (spoken_value act.now).body))) }
+        ≡ (list_any test ended.old.keys || holds test (tellings.number_ended (spoken_value act.now).body))) }
 {
     let Some(number) = number_ended(act) else {
         return Ok(());

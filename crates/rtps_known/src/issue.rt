@@ -2,7 +2,8 @@
 
 ghost use Rattle.std.specs.Prelude.{◌≡◌};
 ghost use Rattle.rtps_receiver.specs.Values.{spoken_value};
-ghost use Rattle.rtps_known.specs.Matched.{came_ahead, came_near, delay_by as delay_by_lem, issue_told as issue_told_lem, nanoseconds as nanoseconds_lem, times_told as times_told_lem};
+ghost use Rattle.rtps_known.specs.Matched.{came_ahead, came_near};
+ghost use Rattle.rtps_known.specs.Matched as matched;
 ghost use Rattle.rtps_known.specs.Tellings.{holds};
 
 use crate::layout::NEAR;
@@ -23,7 +24,7 @@ pub(crate) struct Issue {
 
 /// The endpoint of its source that an act announces, and how.
 pub(crate) fn issue_told(act: &Spoken<'_>, place: Place) -> Option<(Guid, Issue)>
-    ensures { result ≡ issue_told_lem (record { act = spoken_value act.now; place = place }) }
+    ensures { result ≡ matched.issue_told (record { act = spoken_value act.now; place = place }) }
 {
     let SpokenBody::Act(ActBody::Data(data)) = &act.body else {
         return None;
@@ -42,7 +43,7 @@ pub(crate) fn issue_told(act: &Spoken<'_>, place: Place) -> Option<(Guid, Issue)
 
 /// A source time in nanoseconds, cut off.
 pub(crate) fn nanoseconds(stamp: Stamp) -> u64
-    ensures { result ≡ nanoseconds_lem stamp }
+    ensures { result ≡ matched.nanoseconds stamp }
 {
     u64::from(stamp.seconds) * 1_000_000_000 + u64::from(stamp.fraction) * 1_000_000_000 / (1 << 32)
 }
@@ -56,7 +57,7 @@ pub(crate) struct Times {
 
 /// Those of an act that is a DATA, where both are known.
 pub(crate) fn times_told(act: &Spoken<'_>, place: Place) -> Option<Times>
-    ensures { result ≡ times_told_lem (record { act = spoken_value act.now; place = place }) }
+    ensures { result ≡ matched.times_told (record { act = spoken_value act.now; place = place }) }
 {
     let SpokenBody::Act(ActBody::Data(_)) = &act.body else {
         return None;
@@ -88,7 +89,7 @@ pub(crate) fn is_ahead(times: Option<Times>) -> bool
 
 /// How long a time lies behind the later of two source times; 0 where it is before that.
 pub(crate) fn delay_by(time: Option<u64>, one: Option<Stamp>, other: Option<Stamp>) -> Option<u64>
-    ensures { result ≡ delay_by_lem time one other }
+    ensures { result ≡ matched.delay_by time one other }
 {
     let time = time?;
     let one = nanoseconds(one?);

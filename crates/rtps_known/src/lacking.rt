@@ -9,7 +9,8 @@ ghost use Rattle.rtps_coverage.specs.Stretches.{stretch_has, stretches_have};
 ghost use Rattle.rtps_ids.specs.declared.identity.Guid.{Guid as GuidValue};
 ghost use Rattle.rtps_discovery.specs.GuidOrder.{guid_cmp};
 ghost use Rattle.rtps_known.specs.Bulletins.{IsBulletinOf, reaches};
-ghost use Rattle.rtps_known.specs.Lacking.{IsLackingOf, is_listed, is_marked, is_still as is_still_lem};
+ghost use Rattle.rtps_known.specs.Lacking.{IsLackingOf, is_listed, is_marked};
+ghost use Rattle.rtps_known.specs.Lacking as lacking_spec;
 ghost use Rattle.rtps_known.specs.Tellings.{TimedAct, holds, is_guid, is_to};
 
 use crate::bulletin::Bulletin;
@@ -130,7 +131,7 @@ impl Bulletin {
 
     /// Whether a number is told, is not below a base, and ends nothing.
     fn is_still(&self, told: &[Stretch], base: u64, number: u64) -> bool
-        ensures { result ≡ is_still_lem told.now self.now base number }
+        ensures { result ≡ lacking_spec.is_still told.now self.now base number }
     {
         base <= number && have(told, number) && !self.ended.contains(&number)
     }

@@ -2,6 +2,7 @@
 //! GUID (DDSI-RTPS 2.5, 8.5.4 "The Simple Endpoint Discovery Protocol").
 #![tactic(auto)]
 
+mod asking;
 mod bulletin;
 mod issue;
 mod known;
@@ -11,10 +12,9 @@ mod layout;
 mod life;
 mod matches;
 mod place;
+mod sending;
 mod spread;
-mod step;
 mod telling;
-mod trail;
 mod untold;
 mod visit;
 

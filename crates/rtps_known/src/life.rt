@@ -1,6 +1,7 @@
 ghost use Rattle.std.specs.Prelude.{◌≡◌, ◌++◌, ◌∷◌, [], IfOk, List, OnOk};
 ghost use Rattle.rtps_receiver.specs.Values.{ActValue, spoken_value};
-ghost use Rattle.rtps_known.specs.Lives.{AreBirthsOf, AreLivesOf, birth_in, is_tried as is_tried_lem, life_by, sent_with};
+ghost use Rattle.rtps_known.specs.Lives.{AreBirthsOf, AreLivesOf, birth_in, life_by, sent_with};
+ghost use Rattle.rtps_known.specs.Lives as lives_spec;
 
 use crate::layout::{entity, vendor};
 use rtps_ids::{GuidPrefix, Memory, Stamp, Vendor};
@@ -33,7 +34,7 @@ pub(crate) struct Sent {
 
 /// Whether it was tried that two source times are two lives.
 fn is_tried(one: Vendor) -> bool
-    ensures { result ≡ is_tried_lem one }
+    ensures { result ≡ lives_spec.is_tried one }
 {
     one == vendor::CYCLONE || one == vendor::FAST
 }

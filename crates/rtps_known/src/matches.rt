@@ -7,18 +7,19 @@ ghost use Rattle.rtps_receiver.specs.Speech.{is_prefix};
 ghost use Rattle.rtps_receiver.specs.Values.{spoken_value};
 ghost use Rattle.rtps_discovery.specs.GuidOrder.{guid_cmp};
 ghost use Rattle.rtps_known.specs.Bulletins.{prefix_cmp};
-ghost use Rattle.rtps_known.specs.Matched.{AreIssuesOf, AreJoinedIn, AreMatchesOf, began_in_the_middle as began_lem, both_joined, claims_before as claims_before_lem, delay_of as delay_of_lem, fits as fits_lem, is_ahead as is_ahead_lem, is_near as is_near_lem, joined as joined_lem, learned_of, matched as matched_lem, met_before as met_before_lem, place_matched as place_matched_lem};
-ghost use Rattle.rtps_known.specs.Places.{PlacedAct, precedes as precedes_lem};
+ghost use Rattle.rtps_known.specs.Matched.{AreIssuesOf, AreJoinedIn, AreMatchesOf, both_joined, learned_of};
+ghost use Rattle.rtps_known.specs.Matched as matched_spec;
+ghost use Rattle.rtps_known.specs.Places.{PlacedAct};
+ghost use Rattle.rtps_known.specs.Places as places_spec;
 ghost use Rattle.rtps_known.specs.declared.layout.entity.TheConstants.{PUBLICATIONS, SUBSCRIPTIONS};
 ghost use Rattle.rtps_known.specs.Spreads.{AreSpreadsOf, IsSpreadOf};
 ghost use Rattle.rtps_known.specs.Tellings.{holds};
 
+use crate::asking::subject;
 use crate::issue::{Issue, delay_by, is_ahead, is_near, issue_told, times_told};
 use crate::layout::entity;
 use crate::place::{Place, later_known, precedes};
-use crate::spread::Spread;
-use crate::step::{Inquiry, subject};
-use crate::trail::learned;
+use crate::spread::{Spread, insert_if};
 use rtps_ids::{EntityId, Guid, GuidPrefix, Memory};
 use rtps_policies::{announced_participant, keep_first, participant_of};
 use rtps_receiver::Spoken;
@@ -35,8 +36,8 @@ pub struct Matched {
 
 /// What a recording says of when writers and readers matched.
 #[derive(Drop)]
-pub struct Matches<'a> {
-    pub(crate) spreads: BTreeMap<Guid, Spread<'a>>,
+pub struct Matches {
+    pub(crate) spreads: BTreeMap<Guid, Spread>,
     /// How each endpoint is announced first.
     pub(crate) issues: BTreeMap<Guid, Issue>,
     /// Where each participant is announced first.
@@ -48,9 +49,9 @@ pub struct Matches<'a> {
     alloc: Global,
 }
 
-impl<'a> Matches<'a> {
+impl Matches {
     /// That of no acts. It takes no memory.
-    pub fn new(alloc: Global) -> Matches<'a>
+    pub fn new(alloc: Global) -> Matches
         ensures { AreMatchesOf [] result }
     {
         Matches {
@@ -65,7 +66,7 @@ impl<'a> Matches<'a> {
 
     /// Keeps what an act says, the next one of the recording, and where it stands. A sample that was put together stands as a DATA in the place
     /// where it became whole. After `Memory` it is of no use.
-    pub fn note(&mut self, act: &Spoken<'a>, place: Place) -> Result<(), Memory>
+    pub fn note(&mut self, act: &Spoken<'_>, place: Place) -> Result<(), Memory>
         ensures { OnOk result ((acts : List PlacedAct) → AreMatchesOf acts self.old
             → AreMatchesOf (acts ++ (record { act = spoken_value act.now; place = place }) ∷ []) self.new) }
     {
@@ -79,7 +80,7 @@ impl<'a> Matches<'a> {
     /// Where a writer and a reader of two participants matched, and how late. None where the recording does not tell. Of a participant with two
     /// lives under one GUID it says nothing that is of use.
     pub fn matched(&self, writer: Guid, reader: Guid) -> Option<Matched>
-        ensures { (acts : List PlacedAct) → AreMatchesOf acts self.now → result ≡ matched_lem acts writer reader }
+        ensures { (acts : List PlacedAct) → AreMatchesOf acts self.now → result ≡ matched_spec.matched acts writer reader }
     {
         let place = self.place_matched(writer, reader)?;
         let delay = self.delay_of(writer, reader, place);
@@ -87,7 +88,7 @@ impl<'a> Matches<'a> {
     }
 
     fn place_matched(&self, writer: Guid, reader: Guid) -> Option<Place>
-        ensures { (acts : List PlacedAct) → AreMatchesOf acts self.now → result ≡ place_matched_lem acts writer reader }
+        ensures { (acts : List PlacedAct) → AreMatchesOf acts self.now → result ≡ matched_spec.place_matched acts writer reader }
     {
         if writer.prefix == reader.prefix
             || self.began_in_the_middle(writer.prefix, reader.prefix)
@@ -108,7 +109,7 @@ impl<'a> Matches<'a> {
     }
 
     fn joined_at(&self, prefix: GuidPrefix) -> Option<Place>
-        ensures { (acts : List PlacedAct) → AreMatchesOf acts self.now → result ≡ joined_lem acts prefix }
+        ensures { (acts : List PlacedAct) → AreMatchesOf acts self.now → result ≡ matched_spec.joined acts prefix }
     {
         self.joined.get(&participant_of(prefix)).copied()
     }
@@ -122,20 +123,15 @@ impl<'a> Matches<'a> {
             prefix: endpoint.prefix,
             entity: issue.entity,
         };
-        let inquiry = Inquiry {
-            writer,
-            prefix,
-            number: issue.number,
-        };
         match self.spreads.get(&writer) {
-            Some(spread) => learned(&spread.steps, inquiry),
+            Some(spread) => spread.learned(prefix, issue.number),
             None => None,
         }
     }
 
     /// Whether the recording began when two participants knew each other.
     fn began_in_the_middle(&self, one: GuidPrefix, other: GuidPrefix) -> bool
-        ensures { (acts : List PlacedAct) → AreMatchesOf acts self.now → result ≡ began_lem acts one other }
+        ensures { (acts : List PlacedAct) → AreMatchesOf acts self.now → result ≡ matched_spec.began_in_the_middle acts one other }
     {
         match self.both_joined(one, other) {
             Some(place) => self.met_before(one, other, place),
@@ -144,7 +140,7 @@ impl<'a> Matches<'a> {
     }
 
     fn met_before(&self, one: GuidPrefix, other: GuidPrefix, place: Place) -> bool
-        ensures { (acts : List PlacedAct) → AreMatchesOf acts self.now → result ≡ met_before_lem acts one other place }
+        ensures { (acts : List PlacedAct) → AreMatchesOf acts self.now → result ≡ matched_spec.met_before acts one other place }
     {
         self.has_met(one, other, place) || self.has_met(other, one, place)
     }
@@ -152,7 +148,7 @@ impl<'a> Matches<'a> {
     /// Whether the second participant acknowledges, before a place, what the first one tells of its endpoints.
     fn has_met(&self, one: GuidPrefix, other: GuidPrefix, place: Place) -> bool
         ensures { (acts : List PlacedAct) → AreMatchesOf acts self.now → result
-            ≡ (claims_before_lem acts place one other PUBLICATIONS || claims_before_lem acts place one other SUBSCRIPTIONS) }
+            ≡ (matched_spec.claims_before acts place one other PUBLICATIONS || matched_spec.claims_before acts place one other SUBSCRIPTIONS) }
     {
         self.claims_before(one, other, entity::PUBLICATIONS, place)
             || self.claims_before(one, other, entity::SUBSCRIPTIONS, place)
@@ -166,7 +162,7 @@ impl<'a> Matches<'a> {
         entity: EntityId,
         place: Place,
     ) -> bool
-        ensures { (acts : List PlacedAct) → AreMatchesOf acts self.now → result ≡ claims_before_lem acts place one other entity }
+        ensures { (acts : List PlacedAct) → AreMatchesOf acts self.now → result ≡ matched_spec.claims_before acts place one other entity }
     {
         let writer = Guid {
             prefix: one,
@@ -179,7 +175,7 @@ impl<'a> Matches<'a> {
     }
 
     fn delay_of(&self, writer: Guid, reader: Guid, place: Place) -> Option<u64>
-        ensures { (acts : List PlacedAct) → AreMatchesOf acts self.now → result ≡ delay_of_lem acts writer reader place }
+        ensures { (acts : List PlacedAct) → AreMatchesOf acts self.now → result ≡ matched_spec.delay_of acts writer reader place }
     {
         if !self.fits(writer.prefix) || !self.fits(reader.prefix) {
             return None;
@@ -191,7 +187,7 @@ impl<'a> Matches<'a> {
 
     /// Whether the clock of a participant fits that of the recording.
     fn fits(&self, prefix: GuidPrefix) -> bool
-        ensures { (acts : List PlacedAct) → AreMatchesOf acts self.now → result ≡ fits_lem acts prefix }
+        ensures { (acts : List PlacedAct) → AreMatchesOf acts self.now → result ≡ matched_spec.fits acts prefix }
     {
         self.near.contains(&prefix) && !self.ahead.contains(&prefix)
     }
@@ -199,7 +195,7 @@ impl<'a> Matches<'a> {
 
 /// Whether there is a place, and it stands before this one.
 fn is_before(claimed: Option<Place>, place: Place) -> bool
-    ensures { result ≡ holds (λ one. precedes_lem one place) claimed }
+    ensures { result ≡ holds (λ one. places_spec.precedes one place) claimed }
 {
     match claimed {
         Some(claimed) => precedes(claimed, place),
@@ -208,10 +204,10 @@ fn is_before(claimed: Option<Place>, place: Place) -> bool
 }
 
 /// Keeps an act about a built-in writer of endpoints. After `Memory` it is of no use.
-fn note_spread<'a>(
-    spreads: &mut BTreeMap<Guid, Spread<'a>>,
+fn note_spread(
+    spreads: &mut BTreeMap<Guid, Spread>,
     alloc: Global,
-    act: &Spoken<'a>,
+    act: &Spoken<'_>,
     place: Place,
 ) -> Result<(), Memory>
     ensures { OnOk result ((acts : List PlacedAct) → AreSpreadsOf acts spreads.old
@@ -227,11 +223,7 @@ fn note_spread<'a>(
 }
 
 /// What is kept of a writer, which is not kept any more.
-fn take_spread<'a>(
-    spreads: &mut BTreeMap<Guid, Spread<'a>>,
-    alloc: Global,
-    writer: Guid,
-) -> Spread<'a>
+fn take_spread(spreads: &mut BTreeMap<Guid, Spread>, alloc: Global, writer: Guid) -> Spread
     ensures taken { MatchOption (get guid_cmp spreads.old writer) ((other : GuidValue) → IsSpreadOf other [] result) (λ spread. result ≡ spread) }
     ensures others { (other : GuidValue) → get guid_cmp spreads.new other ≡ cond (is_at (guid_cmp writer) other) None (get guid_cmp spreads.old other) }
 {
@@ -273,20 +265,6 @@ fn note_joined(
     Ok(())
 }
 
-/// Inserts a participant where a condition holds. After `Memory` the participants are of no use.
-fn insert_if(
-    prefixes: &mut BTreeSet<GuidPrefix>,
-    prefix: GuidPrefix,
-    holds: bool,
-) -> Result<(), Memory>
-    ensures { OnOk result ((other : GuidPrefixValue) → contains prefix_cmp prefixes.new other ≡ (contains prefix_cmp prefixes.old other || (is_prefix other prefix && holds))) }
-{
-    if holds {
-        prefixes.insert(prefix)?;
-    }
-    Ok(())
-}
-
 /// Keeps how far a DATA came from its source time. After `Memory` it is of no use.
 fn note_clock(
     near: &mut BTreeSet<GuidPrefix>,
@@ -295,9 +273,9 @@ fn note_clock(
     place: Place,
 ) -> Result<(), Memory>
     ensures near { OnOk result ((prefix : GuidPrefixValue) → contains prefix_cmp near.new prefix
-        ≡ (contains prefix_cmp near.old prefix || is_near_lem prefix (record { act = spoken_value act.now; place = place }))) }
+        ≡ (contains prefix_cmp near.old prefix || matched_spec.is_near prefix (record { act = spoken_value act.now; place = place }))) }
     ensures ahead { OnOk result ((prefix : GuidPrefixValue) → contains prefix_cmp ahead.new prefix
-        ≡ (contains prefix_cmp ahead.old prefix || is_ahead_lem prefix (record { act = spoken_value act.now; place = place }))) }
+        ≡ (contains prefix_cmp ahead.old prefix || matched_spec.is_ahead prefix (record { act = spoken_value act.now; place = place }))) }
 {
     let times = times_told(act, place);
     insert_if(near, act.source, is_near(times))?;

@@ -1,7 +1,8 @@
 //! Where acts stand in a recording.
 
 ghost use Rattle.std.specs.Prelude.{◌≡◌};
-ghost use Rattle.rtps_known.specs.Places.{later as later_lem, later_of, precedes as precedes_lem};
+ghost use Rattle.rtps_known.specs.Places.{later_of};
+ghost use Rattle.rtps_known.specs.Places as places_spec;
 
 /// The place of an act in a recording, and when its datagram came.
 #[derive(Clone, Copy)]
@@ -16,14 +17,14 @@ pub struct Place {
 
 /// Whether the first place stands before the second one.
 pub(crate) fn precedes(one: Place, other: Place) -> bool
-    ensures { result ≡ precedes_lem one other }
+    ensures { result ≡ places_spec.precedes one other }
 {
     one.datagram < other.datagram || (one.datagram == other.datagram && one.at < other.at)
 }
 
 /// The later of two places.
 fn later(one: Place, other: Place) -> Place
-    ensures { result ≡ later_lem one other }
+    ensures { result ≡ places_spec.later one other }
 {
     if precedes(one, other) { other } else { one }
 }

@@ -1,81 +1,111 @@
 //! What a recording has of the numbers of one built-in writer of endpoints: where it sends them, and who asks for them and acknowledges them.
 
-ghost use Rattle.std.specs.Prelude.{◌≡◌, ◌++◌, ◌∷◌, [], true, List, OnOk, unwrap_or};
+ghost use Rattle.std.specs.Prelude.{◌≡◌, ◌++◌, ◌∷◌, ◌||◌, ◌&&◌, [], true, List, OnOk, nat_lt};
 ghost use Rattle.std.specs.BTreeMap.{get};
+ghost use Rattle.std.specs.BTreeSet.{contains};
 ghost use Rattle.rtps_ids.specs.declared.identity.Guid.{Guid as GuidValue};
+ghost use Rattle.rtps_ids.specs.declared.identity.GuidPrefix.{GuidPrefix as GuidPrefixValue};
+ghost use Rattle.rtps_receiver.specs.Speech.{is_prefix};
 ghost use Rattle.rtps_receiver.specs.Values.{spoken_value};
 ghost use Rattle.rtps_known.specs.Bulletins.{prefix_cmp};
-ghost use Rattle.rtps_known.specs.Learning.{is_about, seen_value};
+ghost use Rattle.rtps_known.specs.Learning.{is_about};
+ghost use Rattle.rtps_known.specs.Learning as learning;
 ghost use Rattle.rtps_known.specs.Places.{PlacedAct};
-ghost use Rattle.rtps_known.specs.Spreads.{IsSpreadOf, base_kept, keeps_base, keeps_first, matters as matters_lem};
+ghost use Rattle.rtps_known.specs.Spreads.{AnswerIsKept, HearingIsKept, IsSpreadOf, inquiry_of, keeps_base, keeps_first};
 
+use crate::asking::{base, note_asked, window};
 use crate::place::Place;
-use crate::step::{Step, base, step_of};
+use crate::sending::{Hearing, Sending, again_of, first_sent, hearing_in, note_again, note_sent};
 use rtps_ids::{GuidPrefix, Memory};
-use rtps_receiver::{ActBody, Spoken, SpokenBody};
+use rtps_receiver::Spoken;
 use std::alloc::Global;
-use std::collections::BTreeMap;
-use std::slice;
+use std::collections::{BTreeMap, BTreeSet};
 
-/// The acts about a built-in writer of endpoints that tell something new.
+/// What the acts about a built-in writer of endpoints tell of its numbers. What is sent or asked for again and again is kept once.
 #[derive(Drop)]
-pub(crate) struct Spread<'a> {
-    pub(crate) steps: Vec<Step<'a>>,
+pub(crate) struct Spread {
+    /// Where a number is sent first to a participant, before it is sent to everyone, or to everyone.
+    pub(crate) sent: BTreeMap<Sending, Place>,
+    /// Of a number that a participant asks for, though it was sent it, and has not acknowledged: where it is sent it first behind where it asks
+    /// for it last, before it acknowledges it.
+    pub(crate) again: BTreeMap<Sending, Option<Place>>,
+    /// Who asks for numbers.
+    pub(crate) askers: BTreeSet<GuidPrefix>,
     /// The greatest base of a participant.
     pub(crate) bases: BTreeMap<GuidPrefix, u64>,
     /// Where a participant acknowledges a number first.
     pub(crate) firsts: BTreeMap<GuidPrefix, Place>,
 }
 
-impl<'a> Spread<'a> {
+impl Spread {
     /// That of no acts. It takes no memory.
-    pub(crate) fn new(alloc: Global) -> Spread<'a>
+    pub(crate) fn new(alloc: Global) -> Spread
         ensures { (writer : GuidValue) → IsSpreadOf writer [] result }
     {
         Spread {
-            steps: Vec::new(alloc),
+            sent: BTreeMap::new(alloc),
+            again: BTreeMap::new(alloc),
+            askers: BTreeSet::new(alloc),
             bases: BTreeMap::new(alloc),
             firsts: BTreeMap::new(alloc),
         }
     }
 
     /// Keeps an act about the writer, the next one, if it tells something new. After `Memory` it is of no use.
-    pub(crate) fn note(&mut self, act: &Spoken<'a>, place: Place) -> Result<(), Memory>
+    pub(crate) fn note(&mut self, act: &Spoken<'_>, place: Place) -> Result<(), Memory>
         ensures { OnOk result ((writer : GuidValue) (acts : List PlacedAct) → is_about writer (spoken_value act.now) ≡ true → IsSpreadOf writer acts self.old
             → IsSpreadOf writer (acts ++ (record { act = spoken_value act.now; place = place }) ∷ []) self.new) }
     {
-        if !matters(act, self.base(act.source)) {
+        self.note_answer(act, place)?;
+        let Some(hearing) = hearing_in(act, place) else {
             return Ok(());
-        }
-        self.steps
-            .extend_from_slice(slice::from_ref(&step_of(act, place)))?;
-        let acknowledged = base(act);
-        note_base(&mut self.bases, act.source, acknowledged)?;
-        note_first(&mut self.firsts, act.source, acknowledged > 1, place)?;
+        };
+        self.note_hearing(hearing)?;
         Ok(())
     }
 
-    /// The greatest base of a participant; 0 where it acknowledges nothing.
-    fn base(&self, prefix: GuidPrefix) -> u64
-        ensures { result ≡ base_kept self.now.bases prefix }
+    /// Keeps what an act asks for and acknowledges. After `Memory` it is of no use.
+    fn note_answer(&mut self, act: &Spoken<'_>, place: Place) -> Result<(), Memory>
+        ensures { OnOk result (AnswerIsKept self.old self.new (record { act = spoken_value act.now; place = place })) }
     {
-        match self.bases.get(&prefix) {
-            Some(base) => *base,
-            None => 0,
-        }
+        let acknowledged = base(act);
+        note_base(&mut self.bases, act.source, acknowledged)?;
+        note_first(&mut self.firsts, act.source, acknowledged > 1, place)?;
+        let asked = window(act);
+        insert_if(&mut self.askers, act.source, asked.lo < asked.hi)?;
+        note_asked(&mut self.again, &self.sent, &self.bases, act)?;
+        Ok(())
+    }
+
+    /// Keeps that a number is sent. After `Memory` it is of no use.
+    fn note_hearing(&mut self, hearing: Hearing) -> Result<(), Memory>
+        ensures { OnOk result (HearingIsKept self.old self.new hearing) }
+    {
+        note_again(&mut self.again, &self.askers, &self.bases, hearing);
+        note_sent(&mut self.sent, hearing)?;
+        Ok(())
+    }
+
+    /// Where a participant learned of a number.
+    pub(crate) fn learned(&self, prefix: GuidPrefix, number: u64) -> Option<Place>
+        ensures { (writer : GuidValue) (acts : List PlacedAct) → IsSpreadOf writer acts self.now → result ≡ learning.learned (inquiry_of writer prefix number) acts }
+    {
+        again_of(&self.again, prefix, number).or(first_sent(&self.sent, prefix, number))
     }
 }
 
-/// Whether an act tells something new: not so an ACKNACK without a list whose base is not above the greatest one that its source has had.
-fn matters(act: &Spoken<'_>, had: u64) -> bool
-    ensures { result ≡ matters_lem (spoken_value act.now).body had }
+/// Inserts a participant where a condition holds. After `Memory` the participants are of no use.
+pub(crate) fn insert_if(
+    prefixes: &mut BTreeSet<GuidPrefix>,
+    prefix: GuidPrefix,
+    holds: bool,
+) -> Result<(), Memory>
+    ensures { OnOk result ((other : GuidPrefixValue) → contains prefix_cmp prefixes.new other ≡ (contains prefix_cmp prefixes.old other || (is_prefix other prefix && holds))) }
 {
-    match &act.body {
-        SpokenBody::Act(ActBody::AckNack(ack_nack)) => {
-            ack_nack.set.count() > 0 || had < ack_nack.set.base().cast_unsigned()
-        }
-        _ => true,
+    if holds {
+        prefixes.insert(prefix)?;
     }
+    Ok(())
 }
 
 /// Keeps the base of a participant, unless a greater one is kept. After `Memory` it is of no use.

@@ -4,7 +4,8 @@ ghost use Rattle.std.specs.Prelude.{ℕ, ◌≡◌, ◌==◌};
 ghost use Rattle.rtps_coverage.specs.Stretches.{stretch_has};
 ghost use Rattle.rtps_receiver.specs.Values.{spoken_value};
 ghost use Rattle.rtps_wire.specs.Values.{data_value};
-ghost use Rattle.rtps_known.specs.Tellings.{acknowledgement_in, announcement_in, are_built_in as are_built_in_lem, is_built_in as is_built_in_lem, number_ended as number_ended_lem, number_sent as number_sent_lem, says_ended, subject_of as subject_of_lem, teller_of, tells};
+ghost use Rattle.rtps_known.specs.Tellings.{acknowledgement_in, announcement_in, says_ended, teller_of, tells};
+ghost use Rattle.rtps_known.specs.Tellings as tellings;
 
 use crate::layout::{entity, status};
 use rtps_coverage::Stretch;
@@ -66,7 +67,7 @@ fn is_ending(body: &DataBody<'_>) -> bool
 
 /// The number of a DATA that says so.
 pub(crate) fn number_ended(act: &Spoken<'_>) -> Option<u64>
-    ensures { result ≡ number_ended_lem (spoken_value act.now).body }
+    ensures { result ≡ tellings.number_ended (spoken_value act.now).body }
 {
     match &act.body {
         SpokenBody::Act(ActBody::Data(data)) if is_ending(data) => {
@@ -78,7 +79,7 @@ pub(crate) fn number_ended(act: &Spoken<'_>) -> Option<u64>
 
 /// The number of a DATA.
 fn number_sent(act: &Spoken<'_>) -> Option<u64>
-    ensures { result ≡ number_sent_lem (spoken_value act.now).body }
+    ensures { result ≡ tellings.number_sent (spoken_value act.now).body }
 {
     match &act.body {
         SpokenBody::Act(ActBody::Data(data)) => Some(data.number.get().cast_unsigned()),
@@ -88,7 +89,7 @@ fn number_sent(act: &Spoken<'_>) -> Option<u64>
 
 /// Whether this is one of the two built-in writers of endpoints, and that its reader.
 fn are_built_in(writer: EntityId, reader: EntityId) -> bool
-    ensures { result ≡ are_built_in_lem writer reader }
+    ensures { result ≡ tellings.are_built_in writer reader }
 {
     (writer == entity::PUBLICATIONS && reader == entity::PUBLICATIONS_READER)
         || (writer == entity::SUBSCRIPTIONS && reader == entity::SUBSCRIPTIONS_READER)
@@ -96,7 +97,7 @@ fn are_built_in(writer: EntityId, reader: EntityId) -> bool
 
 /// Whether this is one of the two built-in writers of endpoints.
 fn is_built_in(writer: EntityId) -> bool
-    ensures { result ≡ is_built_in_lem writer }
+    ensures { result ≡ tellings.is_built_in writer }
 {
     writer == entity::PUBLICATIONS || writer == entity::SUBSCRIPTIONS
 }
@@ -149,7 +150,7 @@ pub(crate) fn number_announced(act: &Spoken<'_>) -> Option<Announcement>
 
 /// The built-in writer of endpoints that an act is about: the one that it acknowledges something to, or else the one that it is from.
 pub(crate) fn subject(act: &Spoken<'_>) -> Option<Guid>
-    ensures { result ≡ subject_of_lem (spoken_value act.now) }
+    ensures { result ≡ tellings.subject_of (spoken_value act.now) }
 {
     match acknowledged(act) {
         Some(told) => Some(told.writer),

@@ -6,11 +6,12 @@ ghost use Rattle.rtps_ids.specs.declared.identity.GuidPrefix.{GuidPrefix as Guid
 ghost use Rattle.rtps_receiver.specs.Speech.{is_prefix};
 ghost use Rattle.rtps_receiver.specs.Values.{ActValue};
 ghost use Rattle.rtps_policies.specs.Announcing.{IsAnnouncedBy, hosts_in};
-ghost use Rattle.rtps_policies.specs.Silence.{two_domains as two_domains_lem};
+ghost use Rattle.rtps_policies.specs.Silence as silence;
 ghost use Rattle.rtps_known.specs.Bulletins.{prefix_cmp};
 ghost use Rattle.rtps_known.specs.Recorded.{IsKnownOf};
 ghost use Rattle.rtps_known.specs.Tellings.{TimedAct};
-ghost use Rattle.rtps_known.specs.Untold.{AreNeverTogether, AreTogether, AreTwice, AreUntoldIn, IsAllTold, IsSaidOf, IsUntold, IsUntoldUntil, listed, is_nothing as is_nothing_lem, may_tell as may_tell_lem};
+ghost use Rattle.rtps_known.specs.Untold.{AreNeverTogether, AreTogether, AreTwice, AreUntoldIn, IsAllTold, IsSaidOf, IsUntold, IsUntoldUntil, listed};
+ghost use Rattle.rtps_known.specs.Untold as untold_spec;
 
 use crate::known::Known;
 use crate::layout::entity;
@@ -45,14 +46,14 @@ struct Attending<'r, 'a> {
 impl Untold {
     /// Whether there are none.
     fn is_nothing(&self) -> bool
-        ensures { result ≡ is_nothing_lem self.now }
+        ensures { result ≡ untold_spec.is_nothing self.now }
     {
         self.writers.is_empty() && self.readers.is_empty() && self.unnamed == 0
     }
 
     /// That, unless there are none.
     fn if_something(self) -> Option<Untold>
-        ensures { result ≡ (if is_nothing_lem self then None else Some self) }
+        ensures { result ≡ (if untold_spec.is_nothing self then None else Some self) }
     {
         if self.is_nothing() {
             return None;
@@ -188,8 +189,8 @@ fn push_said(found: &mut Vec<Untold>, said: Option<Untold>) -> Result<(), Memory
 
 /// Whether what one participant tells another may be looked at: the two differ, are not in two domains, and have one life each.
 fn may_tell(announced: &Announced<'_>, twice: &BTreeSet<GuidPrefix>, naming: Naming) -> bool
-    ensures { result ≡ may_tell_lem (is_prefix naming.source naming.dest)
-        (two_domains_lem (hosts_in announced.now naming.source) (hosts_in announced.now naming.dest))
+    ensures { result ≡ untold_spec.may_tell (is_prefix naming.source naming.dest)
+        (silence.two_domains (hosts_in announced.now naming.source) (hosts_in announced.now naming.dest))
         (contains prefix_cmp twice.now naming.source) (contains prefix_cmp twice.now naming.dest) }
 {
     naming.source != naming.dest

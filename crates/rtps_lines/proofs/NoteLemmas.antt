@@ -13,6 +13,7 @@ use Rattle.rtps_report.specs.Talk.{LeftOutValue, left_out_value}
 use Rattle.rtps_report.specs.declared.talk.LeftOut.{LeftOut}
 use Rattle.rtps_lines.specs.LateNotes.{late_remedy, matched_note}
 use Rattle.rtps_lines.specs.Notes.{best_effort_note, best_effort_remedy, left_names, left_out_by, name_behind, names_behind, silent_by, talking_behind, talking_text}
+use Rattle.rtps_lines.specs.declared.sentences.noted.TheConstants as said
 
 -- a note is told where there is some of it
 pub some_note : (n : ℕ) (text : List ℕ) → (n ≡ 0 → ⊥) → text ∷ [] ≡ (if n == 0 then [] else text ∷ [])
@@ -60,14 +61,14 @@ two_texts (one ∷ other ∷ []) d e both = refl
 two_texts (one ∷ other ∷ more ∷ parts) d e both = absurd (omega (arith, both))
 
 pub best_effort_told : (arrow shares word : List ℕ) (total : BestEffortValue) (pairs : ℕ) (remedy : List Part) (d e : Part) → (total.pairs ≡ 0 → ⊥) → pairs ≡ total.pairs
-    → word ≡ words_for total.numbers (record { one = codes " number in this recording"; many = codes " numbers in this recording" })
+    → word ≡ words_for total.numbers (record { one = said.RECORDED_ONE.now; many = said.RECORDED_MANY.now })
     → flat_map part_text remedy ≡ best_effort_remedy arrow total → length remedy ≡ 2
-    → (amount pairs (record { one = codes "best-effort pair has "; many = codes "best-effort pairs have " })
+    → (amount pairs (record { one = said.BEST_EFFORT_ONE.now; many = said.BEST_EFFORT_MANY.now })
     ++ (share total.recorded total.numbers ++ (word ++ (shares ++ (part_text (get_or remedy 0 d) ++ (part_text (get_or remedy 1 e) ++ [])))))) ∷ []
     ≡ best_effort_note arrow total shares
 best_effort_told arrow shares word total pairs remedy d e some count words text both =
-    let names : WordsValue = record { one = codes "best-effort pair has "; many = codes "best-effort pairs have " } in
-    let numbers : WordsValue = record { one = codes " number in this recording"; many = codes " numbers in this recording" } in
+    let names : WordsValue = record { one = said.BEST_EFFORT_ONE.now; many = said.BEST_EFFORT_MANY.now } in
+    let numbers : WordsValue = record { one = said.RECORDED_ONE.now; many = said.RECORDED_MANY.now } in
     let told : ℕ → List ℕ → List ℕ → List (List ℕ) = λ n w last. (amount n names ++ (share total.recorded total.numbers ++ (w ++ (shares ++ last)))) ∷ [] in
     let texts : List ℕ = part_text (get_or remedy 0 d) ++ (part_text (get_or remedy 1 e) ++ []) in
     let last : texts ≡ best_effort_remedy arrow total ++ [] = two_texts remedy d e both ∙ text ∙ sym (append-nil (best_effort_remedy arrow total)) in
@@ -77,11 +78,11 @@ best_effort_told arrow shares word total pairs remedy d e some count words text 
 -- ---- pairs that matched late
 
 pub matched_told : (arrow lines : List ℕ) (pairs before : ℕ) (remedy : List Part) (d e : Part) → (pairs ≡ 0 → ⊥) → flat_map part_text remedy ≡ late_remedy arrow before → length remedy ≡ 2
-    → (amount pairs (record { one = codes "pair matched late"; many = codes "pairs matched late" })
+    → (amount pairs (record { one = said.MATCHED_LATE_ONE.now; many = said.MATCHED_LATE_MANY.now })
     ++ (lines ++ (part_text (get_or remedy 0 d) ++ (part_text (get_or remedy 1 e) ++ [])))) ∷ []
     ≡ matched_note arrow pairs before lines
 matched_told arrow lines pairs before remedy d e some text both =
-    let names : WordsValue = record { one = codes "pair matched late"; many = codes "pairs matched late" } in
+    let names : WordsValue = record { one = said.MATCHED_LATE_ONE.now; many = said.MATCHED_LATE_MANY.now } in
     let told : List ℕ → List (List ℕ) = λ last. (amount pairs names ++ (lines ++ last)) ∷ [] in
     let texts : List ℕ = part_text (get_or remedy 0 d) ++ (part_text (get_or remedy 1 e) ++ []) in
     let last : texts ≡ late_remedy arrow before ++ [] = two_texts remedy d e both ∙ text ∙ sym (append-nil (late_remedy arrow before)) in

@@ -16,6 +16,8 @@ use Rattle.rtps_lines.specs.Notes.{detail_of, pair_words, words_of}
 use Rattle.rtps_lines.specs.WayNotes.{swapped_cause, twice_cause}
 use Rattle.rtps_lines.specs.declared.causes.Lost.{Lost}
 use Rattle.rtps_lines.specs.declared.notes.Weakness.TheVariants.{Cut, Links, Pieces, Unsettled}
+use Rattle.rtps_lines.specs.declared.sentences.reason.TheConstants as said
+use Rattle.rtps_lines.specs.declared.sentences.noted.TheConstants.{BEST_EFFORT_MANY, BEST_EFFORT_ONE, RECORDED_MANY, RECORDED_ONE}
 
 -- what is found by an ending
 abbrev pub findings_in : Ending → Findings
@@ -24,31 +26,31 @@ findings_in ending = no_findings
 
 -- the words for pairs that are not complete
 abbrev pub incomplete_words : WordsValue
-incomplete_words = record { one = codes "pair is not complete"; many = codes "pairs are not complete" }
+incomplete_words = record { one = said.INCOMPLETE_ONE.now; many = said.INCOMPLETE_MANY.now }
 
 -- for pairs that do not match
 abbrev pub unmatched_words : WordsValue
-unmatched_words = record { one = codes "pair does not match"; many = codes "pairs do not match" }
+unmatched_words = record { one = said.UNMATCHED_ONE.now; many = said.UNMATCHED_MANY.now }
 
 -- for numbers that were missed
 abbrev pub missed_words : WordsValue
-missed_words = record { one = codes "number was missed in"; many = codes "numbers were missed in" }
+missed_words = record { one = said.MISSED_ONE.now; many = said.MISSED_MANY.now }
 
 -- that were unsent
 abbrev pub unsent_words : WordsValue
-unsent_words = record { one = codes "number was unsent in"; many = codes "numbers were unsent in" }
+unsent_words = record { one = said.UNSENT_ONE.now; many = said.UNSENT_MANY.now }
 
 -- that were unanswered
 abbrev pub unanswered_words : WordsValue
-unanswered_words = record { one = codes "number was unanswered in"; many = codes "numbers were unanswered in" }
+unanswered_words = record { one = said.UNANSWERED_ONE.now; many = said.UNANSWERED_MANY.now }
 
 -- that did not arrive
 abbrev pub lost_words : WordsValue
-lost_words = record { one = codes "likely number did not arrive in"; many = codes "likely numbers did not arrive in" }
+lost_words = record { one = said.LOST_ONE.now; many = said.LOST_MANY.now }
 
 -- that are not certain
 abbrev pub uncertain_words : WordsValue
-uncertain_words = record { one = codes "number is not received for certain in"; many = codes "numbers are not received for certain in" }
+uncertain_words = record { one = said.UNCERTAIN_ONE.now; many = said.UNCERTAIN_MANY.now }
 
 -- how many there are of a thing; nothing where there is none
 abbrev pub cause : ℕ → WordsValue → List (List ℕ)
@@ -62,7 +64,7 @@ links_cause links =
 
 -- there is no pair
 abbrev pub empty_cause : Bool → List (List ℕ)
-empty_cause empty = if empty then codes "there is no pair" ∷ [] else []
+empty_cause empty = if empty then said.EMPTY.now ∷ [] else []
 
 -- there are fewer pairs than were expected
 abbrev pub few_cause : Option FewRows → List (List ℕ)
@@ -72,13 +74,13 @@ few_cause (Some few) = concat (amount few.rows pair_words ∷ codes " of " ∷ g
 -- how many numbers pairs of best effort have, and how many of these are recorded
 abbrev pub best_effort_text : BestEffortNumbers → List ℕ
 best_effort_text told =
-    concat (amount told.pairs (record { one = codes "best-effort pair has "; many = codes "best-effort pairs have " }) ∷ share told.recorded told.numbers
-    ∷ words_for told.numbers (record { one = codes " number in this recording"; many = codes " numbers in this recording" }) ∷ [])
+    concat (amount told.pairs (record { one = BEST_EFFORT_ONE.now; many = BEST_EFFORT_MANY.now }) ∷ share told.recorded told.numbers
+    ∷ words_for told.numbers (record { one = RECORDED_ONE.now; many = RECORDED_MANY.now }) ∷ [])
 
 -- there is no row, and not all numbers of pairs of best effort are recorded
 abbrev pub lossy_cause : Option BestEffortNumbers → List (List ℕ)
 lossy_cause None = []
-lossy_cause (Some told) = (codes "no reliable pair; " ++ best_effort_text told) ∷ []
+lossy_cause (Some told) = (said.BEST_EFFORT.now ++ best_effort_text told) ∷ []
 
 -- so many numbers were lost, in so many pairs
 abbrev pub lost_cause : Lost → WordsValue → List (List ℕ)
@@ -112,7 +114,7 @@ order_causes findings = swapped_cause findings.swapped ++ twice_cause findings.t
 
 -- the words for participants that were not told of something
 abbrev pub told_words : WordsValue
-told_words = record { one = codes "participant was not told of "; many = codes "participants were not told of " }
+told_words = record { one = said.NOT_TOLD_ONE.now; many = said.NOT_TOLD_MANY.now }
 
 -- for endpoints
 abbrev pub endpoint_words : WordsValue
@@ -120,7 +122,7 @@ endpoint_words = record { one = codes "endpoint"; many = codes "endpoints" }
 
 -- for participants with two lives
 abbrev pub lives_words : WordsValue
-lives_words = record { one = codes "participant has two lives under one GUID"; many = codes "participants have two lives under one GUID" }
+lives_words = record { one = said.LIVES_ONE.now; many = said.LIVES_MANY.now }
 
 -- so many participants were not told of so many endpoints
 abbrev pub not_told_cause : NotToldCounts → List (List ℕ)
@@ -143,8 +145,8 @@ causes_of certain totals findings =
 abbrev pub certain_words : WordsValue
 certain_words =
     record {
-      one = codes " number is received for certain, none is known to be lost";
-      many = codes " numbers are received for certain, none is known to be lost";
+      one = said.CERTAIN_ONE.now;
+      many = said.CERTAIN_MANY.now;
     }
 
 -- what stands behind `clean`: how many numbers are received for certain, where any other did not arrive
@@ -155,7 +157,7 @@ certain_detail totals =
 
 -- the same, or what pairs of best effort have, where there is no row
 abbrev pub clean_detail : Totals → BestEffortNumbers → List ℕ
-clean_detail totals best_effort = if totals.pairs == 0 then codes ": no reliable pair; " ++ best_effort_text best_effort else certain_detail totals
+clean_detail totals best_effort = if totals.pairs == 0 then said.CLEAN_BEST_EFFORT.now ++ best_effort_text best_effort else certain_detail totals
 
 -- the last line, of a report of whose rows this is counted, and of whose pairs of best effort that
 abbrev pub last_line : Totals → BestEffortNumbers → Ending → List (List ℕ) → List ℕ

@@ -4,12 +4,13 @@ use Rattle.std.specs.List.{concat, flat_map, position_or_len}
 use Rattle.rtps_evidence.specs.Times.{TimesValue, frame_of, seconds_of}
 use Rattle.rtps_parts.specs.Parts.{amount, grouped}
 use Rattle.rtps_parts.specs.RosNames.{topic_text}
-use Rattle.rtps_report.specs.Advice.{sentence_of}
 use Rattle.rtps_report.specs.LateRows.{LateRowValue}
 use Rattle.rtps_report.specs.declared.advice.Advice.TheVariants.{MatchedLate}
 use Rattle.rtps_report.specs.declared.late_matches.LateMatch.{LateMatch}
+use Rattle.rtps_lines.specs.AdviceText.{sentence_of}
 use Rattle.rtps_lines.specs.Lines.{place_text, second_in, seconds_text}
 use Rattle.rtps_lines.specs.NumberRanges.{bracketed}
+use Rattle.rtps_lines.specs.declared.sentences.noted.TheConstants as said
 
 -- by how much two matched late
 abbrev pub delay_text : LateMatch → List ℕ
@@ -54,4 +55,4 @@ late_remedy arrow before = if nat_lt 0 before then arrow ++ sentence_of MatchedL
 abbrev pub matched_note : List ℕ → ℕ → ℕ → List ℕ → List (List ℕ)
 matched_note arrow pairs before lines =
     if pairs == 0 then []
-    else concat (amount pairs (record { one = codes "pair matched late"; many = codes "pairs matched late" }) ∷ lines ∷ late_remedy arrow before ∷ []) ∷ []
+    else concat (amount pairs (record { one = said.MATCHED_LATE_ONE.now; many = said.MATCHED_LATE_MANY.now }) ∷ lines ∷ late_remedy arrow before ∷ []) ∷ []

@@ -1,10 +1,6 @@
 pub mod Causes
-pub mod AddressMembers
-pub mod CheckMembers
-pub mod DiscoveryMembers
-pub mod EventMembers
+pub mod AdviceText
 pub mod EventText
-pub mod JsonText
 pub mod NoPairText
 pub mod LateNotes
 pub mod Lines
@@ -13,7 +9,6 @@ pub mod Notes
 pub mod NumberRanges
 pub mod PolicyValues
 pub mod QosNames
+pub mod ReportEnds
 pub mod TailNames
-pub mod EndMembers
-pub mod TalkMembers
 pub mod WayNotes

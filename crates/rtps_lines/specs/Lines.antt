@@ -1,7 +1,7 @@
 -- The lines that `why` and `check` print alike of a row. own: one space stands between fields, so that common tools can take a line
 -- apart. A place is the number of a datagram, from 1, and that of a submessage's first octet in it, from 0, as `show` writes them. Behind it
 -- stand the frame of its datagram, where that has one, and its second, where it has a time: that is counted from the start of the capture.
-use Rattle.std.specs.Prelude.{ℕ, ℤ, ◌++◌, ◌/◌, ◌%◌, if◌then◌else◌, List, [], ◌∷◌, codes, length, Option, None, Some}
+use Rattle.std.specs.Prelude.{ℕ, ℤ, ◌++◌, ◌/◌, ◌%◌, if◌then◌else◌, List, [], ◌∷◌, codes, length, Option, None, Some, unwrap_or}
 use Rattle.std.specs.Fmt.{decimal, signed_decimal}
 use Rattle.rtps_report.specs.Vocabulary.{Absent, Announcement, Claim, Complete, Conflict, FirstMissed, Key, Location, Open, PayloadValue, SentValue, Teller, Unfounded, Verdict, Whole}
 use Rattle.rtps_ids.specs.declared.identity.Guid.{Guid}
@@ -13,14 +13,16 @@ use Rattle.rtps_evidence.specs.declared.location.Kind.{Kind}
 use Rattle.rtps_evidence.specs.declared.location.Kind.TheVariants.{Data, Heartbeat, AckNack, Gap, DataFrag, NackFrag}
 use Rattle.rtps_evidence.specs.declared.times.Seconds.{Seconds}
 use Rattle.rtps_evidence.specs.declared.waits.Wait.{Wait}
-use Rattle.rtps_evidence.specs.Times.{TimesValue, frame_of, second_of, seconds_of, time_of}
-use Rattle.rtps_report.specs.Advice.{ended_in, sentence_of}
+use Rattle.rtps_evidence.specs.Times.{TimesValue, frame_of, second_of, seconds_between, seconds_of, time_of}
+use Rattle.rtps_report.specs.Advice.{ended_in}
 use Rattle.rtps_report.specs.declared.advice.Advice.{Advice}
 use Rattle.rtps_report.specs.declared.advice.Advice.TheVariants.{NotAnnounced}
 use Rattle.rtps_report.specs.declared.silences.Silences.{Silences}
 use Rattle.rtps_discovery.specs.declared.endpoint.Side.{Side}
 use Rattle.rtps_discovery.specs.declared.endpoint.Side.TheVariants.{Writer, Reader}
+use Rattle.rtps_lines.specs.AdviceText.{sentence_of}
 use Rattle.rtps_lines.specs.QosNames.{side_text}
+use Rattle.rtps_lines.specs.declared.sentences.advice.TheConstants as said
 
 -- a line of fields: a space (32) after each, but a line feed (10) after the last
 abbrev pub line_of : List (List ℕ) → List ℕ
@@ -57,6 +59,10 @@ kind_text NackFrag = codes "nack_frag"
 -- the last three digits of a number
 abbrev pub three_places : ℕ → List ℕ
 three_places n = decimal (n / 100 % 10) ++ (decimal (n / 10 % 10) ++ decimal (n % 10))
+
+-- a time in nanoseconds since 1970 began, in seconds since the recording began
+abbrev pub sent_second : TimesValue → ℕ → Seconds
+sent_second times time = seconds_between (unwrap_or times.start 0) time
 
 -- a time in seconds, with three places
 unfoldable pub seconds_text : Seconds → List ℕ
@@ -177,7 +183,7 @@ ended_text times (Some datagram) = at_second (second_in times datagram)
 -- what to do where a participant was not told of endpoints of another: nothing comes back from this address, if there is one
 unfoldable pub not_told_advice : Option Address → List ℕ
 not_told_advice None = sentence_of NotAnnounced
-not_told_advice (Some address) = codes "nothing comes back from " ++ (address_text address ++ codes ": a firewall, or another interface")
+not_told_advice (Some address) = said.NOTHING_BACK.now ++ (address_text address ++ said.BY_FIREWALL.now)
 
 -- what to do for a pair, in one sentence
 abbrev pub advice_text : TimesValue → Advice → List ℕ

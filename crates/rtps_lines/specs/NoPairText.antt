@@ -15,18 +15,19 @@ use Rattle.rtps_report.specs.declared.no_pair.InDomain.{InDomain}
 use Rattle.rtps_report.specs.declared.no_pair.NoPair.{NoPair}
 use Rattle.rtps_report.specs.declared.no_pair.NoPair.TheVariants.{Counted, NoRtps, Early, NoParticipant, OneHost, SharedMemory, TwoDomains, NotTold, OneWay, Unmatched, LeftOut, BestEffort, OneSide, Unknown}
 use Rattle.rtps_lines.specs.EventText.{called}
+use Rattle.rtps_lines.specs.declared.sentences.no_pair.TheConstants as said
 
 -- the words for participants that speak before they are announced
 abbrev pub early_words : WordsValue
 early_words =
     record {
-      one = codes "participant speaks before it is announced, or is";
-      many = codes "participants speak before they are announced, or are";
+      one = said.EARLY_ONE.now;
+      many = said.EARLY_MANY.now;
     }
 
 -- what is said of so many of them
 abbrev pub early_text : ℕ → List ℕ
-early_text early = concat (codes "record from before the start: " ∷ amount early early_words ∷ codes " never announced" ∷ [])
+early_text early = concat (said.EARLY.now ∷ amount early early_words ∷ said.NEVER_ANNOUNCED.now ∷ [])
 
 -- a participant, and its domain
 abbrev pub domain_text : TalkValue → InDomain → List ℕ
@@ -38,8 +39,8 @@ other_text talk one = codes ", " ++ (called talk one.participant.prefix ++ (code
 
 -- what a topic has, and what it lacks
 abbrev pub sides_text : Side → List ℕ
-sides_text Writer = codes " has a writer and no reader"
-sides_text Reader = codes " has a reader and no writer"
+sides_text Writer = said.WRITER_ALONE.now
+sides_text Reader = said.READER_ALONE.now
 
 -- a topic that has one side alone, by ROS 2
 abbrev pub side_text : OneSidedValue → List ℕ
@@ -68,20 +69,20 @@ one_sides_text found = named_sides (take NAMED_SIDES found) ++ more_sides (lengt
 
 -- the sentence of a cause that is told in the same words always; nothing of the others
 unfoldable pub cause_sentence : NoPair → List ℕ
-cause_sentence Counted = codes "all pairs that match are of best effort: they are counted below, and not judged"
-cause_sentence NoRtps = codes "nothing of RTPS is in this recording: see that it has the ports of DDS (udp, 7400 and above)"
+cause_sentence Counted = said.BEST_EFFORT.now
+cause_sentence NoRtps = said.NO_RTPS.now
 cause_sentence (Early early) = []
-cause_sentence NoParticipant = codes "no participant is announced"
-cause_sentence SharedMemory = codes "both ends are on this host and use shared memory, which no capture has"
-cause_sentence OneHost = codes "nothing of another host is in this recording"
+cause_sentence NoParticipant = said.NO_PARTICIPANT.now
+cause_sentence SharedMemory = said.SHARED_MEMORY.now
+cause_sentence OneHost = said.ONE_HOST.now
 cause_sentence (TwoDomains one other) = []
-cause_sentence NotTold = codes "discovery is not complete: see below who was never told of what"
-cause_sentence OneWay = codes "see below which participants never answer"
-cause_sentence Unmatched = codes "see below which writers and readers do not match"
-cause_sentence LeftOut = codes "record where the datagrams of the readers and the writers pass, and switch off shared memory"
-cause_sentence BestEffort = codes "all pairs that match are of best effort: they are counted below, and not judged"
+cause_sentence NotTold = said.NOT_TOLD.now
+cause_sentence OneWay = said.ONE_WAY.now
+cause_sentence Unmatched = said.UNMATCHED.now
+cause_sentence LeftOut = said.LEFT_OUT.now
+cause_sentence BestEffort = said.BEST_EFFORT.now
 cause_sentence OneSide = []
-cause_sentence Unknown = codes "see in rtps-audit list --any FILE what is announced"
+cause_sentence Unknown = said.UNKNOWN.now
 
 -- why there is no pair, and what to do
 abbrev pub no_pair_text : TalkValue → NoPair → List OneSidedValue → List ℕ

@@ -29,33 +29,35 @@ use Rattle.rtps_lines.specs.declared.notes.NotedRows.{NotedRows}
 use Rattle.rtps_lines.specs.declared.side_notes.Unread.{Unread}
 use Rattle.rtps_lines.specs.declared.notes.Weakness.{Weakness}
 use Rattle.rtps_lines.specs.declared.notes.Weakness.TheVariants.{Likely, Pieces, Cut, Links, Other, Fragments, Unsettled, Refused}
+use Rattle.rtps_lines.specs.declared.sentences.noted.TheConstants as said
+use Rattle.rtps_lines.specs.declared.sentences.no_pair.TheConstants.{ONE_HOST}
 
 -- the words for so much of a weakness
 unfoldable pub words_of : Weakness → WordsValue
-words_of Likely = record { one = codes "number is likely received"; many = codes "numbers are likely received" }
+words_of Likely = record { one = said.LIKELY_ONE.now; many = said.LIKELY_MANY.now }
 words_of Pieces =
-    record { one = codes "frame is a fragment of a packet that is not whole"; many = codes "frames are fragments of packets that are not whole" }
-words_of Cut = record { one = codes "frame is cut"; many = codes "frames are cut" }
-words_of (Links first) = record { one = codes "frame is of a link that is not read"; many = codes "frames are of links that are not read" }
-words_of Other = record { one = codes "frame carries no UDP over IP"; many = codes "frames carry no UDP over IP" }
-words_of Fragments = record { one = codes "fragment is of a sample that is not whole"; many = codes "fragments are of samples that are not whole" }
-words_of Unsettled = record { one = codes "endpoint announced itself in two ways"; many = codes "endpoints announced themselves in two ways" }
-words_of Refused = record { one = codes "datagram is malformed"; many = codes "datagrams are malformed" }
+    record { one = said.PIECES_ONE.now; many = said.PIECES_MANY.now }
+words_of Cut = record { one = said.CUT_ONE.now; many = said.CUT_MANY.now }
+words_of (Links first) = record { one = said.LINKS_ONE.now; many = said.LINKS_MANY.now }
+words_of Other = record { one = said.OTHER_ONE.now; many = said.OTHER_MANY.now }
+words_of Fragments = record { one = said.FRAGMENTS_ONE.now; many = said.FRAGMENTS_MANY.now }
+words_of Unsettled = record { one = said.UNSETTLED_ONE.now; many = said.UNSETTLED_MANY.now }
+words_of Refused = record { one = said.REFUSED_ONE.now; many = said.REFUSED_MANY.now }
 
 -- what to do
 unfoldable pub remedy_of : Weakness → List ℕ
-remedy_of Likely = codes "they were sent, and acknowledged without being asked for again: with KEEP_LAST a writer drops samples before it asks"
-remedy_of Pieces = codes "record at the writer's side, and see that tcpdump drops nothing: they may have samples or announcements"
-remedy_of Cut = codes "record whole frames, without a snap length (tcpdump -s), and end tcpdump with Ctrl-C"
-remedy_of (Links first) = codes "record on an Ethernet, loopback or raw IP interface, or with tcpdump -i any"
-remedy_of Other = codes "nothing is to be done: ARP, TCP and ICMP are such frames"
-remedy_of Fragments = codes "record at the writer's side, and see that tcpdump drops nothing: pairs with such samples may not be complete"
-remedy_of Unsettled = codes "they are in no pair: see that no process starts again with its old GUID, and that no QoS changes"
-remedy_of Refused = codes "rtps-audit show --any FILE prints refused and the fault: what stands behind it is not read"
+remedy_of Likely = said.LIKELY_REMEDY.now
+remedy_of Pieces = said.PIECES_REMEDY.now
+remedy_of Cut = said.CUT_REMEDY.now
+remedy_of (Links first) = said.LINKS_REMEDY.now
+remedy_of Other = said.OTHER_REMEDY.now
+remedy_of Fragments = said.FRAGMENTS_REMEDY.now
+remedy_of Unsettled = said.UNSETTLED_REMEDY.now
+remedy_of Refused = said.REFUSED_REMEDY.now
 
 -- what is said behind so much of it: the link type of the first frame, where it is known
 unfoldable pub detail_of : ℕ → Weakness → List (List ℕ)
-detail_of number (Links (Some first)) = (if number == 1 then codes ", of type " else codes ", the first of type ") ∷ grouped first ∷ []
+detail_of number (Links (Some first)) = (if number == 1 then said.OF_TYPE.now else said.FIRST_OF_TYPE.now) ∷ grouped first ∷ []
 detail_of number weakness = [] ∷ [] ∷ []
 
 -- the words for pairs
@@ -91,15 +93,15 @@ names_if named rows = if named then joined_names (topics_of rows) else []
 
 -- why pairs are silent, and what that says of them
 unfoldable pub silence_words : Silence → List ℕ
-silence_words OneParticipant = codes "of one participant (it needs no network)"
-silence_words TwoDomains = codes "of two domains (they never meet)"
-silence_words OneWay = codes "talking one way (the reader never answers)"
-silence_words Silent = codes "silent here (shared memory, another host or interface)"
+silence_words OneParticipant = said.ONE_PARTICIPANT.now
+silence_words TwoDomains = said.TWO_DOMAINS.now
+silence_words OneWay = said.ONE_WAY.now
+silence_words Silent = said.SILENT.now
 
 -- so many pairs that are left out for this reason, and the names of their topics
 abbrev pub left_out_by : Silence → ℕ → List ℕ → List ℕ
 left_out_by silence pairs names =
-    concat (amount pairs (record { one = codes "pair is left out, "; many = codes "pairs are left out, " }) ∷ silence_words silence ∷ names ∷ [])
+    concat (amount pairs (record { one = said.LEFT_OUT_ONE.now; many = said.LEFT_OUT_MANY.now }) ∷ silence_words silence ∷ names ∷ [])
 
 -- two reasons are the same
 abbrev pub is_silence : Silence → Silence → Bool
@@ -166,14 +168,14 @@ talking_names pairs = talking_behind (codes ": ") pairs
 abbrev pub talking_note : ℕ → List ℕ → List (List ℕ)
 talking_note pairs names =
     if pairs == 0 then []
-    else concat (amount pairs (record { one = codes "pair talks though it does not match by the standard"; many = codes "pairs talk though they do not match by the standard" })
+    else concat (amount pairs (record { one = said.TALKING_ONE.now; many = said.TALKING_MANY.now })
     ∷ names ∷ []) ∷ []
 
 -- that times go back by so many seconds, and behind an arrow what to do
 abbrev pub back_by : List ℕ → List ℕ → List ℕ
 back_by seconds arrow =
-    concat (codes "times go back by up to " ∷ seconds ∷ codes " s" ∷ arrow
-    ∷ codes "the datagrams are out of order: reordercap FILE OUT sorts them by time, and OUT can be checked" ∷ [])
+    concat (said.BACK.now ∷ seconds ∷ codes " s" ∷ arrow
+    ∷ said.BACK_REMEDY.now ∷ [])
 
 -- the note on times that go back by so many nanoseconds; none where they do not
 abbrev pub order_note : List ℕ → ℕ → List (List ℕ)
@@ -183,7 +185,7 @@ order_note arrow back = if back == 0 then [] else back_by (seconds_text (seconds
 abbrev pub host_note : List ℕ → List Participant → List (List ℕ)
 host_note arrow participants =
     if are_on_one_host participants
-    then concat (codes "nothing of another host is in this recording" ∷ arrow ∷ codes "if there are other hosts, multicast may be blocked between them" ∷ []) ∷ []
+    then concat (ONE_HOST.now ∷ arrow ∷ said.ONE_HOST_REMEDY.now ∷ []) ∷ []
     else []
 
 -- the name of a topic of best effort, and how many of its numbers are recorded
@@ -203,23 +205,23 @@ shares_if named sums = if named then shares_text sums else []
 abbrev pub best_effort_remedy : List ℕ → BestEffortValue → List ℕ
 best_effort_remedy arrow total =
     if nat_lt total.recorded total.numbers
-    then arrow ++ codes "at the reader's side the others were lost; at the writer's side the recording lacks them"
+    then arrow ++ said.BEST_EFFORT_REMEDY.now
     else []
 
 -- how many numbers of all pairs of best effort are recorded, and then this of their topics; none where there is no such pair
 abbrev pub best_effort_note : List ℕ → BestEffortValue → List ℕ → List (List ℕ)
 best_effort_note arrow total shares =
     if total.pairs == 0 then []
-    else concat (amount total.pairs (record { one = codes "best-effort pair has "; many = codes "best-effort pairs have " })
+    else concat (amount total.pairs (record { one = said.BEST_EFFORT_ONE.now; many = said.BEST_EFFORT_MANY.now })
     ∷ share total.recorded total.numbers
-    ∷ words_for total.numbers (record { one = codes " number in this recording"; many = codes " numbers in this recording" })
+    ∷ words_for total.numbers (record { one = said.RECORDED_ONE.now; many = said.RECORDED_MANY.now })
     ∷ shares ∷ best_effort_remedy arrow total ∷ []) ∷ []
 
 -- for so many pairs the writer wrote nothing since the reader joined, the names of their topics, and behind an arrow what to do
 abbrev pub late_by : ℕ → List ℕ → List ℕ → List ℕ
 late_by pairs names arrow =
-    concat (codes "the writer wrote nothing since the reader joined: " ∷ amount pairs pair_words ∷ names ∷ arrow
-    ∷ codes "if earlier numbers were for it, it was discovered too late: wait for it, or use transient local" ∷ [])
+    concat (said.LATE.now ∷ amount pairs pair_words ∷ names ∷ arrow
+    ∷ said.LATE_REMEDY.now ∷ [])
 
 -- the note on so many pairs; none where there is no such pair
 abbrev pub late_note : List ℕ → ℕ → List ℕ → List (List ℕ)
@@ -229,7 +231,7 @@ late_note arrow pairs names = if pairs == 0 then [] else late_by pairs names arr
 abbrev pub tail_note : NoteFacts → List ℕ → List (List ℕ)
 tail_note facts names =
     if facts.tails == 0 then []
-    else concat (amount facts.tails (record { one = codes "pair is"; many = codes "pairs are" }) ∷ codes " clean with a tail, of at most "
+    else concat (amount facts.tails (record { one = codes "pair is"; many = codes "pairs are" }) ∷ said.TAIL.now
     ∷ amount facts.longest number_words ∷ names ∷ []) ∷ []
 
 -- the topics of rows with tails, where topics are named
@@ -242,9 +244,9 @@ tail_names_if named rows = if named then tail_names rows else []
 abbrev pub held_note : BestEffortValue → List ℕ → List (List ℕ)
 held_note total shares =
     if total.pairs == 0 then []
-    else concat (amount total.pairs (record { one = codes "best-effort pair has "; many = codes "best-effort pairs have " })
+    else concat (amount total.pairs (record { one = said.BEST_EFFORT_ONE.now; many = said.BEST_EFFORT_MANY.now })
     ∷ share total.recorded total.numbers
-    ∷ words_for total.numbers (record { one = codes " number at the reader's host"; many = codes " numbers at the reader's host" })
+    ∷ words_for total.numbers (record { one = said.HELD_ONE.now; many = said.HELD_MANY.now })
     ∷ shares ∷ []) ∷ []
 
 -- the rows of which it has nothing
@@ -255,9 +257,9 @@ alone_in rows = filter (λ row. is_none (way_in row.evidence.in_span)) rows
 abbrev pub alone_note : List ℕ → ℕ → List ℕ → List (List ℕ)
 alone_note arrow alone names =
     if alone == 0 then []
-    else concat (amount alone (record { one = codes "pair is judged by this recording alone"; many = codes "pairs are judged by this recording alone" })
+    else concat (amount alone (record { one = said.ALONE_ONE.now; many = said.ALONE_MANY.now })
     ∷ names ∷ arrow
-    ∷ codes "the recording at the reader's host has nothing of the reader to the writer: it was not made at that host" ∷ []) ∷ []
+    ∷ said.ALONE_REMEDY.now ∷ []) ∷ []
 
 -- the rows of which numbers are received for certain though the other recording has none of them
 abbrev pub absent_rows : List ExplanationValue → List ExplanationValue
@@ -267,10 +269,10 @@ absent_rows rows = filter (λ row. nat_lt 0 (absent_in row.evidence.in_span)) ro
 abbrev pub absent_note : List ℕ → SideFacts → List ℕ → List (List ℕ)
 absent_note arrow side names =
     if side.absent_pairs == 0 then []
-    else concat (amount side.absent (record { one = codes "number is received for certain in"; many = codes "numbers are received for certain in" })
+    else concat (amount side.absent (record { one = said.ABSENT_ONE.now; many = said.ABSENT_MANY.now })
     ∷ codes " " ∷ amount side.absent_pairs pair_words
-    ∷ codes " and not in the recording at the reader's host"
-    ∷ names ∷ arrow ∷ codes "it lacks something: see that it ran all the time, and that tcpdump dropped nothing" ∷ []) ∷ []
+    ∷ said.ABSENT.now
+    ∷ names ∷ arrow ∷ said.ABSENT_REMEDY.now ∷ []) ∷ []
 
 -- what of the other recording was not read: how much, the words for it, and what to do
 pub record UnreadValue : Type 0 where
@@ -286,21 +288,21 @@ unread_value unread = record { number = unread.number; words = words_value unrea
 abbrev pub unread_note : List ℕ → UnreadValue → List (List ℕ)
 unread_note arrow unread =
     if unread.number == 0 then []
-    else concat (codes "at the reader's host: " ∷ amount unread.number unread.words ∷ arrow ∷ unread.remedy ∷ []) ∷ []
+    else concat (said.THERE.now ∷ amount unread.number unread.words ∷ arrow ∷ unread.remedy ∷ []) ∷ []
 
 -- frames of it that gave no datagram
 abbrev pub unread_there : SideFacts → List UnreadValue
 unread_there side =
-    record { number = side.pieces; words = words_of Pieces; remedy = codes "the other parts were lost on the way: what such packets carry did not arrive" }
+    record { number = side.pieces; words = words_of Pieces; remedy = said.PIECES_THERE.now }
     ∷ record {
       number = side.cut;
       words = words_of Cut;
-      remedy = codes "record whole frames, without a snap length (tcpdump -s), and end tcpdump with Ctrl-C: what is cut is told as not arrived";
+      remedy = said.CUT_THERE.now;
     }
     ∷ record {
       number = side.links.number;
       words = words_of (Links side.links.first);
-      remedy = codes "record on an Ethernet, loopback or raw IP interface, or with tcpdump -i any: what is not read is told as not arrived";
+      remedy = said.LINKS_THERE.now;
     } ∷ []
 
 -- ---- all of them

@@ -1,18 +1,19 @@
 -- In which order two recordings were given, in words. own: where they look swapped the last line says so and what is to be done is a note; the
 -- sentence is one.
-use Rattle.std.specs.Prelude.{ℕ, ◌++◌, ◌==◌, Bool, if◌then◌else◌, List, [], ◌∷◌, codes}
+use Rattle.std.specs.Prelude.{ℕ, ◌++◌, ◌==◌, Bool, if◌then◌else◌, List, [], ◌∷◌}
 use Rattle.std.specs.List.{concat}
 use Rattle.rtps_parts.specs.Parts.{WordsValue, amount}
 use Rattle.rtps_report.specs.Order.{is_untold, mixed, swapped}
 use Rattle.rtps_report.specs.declared.order.Order.{Order}
+use Rattle.rtps_lines.specs.declared.sentences.ways.TheConstants as said
 
 -- the words for pairs that are the wrong way round
 abbrev pub wrong_words : WordsValue
-wrong_words = record { one = codes "pair is the wrong way round"; many = codes "pairs are the wrong way round" }
+wrong_words = record { one = said.WRONG_ONE.now; many = said.WRONG_MANY.now }
 
 -- the two recordings look swapped by so many pairs
 abbrev pub swapped_parts : ℕ → List (List ℕ)
-swapped_parts pairs = codes "the two recordings look swapped: " ∷ amount pairs wrong_words ∷ []
+swapped_parts pairs = said.SWAPPED.now ∷ amount pairs wrong_words ∷ []
 
 -- the same as a reason; none where there is no such pair
 abbrev pub swapped_cause : ℕ → List (List ℕ)
@@ -20,27 +21,27 @@ swapped_cause pairs = if pairs == 0 then [] else concat (swapped_parts pairs) �
 
 -- one recording was given twice, as a reason
 abbrev pub twice_cause : Bool → List (List ℕ)
-twice_cause twice = if twice then codes "one recording was given twice" ∷ [] else []
+twice_cause twice = if twice then said.TWICE.now ∷ [] else []
 
 -- they look swapped, and behind an arrow what to do; none where there is no such pair
 abbrev pub swapped_note : List ℕ → ℕ → List (List ℕ)
-swapped_note arrow pairs = if pairs == 0 then [] else concat (swapped_parts pairs ++ (arrow ∷ codes "give the other one first" ∷ [])) ∷ []
+swapped_note arrow pairs = if pairs == 0 then [] else concat (swapped_parts pairs ++ (arrow ∷ said.SWAPPED_REMEDY.now ∷ [])) ∷ []
 
 -- the words for pairs that are so where others are the right way round
 abbrev pub mixed_words : WordsValue
 mixed_words =
     record {
-      one = codes "pair is judged by the first recording alone: it is the wrong way round";
-      many = codes "pairs are judged by the first recording alone: they are the wrong way round";
+      one = said.MIXED_ONE.now;
+      many = said.MIXED_MANY.now;
     }
 
 -- so many are, and behind an arrow what to do; none where there is no such pair
 abbrev pub mixed_note : List ℕ → ℕ → List (List ℕ)
-mixed_note arrow pairs = if pairs == 0 then [] else concat (amount pairs mixed_words ∷ arrow ∷ codes "the other order judges them" ∷ []) ∷ []
+mixed_note arrow pairs = if pairs == 0 then [] else concat (amount pairs mixed_words ∷ arrow ∷ said.MIXED_REMEDY.now ∷ []) ∷ []
 
 -- nothing tells the two apart, if it is so
 abbrev pub untold_note : Bool → List (List ℕ)
-untold_note untold = if untold then codes "nothing tells the two recordings apart: nothing was lost, or both were made at one place" ∷ [] else []
+untold_note untold = if untold then said.UNTOLD.now ∷ [] else []
 
 -- the notes on the order of two recordings
 abbrev pub way_notes : List ℕ → Order → List (List ℕ)

@@ -1,16 +1,19 @@
 ghost use Rattle.std.specs.Prelude.{◌≡◌, ◌++◌, OnOk, IfOk, flat_map, map};
 ghost use Rattle.std.specs.String.{string_bytes};
 ghost use Rattle.rtps_parts.specs.Parts.{part_text, words_value};
-ghost use Rattle.rtps_lines.specs.Causes.{best_effort_text, cause, certain_detail, certain_words as certain_words_lem, causes_of as causes_of_lem, clean_detail, discovery_causes, empty_cause, endpoint_words as endpoint_words_lem, few_cause, findings_in as findings_in_lem, incomplete_words as incomplete_words_lem, last_line, links_cause, lives_words as lives_words_lem, lossy_cause, lost_cause, lost_words as lost_words_lem, missed_words as missed_words_lem, not_told_cause, order_causes, row_causes, told_words as told_words_lem, unanswered_words as unanswered_words_lem, uncertain_of as uncertain_of_lem, uncertain_words as uncertain_words_lem, unmatched_words as unmatched_words_lem, unread_causes, unsent_words as unsent_words_lem};
+ghost use Rattle.rtps_lines.specs.Causes.{best_effort_text, cause, certain_detail, clean_detail, discovery_causes, empty_cause, few_cause, last_line, links_cause, lossy_cause, lost_cause, not_told_cause, order_causes, row_causes, unread_causes};
+ghost use Rattle.rtps_lines.specs.Causes as causes_spec;
 
 use crate::notes::{Weakness, pair_words};
+use crate::sentences::noted::{BEST_EFFORT_MANY, BEST_EFFORT_ONE, RECORDED_MANY, RECORDED_ONE};
+use crate::sentences::reason as said;
 use crate::way_notes::{push_swapped_cause, push_twice_cause};
 use rtps_parts::{Part, Words, push_joined, push_rendered, render, words_for};
 use rtps_report::{BestEffortNumbers, Ending, FewRows, Findings, Links, NotToldCounts, Totals};
 use std::alloc::{AllocError, Global};
 
 fn findings_in(ending: &Ending) -> Findings
-    ensures { result ≡ findings_in_lem ending.now }
+    ensures { result ≡ causes_spec.findings_in ending.now }
 {
     match ending {
         Ending::Clean | Ending::Unclean => Findings::none(),
@@ -38,7 +41,7 @@ fn push_empty(alloc: Global, causes: &mut Vec<String>, empty: bool) -> Result<()
     ensures { OnOk result (map string_bytes causes.new.items ≡ map string_bytes causes.old.items ++ empty_cause empty) }
 {
     if empty {
-        push_rendered(alloc, causes, &[Part::Text("there is no pair")])
+        push_rendered(alloc, causes, &[Part::Text(said::EMPTY)])
     } else {
         Ok(())
     }
@@ -64,12 +67,12 @@ fn best_effort_parts(told: BestEffortNumbers) -> [Part<'static>; 3]
     ensures { flat_map part_text result ≡ best_effort_text told }
 {
     let pairs = Words {
-        one: "best-effort pair has ",
-        many: "best-effort pairs have ",
+        one: BEST_EFFORT_ONE,
+        many: BEST_EFFORT_MANY,
     };
     let numbers = Words {
-        one: " number in this recording",
-        many: " numbers in this recording",
+        one: RECORDED_ONE,
+        many: RECORDED_MANY,
     };
     [
         Part::Amount(u128::from(told.pairs), pairs),
@@ -89,7 +92,7 @@ fn push_lossy(
         return Ok(());
     };
     let mut text = String::new(alloc);
-    text.push_str("no reliable pair; ")?;
+    text.push_str(said::BEST_EFFORT)?;
     render(&mut text, &best_effort_parts(told))?;
     causes.push(text)?;
     Ok(())
@@ -122,53 +125,53 @@ fn push_lost(
 }
 
 fn missed_words() -> Words
-    ensures { words_value result ≡ missed_words_lem }
+    ensures { words_value result ≡ causes_spec.missed_words }
 {
     Words {
-        one: "number was missed in",
-        many: "numbers were missed in",
+        one: said::MISSED_ONE,
+        many: said::MISSED_MANY,
     }
 }
 
 fn unsent_words() -> Words
-    ensures { words_value result ≡ unsent_words_lem }
+    ensures { words_value result ≡ causes_spec.unsent_words }
 {
     Words {
-        one: "number was unsent in",
-        many: "numbers were unsent in",
+        one: said::UNSENT_ONE,
+        many: said::UNSENT_MANY,
     }
 }
 
 fn unanswered_words() -> Words
-    ensures { words_value result ≡ unanswered_words_lem }
+    ensures { words_value result ≡ causes_spec.unanswered_words }
 {
     Words {
-        one: "number was unanswered in",
-        many: "numbers were unanswered in",
+        one: said::UNANSWERED_ONE,
+        many: said::UNANSWERED_MANY,
     }
 }
 
 /// The words for likely numbers that did not arrive.
 fn lost_words() -> Words
-    ensures { words_value result ≡ lost_words_lem }
+    ensures { words_value result ≡ causes_spec.lost_words }
 {
     Words {
-        one: "likely number did not arrive in",
-        many: "likely numbers did not arrive in",
+        one: said::LOST_ONE,
+        many: said::LOST_MANY,
     }
 }
 
 fn uncertain_words() -> Words
-    ensures { words_value result ≡ uncertain_words_lem }
+    ensures { words_value result ≡ causes_spec.uncertain_words }
 {
     Words {
-        one: "number is not received for certain in",
-        many: "numbers are not received for certain in",
+        one: said::UNCERTAIN_ONE,
+        many: said::UNCERTAIN_MANY,
     }
 }
 
 fn uncertain_of(totals: &Totals, certain: bool) -> Lost
-    ensures { result ≡ uncertain_of_lem totals.now certain }
+    ensures { result ≡ causes_spec.uncertain_of totals.now certain }
 {
     if !certain {
         return Lost {
@@ -183,36 +186,36 @@ fn uncertain_of(totals: &Totals, certain: bool) -> Lost
 }
 
 fn incomplete_words() -> Words
-    ensures { words_value result ≡ incomplete_words_lem }
+    ensures { words_value result ≡ causes_spec.incomplete_words }
 {
     Words {
-        one: "pair is not complete",
-        many: "pairs are not complete",
+        one: said::INCOMPLETE_ONE,
+        many: said::INCOMPLETE_MANY,
     }
 }
 
 /// The words for pairs that do not match.
 pub fn unmatched_words() -> Words
-    ensures { words_value result ≡ unmatched_words_lem }
+    ensures { words_value result ≡ causes_spec.unmatched_words }
 {
     Words {
-        one: "pair does not match",
-        many: "pairs do not match",
+        one: said::UNMATCHED_ONE,
+        many: said::UNMATCHED_MANY,
     }
 }
 
 fn told_words() -> Words
-    ensures { words_value result ≡ told_words_lem }
+    ensures { words_value result ≡ causes_spec.told_words }
 {
     Words {
-        one: "participant was not told of ",
-        many: "participants were not told of ",
+        one: said::NOT_TOLD_ONE,
+        many: said::NOT_TOLD_MANY,
     }
 }
 
 /// The words for endpoints.
 pub fn endpoint_words() -> Words
-    ensures { words_value result ≡ endpoint_words_lem }
+    ensures { words_value result ≡ causes_spec.endpoint_words }
 {
     Words {
         one: "endpoint",
@@ -222,11 +225,11 @@ pub fn endpoint_words() -> Words
 
 /// The words for participants with two lives.
 pub fn lives_words() -> Words
-    ensures { words_value result ≡ lives_words_lem }
+    ensures { words_value result ≡ causes_spec.lives_words }
 {
     Words {
-        one: "participant has two lives under one GUID",
-        many: "participants have two lives under one GUID",
+        one: said::LIVES_ONE,
+        many: said::LIVES_MANY,
     }
 }
 
@@ -343,7 +346,7 @@ fn push_causes(
     judged: Judged<'_>,
     found: &Findings,
 ) -> Result<(), AllocError>
-    ensures { OnOk result (map string_bytes causes.new.items ≡ map string_bytes causes.old.items ++ causes_of_lem judged.entry.certain judged.entry.totals.now found.now) }
+    ensures { OnOk result (map string_bytes causes.new.items ≡ map string_bytes causes.old.items ++ causes_spec.causes_of judged.entry.certain judged.entry.totals.now found.now) }
 {
     let unmatched = u128::from(found.unmatched);
     push_empty(alloc, causes, found.empty)?;
@@ -362,7 +365,7 @@ pub fn causes_of(
     judged: Judged<'_>,
     ending: &Ending,
 ) -> Result<Vec<String>, AllocError>
-    ensures { IfOk result (λ causes. map string_bytes causes.items ≡ causes_of_lem judged.entry.certain judged.entry.totals.now (findings_in_lem ending.now)) }
+    ensures { IfOk result (λ causes. map string_bytes causes.items ≡ causes_spec.causes_of judged.entry.certain judged.entry.totals.now (causes_spec.findings_in ending.now)) }
 {
     let mut causes = Vec::new(alloc);
     push_causes(alloc, &mut causes, judged, &findings_in(ending))?;
@@ -370,11 +373,11 @@ pub fn causes_of(
 }
 
 fn certain_words() -> Words
-    ensures { words_value result ≡ certain_words_lem }
+    ensures { words_value result ≡ causes_spec.certain_words }
 {
     Words {
-        one: " number is received for certain, none is known to be lost",
-        many: " numbers are received for certain, none is known to be lost",
+        one: said::CERTAIN_ONE,
+        many: said::CERTAIN_MANY,
     }
 }
 
@@ -398,7 +401,7 @@ fn push_detail(text: &mut String, judged: Judged<'_>) -> Result<(), AllocError>
     ensures { OnOk result (string_bytes text.new ≡ string_bytes text.old ++ clean_detail judged.entry.totals.now judged.entry.best_effort) }
 {
     if judged.totals.pairs == 0 {
-        text.push_str(": no reliable pair; ")?;
+        text.push_str(said::CLEAN_BEST_EFFORT)?;
         render(text, &best_effort_parts(judged.best_effort))
     } else {
         push_certain(text, judged.totals)

@@ -2,7 +2,8 @@ ghost use Rattle.std.specs.Prelude.{◌≡◌, Some, option_copied};
 ghost use Rattle.rtps_who.specs.Naming.{title_value};
 ghost use Rattle.rtps_who.specs.Samples.{node_value};
 ghost use Rattle.rtps_report.specs.Ends.{end_value};
-ghost use Rattle.rtps_lines.specs.EndText.{end_text, is_named as is_named_lem, is_placed as is_placed_lem, is_titled as is_titled_lem, named_text, node_text, paired_text, process_text, title_text, where_text};
+ghost use Rattle.rtps_lines.specs.EndText.{end_text, named_text, node_text, paired_text, process_text, title_text, where_text};
+ghost use Rattle.rtps_lines.specs.EndText as end_text_spec;
 
 use crate::fields::HostedGuid;
 use rtps_ids::Guid;
@@ -13,7 +14,7 @@ use std::fmt;
 
 /// The full name of a node, as names are printed.
 #[derive(Drop)]
-pub(crate) struct NodeText<'a>(pub(crate) Node<'a>);
+pub struct NodeText<'a>(pub Node<'a>);
 
 impl fmt::Display for NodeText<'_> {
     ghost output = { λ text. Some (node_text (node_value text.0)) };
@@ -67,7 +68,7 @@ impl fmt::Display for ProcessText<'_> {
 
 /// Whether a process or its host is known.
 fn is_placed(pid: Option<u32>, host: Option<&[u8]>) -> bool
-    ensures { result ≡ is_placed_lem pid (option_copied host.entry) }
+    ensures { result ≡ end_text_spec.is_placed pid (option_copied host.entry) }
 {
     pid.is_some() || host.is_some()
 }
@@ -77,7 +78,7 @@ fn is_placed(pid: Option<u32>, host: Option<&[u8]>) -> bool
 struct WhereText<'a>(End<'a>);
 
 impl fmt::Display for WhereText<'_> {
-    ghost output = { λ text. Some (where_text (is_placed_lem (end_value text.0).process.pid (end_value text.0).process.host)
+    ghost output = { λ text. Some (where_text (end_text_spec.is_placed (end_value text.0).process.pid (end_value text.0).process.host)
         (process_text (end_value text.0).process.pid (end_value text.0).process.host) text.0.address) };
 
     #[tactic(auto, unfolding(crate::specs::EndText::where_text))]
@@ -99,7 +100,7 @@ impl fmt::Display for WhereText<'_> {
 
 /// Whether a title is one.
 fn is_titled(title: Title<'_>) -> bool
-    ensures { result ≡ is_titled_lem (title_value title.entry) }
+    ensures { result ≡ end_text_spec.is_titled (title_value title.entry) }
 {
     match title {
         Title::Node(_) | Title::Program(_) | Title::Name(_) => true,
@@ -109,7 +110,7 @@ fn is_titled(title: Title<'_>) -> bool
 
 /// Whether more than an address is known of an end.
 fn is_named(end: &End<'_>) -> bool
-    ensures { result ≡ is_named_lem (end_value end.now) }
+    ensures { result ≡ end_text_spec.is_named (end_value end.now) }
 {
     is_titled(title_by(end.node, &end.process)) || is_placed(end.process.pid, end.process.host)
 }

@@ -2,7 +2,8 @@ ghost use Rattle.std.specs.Prelude.{◌≡◌, ◌++◌, OnOk, Some};
 ghost use Rattle.std.specs.String.{string_bytes};
 ghost use Rattle.rtps_report.specs.Events.{event_value};
 ghost use Rattle.rtps_report.specs.Talk.{talk_value};
-ghost use Rattle.rtps_lines.specs.EventText.{about_text, amounts_text, asked_text, between_by, called as called_lem, event_text, is_same_second, numbers_text, sent_text, silent_by, told_as};
+ghost use Rattle.rtps_lines.specs.EventText.{about_text, amounts_text, asked_text, between_by, event_text, is_same_second, numbers_text, sent_text, silent_by, told_as};
+ghost use Rattle.rtps_lines.specs.EventText as event_text_spec;
 
 use crate::fields::{EndedText, SecondsText};
 use crate::notes::{number_words, pair_words};
@@ -41,7 +42,7 @@ impl fmt::Display for ParticipantText<'_> {
 
 /// What a participant is called, by what is known of it.
 pub fn called<'a>(talk: &Talk<'a>, prefix: GuidPrefix) -> ParticipantText<'a>
-    ensures { told_as result ≡ called_lem (talk_value talk.now) prefix }
+    ensures { told_as result ≡ event_text_spec.called (talk_value talk.now) prefix }
 {
     let guid = participant_of(prefix);
     let end = talk.end(guid);

@@ -3,7 +3,8 @@ ghost use Rattle.std.specs.Option.{option_map};
 ghost use Rattle.std.specs.String.{string_bytes};
 ghost use Rattle.rtps_evidence.specs.Locations.{sent_value};
 ghost use Rattle.rtps_parts.specs.Parts.{words_value};
-ghost use Rattle.rtps_lines.specs.Lines.{acknowledged_line, again_text, announced_line, answered_text, asked_line, claimed_line, questions_line, sent_line, since_text, times_words as times_words_lem, told_line, verdict_text, wait_text};
+ghost use Rattle.rtps_lines.specs.Lines.{acknowledged_line, again_text, announced_line, answered_text, asked_line, claimed_line, questions_line, sent_line, since_text, told_line, verdict_text, wait_text};
+ghost use Rattle.rtps_lines.specs.Lines as lines;
 
 use crate::fields::{PlaceComma, PlaceText, SecondsText, kind_name, push_field, push_payload};
 use rtps_audit::Verdict;
@@ -146,7 +147,7 @@ impl fmt::Display for SinceText<'_> {
 }
 
 fn times_words() -> Words
-    ensures { words_value result ≡ times_words_lem }
+    ensures { words_value result ≡ lines.times_words }
 {
     Words {
         one: "time",

@@ -5,8 +5,11 @@ ghost use Rattle.std.specs.Prelude.{◌≡◌, ◌++◌, codes, OnOk, Some};
 ghost use Rattle.std.specs.String.{string_bytes};
 ghost use Rattle.rtps_wire.specs.Values.{payload_value};
 ghost use Rattle.rtps_lines.specs.Lines.{advice_text, not_told_advice, ended_text, hosted_text, kind_text, payload_text, place_comma, place_text, second_text, seconds_text, frame_behind, second_behind};
+ghost use Rattle.rtps_lines.specs.Lines as lines;
 ghost use Rattle.rtps_lines.specs.QosNames.{durability_text, reliability_text, side_text};
 
+use crate::advice_text::sentence_of;
+use crate::sentences::advice as said;
 use itoa::{Buffer, Integer};
 use rtps_discovery::{Durability, Reliability, Side};
 use rtps_evidence::{Kind, Location, Seconds, Times};
@@ -36,6 +39,16 @@ impl fmt::Display for SecondsText {
             "{sign}{}.{tenths}{hundredths}{thousandths}",
             milliseconds / 1000
         )
+    }
+}
+
+/// A time in nanoseconds since 1970 began, in seconds since the recording began.
+pub fn sent_second(times: &Times, time: u64) -> Seconds
+    ensures { result ≡ lines.sent_second times.now time }
+{
+    match times.of_first_frame() {
+        Some(start) => Seconds::between(start, time),
+        None => Seconds::between(0, time),
     }
 }
 
@@ -114,11 +127,8 @@ impl fmt::Display for NotToldAdvice {
     #[tactic(auto, unfolding(crate::specs::Lines::not_told_advice))]
     fn fmt<W: fmt::Write>(&self, f: &mut fmt::Formatter<W>) -> fmt::Result {
         match self.0 {
-            Some(address) => write!(
-                f,
-                "nothing comes back from {address}: a firewall, or another interface"
-            ),
-            None => write!(f, "{}", Advice::NotAnnounced.sentence()),
+            Some(address) => write!(f, "{}{address}{}", said::NOTHING_BACK, said::BY_FIREWALL),
+            None => write!(f, "{}", sentence_of(Advice::NotAnnounced)),
         }
     }
 }
@@ -132,7 +142,7 @@ impl fmt::Display for AdviceText<'_> {
 
     fn fmt<W: fmt::Write>(&self, f: &mut fmt::Formatter<W>) -> fmt::Result {
         let ended = EndedText(self.0, self.1.ended_in());
-        write!(f, "{}{ended}", self.1.sentence())
+        write!(f, "{}{ended}", sentence_of(self.1))
     }
 }
 

@@ -5,10 +5,13 @@ ghost use Rattle.std.specs.List.{position_or_len};
 ghost use Rattle.std.specs.String.{string_bytes};
 ghost use Rattle.rtps_parts.specs.Parts.{part_text};
 ghost use Rattle.rtps_report.specs.LateRows.{late_row_value};
-ghost use Rattle.rtps_lines.specs.LateNotes.{delay_text, late_lines as late_lines_lem, late_remedy as late_remedy_lem, late_row_text, late_text, latest_rows as latest_rows_lem, matched_note, more_late, with_late};
+ghost use Rattle.rtps_lines.specs.LateNotes.{delay_text, late_row_text, late_text, matched_note, more_late, with_late};
+ghost use Rattle.rtps_lines.specs.LateNotes as late_notes;
 
+use crate::advice_text::sentence_of;
 use crate::fields::{PlaceText, SecondsText};
 use crate::number_ranges::Bracketed;
+use crate::sentences::noted as said;
 use rtps_evidence::{Seconds, Times};
 use rtps_parts::{Part, Words, push_rendered, render};
 use rtps_report::{Advice, LateMatch, LateRow};
@@ -70,7 +73,7 @@ fn keep<'a>(rows: &mut Vec<LateRow<'a>>, row: LateRow<'a>) -> Result<(), AllocEr
 
 /// The latest of these, the latest first.
 fn latest_rows<'a>(alloc: Global, rows: &[LateRow<'a>]) -> Result<Vec<LateRow<'a>>, AllocError>
-    ensures { IfOk result (λ latest. map late_row_value latest.items ≡ latest_rows_lem (map late_row_value rows.now)) }
+    ensures { IfOk result (λ latest. map late_row_value latest.items ≡ late_notes.latest_rows (map late_row_value rows.now)) }
 {
     let mut latest = Vec::new(alloc);
     for row in rows {
@@ -105,7 +108,7 @@ fn push_more_late(text: &mut String, more: usize) -> Result<(), AllocError>
 
 /// The latest of these pairs, each in a line of its own, and how many more.
 pub fn late_lines(alloc: Global, rows: &[LateRow<'_>], times: &Times) -> Result<String, AllocError>
-    ensures { IfOk result (λ lines. string_bytes lines ≡ late_lines_lem times.now (map late_row_value rows.now)) }
+    ensures { IfOk result (λ lines. string_bytes lines ≡ late_notes.late_lines times.now (map late_row_value rows.now)) }
 {
     let latest = latest_rows(alloc, rows)?;
     let mut lines = String::new(alloc);
@@ -118,13 +121,13 @@ pub fn late_lines(alloc: Global, rows: &[LateRow<'_>], times: &Times) -> Result<
 
 /// What to do, behind an arrow, where numbers stand before so many of these pairs.
 fn late_remedy(before: u64, arrow: &str) -> [Part<'_>; 2]
-    ensures text { flat_map part_text result ≡ late_remedy_lem arrow.now before }
+    ensures text { flat_map part_text result ≡ late_notes.late_remedy arrow.now before }
     ensures both { length result ≡ 2 }
 {
     if before > 0 {
         [
             Part::Text(arrow),
-            Part::Text(Advice::MatchedLate.sentence()),
+            Part::Text(sentence_of(Advice::MatchedLate)),
         ]
     } else {
         [Part::Text(""), Part::Text("")]
@@ -153,8 +156,8 @@ pub(crate) fn push_matched<'t>(
         return Ok(());
     }
     let words = Words {
-        one: "pair matched late",
-        many: "pairs matched late",
+        one: said::MATCHED_LATE_ONE,
+        many: said::MATCHED_LATE_MANY,
     };
     let remedy = late_remedy(told.before, arrow);
     let parts = [

@@ -8,9 +8,11 @@ ghost use Rattle.rtps_report.specs.Asked.{asked_value};
 ghost use Rattle.rtps_report.specs.FullReport.{report_value};
 ghost use Rattle.rtps_report.specs.OneSides.{one_sided_value};
 ghost use Rattle.rtps_report.specs.Talk.{talk_value};
-ghost use Rattle.rtps_lines.specs.NoPairText.{IsRemedyOf, cause_sentence, domain_text, early_text, early_words as early_words_lem, more_sides, named_sides, next_text, no_pair_text, one_sides_text, other_text, side_text, sides_text};
+ghost use Rattle.rtps_lines.specs.NoPairText.{IsRemedyOf, cause_sentence, domain_text, early_text, more_sides, named_sides, next_text, no_pair_text, one_sides_text, other_text, side_text, sides_text};
+ghost use Rattle.rtps_lines.specs.NoPairText as no_pair_text_spec;
 
 use crate::event_text::called;
+use crate::sentences::no_pair as said;
 use rtps_discovery::Side;
 use rtps_parts::{Part, Words, render};
 use rtps_report::{FullReport, InDomain, NoPair, OneSided, Talk, WhyNoPair, no_pair_of};
@@ -20,11 +22,11 @@ use std::alloc::{AllocError, Global};
 const NAMED_SIDES: usize = 10;
 
 fn early_words() -> Words
-    ensures { words_value result ≡ early_words_lem }
+    ensures { words_value result ≡ no_pair_text_spec.early_words }
 {
     Words {
-        one: "participant speaks before it is announced, or is",
-        many: "participants speak before they are announced, or are",
+        one: said::EARLY_ONE,
+        many: said::EARLY_MANY,
     }
 }
 
@@ -32,9 +34,9 @@ fn push_early(text: &mut String, early: u64) -> Result<(), AllocError>
     ensures { OnOk result (string_bytes text.new ≡ string_bytes text.old ++ early_text early) }
 {
     let parts = [
-        Part::Text("record from before the start: "),
+        Part::Text(said::EARLY),
         Part::Amount(early as u128, early_words()),
-        Part::Text(" never announced"),
+        Part::Text(said::NEVER_ANNOUNCED),
     ];
     render(text, &parts)
 }
@@ -71,8 +73,8 @@ fn sides_words(side: Side) -> &'static str
     ensures { result.now ≡ sides_text side }
 {
     match side {
-        Side::Writer => " has a writer and no reader",
-        Side::Reader => " has a reader and no writer",
+        Side::Writer => said::WRITER_ALONE,
+        Side::Reader => said::READER_ALONE,
     }
 }
 
@@ -145,22 +147,16 @@ fn sentence(cause: NoPair) -> &'static str
     ensures { result.now ≡ cause_sentence cause }
 {
     match cause {
-        NoPair::Counted | NoPair::BestEffort => {
-            "all pairs that match are of best effort: they are counted below, and not judged"
-        }
-        NoPair::NoRtps =>
-            "nothing of RTPS is in this recording: see that it has the ports of DDS (udp, 7400 and above)",
-        NoPair::NoParticipant => "no participant is announced",
-        NoPair::SharedMemory => {
-            "both ends are on this host and use shared memory, which no capture has"
-        }
-        NoPair::OneHost => "nothing of another host is in this recording",
-        NoPair::NotTold => "discovery is not complete: see below who was never told of what",
-        NoPair::OneWay => "see below which participants never answer",
-        NoPair::Unmatched => "see below which writers and readers do not match",
-        NoPair::LeftOut =>
-            "record where the datagrams of the readers and the writers pass, and switch off shared memory",
-        NoPair::Unknown => "see in rtps-audit list --any FILE what is announced",
+        NoPair::Counted | NoPair::BestEffort => said::BEST_EFFORT,
+        NoPair::NoRtps => said::NO_RTPS,
+        NoPair::NoParticipant => said::NO_PARTICIPANT,
+        NoPair::SharedMemory => said::SHARED_MEMORY,
+        NoPair::OneHost => said::ONE_HOST,
+        NoPair::NotTold => said::NOT_TOLD,
+        NoPair::OneWay => said::ONE_WAY,
+        NoPair::Unmatched => said::UNMATCHED,
+        NoPair::LeftOut => said::LEFT_OUT,
+        NoPair::Unknown => said::UNKNOWN,
         NoPair::Early(_) | NoPair::TwoDomains(_, _) | NoPair::OneSide => "",
     }
 }

@@ -3,13 +3,16 @@ ghost use Rattle.std.specs.List.{flat_map};
 ghost use Rattle.std.specs.String.{string_bytes};
 ghost use Rattle.rtps_evidence.specs.Explanation.{explanation_value};
 ghost use Rattle.rtps_parts.specs.Parts.{part_text, words_value};
-ghost use Rattle.rtps_report.specs.ByTopic.{topics_of as topics_of_lem};
+ghost use Rattle.rtps_report.specs.ByTopic as by_topic;
 ghost use Rattle.rtps_report.specs.BestEfforts.{best_effort_value};
 ghost use Rattle.rtps_report.specs.Talk.{talk_value};
-ghost use Rattle.rtps_lines.specs.Notes.{back_by as back_by_lem, best_effort_note, best_effort_remedy as best_effort_remedy_lem, detail_of, host_note, joined_names as joined_names_lem, late_by as late_by_lem, late_note, names_if as names_if_lem, note, noted_value, notes as notes_lem, number_words as number_words_lem, order_note, pair_words as pair_words_lem, remedy_of, share_text, shares_if as shares_if_lem, shares_text, tail_names_if as tail_names_if_lem, tail_note, topic_name as topic_name_lem, weaknesses as weaknesses_lem, words_of};
+ghost use Rattle.rtps_lines.specs.Notes.{best_effort_note, detail_of, host_note, late_note, note, noted_value, order_note, remedy_of, share_text, shares_text, tail_note, words_of};
+ghost use Rattle.rtps_lines.specs.Notes as notes_spec;
 
 use crate::fields::SecondsText;
 use crate::late_notes::{MatchedLate, push_matched};
+use crate::sentences::no_pair::ONE_HOST;
+use crate::sentences::noted as said;
 use crate::side_notes::push_beside;
 use crate::tail_names::tail_names;
 use crate::talk_notes::{push_left_out, push_talking};
@@ -41,36 +44,36 @@ impl Weakness {
     {
         match self {
             Weakness::Likely => Words {
-                one: "number is likely received",
-                many: "numbers are likely received",
+                one: said::LIKELY_ONE,
+                many: said::LIKELY_MANY,
             },
             Weakness::Pieces => Words {
-                one: "frame is a fragment of a packet that is not whole",
-                many: "frames are fragments of packets that are not whole",
+                one: said::PIECES_ONE,
+                many: said::PIECES_MANY,
             },
             Weakness::Cut => Words {
-                one: "frame is cut",
-                many: "frames are cut",
+                one: said::CUT_ONE,
+                many: said::CUT_MANY,
             },
             Weakness::Links(_) => Words {
-                one: "frame is of a link that is not read",
-                many: "frames are of links that are not read",
+                one: said::LINKS_ONE,
+                many: said::LINKS_MANY,
             },
             Weakness::Other => Words {
-                one: "frame carries no UDP over IP",
-                many: "frames carry no UDP over IP",
+                one: said::OTHER_ONE,
+                many: said::OTHER_MANY,
             },
             Weakness::Fragments => Words {
-                one: "fragment is of a sample that is not whole",
-                many: "fragments are of samples that are not whole",
+                one: said::FRAGMENTS_ONE,
+                many: said::FRAGMENTS_MANY,
             },
             Weakness::Unsettled => Words {
-                one: "endpoint announced itself in two ways",
-                many: "endpoints announced themselves in two ways",
+                one: said::UNSETTLED_ONE,
+                many: said::UNSETTLED_MANY,
             },
             Weakness::Refused => Words {
-                one: "datagram is malformed",
-                many: "datagrams are malformed",
+                one: said::REFUSED_ONE,
+                many: said::REFUSED_MANY,
             },
         }
     }
@@ -82,10 +85,10 @@ impl Weakness {
     {
         match self {
             Weakness::Links(Some(first)) if number == 1 => {
-                [Part::Text(", of type "), Part::Grouped(u128::from(first))]
+                [Part::Text(said::OF_TYPE), Part::Grouped(u128::from(first))]
             }
             Weakness::Links(Some(first)) => [
-                Part::Text(", the first of type "),
+                Part::Text(said::FIRST_OF_TYPE),
                 Part::Grouped(u128::from(first)),
             ],
             _ => [Part::Text(""), Part::Text("")],
@@ -97,28 +100,20 @@ impl Weakness {
         ensures { result.now ≡ remedy_of self }
     {
         match self {
-            Weakness::Likely =>
-                "they were sent, and acknowledged without being asked for again: with KEEP_LAST a writer drops samples before it asks",
-            Weakness::Pieces =>
-                "record at the writer's side, and see that tcpdump drops nothing: they may have samples or announcements",
-            Weakness::Cut =>
-                "record whole frames, without a snap length (tcpdump -s), and end tcpdump with Ctrl-C",
-            Weakness::Links(_) => {
-                "record on an Ethernet, loopback or raw IP interface, or with tcpdump -i any"
-            }
-            Weakness::Other => "nothing is to be done: ARP, TCP and ICMP are such frames",
-            Weakness::Fragments =>
-                "record at the writer's side, and see that tcpdump drops nothing: pairs with such samples may not be complete",
-            Weakness::Unsettled =>
-                "they are in no pair: see that no process starts again with its old GUID, and that no QoS changes",
-            Weakness::Refused =>
-                "rtps-audit show --any FILE prints refused and the fault: what stands behind it is not read",
+            Weakness::Likely => said::LIKELY_REMEDY,
+            Weakness::Pieces => said::PIECES_REMEDY,
+            Weakness::Cut => said::CUT_REMEDY,
+            Weakness::Links(_) => said::LINKS_REMEDY,
+            Weakness::Other => said::OTHER_REMEDY,
+            Weakness::Fragments => said::FRAGMENTS_REMEDY,
+            Weakness::Unsettled => said::UNSETTLED_REMEDY,
+            Weakness::Refused => said::REFUSED_REMEDY,
         }
     }
 }
 
 pub(crate) fn pair_words() -> Words
-    ensures { words_value result ≡ pair_words_lem }
+    ensures { words_value result ≡ notes_spec.pair_words }
 {
     Words {
         one: "pair",
@@ -128,7 +123,7 @@ pub(crate) fn pair_words() -> Words
 
 /// The words for numbers.
 pub fn number_words() -> Words
-    ensures { words_value result ≡ number_words_lem }
+    ensures { words_value result ≡ notes_spec.number_words }
 {
     Words {
         one: "number",
@@ -137,7 +132,7 @@ pub fn number_words() -> Words
 }
 
 fn weaknesses(facts: &NoteFacts) -> [(u128, Weakness); 8]
-    ensures { result ≡ weaknesses_lem facts.now }
+    ensures { result ≡ notes_spec.weaknesses facts.now }
 {
     let links = facts.links;
     [
@@ -177,7 +172,7 @@ fn push_note(
 
 /// The name of the topic of rows, by ROS 2; empty where there is no row.
 pub fn topic_name<'a>(rows: &[Explanation<'a>]) -> Part<'a>
-    ensures { part_text result ≡ topic_name_lem (map explanation_value rows.now) }
+    ensures { part_text result ≡ notes_spec.topic_name (map explanation_value rows.now) }
 {
     match rows.first() {
         Some(row) => Part::TopicName(row.topic),
@@ -186,7 +181,7 @@ pub fn topic_name<'a>(rows: &[Explanation<'a>]) -> Part<'a>
 }
 
 fn joined_names(alloc: Global, topics: &[&[Explanation<'_>]]) -> Result<String, AllocError>
-    ensures { IfOk result (λ names. string_bytes names ≡ joined_names_lem (map (λ topic. map explanation_value topic.now) topics.now)) }
+    ensures { IfOk result (λ names. string_bytes names ≡ notes_spec.joined_names (map (λ topic. map explanation_value topic.now) topics.now)) }
 {
     let mut names = String::new(alloc);
     let Some((first, others)) = topics.split_first() else {
@@ -201,7 +196,7 @@ fn joined_names(alloc: Global, topics: &[&[Explanation<'_>]]) -> Result<String, 
 
 /// The names of the topics of rows, which stand by topic, behind a colon; empty where there is no row.
 pub fn names_of(alloc: Global, rows: &[Explanation<'_>]) -> Result<String, AllocError>
-    ensures { IfOk result (λ names. string_bytes names ≡ joined_names_lem (topics_of_lem (map explanation_value rows.now))) }
+    ensures { IfOk result (λ names. string_bytes names ≡ notes_spec.joined_names (by_topic.topics_of (map explanation_value rows.now))) }
 {
     let topics = topics_of(alloc, rows)?;
     joined_names(alloc, &topics)
@@ -213,7 +208,7 @@ pub(crate) fn names_if(
     named: bool,
     rows: &[Explanation<'_>],
 ) -> Result<String, AllocError>
-    ensures { IfOk result (λ names. string_bytes names ≡ names_if_lem named (map explanation_value rows.now)) }
+    ensures { IfOk result (λ names. string_bytes names ≡ notes_spec.names_if named (map explanation_value rows.now)) }
 {
     if named {
         names_of(alloc, rows)
@@ -223,16 +218,14 @@ pub(crate) fn names_if(
 }
 
 fn back_by<'t>(seconds: &'t str, arrow: &'t str) -> [Part<'t>; 5]
-    ensures { flat_map part_text result ≡ back_by_lem seconds.now arrow.now }
+    ensures { flat_map part_text result ≡ notes_spec.back_by seconds.now arrow.now }
 {
     [
-        Part::Text("times go back by up to "),
+        Part::Text(said::BACK),
         Part::Text(seconds),
         Part::Text(" s"),
         Part::Text(arrow),
-        Part::Text(
-            "the datagrams are out of order: reordercap FILE OUT sorts them by time, and OUT can be checked",
-        ),
+        Part::Text(said::BACK_REMEDY),
     ]
 }
 
@@ -265,9 +258,9 @@ fn push_hosts(
         return Ok(());
     }
     let parts = [
-        Part::Text("nothing of another host is in this recording"),
+        Part::Text(ONE_HOST),
         Part::Text(arrow),
-        Part::Text("if there are other hosts, multicast may be blocked between them"),
+        Part::Text(said::ONE_HOST_REMEDY),
     ];
     push_rendered(alloc, notes, &parts)
 }
@@ -293,7 +286,7 @@ pub(crate) fn shares_if(
     named: bool,
     sums: &[BestEffort<'_>],
 ) -> Result<String, AllocError>
-    ensures { IfOk result (λ shares. string_bytes shares ≡ shares_if_lem named (map best_effort_value sums.now)) }
+    ensures { IfOk result (λ shares. string_bytes shares ≡ notes_spec.shares_if named (map best_effort_value sums.now)) }
 {
     if named {
         shares_of(alloc, sums)
@@ -315,16 +308,11 @@ fn share_parts<'a>(separator: &'static str, sum: &BestEffort<'a>) -> [Part<'a>; 
 
 /// What is to be done where not all numbers are recorded, behind an arrow.
 fn best_effort_remedy<'t>(total: &BestEffort<'_>, arrow: &'t str) -> [Part<'t>; 2]
-    ensures text { flat_map part_text result ≡ best_effort_remedy_lem arrow.now (best_effort_value total.now) }
+    ensures text { flat_map part_text result ≡ notes_spec.best_effort_remedy arrow.now (best_effort_value total.now) }
     ensures both { length result ≡ 2 }
 {
     if total.recorded < total.numbers {
-        [
-            Part::Text(arrow),
-            Part::Text(
-                "at the reader's side the others were lost; at the writer's side the recording lacks them",
-            ),
-        ]
+        [Part::Text(arrow), Part::Text(said::BEST_EFFORT_REMEDY)]
     } else {
         [Part::Text(""), Part::Text("")]
     }
@@ -345,12 +333,12 @@ fn push_best_effort<'t>(
         return Ok(());
     }
     let pairs = Words {
-        one: "best-effort pair has ",
-        many: "best-effort pairs have ",
+        one: said::BEST_EFFORT_ONE,
+        many: said::BEST_EFFORT_MANY,
     };
     let numbers = Words {
-        one: " number in this recording",
-        many: " numbers in this recording",
+        one: said::RECORDED_ONE,
+        many: said::RECORDED_MANY,
     };
     let remedy = best_effort_remedy(total, arrow);
     let parts = [
@@ -370,7 +358,7 @@ fn push_weaknesses(
     facts: &NoteFacts,
     arrow: &str,
 ) -> Result<(), AllocError>
-    ensures { OnOk result (map string_bytes notes.new.items ≡ map string_bytes notes.old.items ++ flat_map (note arrow.now) (weaknesses_lem facts.now)) }
+    ensures { OnOk result (map string_bytes notes.new.items ≡ map string_bytes notes.old.items ++ flat_map (note arrow.now) (notes_spec.weaknesses facts.now)) }
 {
     for found in &weaknesses(facts) {
         push_note(alloc, notes, *found, arrow)?;
@@ -379,16 +367,14 @@ fn push_weaknesses(
 }
 
 fn late_by<'t>(pairs: u64, names: &'t str, arrow: &'t str) -> [Part<'t>; 5]
-    ensures { flat_map part_text result ≡ late_by_lem pairs names.now arrow.now }
+    ensures { flat_map part_text result ≡ notes_spec.late_by pairs names.now arrow.now }
 {
     [
-        Part::Text("the writer wrote nothing since the reader joined: "),
+        Part::Text(said::LATE),
         Part::Amount(u128::from(pairs), pair_words()),
         Part::Text(names),
         Part::Text(arrow),
-        Part::Text(
-            "if earlier numbers were for it, it was discovered too late: wait for it, or use transient local",
-        ),
+        Part::Text(said::LATE_REMEDY),
     ]
 }
 
@@ -410,7 +396,7 @@ fn push_late<'t>(
 
 /// The topics of rows with tails, where topics are named; empty where they are not.
 fn tail_names_if(alloc: Global, named: bool, rows: &[Explanation<'_>]) -> Result<String, AllocError>
-    ensures { IfOk result (λ names. string_bytes names ≡ tail_names_if_lem named (map explanation_value rows.now)) }
+    ensures { IfOk result (λ names. string_bytes names ≡ notes_spec.tail_names_if named (map explanation_value rows.now)) }
 {
     if named {
         tail_names(alloc, rows)
@@ -437,7 +423,7 @@ fn push_tails(
     };
     let parts = [
         Part::Amount(u128::from(facts.tails), pairs),
-        Part::Text(" clean with a tail, of at most "),
+        Part::Text(said::TAIL),
         Part::Amount(u128::from(facts.longest), number_words()),
         Part::Text(names),
     ];
@@ -489,7 +475,7 @@ pub fn notes_of(
     rows: NotedRows<'_, '_>,
     arrow: &str,
 ) -> Result<Vec<String>, AllocError>
-    ensures { IfOk result (λ notes. map string_bytes notes.items ≡ notes_lem arrow.now facts.now (noted_value rows.entry)) }
+    ensures { IfOk result (λ notes. map string_bytes notes.items ≡ notes_spec.notes arrow.now facts.now (noted_value rows.entry)) }
 {
     let talk = rows.talk;
     let shares = shares_if(alloc, rows.named, &talk.best_effort)?;

@@ -2,7 +2,8 @@ ghost use Rattle.std.specs.Prelude.{◌≡◌, ◌++◌, OnOk, Some, map, take};
 ghost use Rattle.std.specs.String.{string_bytes};
 ghost use Rattle.rtps_evidence.specs.Explanation.{lost_at};
 ghost use Rattle.rtps_evidence.specs.Kinds.{kind_value, lost_value};
-ghost use Rattle.rtps_lines.specs.NumberRanges.{bracketed, kind_line, lost_lines as lost_lines_lem, more_ranges as more_ranges_lem, more_text, place_frame as place_frame_lem, place_second as place_second_lem, ranges_text, range_text, to_text};
+ghost use Rattle.rtps_lines.specs.NumberRanges.{bracketed, kind_line, more_text, ranges_text, range_text, to_text};
+ghost use Rattle.rtps_lines.specs.NumberRanges as number_ranges;
 
 use crate::fields::{SecondsText, push_decimal, push_field};
 use rtps_evidence::{KindNumbers, Location, LostNumbers, NumberRange, Seconds, Times};
@@ -50,7 +51,7 @@ impl fmt::Display for Bracketed {
 
 /// The second of a place, if there is one.
 pub(crate) fn place_second(times: &Times, place: Option<Location>) -> Option<Seconds>
-    ensures { result ≡ place_second_lem times.now place }
+    ensures { result ≡ number_ranges.place_second times.now place }
 {
     match place {
         Some(place) => times.second(place.datagram),
@@ -60,7 +61,7 @@ pub(crate) fn place_second(times: &Times, place: Option<Location>) -> Option<Sec
 
 /// The frame of a place, if there is one.
 fn place_frame(times: &Times, place: Option<Location>) -> Option<u64>
-    ensures { result ≡ place_frame_lem times.now place }
+    ensures { result ≡ number_ranges.place_frame times.now place }
 {
     match place {
         Some(place) => times.frame(place.datagram),
@@ -112,7 +113,7 @@ fn first_ranges(kind: &KindNumbers) -> &[NumberRange]
 
 /// How many more there are.
 fn more_ranges(kind: &KindNumbers) -> u128
-    ensures { result ≡ more_ranges_lem (kind_value kind.now) }
+    ensures { result ≡ number_ranges.more_ranges (kind_value kind.now) }
 {
     let count = kind.ranges.len() as u128 + kind.more as u128;
     count.saturating_sub(TOLD as u128)
@@ -138,7 +139,7 @@ fn push_kind(
 
 /// Appends the lines of numbers that are lost, or look so, a kind in each.
 fn push_lost(text: &mut String, lost: &LostNumbers, times: &Times) -> Result<(), AllocError>
-    ensures { OnOk result (string_bytes text.new ≡ string_bytes text.old ++ lost_lines_lem times.now (lost_value lost.now)) }
+    ensures { OnOk result (string_bytes text.new ≡ string_bytes text.old ++ number_ranges.lost_lines times.now (lost_value lost.now)) }
 {
     push_kind(text, "    missed ", &lost.missed, times)?;
     push_kind(text, "    unsent ", &lost.unsent, times)?;
@@ -160,7 +161,7 @@ pub fn push_lost_lines(
     place: usize,
 ) -> Result<(), AllocError>
     ensures { OnOk result (string_bytes text.new
-        ≡ string_bytes text.old ++ lost_lines_lem lost.entry.times.now (lost_at (map lost_value lost.entry.rows.now) place)) }
+        ≡ string_bytes text.old ++ number_ranges.lost_lines lost.entry.times.now (lost_at (map lost_value lost.entry.rows.now) place)) }
 {
     match lost.rows.get(place) {
         Some(numbers) => push_lost(text, numbers, lost.times),

@@ -3,9 +3,11 @@ ghost use Rattle.std.specs.List.{flat_map};
 ghost use Rattle.std.specs.String.{string_bytes};
 ghost use Rattle.rtps_evidence.specs.Explanation.{explanation_value};
 ghost use Rattle.rtps_report.specs.BestEfforts.{best_effort_value};
-ghost use Rattle.rtps_lines.specs.Notes.{absent_note, absent_rows, alone_in, alone_note, held_note, names_if as names_if_lem, noted_value, side_notes, unread_note, unread_there as unread_there_lem, unread_value};
+ghost use Rattle.rtps_lines.specs.Notes.{absent_note, absent_rows, alone_in, alone_note, held_note, noted_value, side_notes, unread_note, unread_value};
+ghost use Rattle.rtps_lines.specs.Notes as notes_spec;
 
 use crate::notes::{NotedRows, Weakness, names_if, number_words, pair_words, shares_if};
+use crate::sentences::noted as said;
 use crate::way_notes::push_ways;
 use rtps_evidence::Explanation;
 use rtps_parts::{Part, Words, push_rendered, words_for};
@@ -25,12 +27,12 @@ fn push_held(
         return Ok(());
     }
     let pairs = Words {
-        one: "best-effort pair has ",
-        many: "best-effort pairs have ",
+        one: said::BEST_EFFORT_ONE,
+        many: said::BEST_EFFORT_MANY,
     };
     let numbers = Words {
-        one: " number at the reader's host",
-        many: " numbers at the reader's host",
+        one: said::HELD_ONE,
+        many: said::HELD_MANY,
     };
     let parts = [
         Part::Amount(u128::from(total.pairs), pairs),
@@ -87,16 +89,14 @@ fn push_alone<'t>(
         return Ok(());
     }
     let pairs = Words {
-        one: "pair is judged by this recording alone",
-        many: "pairs are judged by this recording alone",
+        one: said::ALONE_ONE,
+        many: said::ALONE_MANY,
     };
     let parts = [
         Part::Amount(u128::from(alone), pairs),
         Part::Text(names),
         Part::Text(arrow),
-        Part::Text(
-            "the recording at the reader's host has nothing of the reader to the writer: it was not made at that host",
-        ),
+        Part::Text(said::ALONE_REMEDY),
     ];
     push_rendered(alloc, notes, &parts)
 }
@@ -116,19 +116,17 @@ fn push_absent<'t>(
         return Ok(());
     }
     let numbers = Words {
-        one: "number is received for certain in",
-        many: "numbers are received for certain in",
+        one: said::ABSENT_ONE,
+        many: said::ABSENT_MANY,
     };
     let parts = [
         Part::Amount(side.absent, numbers),
         Part::Text(" "),
         Part::Amount(u128::from(side.absent_pairs), pair_words()),
-        Part::Text(" and not in the recording at the reader's host"),
+        Part::Text(said::ABSENT),
         Part::Text(names),
         Part::Text(arrow),
-        Part::Text(
-            "it lacks something: see that it ran all the time, and that tcpdump dropped nothing",
-        ),
+        Part::Text(said::ABSENT_REMEDY),
     ];
     push_rendered(alloc, notes, &parts)
 }
@@ -143,23 +141,23 @@ struct Unread {
 
 /// Frames of the other recording that gave no datagram.
 fn unread_there(side: &SideFacts) -> [Unread; 3]
-    ensures { map unread_value result ≡ unread_there_lem side.now }
+    ensures { map unread_value result ≡ notes_spec.unread_there side.now }
 {
     [
         Unread {
             number: side.pieces,
             words: Weakness::Pieces.words(),
-            remedy: "the other parts were lost on the way: what such packets carry did not arrive",
+            remedy: said::PIECES_THERE,
         },
         Unread {
             number: side.cut,
             words: Weakness::Cut.words(),
-            remedy: "record whole frames, without a snap length (tcpdump -s), and end tcpdump with Ctrl-C: what is cut is told as not arrived",
+            remedy: said::CUT_THERE,
         },
         Unread {
             number: side.links.number,
             words: Weakness::Links(side.links.first).words(),
-            remedy: "record on an Ethernet, loopback or raw IP interface, or with tcpdump -i any: what is not read is told as not arrived",
+            remedy: said::LINKS_THERE,
         },
     ]
 }
@@ -176,7 +174,7 @@ fn push_unread(
         return Ok(());
     }
     let parts = [
-        Part::Text("at the reader's host: "),
+        Part::Text(said::THERE),
         Part::Amount(u128::from(unread.number), unread.words),
         Part::Text(arrow),
         Part::Text(unread.remedy),
@@ -190,7 +188,7 @@ fn push_all_unread(
     side: &SideFacts,
     arrow: &str,
 ) -> Result<(), AllocError>
-    ensures { OnOk result (map string_bytes notes.new.items ≡ map string_bytes notes.old.items ++ flat_map (unread_note arrow.now) (unread_there_lem side.now)) }
+    ensures { OnOk result (map string_bytes notes.new.items ≡ map string_bytes notes.old.items ++ flat_map (unread_note arrow.now) (notes_spec.unread_there side.now)) }
 {
     for unread in &unread_there(side) {
         push_unread(alloc, notes, *unread, arrow)?;
@@ -200,7 +198,7 @@ fn push_all_unread(
 
 /// The names of the topics of rows of which the other recording has nothing, where topics are named.
 fn alone_names(alloc: Global, told: NotedRows<'_, '_>) -> Result<String, AllocError>
-    ensures { IfOk result (λ names. string_bytes names ≡ names_if_lem told.entry.named (alone_in (map explanation_value told.entry.rows.now))) }
+    ensures { IfOk result (λ names. string_bytes names ≡ notes_spec.names_if told.entry.named (alone_in (map explanation_value told.entry.rows.now))) }
 {
     let alone = alone_among(alloc, told.rows)?;
     names_if(alloc, told.named, &alone)
@@ -208,7 +206,7 @@ fn alone_names(alloc: Global, told: NotedRows<'_, '_>) -> Result<String, AllocEr
 
 /// The names of the topics of rows of which numbers are received for certain though the other recording has none of them.
 fn absent_names(alloc: Global, told: NotedRows<'_, '_>) -> Result<String, AllocError>
-    ensures { IfOk result (λ names. string_bytes names ≡ names_if_lem told.entry.named (absent_rows (map explanation_value told.entry.rows.now))) }
+    ensures { IfOk result (λ names. string_bytes names ≡ notes_spec.names_if told.entry.named (absent_rows (map explanation_value told.entry.rows.now))) }
 {
     let absent = absent_among(alloc, told.rows)?;
     names_if(alloc, told.named, &absent)

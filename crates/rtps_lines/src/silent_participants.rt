@@ -1,6 +1,6 @@
 ghost use Rattle.std.specs.Prelude.{◌≡◌, IfOk, Some, map};
 ghost use Rattle.std.specs.String.{string_bytes};
-ghost use Rattle.rtps_lines.specs.Lines.{silence_line as silence_line_lem, silence_lines as silence_lines_lem};
+ghost use Rattle.rtps_lines.specs.Lines as lines_spec;
 
 use crate::fields::{SecondText, side_name};
 use rtps_discovery::Side;
@@ -10,7 +10,7 @@ use std::alloc::{AllocError, Global};
 
 /// That the participant of a writer or a reader is silent since this datagram.
 fn silence_line(alloc: Global, times: &Times, side: Side, last: u64) -> Result<String, AllocError>
-    ensures { IfOk result (λ line. string_bytes line ≡ silence_line_lem times.now side last) }
+    ensures { IfOk result (λ line. string_bytes line ≡ lines_spec.silence_line times.now side last) }
 {
     let mut line = String::new(alloc);
     let (name, second) = (side_name(side), SecondText(times, last));
@@ -27,7 +27,7 @@ pub fn silence_lines(
     times: &Times,
     silences: Silences,
 ) -> Result<Vec<String>, AllocError>
-    ensures { IfOk result (λ lines. map string_bytes lines.items ≡ silence_lines_lem times.now silences) }
+    ensures { IfOk result (λ lines. map string_bytes lines.items ≡ lines_spec.silence_lines times.now silences) }
 {
     let mut lines = Vec::new(alloc);
     if let Some(last) = silences.writer {

@@ -5,7 +5,8 @@ ghost use Rattle.std.specs.List.{position_or_len};
 ghost use Rattle.std.specs.String.{string_bytes};
 ghost use Rattle.rtps_evidence.specs.Explanation.{explanation_value};
 ghost use Rattle.rtps_parts.specs.Parts.{part_text};
-ghost use Rattle.rtps_lines.specs.TailNames.{longest_tail as longest_tail_lem, longest_tails as longest_tails_lem, more_text, tail_in as tail_in_lem, tail_names as tail_names_lem, tail_text, tail_value, tails_text, with_tail};
+ghost use Rattle.rtps_lines.specs.TailNames.{more_text, tail_text, tail_value, tails_text, with_tail};
+ghost use Rattle.rtps_lines.specs.TailNames as tail_names_spec;
 
 use rtps_evidence::Explanation;
 use rtps_parts::{Part, render};
@@ -24,7 +25,7 @@ pub(crate) struct TopicTail<'a> {
 
 /// How many numbers the longest tail of these rows has.
 pub fn longest_tail(rows: &[Explanation<'_>]) -> u64
-    ensures { result ≡ longest_tail_lem (map explanation_value rows.now) }
+    ensures { result ≡ tail_names_spec.longest_tail (map explanation_value rows.now) }
 {
     let mut longest = 0u64;
     for row in rows {
@@ -35,7 +36,7 @@ pub fn longest_tail(rows: &[Explanation<'_>]) -> u64
 
 /// The tail of a topic's rows.
 fn tail_in<'a>(rows: &[Explanation<'a>]) -> TopicTail<'a>
-    ensures { tail_value result ≡ tail_in_lem (map explanation_value rows.now) }
+    ensures { tail_value result ≡ tail_names_spec.tail_in (map explanation_value rows.now) }
 {
     let topic = match rows.first() {
         Some(row) => row.topic,
@@ -75,7 +76,7 @@ fn longest_tails<'a>(
     alloc: Global,
     topics: &[&[Explanation<'a>]],
 ) -> Result<Vec<TopicTail<'a>>, AllocError>
-    ensures { IfOk result (λ tails. map tail_value tails.items ≡ longest_tails_lem (map (λ topic. map explanation_value topic.now) topics.now)) }
+    ensures { IfOk result (λ tails. map tail_value tails.items ≡ tail_names_spec.longest_tails (map (λ topic. map explanation_value topic.now) topics.now)) }
 {
     let mut tails = Vec::new(alloc);
     for rows in topics {
@@ -124,7 +125,7 @@ fn push_more(text: &mut String, more: usize) -> Result<(), AllocError>
 
 /// The topics of rows with tails, which stand by topic: the longest, and how many more.
 pub(crate) fn tail_names(alloc: Global, rows: &[Explanation<'_>]) -> Result<String, AllocError>
-    ensures { IfOk result (λ names. string_bytes names ≡ tail_names_lem (map explanation_value rows.now)) }
+    ensures { IfOk result (λ names. string_bytes names ≡ tail_names_spec.tail_names (map explanation_value rows.now)) }
 {
     let topics = topics_of(alloc, rows)?;
     let tails = longest_tails(alloc, &topics)?;

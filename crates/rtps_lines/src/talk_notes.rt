@@ -3,10 +3,12 @@ ghost use Rattle.std.specs.String.{string_bytes};
 ghost use Rattle.rtps_parts.specs.Parts.{part_text};
 ghost use Rattle.rtps_policies.specs.Unmatched.{unmatched_value};
 ghost use Rattle.rtps_report.specs.Talk.{left_out_value, talk_value};
-ghost use Rattle.rtps_lines.specs.Notes.{is_silence, left_names as left_names_lem, left_out_by as left_out_by_lem, left_out_notes, name_behind, names_behind as names_behind_lem, policies_text, silence_words as silence_words_lem, silent_in, silent_note, talking_names as talking_names_lem, talking_note, talking_text};
+ghost use Rattle.rtps_lines.specs.Notes.{is_silence, left_out_notes, name_behind, policies_text, silent_in, silent_note, talking_note, talking_text};
+ghost use Rattle.rtps_lines.specs.Notes as notes_spec;
 
 use crate::notes::NotedRows;
 use crate::policy_values::words_of_policy;
+use crate::sentences::noted as said;
 use rtps_parts::{Part, Words, push_rendered, render};
 use rtps_policies::{Policy, Silence, Unmatched};
 use rtps_report::{LeftOut, Talk};
@@ -15,22 +17,22 @@ use std::alloc::{AllocError, Global};
 /// Why pairs are silent, and what that says of them.
 #[tactic(auto, unfolding(crate::specs::Notes::silence_words))]
 fn silence_words(silence: Silence) -> &'static str
-    ensures { result.now ≡ silence_words_lem silence }
+    ensures { result.now ≡ notes_spec.silence_words silence }
 {
     match silence {
-        Silence::OneParticipant => "of one participant (it needs no network)",
-        Silence::TwoDomains => "of two domains (they never meet)",
-        Silence::OneWay => "talking one way (the reader never answers)",
-        Silence::Silent => "silent here (shared memory, another host or interface)",
+        Silence::OneParticipant => said::ONE_PARTICIPANT,
+        Silence::TwoDomains => said::TWO_DOMAINS,
+        Silence::OneWay => said::ONE_WAY,
+        Silence::Silent => said::SILENT,
     }
 }
 
 fn left_out_by(silence: Silence, pairs: usize, names: &str) -> [Part<'_>; 3]
-    ensures { flat_map part_text result ≡ left_out_by_lem silence pairs names.now }
+    ensures { flat_map part_text result ≡ notes_spec.left_out_by silence pairs names.now }
 {
     let words = Words {
-        one: "pair is left out, ",
-        many: "pairs are left out, ",
+        one: said::LEFT_OUT_ONE,
+        many: said::LEFT_OUT_MANY,
     };
     [
         Part::Amount(pairs as u128, words),
@@ -78,7 +80,7 @@ fn push_name(names: &mut String, before: Option<&[u8]>, topic: &[u8]) -> Result<
 
 /// The names of the topics of pairs, which stand by topic, behind a colon; empty where there is no pair.
 fn names_behind(alloc: Global, pairs: Vec<LeftOut<'_>>) -> Result<String, AllocError>
-    ensures { IfOk result (λ names. string_bytes names ≡ names_behind_lem None (map left_out_value pairs.entry.items)) }
+    ensures { IfOk result (λ names. string_bytes names ≡ notes_spec.names_behind None (map left_out_value pairs.entry.items)) }
 {
     let mut names = String::new(alloc);
     let mut before = None;
@@ -91,7 +93,7 @@ fn names_behind(alloc: Global, pairs: Vec<LeftOut<'_>>) -> Result<String, AllocE
 
 /// The same where topics are named; empty where they are not.
 fn left_names(alloc: Global, named: bool, pairs: Vec<LeftOut<'_>>) -> Result<String, AllocError>
-    ensures { IfOk result (λ names. string_bytes names ≡ left_names_lem named (map left_out_value pairs.entry.items)) }
+    ensures { IfOk result (λ names. string_bytes names ≡ notes_spec.left_names named (map left_out_value pairs.entry.items)) }
 {
     if named {
         names_behind(alloc, pairs)
@@ -178,7 +180,7 @@ fn push_talking_pair<'a>(
 
 /// The names of those that talk though they do not match, behind a colon; empty where there are none.
 pub fn talking_names(alloc: Global, talking: Vec<&Unmatched<'_>>) -> Result<String, AllocError>
-    ensures { IfOk result (λ names. string_bytes names ≡ talking_names_lem (map (λ one. unmatched_value one.now) talking.entry.items)) }
+    ensures { IfOk result (λ names. string_bytes names ≡ notes_spec.talking_names (map (λ one. unmatched_value one.now) talking.entry.items)) }
 {
     let mut names = String::new(alloc);
     let mut separator = ": ";
@@ -203,8 +205,8 @@ pub(crate) fn push_talking(
         return Ok(());
     }
     let words = Words {
-        one: "pair talks though it does not match by the standard",
-        many: "pairs talk though they do not match by the standard",
+        one: said::TALKING_ONE,
+        many: said::TALKING_MANY,
     };
     push_rendered(
         alloc,

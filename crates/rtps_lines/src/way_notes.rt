@@ -1,28 +1,30 @@
 ghost use Rattle.std.specs.Prelude.{◌≡◌, ◌++◌, OnOk, map};
 ghost use Rattle.std.specs.String.{string_bytes};
 ghost use Rattle.rtps_parts.specs.Parts.{part_text, words_value};
-ghost use Rattle.rtps_lines.specs.WayNotes.{mixed_note, mixed_words as mixed_words_lem, swapped_cause, swapped_note, swapped_parts as swapped_parts_lem, twice_cause, untold_note, way_notes, wrong_words as wrong_words_lem};
+ghost use Rattle.rtps_lines.specs.WayNotes.{mixed_note, swapped_cause, swapped_note, twice_cause, untold_note, way_notes};
+ghost use Rattle.rtps_lines.specs.WayNotes as way_notes_spec;
 
+use crate::sentences::ways as said;
 use rtps_parts::{Part, Words, push_rendered};
 use rtps_report::Order;
 use std::alloc::{AllocError, Global};
 
 /// The words for pairs that are the wrong way round.
 fn wrong_words() -> Words
-    ensures { words_value result ≡ wrong_words_lem }
+    ensures { words_value result ≡ way_notes_spec.wrong_words }
 {
     Words {
-        one: "pair is the wrong way round",
-        many: "pairs are the wrong way round",
+        one: said::WRONG_ONE,
+        many: said::WRONG_MANY,
     }
 }
 
 /// That the two recordings look swapped, by so many pairs.
 fn swapped_parts(pairs: u128) -> [Part<'static>; 2]
-    ensures { map part_text result ≡ swapped_parts_lem pairs }
+    ensures { map part_text result ≡ way_notes_spec.swapped_parts pairs }
 {
     [
-        Part::Text("the two recordings look swapped: "),
+        Part::Text(said::SWAPPED),
         Part::Amount(pairs, wrong_words()),
     ]
 }
@@ -51,11 +53,7 @@ pub(crate) fn push_twice_cause(
     ensures { OnOk result (map string_bytes causes.new.items ≡ map string_bytes causes.old.items ++ twice_cause twice) }
 {
     if twice {
-        push_rendered(
-            alloc,
-            causes,
-            &[Part::Text("one recording was given twice")],
-        )
+        push_rendered(alloc, causes, &[Part::Text(said::TWICE)])
     } else {
         Ok(())
     }
@@ -78,18 +76,18 @@ fn push_swapped(
         swapped[0],
         swapped[1],
         Part::Text(arrow),
-        Part::Text("give the other one first"),
+        Part::Text(said::SWAPPED_REMEDY),
     ];
     push_rendered(alloc, notes, &parts)
 }
 
 /// The words for pairs that are the wrong way round, where others are the right way round.
 fn mixed_words() -> Words
-    ensures { words_value result ≡ mixed_words_lem }
+    ensures { words_value result ≡ way_notes_spec.mixed_words }
 {
     Words {
-        one: "pair is judged by the first recording alone: it is the wrong way round",
-        many: "pairs are judged by the first recording alone: they are the wrong way round",
+        one: said::MIXED_ONE,
+        many: said::MIXED_MANY,
     }
 }
 
@@ -108,7 +106,7 @@ fn push_mixed(
     let parts = [
         Part::Amount(pairs, mixed_words()),
         Part::Text(arrow),
-        Part::Text("the other order judges them"),
+        Part::Text(said::MIXED_REMEDY),
     ];
     push_rendered(alloc, notes, &parts)
 }
@@ -120,9 +118,7 @@ fn push_untold(alloc: Global, notes: &mut Vec<String>, untold: bool) -> Result<(
     if !untold {
         return Ok(());
     }
-    let parts = [Part::Text(
-        "nothing tells the two recordings apart: nothing was lost, or both were made at one place",
-    )];
+    let parts = [Part::Text(said::UNTOLD)];
     push_rendered(alloc, notes, &parts)
 }
 

@@ -13,11 +13,11 @@ use Rattle.rtps_audit.specs.Placed.{PlacedValue}
 use Rattle.rtps_report.specs.Asked.{AskedValue}
 use Rattle.rtps_evidence.specs.Times.{TimesValue, frame_of, time_of}
 use Rattle.rtps_evidence.specs.declared.times.Seconds.{Seconds}
-use Rattle.rtps_lines.specs.JsonText.{items_of, members_of, second_json}
+use Rattle.rtps_json.specs.JsonText.{items_of, members_of, second_json}
 use Rattle.rtps_lines.specs.Lines.{second_in}
 use Rattle.rtps_report.specs.FullReport.{ReportValue, rows_of}
 use Rattle.rtps_report.specs.Recording.{RecordingValue}
-use Rattle.rtps_lines.proofs.Offered.{check_depth, joined, timed_within}
+use Rattle.rtps_json.proofs.Offered.{check_depth, joined, timed_within}
 use Rattle.rtps_page.specs.ChartEntries.{entries_of, fragments_in, members_of as numbers_of, piece_json, sample_json}
 use Rattle.rtps_page.specs.ChartTimes.{datagrams_shown, frame_items, is_among, time_json, time_of_json}
 use Rattle.rtps_page.specs.Joining.{joined_in}

@@ -5,9 +5,10 @@ pub use Rattle.json.specs.Tree.{json_tokens}
 pub use Rattle.rtps_audit.specs.Placed.{placed_in}
 pub use Rattle.rtps_report.specs.Asked.{asked_value}
 pub use Rattle.rtps_report.specs.FullReport.{report_value}
-pub use Rattle.rtps_lines.specs.CheckMembers.{check_members}
-pub use Rattle.rtps_lines.specs.JsonText.{array_of, count_json, number_json, object_of, timed_members, tokens_of, tokens_of_member}
-pub use Rattle.rtps_lines.proofs.Offered.{eight_parts, five_parts, four_parts, mapped_tokens, object_tokens, seven_parts, six_parts, three_parts, two_parts}
+pub use Rattle.rtps_json.specs.CheckMembers.{check_members}
+pub use Rattle.rtps_json.specs.JsonText.{array_of, count_json, number_json, object_of, timed_members, tokens_of, tokens_of_member}
+pub use Rattle.rtps_json.proofs.Offered.{mapped_tokens, object_tokens}
+pub use Rattle.rtps_lines.proofs.Offered.{eight_parts, five_parts, four_parts, seven_parts, six_parts, three_parts, two_parts}
 pub use Rattle.rtps_parts.specs.Names.{guid_text, octet_text}
 pub use Rattle.rtps_page.specs.ChartEntries.{answer_json, answers_in, entries_at, entries_by, entry_json, gone_json, members_of, named_json, numbers_answered, one_gone_json, set_items}
 pub use Rattle.rtps_page.specs.ChartRoom.{writers_behind}

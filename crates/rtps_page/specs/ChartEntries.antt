@@ -23,7 +23,7 @@ use Rattle.rtps_discovery.specs.declared.matching.Pair.{Pair}
 use Rattle.rtps_audit.specs.Placed.{PlacedValue}
 use Rattle.rtps_evidence.specs.Locations.{location_of}
 use Rattle.rtps_evidence.specs.declared.location.Location.{Location}
-use Rattle.rtps_lines.specs.JsonText.{array_of, count_json, number_json}
+use Rattle.rtps_json.specs.JsonText.{array_of, count_json, number_json}
 
 -- the participant that an act is sent to; nothing where it is sent to everyone
 abbrev pub prefix_text : Option GuidPrefix → List ℕ

@@ -9,7 +9,7 @@ use Rattle.rtps_discovery.specs.declared.matching.Pair.{Pair}
 use Rattle.rtps_audit.specs.Placed.{PlacedValue, answers_among}
 use Rattle.rtps_evidence.specs.Times.{TimesValue, frame_of}
 use Rattle.rtps_evidence.specs.declared.times.Seconds.{Seconds}
-use Rattle.rtps_lines.specs.JsonText.{array_of, count_json, second_json}
+use Rattle.rtps_json.specs.JsonText.{array_of, count_json, second_json}
 use Rattle.rtps_lines.specs.Lines.{second_in}
 use Rattle.rtps_page.specs.ChartEntries.{entries_of}
 use Rattle.rtps_page.specs.ChartRoom.{writers_behind}

@@ -4,7 +4,7 @@
 use Rattle.std.specs.Prelude.{if◌then◌else◌, List, [], ◌∷◌, codes, map, Option, None, Some}
 use Rattle.json.specs.Json.{Json, null}
 use Rattle.rtps_evidence.specs.Times.{TimesValue}
-use Rattle.rtps_lines.specs.JsonText.{Member, array_of, count_json, second_json}
+use Rattle.rtps_json.specs.JsonText.{Member, array_of, count_json, second_json}
 use Rattle.rtps_lines.specs.Lines.{second_in}
 use Rattle.rtps_report.specs.Vocabulary.{ExplanationValue, InSpan, Location}
 

@@ -6,7 +6,7 @@
 use Rattle.std.specs.Prelude.{ℕ, List, [], ◌∷◌, codes, Option, None, Some}
 use Rattle.json.specs.Json.{Json, null, string}
 use Rattle.rtps_evidence.specs.Times.{TimesValue, milliseconds_of, time_of}
-use Rattle.rtps_lines.specs.JsonText.{Member, count_json, object_of}
+use Rattle.rtps_json.specs.JsonText.{Member, count_json, object_of}
 use Rattle.rtps_page.specs.declared.origin.Origin.{Origin}
 
 -- the name of the recording, `-` for standard input, and the version of the program

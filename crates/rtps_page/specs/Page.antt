@@ -19,8 +19,8 @@ use Rattle.rtps_evidence.specs.Times.{TimesValue}
 use Rattle.rtps_report.specs.Asked.{AskedValue, asked_value}
 use Rattle.rtps_report.specs.FullReport.{IsFullReport, ReportValue, report_value, rows_of}
 use Rattle.rtps_report.specs.Recording.{RecordingValue}
-use Rattle.rtps_lines.specs.CheckMembers.{check_members}
-use Rattle.rtps_lines.specs.JsonText.{Member, array_of, count_json, name_json, object_of, timed_members}
+use Rattle.rtps_json.specs.CheckMembers.{check_members}
+use Rattle.rtps_json.specs.JsonText.{Member, array_of, count_json, name_json, object_of, timed_members}
 use Rattle.rtps_lines.specs.QosNames.{durability_text, reliability_text, side_text}
 use Rattle.rtps_parts.specs.Names.{guid_text}
 use Rattle.rtps_page.specs.ChartEntries.{answer_json, answers_in, entries_by}

@@ -5,7 +5,7 @@ ghost use Rattle.rtps_receiver.specs.Values.{spoken_body_value};
 ghost use Rattle.rtps_audit.specs.Index.{IsIndexBy};
 ghost use Rattle.rtps_audit.specs.Intake.{Intake};
 ghost use Rattle.rtps_audit.specs.Placed.{placed_in, placed_value};
-ghost use Rattle.rtps_lines.specs.JsonText.{array_of, count_json};
+ghost use Rattle.rtps_json.specs.JsonText.{array_of, count_json};
 ghost use Rattle.rtps_page.specs.ChartEntries.{answer_json, members_of, set_items};
 ghost use Rattle.rtps_page.specs.Page.{answered_json, answers_json};
 
@@ -15,7 +15,7 @@ use json::Writer;
 use rtps_audit::{Index, Placed};
 use rtps_discovery::Pair;
 use rtps_ids::NumberSet;
-use rtps_lines::push_guid;
+use rtps_json::push_guid;
 use rtps_receiver::{ActBody, SpokenBody};
 use std::alloc::{AllocError, Global};
 

@@ -4,7 +4,8 @@ ghost use Rattle.rtps_audit.specs.Index.{IsIndexBy};
 ghost use Rattle.rtps_audit.specs.Intake.{Intake};
 ghost use Rattle.rtps_audit.specs.Placed.{placed_in};
 ghost use Rattle.rtps_page.specs.ChartEntries.{entries_by, numbers_answered};
-ghost use Rattle.rtps_page.specs.ChartRoom.{charted_pairs, given_from, is_last as is_last_lem, is_turn as is_turn_lem, need_behind as need_behind_lem, need_of, room_behind as room_behind_lem, used_behind as used_behind_lem};
+ghost use Rattle.rtps_page.specs.ChartRoom.{charted_pairs, given_from, need_of};
+ghost use Rattle.rtps_page.specs.ChartRoom as chart_room;
 
 use crate::entry_counts::{entries_of_answers, entries_of_writer};
 use crate::pair_answers::answer_acts;
@@ -26,7 +27,7 @@ pub(crate) enum Turn {
 }
 
 fn is_turn(turn: Turn, clean: bool) -> bool
-    ensures { result ≡ is_turn_lem turn clean }
+    ensures { result ≡ chart_room.is_turn turn clean }
 {
     match turn {
         Turn::Unclean => !clean,
@@ -113,7 +114,7 @@ fn needs_of(
 }
 
 pub(crate) fn is_last(last: Option<Guid>, writer: Guid) -> bool
-    ensures { result ≡ is_last_lem last writer }
+    ensures { result ≡ chart_room.is_last last writer }
 {
     match last {
         Some(last) => last == writer,
@@ -123,7 +124,7 @@ pub(crate) fn is_last(last: Option<Guid>, writer: Guid) -> bool
 
 /// How much room is used behind a row; None where there is not so much.
 fn used_behind(room: Room, need: &Need) -> Option<u128>
-    ensures { result ≡ used_behind_lem room need.now }
+    ensures { result ≡ chart_room.used_behind room need.now }
 {
     let acts = if is_last(room.last, need.pair.writer) {
         0
@@ -139,8 +140,8 @@ fn used_behind(room: Room, need: &Need) -> Option<u128>
 
 /// Gives a row room, if it is its turn and there is room for it.
 fn give_one(turn: Turn, room: Room, need: &Need) -> (Room, Need)
-    ensures room { result.0 ≡ room_behind_lem turn room need.now }
-    ensures need { result.1 ≡ need_behind_lem turn room need.now }
+    ensures room { result.0 ≡ chart_room.room_behind turn room need.now }
+    ensures need { result.1 ≡ chart_room.need_behind turn room need.now }
 {
     if !is_turn(turn, need.clean) {
         return (room, *need);

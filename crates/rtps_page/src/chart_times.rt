@@ -4,9 +4,10 @@ ghost use Rattle.json.specs.Tree.{json_tokens};
 ghost use Rattle.rtps_audit.specs.Index.{IsIndexBy};
 ghost use Rattle.rtps_audit.specs.Intake.{Intake};
 ghost use Rattle.rtps_audit.specs.Placed.{placed_in};
-ghost use Rattle.rtps_evidence.specs.Times.{frame_of as frame_of_lem};
-ghost use Rattle.rtps_lines.specs.JsonText.{clock_times, timed_members, tokens_of};
-ghost use Rattle.rtps_page.specs.ChartTimes.{answered_in, datagrams_shown as datagrams_shown_lem, frame_items, is_among, said_in, time_of_json};
+ghost use Rattle.rtps_evidence.specs.Times as times_spec;
+ghost use Rattle.rtps_json.specs.JsonText.{clock_times, timed_members, tokens_of};
+ghost use Rattle.rtps_page.specs.ChartTimes.{answered_in, frame_items, is_among, said_in, time_of_json};
+ghost use Rattle.rtps_page.specs.ChartTimes as chart_times;
 ghost use Rattle.rtps_page.specs.Page.{times_member};
 
 use crate::chart_writers::writers_of;
@@ -15,7 +16,7 @@ use json::Writer;
 use rtps_audit::Index;
 use rtps_discovery::Pair;
 use rtps_ids::Guid;
-use rtps_lines::{Clock, push_seconds};
+use rtps_json::{Clock, push_seconds};
 use std::alloc::{AllocError, Global};
 
 /// Adds the datagrams in which a writer says something that has an entry.
@@ -80,7 +81,7 @@ fn sort_once(numbers: &mut Vec<u64>)
 fn datagrams_shown(alloc: Global, index: &Index<'_>, pairs: &[Pair]) -> Result<Vec<u64>, AllocError>
     ensures rising { IfOk result (λ numbers. IsStrictlyIncreasing numbers.items) }
     ensures same { (intake : Intake) → IsIndexBy intake index.now → IfOk result (λ numbers. (number : ℕ)
-        → is_among numbers.items number ≡ is_among (datagrams_shown_lem (placed_in intake.acts) pairs.now) number) }
+        → is_among numbers.items number ≡ is_among (chart_times.datagrams_shown (placed_in intake.acts) pairs.now) number) }
 {
     let writers = writers_of(alloc, pairs)?;
     let mut numbers = all_said(alloc, index, &writers)?;
@@ -91,7 +92,7 @@ fn datagrams_shown(alloc: Global, index: &Index<'_>, pairs: &[Pair]) -> Result<V
 
 /// The frame of a datagram, if there is one and frames are told.
 fn frame_of(clock: Clock<'_>, datagram: u64) -> Option<u64>
-    ensures { result ≡ frame_of_lem (clock_times clock.entry).frames datagram }
+    ensures { result ≡ times_spec.frame_of (clock_times clock.entry).frames datagram }
 {
     if clock.framed {
         clock.times.frame(datagram)

@@ -4,7 +4,7 @@ ghost use Rattle.json.specs.Tree.{json_tokens};
 ghost use Rattle.rtps_audit.specs.Index.{IsIndexBy};
 ghost use Rattle.rtps_audit.specs.Intake.{Intake};
 ghost use Rattle.rtps_audit.specs.Placed.{placed_in};
-ghost use Rattle.rtps_lines.specs.JsonText.{array_of};
+ghost use Rattle.rtps_json.specs.JsonText.{array_of};
 ghost use Rattle.rtps_page.specs.ChartRoom.{writers_behind};
 ghost use Rattle.rtps_page.specs.Page.{writer_json};
 
@@ -14,7 +14,7 @@ use json::Writer;
 use rtps_audit::Index;
 use rtps_discovery::Pair;
 use rtps_ids::Guid;
-use rtps_lines::push_guid;
+use rtps_json::push_guid;
 use std::alloc::{AllocError, Global};
 
 /// The writers of these pairs that follow one another, each once.

@@ -4,8 +4,9 @@ ghost use Rattle.rtps_receiver.specs.Values.{sent_part_value, spoken_body_value}
 ghost use Rattle.rtps_wire.specs.Values.{payload_value};
 ghost use Rattle.rtps_audit.specs.Placed.{placed_value};
 ghost use Rattle.rtps_evidence.specs.declared.location.Location.{Location as LocationValue};
-ghost use Rattle.rtps_page.specs.ChartEntries.{entries_at, entries_by, fragments_in as fragments_in_lem, gone_json, members_of, numbers_in as numbers_in_lem, piece_json, sample_json};
-ghost use Rattle.rtps_page.specs.ChartTimes.{has_entry as has_entry_lem};
+ghost use Rattle.rtps_page.specs.ChartEntries.{entries_at, entries_by, gone_json, members_of, piece_json, sample_json};
+ghost use Rattle.rtps_page.specs.ChartEntries as chart_entries;
+ghost use Rattle.rtps_page.specs.ChartTimes as chart_times;
 
 use rtps_audit::Placed;
 use rtps_ids::{Guid, NumberSet};
@@ -84,7 +85,7 @@ fn entries_in(body: &SpokenBody<'_>) -> u64
 
 /// Whether an act has an entry.
 pub(crate) fn has_entry(placed: &Placed<'_>) -> bool
-    ensures { result ≡ has_entry_lem (placed_value placed.now) }
+    ensures { result ≡ chart_times.has_entry (placed_value placed.now) }
 {
     entries_in(&placed.act.body) > 0
 }
@@ -104,7 +105,7 @@ pub(crate) fn entries_of_writer(acts: &[Placed<'_>], writer: Guid) -> u128
 
 /// How many numbers an answer has: its base, and those that it asks for.
 fn numbers_in(body: &SpokenBody<'_>) -> u64
-    ensures value { result ≡ length (numbers_in_lem (spoken_body_value body.now)) }
+    ensures value { result ≡ length (chart_entries.numbers_in (spoken_body_value body.now)) }
     ensures few { result ≤ 257 }
 {
     match body {
@@ -119,7 +120,7 @@ fn numbers_in(body: &SpokenBody<'_>) -> u64
 
 /// How many entries these answers have.
 pub(crate) fn entries_of_answers(answers: &[Placed<'_>]) -> u128
-    ensures { result ≡ length (flat_map (λ placed. numbers_in_lem placed.act.body) (map placed_value answers.now)) }
+    ensures { result ≡ length (flat_map (λ placed. chart_entries.numbers_in placed.act.body) (map placed_value answers.now)) }
 {
     let mut count = 0u128;
     for placed in answers {

@@ -1,13 +1,13 @@
 ghost use Rattle.std.specs.Prelude.{◌≡◌, ◌++◌, map, OnOk};
 ghost use Rattle.json.specs.Tree.{json_tokens};
 ghost use Rattle.rtps_evidence.specs.Explanation.{explanation_value};
-ghost use Rattle.rtps_lines.specs.JsonText.{clock_times, second_json, tokens_of_member};
+ghost use Rattle.rtps_json.specs.JsonText.{clock_times, second_json, tokens_of_member};
 ghost use Rattle.rtps_lines.specs.Lines.{second_in};
 ghost use Rattle.rtps_page.specs.Joining.{joined_in, joined_json, joined_member};
 
 use json::Writer;
 use rtps_evidence::{Explanation, Location};
-use rtps_lines::{Clock, push_seconds};
+use rtps_json::{Clock, push_seconds};
 use std::alloc::AllocError;
 
 /// Where the reader of a row joins; None where it does not, or was there before the recording.

@@ -1,12 +1,12 @@
 ghost use Rattle.std.specs.Prelude.{◌≡◌, ◌++◌, ◌∷◌, OnOk};
 ghost use Rattle.json.specs.Token.{key};
 ghost use Rattle.json.specs.Tree.{json_tokens};
-ghost use Rattle.rtps_lines.specs.JsonText.{tokens_of, tokens_of_member};
+ghost use Rattle.rtps_json.specs.JsonText.{tokens_of, tokens_of_member};
 ghost use Rattle.rtps_page.specs.Origin.{moment_json, origin_value, recording_member, recording_members};
 
 use json::Writer;
 use rtps_evidence::Times;
-use rtps_lines::push_text;
+use rtps_json::push_text;
 use std::alloc::AllocError;
 
 /// How many nanoseconds a millisecond has.

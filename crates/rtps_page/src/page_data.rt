@@ -5,7 +5,7 @@ ghost use Rattle.rtps_audit.specs.Index.{IsIndexBy};
 ghost use Rattle.rtps_audit.specs.Intake.{Intake};
 ghost use Rattle.rtps_audit.specs.Placed.{placed_in};
 ghost use Rattle.rtps_report.specs.Asked.{asked_value};
-ghost use Rattle.rtps_lines.specs.JsonText.{clock_times, tokens_of, tokens_of_member};
+ghost use Rattle.rtps_json.specs.JsonText.{clock_times, tokens_of, tokens_of_member};
 ghost use Rattle.rtps_page.specs.Page.{IsPrinted, chart_members, expect_json, intake_in, json_in, members_in, option_members, options_member};
 
 use crate::chart_answers::push_all_answers;
@@ -19,7 +19,7 @@ use json::Writer;
 use rtps_audit::Index;
 use rtps_discovery::{Directory, Pair};
 use rtps_ids::Memory;
-use rtps_lines::{Clock, push_check_members, push_count, push_texts};
+use rtps_json::{Clock, push_check_members, push_count, push_texts};
 use rtps_report::{Asked, FullReport};
 use std::alloc::{AllocError, Global};
 

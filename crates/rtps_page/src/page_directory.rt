@@ -1,13 +1,14 @@
 ghost use Rattle.std.specs.Prelude.{◌≡◌, ◌++◌, OnOk};
 ghost use Rattle.json.specs.Tree.{json_tokens};
 ghost use Rattle.rtps_discovery.specs.Endpoint.{endpoint_value};
-ghost use Rattle.rtps_lines.specs.JsonText.{tokens_of_member};
+ghost use Rattle.rtps_json.specs.JsonText.{tokens_of_member};
 ghost use Rattle.rtps_page.specs.Page.{directory_member, endpoint_json};
 
 use json::Writer;
 use rtps_discovery::{Directory, Endpoint};
 use rtps_ids::Memory;
-use rtps_lines::{durability_name, push_guid, push_name, push_text, reliability_name, side_name};
+use rtps_json::{push_guid, push_name, push_text};
+use rtps_lines::{durability_name, reliability_name, side_name};
 use std::alloc::AllocError;
 
 fn push_endpoint(

@@ -19,17 +19,7 @@ fn place_for(acts: &[Placed<'_>], from: usize, answer: &Answer) -> usize
     requires { from ≤ length acts.now }
     ensures within { (from ≤ result) × (result ≤ length acts.now) }
 {
-    let mut low = from;
-    let mut high = acts.len();
-    'halves: while low < high {
-        let middle = low + (high - low) / 2;
-        if stands_before(&acts[middle], answer) {
-            low = middle + 1;
-        } else {
-            high = middle;
-        }
-    }
-    low
+    from + acts[from..].partition_point(|placed| stands_before(placed, answer))
 }
 
 /// The acts of these answers, each found in few steps; None where one of them is not where it is to be looked for.

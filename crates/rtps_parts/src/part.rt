@@ -1,7 +1,8 @@
 ghost use Rattle.std.specs.Prelude.{◌≡◌, ◌++◌, ◌∷◌, [], OnOk, IsAscii, map, replicate};
 ghost use Rattle.std.specs.List.{flat_map};
 ghost use Rattle.std.specs.String.{string_bytes};
-ghost use Rattle.rtps_parts.specs.Parts.{comma_before, grouped, joined, part_text, with_commas, words_for as words_for_lem, words_value};
+ghost use Rattle.rtps_parts.specs.Parts.{comma_before, grouped, joined, part_text, with_commas, words_value};
+ghost use Rattle.rtps_parts.specs.Parts as parts_spec;
 
 use crate::name::NameOctets;
 use crate::ros::{TopicText, TypeText};
@@ -100,7 +101,7 @@ pub(crate) fn push_part(text: &mut String, part: Part<'_>) -> Result<(), AllocEr
 
 /// The words for so many.
 pub fn words_for(number: u128, words: Words) -> &'static str
-    ensures { result.now ≡ words_for_lem number (words_value words) }
+    ensures { result.now ≡ parts_spec.words_for number (words_value words) }
 {
     if number == 1 { words.one } else { words.many }
 }

@@ -2,7 +2,8 @@ ghost use Rattle.std.specs.Prelude.{◌≡◌, ◌+◌, ◌<◌, ◌≤◌, ◌+
 ghost use Rattle.std.specs.Fmt.{WritesOnOk};
 ghost use Rattle.std.specs.List.{flat_map};
 ghost use Rattle.rtps_parts.specs.Names.{octet_text};
-ghost use Rattle.rtps_parts.specs.RosNames.{is_service as is_service_lem, mark, mark_place as mark_place_lem, ros_topic as ros_topic_lem, ros_type as ros_type_lem, slashed, topic_text, type_text};
+ghost use Rattle.rtps_parts.specs.RosNames.{mark, slashed, topic_text, type_text};
+ghost use Rattle.rtps_parts.specs.RosNames as ros_names;
 
 use crate::name::{NameOctets, OctetText, write_name};
 use std::fmt;
@@ -20,7 +21,7 @@ const MARK: &[u8] = b"::dds_::";
 /// Whether a topic begins with these three octets, and has this end behind them.
 fn is_service(topic: &[u8], begins: &[u8], ends: &[u8]) -> bool
     requires { length begins.now ≡ 3 }
-    ensures value { result ≡ is_service_lem begins.now ends.now topic.now }
+    ensures value { result ≡ ros_names.is_service begins.now ends.now topic.now }
     ensures long { result ≡ true → 3 + length ends.now ≤ length topic.now }
 {
     topic.starts_with(begins) && topic[3..].ends_with(ends)
@@ -28,7 +29,7 @@ fn is_service(topic: &[u8], begins: &[u8], ends: &[u8]) -> bool
 
 /// The name that ROS 2 gives a topic.
 pub fn ros_topic(topic: &[u8]) -> RosTopic<'_>
-    ensures { result.name.now ++ result.word.now ≡ ros_topic_lem topic.now }
+    ensures { result.name.now ++ result.word.now ≡ ros_names.ros_topic topic.now }
 {
     if topic.starts_with(b"rt/") {
         RosTopic {
@@ -69,8 +70,8 @@ impl fmt::Display for TopicText<'_> {
 
 /// How many octets of a type stand before the first mark.
 fn mark_place(kind: &[u8]) -> Option<usize>
-    ensures place { result ≡ mark_place_lem kind.now }
-    ensures within { MatchOption result (mark_place_lem kind.now ≡ None) (λ place. place + length mark ≤ length kind.now) }
+    ensures place { result ≡ ros_names.mark_place kind.now }
+    ensures within { MatchOption result (ros_names.mark_place kind.now ≡ None) (λ place. place + length mark ≤ length kind.now) }
 {
     for place in 0..kind.len() {
         if kind[place..].starts_with(MARK) {
@@ -113,7 +114,7 @@ struct RosType<'a> {
 
 /// Those of a type with a mark, where what is behind it ends with an underscore. None of any other.
 fn ros_type(kind: &[u8]) -> Option<RosType<'_>>
-    ensures { MatchOption result (ros_type_lem kind.now ≡ kind.now) (λ parts. ros_type_lem kind.now ≡ slashed parts.scope.now ++ (codes "/" ++ parts.name.now)) }
+    ensures { MatchOption result (ros_names.ros_type kind.now ≡ kind.now) (λ parts. ros_names.ros_type kind.now ≡ slashed parts.scope.now ++ (codes "/" ++ parts.name.now)) }
 {
     let place = mark_place(kind)?;
     let behind = &kind[place + MARK.len()..];

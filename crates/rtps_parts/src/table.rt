@@ -1,7 +1,8 @@
 ghost use Rattle.std.specs.Prelude.{◌≡◌, ◌++◌, IfOk, OnOk, length, map};
 ghost use Rattle.std.specs.String.{string_bytes};
 ghost use Rattle.rtps_parts.specs.Parts.{part_text};
-ghost use Rattle.rtps_parts.specs.Table.{cell, column_of as column_of_lem, entry, line, table, width};
+ghost use Rattle.rtps_parts.specs.Table.{cell, entry, line, table, width};
+ghost use Rattle.rtps_parts.specs.Table as table_spec;
 
 use crate::part::{Part, push_part, render};
 use std::alloc::{AllocError, Global};
@@ -31,7 +32,7 @@ fn entry_len(alloc: Global, row: &[Part<'_>], place: usize) -> Result<usize, All
 }
 
 fn column_of(alloc: Global, rows: &[Vec<Part<'_>>], place: usize) -> Result<Column, AllocError>
-    ensures { IfOk result (λ column. column ≡ column_of_lem (map (λ row. map part_text row.items) rows.now) place) }
+    ensures { IfOk result (λ column. column ≡ table_spec.column_of (map (λ row. map part_text row.items) rows.now) place) }
 {
     let mut width = 0;
     for row in rows {
@@ -78,7 +79,7 @@ fn columns_of(
     rows: &[Vec<Part<'_>>],
     places: &[usize],
 ) -> Result<Vec<Column>, AllocError>
-    ensures { IfOk result (λ columns. columns.items ≡ map (column_of_lem (map (λ row. map part_text row.items) rows.now)) places.now) }
+    ensures { IfOk result (λ columns. columns.items ≡ map (table_spec.column_of (map (λ row. map part_text row.items) rows.now)) places.now) }
 {
     let mut columns = Vec::new(alloc);
     for place in places {

@@ -3,7 +3,8 @@ ghost use Rattle.std.specs.Option.{option_map};
 ghost use Rattle.rtps_receiver.specs.Values.{ActValue, spoken_value};
 ghost use Rattle.rtps_discovery.specs.Endpoint.{endpoint_value};
 ghost use Rattle.rtps_discovery.specs.Notice.{announcement_of, participant_in};
-ghost use Rattle.rtps_policies.specs.Announcing.{IsAnnouncedBy, host_among, host_of as host_of_lem, host_told, hosts_in, kept_host, participant_of as participant_of_lem, payload_of as payload_of_lem, policies_among, policies_told, profile_among, unknown_host};
+ghost use Rattle.rtps_policies.specs.Announcing.{IsAnnouncedBy, host_among, host_told, hosts_in, kept_host, policies_among, policies_told, profile_among, unknown_host};
+ghost use Rattle.rtps_policies.specs.Announcing as announcing;
 ghost use Rattle.rtps_policies.specs.Fitting.{profile_value};
 ghost use Rattle.rtps_policies.specs.Policies.{policies_value, unannounced};
 ghost use Rattle.rtps_policies.specs.Told.{KeepsFirst};
@@ -113,7 +114,7 @@ impl<'a> Announced<'a> {
     /// The host of the participant of a prefix. Unknown where it is not announced.
     pub fn host_of(&self, prefix: GuidPrefix) -> Host
         ensures kept { result ≡ hosts_in self.now prefix }
-        ensures announced { (acts : List ActValue) → IsAnnouncedBy acts self.now → result ≡ host_of_lem acts prefix }
+        ensures announced { (acts : List ActValue) → IsAnnouncedBy acts self.now → result ≡ announcing.host_of acts prefix }
     {
         self.host(participant_of(prefix))
     }
@@ -121,7 +122,7 @@ impl<'a> Announced<'a> {
 
 /// The GUID of the participant of a prefix (DDSI-RTPS 2.5, 9.3.1.3 "Predefined EntityIds").
 pub fn participant_of(prefix: GuidPrefix) -> Guid
-    ensures { result ≡ participant_of_lem prefix }
+    ensures { result ≡ announcing.participant_of prefix }
 {
     let entity = entity::PARTICIPANT;
     Guid { prefix, entity }
@@ -129,7 +130,7 @@ pub fn participant_of(prefix: GuidPrefix) -> Guid
 
 /// The payload of an act that has a whole one; no octets of any other.
 pub fn payload_of<'a>(act: &Spoken<'a>) -> &'a [u8]
-    ensures { result.now ≡ payload_of_lem (spoken_value act.now).body }
+    ensures { result.now ≡ announcing.payload_of (spoken_value act.now).body }
 {
     match &act.body {
         SpokenBody::Act(ActBody::Data(data)) => match &data.payload {

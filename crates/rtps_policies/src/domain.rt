@@ -1,6 +1,6 @@
 ghost use Rattle.std.specs.Prelude.{◌≡◌};
 ghost use Rattle.rtps_discovery.specs.Fields.{fields_value};
-ghost use Rattle.rtps_policies.specs.Domains.{announced_domain as announced_domain_lem, domain_from as domain_from_lem, domain_in as domain_in_lem, domain_with as domain_with_lem, multicast_domain as multicast_domain_lem, port_in as port_in_lem, port_of as port_of_lem, unicast_domain as unicast_domain_lem};
+ghost use Rattle.rtps_policies.specs.Domains as domains;
 
 use crate::layout::{discovery_port, locator, pid};
 use crate::vendor::is_of_fast;
@@ -9,7 +9,7 @@ use rtps_params::{ParamList, read_u32};
 
 /// The domain whose ports begin with this one, if there is one.
 fn domain_from(port: u32) -> Option<u32>
-    ensures { result ≡ domain_from_lem port }
+    ensures { result ≡ domains.domain_from port }
 {
     let beyond = port.checked_sub(discovery_port::BASE)?;
     if beyond % discovery_port::GAIN == 0 {
@@ -21,7 +21,7 @@ fn domain_from(port: u32) -> Option<u32>
 
 /// The domain that has a port, if there is one.
 fn domain_with(port: u32) -> Option<u32>
-    ensures { result ≡ domain_with_lem port }
+    ensures { result ≡ domains.domain_with port }
 {
     let beyond = port.checked_sub(discovery_port::BASE)?;
     Some(beyond / discovery_port::GAIN)
@@ -29,7 +29,7 @@ fn domain_with(port: u32) -> Option<u32>
 
 /// The port in a locator, or None if it is cut.
 fn port_of(value: &[u8], order: Order) -> Option<u32>
-    ensures { result ≡ port_of_lem order value.now }
+    ensures { result ≡ domains.port_of order value.now }
 {
     if value.len() < locator::SIZE {
         return None;
@@ -39,14 +39,14 @@ fn port_of(value: &[u8], order: Order) -> Option<u32>
 
 /// The port in the first parameter of this id.
 fn port_in(pid: u16, list: &ParamList<'_>) -> Option<u32>
-    ensures { result ≡ port_in_lem pid (fields_value list.now) }
+    ensures { result ≡ domains.port_in pid (fields_value list.now) }
 {
     port_of(list.first(pid)?, list.order())
 }
 
 /// The domain that a list announces.
 fn announced_domain(list: &ParamList<'_>) -> Option<u32>
-    ensures { result ≡ announced_domain_lem (fields_value list.now) }
+    ensures { result ≡ domains.announced_domain (fields_value list.now) }
 {
     let value = list.first(pid::DOMAIN_ID)?;
     read_u32(value, list.order())
@@ -54,14 +54,14 @@ fn announced_domain(list: &ParamList<'_>) -> Option<u32>
 
 /// The domain that its multicast port tells.
 fn multicast_domain(list: &ParamList<'_>) -> Option<u32>
-    ensures { result ≡ multicast_domain_lem (fields_value list.now) }
+    ensures { result ≡ domains.multicast_domain (fields_value list.now) }
 {
     domain_from(port_in(pid::METATRAFFIC_MULTICAST_LOCATOR, list)?)
 }
 
 /// The domain that its unicast port tells, if it is of Fast DDS.
 fn unicast_domain(list: &ParamList<'_>) -> Option<u32>
-    ensures { result ≡ unicast_domain_lem (fields_value list.now) }
+    ensures { result ≡ domains.unicast_domain (fields_value list.now) }
 {
     if !is_of_fast(list) {
         return None;
@@ -71,7 +71,7 @@ fn unicast_domain(list: &ParamList<'_>) -> Option<u32>
 
 /// The domain of the participant that a list announces: the first of these that there is.
 pub(crate) fn domain_in(list: &ParamList<'_>) -> Option<u32>
-    ensures { result ≡ domain_in_lem (fields_value list.now) }
+    ensures { result ≡ domains.domain_in (fields_value list.now) }
 {
     announced_domain(list)
         .or(multicast_domain(list))

@@ -1,7 +1,8 @@
 ghost use Rattle.std.specs.Prelude.{◌≡◌, ◌<◌, ◌≤◌, ◌^◌, Some};
 ghost use Rattle.std.specs.Fmt.{WritesOnOk};
 ghost use Rattle.rtps_policies.specs.DurationText.{duration_text, places_of, point_text};
-ghost use Rattle.rtps_policies.specs.Durations.{duration_at as duration_at_lem, is_within, nanoseconds_in, nanoseconds_of as nanoseconds_of_lem};
+ghost use Rattle.rtps_policies.specs.Durations.{is_within, nanoseconds_in};
+ghost use Rattle.rtps_policies.specs.Durations as durations;
 
 use rtps_ids::{Order, u32_at};
 use std::fmt;
@@ -66,7 +67,7 @@ impl fmt::Display for Duration {
 
 /// How many nanoseconds a fraction of a second has, in 2^-32 seconds.
 fn nanoseconds_of(fraction: u32) -> u32
-    ensures value { result ≡ nanoseconds_of_lem fraction }
+    ensures value { result ≡ durations.nanoseconds_of fraction }
     ensures in_range { result < 10 ^ 9 }
 {
     (u64::from(fraction) * 1_000_000_000 / (1 << 32)) as u32
@@ -105,7 +106,7 @@ fn write_places<W: fmt::Write>(count: u32, number: u32, f: &mut fmt::Formatter<W
 /// The duration in the eight octets at offset `at`, or None if there are fewer.
 pub(crate) fn duration_at(order: Order, value: &[u8], at: usize) -> Option<Duration>
     requires { at < 2 ^ 32 }
-    ensures { result ≡ duration_at_lem order value.now at }
+    ensures { result ≡ durations.duration_at order value.now at }
 {
     let seconds = u32_at(order, value, at)?.cast_signed();
     let fraction = u32_at(order, value, at + 4)?;

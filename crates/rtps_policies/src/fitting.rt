@@ -1,5 +1,6 @@
 ghost use Rattle.std.specs.Prelude.{◌≡◌, ◌↔◌, IfOk, IsTrue, Some, filter, not};
-ghost use Rattle.rtps_policies.specs.Fitting.{Suits, profile_value, reasons as reasons_lem, suits as suits_lem};
+ghost use Rattle.rtps_policies.specs.Fitting.{Suits, profile_value};
+ghost use Rattle.rtps_policies.specs.Fitting as fitting;
 ghost use Rattle.rtps_policies.specs.PolicyText.{policy_name};
 
 use crate::host::Host;
@@ -53,7 +54,7 @@ impl Policy {
     /// Whether what a writer offers suits what a reader requests.
     pub fn suits(self, writer: &Profile<'_>, reader: &Profile<'_>) -> bool
         ensures meaning { IsTrue result ↔ Suits self (profile_value writer.now) (profile_value reader.now) }
-        ensures test { result ≡ suits_lem self (profile_value writer.now) (profile_value reader.now) }
+        ensures test { result ≡ fitting.suits self (profile_value writer.now) (profile_value reader.now) }
     {
         is_suited(self, writer, reader)
     }
@@ -84,7 +85,7 @@ impl fmt::Display for Policy {
 
 /// Whether it suits. [`Policy::suits`] has a second clause, with the meaning.
 fn is_suited(policy: Policy, writer: &Profile<'_>, reader: &Profile<'_>) -> bool
-    ensures { result ≡ suits_lem policy (profile_value writer.now) (profile_value reader.now) }
+    ensures { result ≡ fitting.suits policy (profile_value writer.now) (profile_value reader.now) }
 {
     let offered = &writer.policies;
     let requested = &reader.policies;
@@ -113,7 +114,7 @@ pub fn reasons(
     writer: &Profile<'_>,
     reader: &Profile<'_>,
 ) -> Result<Vec<Policy>, Memory>
-    ensures { IfOk result (λ found. found.items ≡ reasons_lem (profile_value writer.now) (profile_value reader.now)) }
+    ensures { IfOk result (λ found. found.items ≡ fitting.reasons (profile_value writer.now) (profile_value reader.now)) }
 {
     unsuited_among(alloc, &TABLE, writer, reader)
 }
@@ -125,7 +126,7 @@ fn unsuited_among(
     writer: &Profile<'_>,
     reader: &Profile<'_>,
 ) -> Result<Vec<Policy>, Memory>
-    ensures { IfOk result (λ found. found.items ≡ filter (λ policy. not (suits_lem policy (profile_value writer.now) (profile_value reader.now))) policies.now) }
+    ensures { IfOk result (λ found. found.items ≡ filter (λ policy. not (fitting.suits policy (profile_value writer.now) (profile_value reader.now))) policies.now) }
 {
     let mut found = Vec::new(alloc);
     for policy in policies {

@@ -3,7 +3,8 @@ ghost use Rattle.std.specs.List.{list_any};
 ghost use Rattle.std.specs.Fmt.{WritesOnOk};
 ghost use Rattle.rtps_discovery.specs.Fields.{fields_value};
 ghost use Rattle.rtps_policies.specs.AddressText.{address_text, groups_of, groups_text};
-ghost use Rattle.rtps_policies.specs.Hosts.{address_by, address_in as address_in_lem, address_of, announces_memory as announces_memory_lem, host_in, is_memory as is_memory_lem, is_v4, lease_in as lease_in_lem};
+ghost use Rattle.rtps_policies.specs.Hosts.{address_by, address_of, host_in, is_v4};
+ghost use Rattle.rtps_policies.specs.Hosts as hosts;
 
 use crate::domain::domain_in;
 use crate::duration::duration_at;
@@ -94,7 +95,7 @@ impl Host {
 
 /// The lease in a list, in nanoseconds.
 fn lease_in(list: &ParamList<'_>) -> u64
-    ensures { result ≡ lease_in_lem (fields_value list.now) }
+    ensures { result ≡ hosts.lease_in (fields_value list.now) }
 {
     let Some(value) = list.first(pid::PARTICIPANT_LEASE_DURATION) else {
         return lease::DEFAULT;
@@ -138,7 +139,7 @@ fn announced_address(pid: u16, value: &[u8], order: Order) -> Option<Address>
 
 /// The first address of IPv4 in a list, or else the first one of IPv6.
 fn address_in(list: &ParamList<'_>) -> Option<Address>
-    ensures { result ≡ address_in_lem (fields_value list.now) }
+    ensures { result ≡ hosts.address_in (fields_value list.now) }
 {
     let mut found = None;
     for (pid, value) in list.params() {
@@ -154,7 +155,7 @@ fn address_in(list: &ParamList<'_>) -> Option<Address>
 
 /// Whether a locator is one of memory; false if it is cut.
 fn is_memory(value: &[u8], order: Order) -> bool
-    ensures { result ≡ is_memory_lem order value.now }
+    ensures { result ≡ hosts.is_memory order value.now }
 {
     if value.len() < locator::SIZE {
         return false;
@@ -167,7 +168,7 @@ fn is_memory(value: &[u8], order: Order) -> bool
 
 /// Whether a parameter announces a unicast locator of memory.
 fn announces_memory(pid: u16, value: &[u8], order: Order) -> bool
-    ensures { result ≡ announces_memory_lem order (pid, value.now) }
+    ensures { result ≡ hosts.announces_memory order (pid, value.now) }
 {
     (pid == pid::DEFAULT_UNICAST_LOCATOR || pid == pid::METATRAFFIC_UNICAST_LOCATOR)
         && is_memory(value, order)
@@ -175,7 +176,7 @@ fn announces_memory(pid: u16, value: &[u8], order: Order) -> bool
 
 /// Whether a list announces a unicast locator of memory.
 fn announces_memory_in(list: &ParamList<'_>) -> bool
-    ensures { result ≡ list_any (announces_memory_lem (fields_value list.now).order) (fields_value list.now).pairs }
+    ensures { result ≡ list_any (hosts.announces_memory (fields_value list.now).order) (fields_value list.now).pairs }
 {
     for (pid, value) in list.params() {
         if announces_memory(pid, value, list.order()) {

@@ -1,6 +1,7 @@
 ghost use Rattle.std.specs.Prelude.{◌≡◌, ◌<◌, ◌∷◌, ◌==◌, [], IfSome, MatchOption, length, position, true};
 ghost use Rattle.std.specs.List.{list_any};
-ghost use Rattle.rtps_policies.specs.NamePatterns.{accepts, closing_in as closing_in_lem, fits as fits_lem, fits_parts, is_many, is_marked, is_member, is_open, is_pattern as is_pattern_lem, names_fit as names_fit_lem, parts_of, without_mark};
+ghost use Rattle.rtps_policies.specs.NamePatterns.{accepts, fits_parts, is_many, is_marked, is_member, is_open, parts_of, without_mark};
+ghost use Rattle.rtps_policies.specs.NamePatterns as name_patterns;
 ghost use Rattle.rtps_policies.specs.NamePatterns.PartValue.{Many};
 ghost use Rattle.rtps_policies.specs.Segments.{AreFixed, IsFront, IsLaterSegment, IsOpened, IsSegment, part_value};
 ghost use Rattle.rtps_policies.specs.Sets.{IsFrontRange, IsSetIn};
@@ -59,7 +60,7 @@ fn first_closing(octets: &[u8]) -> Option<usize>
 
 /// The place of the bracket that closes a set. One that comes first is a member, and closes nothing.
 fn closing_in(body: &[u8]) -> Option<usize>
-    ensures place { result ≡ closing_in_lem body.now }
+    ensures place { result ≡ name_patterns.closing_in body.now }
     ensures within { IfSome result (λ place. place < length body.now) }
 {
     let (_, further) = body.split_first()?;
@@ -271,7 +272,7 @@ fn fits_behind(pattern: &[u8], name: &[u8]) -> bool
 
 /// Whether a name is what a pattern stands for.
 fn fits(pattern: &[u8], name: &[u8]) -> bool
-    ensures { result ≡ fits_lem pattern.now name.now }
+    ensures { result ≡ name_patterns.fits pattern.now name.now }
 {
     match leading_segment(pattern, name) {
         Segment::Many { behind, left } => fits_behind(behind, left),
@@ -282,7 +283,7 @@ fn fits(pattern: &[u8], name: &[u8]) -> bool
 
 /// Whether a name is a pattern.
 fn is_pattern(name: &[u8]) -> bool
-    ensures { result ≡ is_pattern_lem name.now }
+    ensures { result ≡ name_patterns.is_pattern name.now }
 {
     let mut rest = name;
     while let Some((part, behind)) = front(rest) {
@@ -297,7 +298,7 @@ fn is_pattern(name: &[u8]) -> bool
 /// Whether two names of partitions fit: both are no patterns and equal, or one is a pattern of the other, which is none (DDS
 /// 1.4, 2.2.3.13 "PARTITION").
 pub(crate) fn names_fit(one: &[u8], other: &[u8]) -> bool
-    ensures { result ≡ names_fit_lem one.now other.now }
+    ensures { result ≡ name_patterns.names_fit one.now other.now }
 {
     match (is_pattern(one), is_pattern(other)) {
         (false, false) => one == other,

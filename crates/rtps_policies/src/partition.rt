@@ -2,7 +2,7 @@ ghost use Rattle.std.specs.Prelude.{◌≡◌, ◌==◌, MatchOption, Some, None
 ghost use Rattle.std.specs.List.{list_any};
 ghost use Rattle.std.specs.Option.{option_map};
 ghost use Rattle.rtps_params.specs.Values.{text_of};
-ghost use Rattle.rtps_policies.specs.NamePatterns.{names_fit as names_fit_lem};
+ghost use Rattle.rtps_policies.specs.NamePatterns as name_patterns;
 ghost use Rattle.rtps_policies.specs.Sequences.{partition_of, text_room, texts_in};
 ghost use Rattle.rtps_policies.specs.Views.{partition_value};
 
@@ -98,7 +98,7 @@ impl<'a> Partition<'a> {
 
     /// Whether some name of one fits some name of the other.
     pub(crate) fn fits(&self, other: &Partition<'_>) -> bool
-        ensures { result ≡ list_any (λ one. list_any (names_fit_lem one) (partition_value other.now)) (partition_value self.now) }
+        ensures { result ≡ list_any (λ one. list_any (name_patterns.names_fit one) (partition_value other.now)) (partition_value self.now) }
     {
         for name in self.names() {
             if has_fitting(name, other) {
@@ -111,7 +111,7 @@ impl<'a> Partition<'a> {
 
 /// Whether a name fits some name of a partition.
 fn has_fitting(name: &[u8], partition: &Partition<'_>) -> bool
-    ensures { result ≡ list_any (names_fit_lem name.now) (partition_value partition.now) }
+    ensures { result ≡ list_any (name_patterns.names_fit name.now) (partition_value partition.now) }
 {
     for other in partition.names() {
         if names_fit(name, other) {

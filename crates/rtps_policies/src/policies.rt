@@ -1,6 +1,7 @@
 ghost use Rattle.std.specs.Prelude.{◌≡◌};
 ghost use Rattle.rtps_discovery.specs.Fields.{fields_value};
-ghost use Rattle.rtps_policies.specs.Policies.{deadline_in as deadline_in_lem, destination_order_in as destination_order_in_lem, latency_budget_in as latency_budget_in_lem, liveliness_in as liveliness_in_lem, ownership_in as ownership_in_lem, partition_in as partition_in_lem, policies_in, policies_value, presentation_in as presentation_in_lem, representations_in as representations_in_lem, unannounced};
+ghost use Rattle.rtps_policies.specs.Policies.{policies_in, policies_value, unannounced};
+ghost use Rattle.rtps_policies.specs.Policies as policies;
 ghost use Rattle.rtps_policies.specs.Views.{partition_value, representations_value};
 
 use crate::duration::{Duration, duration_at};
@@ -64,7 +65,7 @@ impl<'a> Policies<'a> {
 }
 
 fn deadline_in(list: &ParamList<'_>) -> Duration
-    ensures { result ≡ deadline_in_lem (fields_value list.now) }
+    ensures { result ≡ policies.deadline_in (fields_value list.now) }
 {
     let Some(value) = list.first(pid::DEADLINE) else {
         return Duration::INFINITE;
@@ -73,7 +74,7 @@ fn deadline_in(list: &ParamList<'_>) -> Duration
 }
 
 fn latency_budget_in(list: &ParamList<'_>) -> Duration
-    ensures { result ≡ latency_budget_in_lem (fields_value list.now) }
+    ensures { result ≡ policies.latency_budget_in (fields_value list.now) }
 {
     let Some(value) = list.first(pid::LATENCY_BUDGET) else {
         return Duration::ZERO;
@@ -82,7 +83,7 @@ fn latency_budget_in(list: &ParamList<'_>) -> Duration
 }
 
 fn liveliness_in(list: &ParamList<'_>) -> Liveliness
-    ensures { result ≡ liveliness_in_lem (fields_value list.now) }
+    ensures { result ≡ policies.liveliness_in (fields_value list.now) }
 {
     let Some(value) = list.first(pid::LIVELINESS) else {
         return Liveliness::UNANNOUNCED;
@@ -91,7 +92,7 @@ fn liveliness_in(list: &ParamList<'_>) -> Liveliness
 }
 
 fn ownership_in(list: &ParamList<'_>) -> Ownership
-    ensures { result ≡ ownership_in_lem (fields_value list.now) }
+    ensures { result ≡ policies.ownership_in (fields_value list.now) }
 {
     let Some(value) = list.first(pid::OWNERSHIP) else {
         return Ownership::Shared;
@@ -100,7 +101,7 @@ fn ownership_in(list: &ParamList<'_>) -> Ownership
 }
 
 fn destination_order_in(list: &ParamList<'_>) -> DestinationOrder
-    ensures { result ≡ destination_order_in_lem (fields_value list.now) }
+    ensures { result ≡ policies.destination_order_in (fields_value list.now) }
 {
     let Some(value) = list.first(pid::DESTINATION_ORDER) else {
         return DestinationOrder::ByReception;
@@ -109,7 +110,7 @@ fn destination_order_in(list: &ParamList<'_>) -> DestinationOrder
 }
 
 fn presentation_in(list: &ParamList<'_>) -> Presentation
-    ensures { result ≡ presentation_in_lem (fields_value list.now) }
+    ensures { result ≡ policies.presentation_in (fields_value list.now) }
 {
     let Some(value) = list.first(pid::PRESENTATION) else {
         return Presentation::UNANNOUNCED;
@@ -118,7 +119,7 @@ fn presentation_in(list: &ParamList<'_>) -> Presentation
 }
 
 fn partition_in<'a>(list: &ParamList<'a>) -> Partition<'a>
-    ensures { partition_value result ≡ partition_in_lem (fields_value list.now) }
+    ensures { partition_value result ≡ policies.partition_in (fields_value list.now) }
 {
     let Some(value) = list.first(pid::PARTITION) else {
         return Partition::UNNAMED;
@@ -127,7 +128,7 @@ fn partition_in<'a>(list: &ParamList<'a>) -> Partition<'a>
 }
 
 fn representations_in<'a>(list: &ParamList<'a>) -> Representations<'a>
-    ensures { representations_value result ≡ representations_in_lem (fields_value list.now) }
+    ensures { representations_value result ≡ policies.representations_in (fields_value list.now) }
 {
     let Some(value) = list.first(pid::DATA_REPRESENTATION) else {
         return Representations::NONE;

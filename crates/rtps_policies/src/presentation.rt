@@ -1,6 +1,7 @@
 ghost use Rattle.std.specs.Prelude.{◌≡◌};
 ghost use Rattle.rtps_policies.specs.Fitting.{presentation_suits};
-ghost use Rattle.rtps_policies.specs.Kinds.{flag_at as flag_at_lem, presentation_of, scope_of};
+ghost use Rattle.rtps_policies.specs.Kinds.{presentation_of, scope_of};
+ghost use Rattle.rtps_policies.specs.Kinds as kinds;
 
 use crate::layout::presentation;
 use rtps_ids::Order;
@@ -70,7 +71,7 @@ fn scope_in(value: &[u8], order: Order) -> Option<AccessScope>
 
 /// The flag in the octet at offset `at`.
 fn flag_at(value: &[u8], at: usize) -> Option<bool>
-    ensures { result ≡ flag_at_lem value.now at }
+    ensures { result ≡ kinds.flag_at value.now at }
 {
     match value.get(at) {
         Some(0) => Some(false),

@@ -1,7 +1,8 @@
 ghost use Rattle.std.specs.Prelude.{◌≡◌};
 ghost use Rattle.rtps_policies.specs.Announcing.{IsAnnouncedBy};
 ghost use Rattle.rtps_policies.specs.Namings.{AreNamingsOf};
-ghost use Rattle.rtps_policies.specs.Silence.{Traffic, first_reason as first_reason_lem, is_one_way as is_one_way_lem, one_way_by, silence_by, silence_of, talks_one_way as talks_one_way_lem, two_addresses as two_addresses_lem, two_domains as two_domains_lem};
+ghost use Rattle.rtps_policies.specs.Silence.{Traffic, one_way_by, silence_by, silence_of};
+ghost use Rattle.rtps_policies.specs.Silence as silence;
 
 use crate::announced::Announced;
 use crate::host::Host;
@@ -23,7 +24,7 @@ pub enum Silence {
 
 /// Whether two hosts are in domains that differ.
 pub fn two_domains(one: Host, other: Host) -> bool
-    ensures { result ≡ two_domains_lem one other }
+    ensures { result ≡ silence.two_domains one other }
 {
     match (one.domain, other.domain) {
         (Some(one), Some(other)) => one != other,
@@ -33,7 +34,7 @@ pub fn two_domains(one: Host, other: Host) -> bool
 
 /// Whether two hosts have addresses that differ.
 pub fn two_addresses(one: Host, other: Host) -> bool
-    ensures { result ≡ two_addresses_lem one other }
+    ensures { result ≡ silence.two_addresses one other }
 {
     match (one.address, other.address) {
         (Some(one), Some(other)) => one != other,
@@ -51,9 +52,9 @@ fn is_one_way(named: u64, answered: u64, one: Host, other: Host) -> bool
 /// Whether, of two participants on two hosts that are not in two domains, the first names the second and never the other way
 /// round.
 pub fn talks_one_way(announced: &Announced<'_>, namings: &Namings, naming: Naming) -> bool
-    ensures kept { result ≡ talks_one_way_lem announced.now namings.now naming }
+    ensures kept { result ≡ silence.talks_one_way announced.now namings.now naming }
     ensures recorded { (traffic : Traffic) → IsAnnouncedBy traffic.announcing announced.now → AreNamingsOf traffic.datagrams namings.now
-        → result ≡ is_one_way_lem traffic naming }
+        → result ≡ silence.is_one_way traffic naming }
 {
     let count = namings.named(naming);
     let answered = namings.named(naming.reversed());
@@ -64,7 +65,7 @@ pub fn talks_one_way(announced: &Announced<'_>, namings: &Namings, naming: Namin
 
 /// The first reason of these that fits.
 fn first_reason(one_participant: bool, in_two_domains: bool, one_way: bool) -> Silence
-    ensures { result ≡ first_reason_lem one_participant in_two_domains one_way }
+    ensures { result ≡ silence.first_reason one_participant in_two_domains one_way }
 {
     if one_participant {
         Silence::OneParticipant

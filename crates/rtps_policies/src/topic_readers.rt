@@ -1,5 +1,6 @@
 ghost use Rattle.std.specs.Prelude.{◌≡◌, IfOk, filter};
-ghost use Rattle.rtps_policies.specs.TopicReaders.{AreByTopic, KeepsTopics, has_topic, readers_among as readers_among_lem};
+ghost use Rattle.rtps_policies.specs.TopicReaders.{AreByTopic, KeepsTopics, has_topic};
+ghost use Rattle.rtps_policies.specs.TopicReaders as topic_readers;
 
 use crate::fitting::Profile;
 use rtps_discovery::Side;
@@ -12,7 +13,7 @@ pub(crate) fn readers_by_topic<'a>(
     profiles: &[Profile<'a>],
 ) -> Result<Vec<Profile<'a>>, Memory>
     ensures sorted { IfOk result (λ readers. AreByTopic readers.items) }
-    ensures stable { IfOk result (λ readers. KeepsTopics (readers_among_lem profiles.now) readers.items) }
+    ensures stable { IfOk result (λ readers. KeepsTopics (topic_readers.readers_among profiles.now) readers.items) }
 {
     let mut readers = readers_among(alloc, profiles)?;
     readers.sort_by_key(|reader| reader.endpoint.topic)?;
@@ -21,7 +22,7 @@ pub(crate) fn readers_by_topic<'a>(
 
 /// The readers among profiles.
 fn readers_among<'a>(alloc: Global, profiles: &[Profile<'a>]) -> Result<Vec<Profile<'a>>, Memory>
-    ensures { IfOk result (λ readers. readers.items ≡ readers_among_lem profiles.now) }
+    ensures { IfOk result (λ readers. readers.items ≡ topic_readers.readers_among profiles.now) }
 {
     let mut readers = Vec::new(alloc);
     for profile in profiles {

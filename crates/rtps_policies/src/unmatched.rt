@@ -4,7 +4,8 @@ ghost use Rattle.rtps_receiver.specs.Values.{ActValue};
 ghost use Rattle.rtps_discovery.specs.Directory.{settled_in};
 ghost use Rattle.rtps_policies.specs.Announcing.{IsAnnouncedBy};
 ghost use Rattle.rtps_policies.specs.Fitting.{profile_value};
-ghost use Rattle.rtps_policies.specs.Unmatched.{may_match as may_match_lem, unmatched_among, unmatched_in as unmatched_in_lem, unmatched_of as unmatched_of_lem, unmatched_value, unmatched_with};
+ghost use Rattle.rtps_policies.specs.Unmatched.{unmatched_among, unmatched_value, unmatched_with};
+ghost use Rattle.rtps_policies.specs.Unmatched as unmatched;
 
 use crate::announced::Announced;
 use crate::fitting::{Policy, Profile, reasons};
@@ -38,7 +39,7 @@ pub fn unmatched_pairs<'a>(
 
 /// Those among profiles, writer by writer. A writer is compared only with the readers of its topic.
 fn unmatched_in<'a>(alloc: Global, profiles: &[Profile<'a>]) -> Result<Vec<Unmatched<'a>>, Memory>
-    ensures { IfOk result (λ found. map unmatched_value found.items ≡ unmatched_in_lem (map profile_value profiles.now)) }
+    ensures { IfOk result (λ found. map unmatched_value found.items ≡ unmatched.unmatched_in (map profile_value profiles.now)) }
 {
     let readers = readers_by_topic(alloc, profiles)?;
     let mut found = Vec::new(alloc);
@@ -76,7 +77,7 @@ fn unmatched_of<'a>(
     writer: &Profile<'a>,
     reader: &Profile<'a>,
 ) -> Result<Option<Unmatched<'a>>, Memory>
-    ensures { IfOk result (λ found. option_map unmatched_value found ≡ unmatched_of_lem (profile_value writer.now) (profile_value reader.now)) }
+    ensures { IfOk result (λ found. option_map unmatched_value found ≡ unmatched.unmatched_of (profile_value writer.now) (profile_value reader.now)) }
 {
     if !may_match(writer, reader) {
         return Ok(None);
@@ -95,7 +96,7 @@ fn unmatched_of<'a>(
 
 /// Whether they are a writer and a reader of one topic that are not in two domains.
 fn may_match(writer: &Profile<'_>, reader: &Profile<'_>) -> bool
-    ensures { result ≡ may_match_lem (profile_value writer.now) (profile_value reader.now) }
+    ensures { result ≡ unmatched.may_match (profile_value writer.now) (profile_value reader.now) }
 {
     writer.endpoint.side == Side::Writer
         && reader.endpoint.side == Side::Reader

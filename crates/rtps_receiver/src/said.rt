@@ -183,13 +183,14 @@ impl<'x, 'a> SaidNumbers<'x, 'a> {
 }
 
 impl<'a> Spoken<'a> {
-    ghost use Rattle.rtps_receiver.specs.Said.{Says, said as said_lem};
+    ghost use Rattle.rtps_receiver.specs.Said.{Says};
+    ghost use Rattle.rtps_receiver.specs.Said as said_spec;
     ghost use Rattle.rtps_receiver.specs.Values.{spoken_value};
 
     /// What the act says of numbers.
     #[inline]
     pub fn said<'x>(&'x self) -> SaidNumbers<'x, 'a>
-        ensures { Says (said_lem (spoken_value self.now).body) result }
+        ensures { Says (said_spec.said (spoken_value self.now).body) result }
     {
         let none = Numbers::none();
         match &self.body {

@@ -1,5 +1,5 @@
 use crate::act::{Act, ActBody};
-use crate::spoken::{Spoken, SpokenBody};
+use crate::spoken::{FragmentBody, Spoken, SpokenBody};
 use rtps_ids::{EntityId, Guid, GuidPrefix};
 
 /// The entity id that names every reader (DDSI-RTPS 2.5, 9.3.1.2 "Mapping of the EntityId_t").
@@ -80,6 +80,23 @@ impl<'a> SpokenBody<'a> {
     ghost use Rattle.std.specs.Prelude.{◌≡◌};
     ghost use Rattle.rtps_receiver.specs.Speech.{asks_pair, entity_from, reader_named, writer_named};
     ghost use Rattle.rtps_receiver.specs.Values.{spoken_body_value};
+
+    /// The same once more.
+    fn copied(&self) -> SpokenBody<'a>
+        ensures { spoken_body_value result ≡ spoken_body_value self.now }
+    {
+        match self {
+            SpokenBody::Act(body) => SpokenBody::Act(body.copied()),
+            SpokenBody::DataFrag(fragment) => SpokenBody::DataFrag(FragmentBody {
+                reader: fragment.reader,
+                writer: fragment.writer,
+                number: fragment.number,
+                sent: fragment.sent,
+                told: fragment.told,
+            }),
+            SpokenBody::NackFrag(nack_frag) => SpokenBody::NackFrag(*nack_frag),
+        }
+    }
 
     /// The entity that it is from.
     fn entity_from(&self) -> EntityId
@@ -209,6 +226,22 @@ impl<'a> Spoken<'a> {
     ghost use Rattle.rtps_receiver.specs.Audience.{audience_of};
     ghost use Rattle.rtps_receiver.specs.Speech.{IsAnswer, IsHeardBy, IsRequest, IsSpokenBy, is_answer, is_heard_by, is_request, is_spoken_by, origin_of, writer_answered};
     ghost use Rattle.rtps_receiver.specs.Values.{spoken_value};
+
+    /// The same once more.
+    pub fn copied(&self) -> Spoken<'a>
+        ensures { spoken_value result ≡ spoken_value self.now }
+    {
+        Spoken {
+            at: self.at,
+            source: self.source,
+            version: self.version,
+            vendor: self.vendor,
+            dest: self.dest,
+            stamp: self.stamp,
+            order: self.order,
+            body: self.body.copied(),
+        }
+    }
 
     /// The GUID that it is from: its source, and the reader that an ACKNACK or a NACK_FRAG names, or the writer that any other act names.
     pub fn origin(&self) -> Guid

@@ -2,8 +2,8 @@
 -- read of it, and by the first number asked for, so that one case has one advice. Two lives under one GUID come first, since all that is told of the pair
 -- is of both; then who was killed or cut off, since nothing else of the pair needs a reason; then, of a reader that acknowledged nothing, that it was never
 -- told of the writer; then what is lost or missed; then a tail; then what was told nowhere, since no answer can be owed for it; then what was asked. The
--- guide prints the cases and their sentences.
-use Rattle.std.specs.Prelude.{ℕ, ℤ, ◌-◌, ◌^◌, ◌==◌, ◌&&◌, ◌||◌, not, nat_le, nat_lt, int_lt, Bool, true, false, if◌then◌else◌, List, codes, length, Option, Some, None, is_none, is_some, unwrap_or}
+-- guide has the cases.
+use Rattle.std.specs.Prelude.{ℕ, ℤ, ◌-◌, ◌^◌, ◌==◌, ◌&&◌, ◌||◌, not, nat_le, nat_lt, int_lt, Bool, true, false, if◌then◌else◌, length, Option, Some, None, is_none, is_some, unwrap_or}
 use Rattle.std.specs.Option.{option_or}
 use Rattle.rtps_receiver.specs.Said.{natural}
 use Rattle.rtps_report.specs.Vocabulary.{Absent, Announcement, Claim, CompleteGrounds, ConflictGrounds, EvidenceValue, FirstMissed, GroundsValue, Key, Location, OpenGrounds, PayloadValue, Scope, SentValue, Teller, UnfoundedGrounds, Whole}
@@ -162,33 +162,3 @@ abbrev pub ended_in : Advice → Option ℕ
 ended_in (ReaderEnded last) = Some last
 ended_in (WriterEnded last) = Some last
 ended_in advice = None
-
--- in one sentence; of a participant that ended, without the time of its last datagram
-unfoldable pub sentence_of : Advice → List ℕ
-sentence_of TwoLives = codes "two processes use the GUID of a participant of this pair, as after a copied disk image or a restart: the pair is a mixture of both"
-sentence_of (ReaderEnded last) = codes "the reader's process ended without leaving, or was cut off: see what it did"
-sentence_of (WriterEnded last) = codes "the writer's process ended without leaving, or was cut off: see what it did"
-sentence_of NotAnnounced = codes "its announcements are lost on the way: look at large announcements in IP fragments, and at multicast"
-sentence_of Lost = codes "it was sent and did not reach the reader's host: look at the network; raise the history depth, so that the writer still has what is asked for again"
-sentence_of MatchedLate = codes "the two matched late: what was written before that was not for it; use transient local, or wait for the match"
-sentence_of MissedUnsent = codes "the reader asked for it and the recording has none: it was lost before this recording, or record at the writer's side"
-sentence_of MissedAgain = codes "it was sent again, and nothing shows that it arrived: look at the network; a recording at the reader's side tells"
-sentence_of MissedOnce = codes "the reader asked for it and the writer did not send it again: raise the history depth or the lifespan, and look at the network"
-sentence_of Unsent = codes "the recording has none for this reader: at the reader's side it was lost on the way; at the writer's side a content filter or a short history kept it back"
-sentence_of Unanswered = codes "it was asked about and gave no answer until the writer had dropped them: an outage of the network or of the reader; raise the history depth if these must not be lost"
-sentence_of Tail = codes "stop publishing some seconds before the recording ends, or allow a tail (--tail)"
-sentence_of OpenUnread = codes "it may be in a fragment or frame that was not read: see below what to do for these"
-sentence_of OpenUntold = codes "the recording does not have it: record at the writer's side, on the interface that it uses"
-sentence_of Left = codes "it was never asked, or its answers are not in the recording: see that it took anything"
-sentence_of NotAsked = codes "the reader may have all: stop publishing, wait some seconds, and only then end the recording"
-sentence_of JustAsked = codes "record longer"
-sentence_of NeverAnswered = codes "the reader was asked and acknowledged nothing: see that it runs, and record both directions"
-sentence_of Silent = codes "the reader was asked and did not answer: it ended, nothing reaches it, or its answers take another way"
-sentence_of Alike = codes "compare their octets: the writer makes a new payload to resend it, or two processes use one GUID"
-sentence_of Unlike = codes "two processes use one GUID, as after a copied disk image or a restart; or the writer has a defect"
-sentence_of Relayed = codes "the sample and the answer are in one datagram: a relay packed them, or the recording was changed"
-sentence_of UnfoundedUnread = codes "it may be in a fragment or frame that was not read: see below what to do for these"
-sentence_of Late = codes "the datagrams are out of order, or the copy that the reader received is not here: record on one host"
-sentence_of Unannounced = codes "the reader acknowledged what nobody announced: it has a defect, or another writer had this GUID before"
-sentence_of BeganLate = codes "record from before the start of the participants"
-sentence_of Lacking = codes "the recording lacks it: see how many packets tcpdump says it dropped, and switch off shared memory"

@@ -3,7 +3,8 @@ ghost use Rattle.std.specs.Option.{option_map};
 ghost use Rattle.rtps_evidence.specs.Explanation.{evidence_value};
 ghost use Rattle.rtps_evidence.specs.Locations.{sent_value};
 ghost use Rattle.rtps_wire.specs.Values.{payload_value};
-ghost use Rattle.rtps_report.specs.Advice.{advice_by, advice_of as advice_of_lem, are_alike as are_alike_lem, asked_advice as asked_advice_lem, came_last as came_last_lem, complete_advice as complete_advice_lem, conflict_advice as conflict_advice_lem, is_above as is_above_lem, ended_advice, ended_in as ended_in_lem, is_first_sent as is_first_sent_lem, is_known as is_known_lem, is_last_second as is_last_second_lem, is_lost as is_lost_lem, late_advice as late_advice_lem, loss_advice as loss_advice_lem, missed_advice as missed_advice_lem, participant_advice, sentence_of, stand_together as stand_together_lem, unanswered_advice as unanswered_advice_lem, unasked_advice as unasked_advice_lem, unfounded_advice as unfounded_advice_lem, untold_open_advice as untold_open_advice_lem};
+ghost use Rattle.rtps_report.specs.Advice.{advice_by, ended_advice, participant_advice};
+ghost use Rattle.rtps_report.specs.Advice as advice_spec;
 
 use crate::row_facts::{
     is_held, is_joined, is_tail, left_at, natural, number_of, outcomes_of, row_from,
@@ -88,7 +89,7 @@ pub enum Advice {
 }
 
 fn missed_advice(first: FirstMissed) -> Advice
-    ensures { result ≡ missed_advice_lem first }
+    ensures { result ≡ advice_spec.missed_advice first }
 {
     if !first.is_sent {
         Advice::MissedUnsent
@@ -101,7 +102,7 @@ fn missed_advice(first: FirstMissed) -> Advice
 
 /// Whether there is a first missed number that was sent.
 fn is_first_sent(first: Option<FirstMissed>) -> bool
-    ensures { result ≡ is_first_sent_lem first }
+    ensures { result ≡ advice_spec.is_first_sent first }
 {
     match first {
         Some(first) => first.is_sent,
@@ -111,7 +112,7 @@ fn is_first_sent(first: Option<FirstMissed>) -> bool
 
 /// Whether a pair is held, and numbers that were sent did not arrive, and not only a tail.
 fn is_lost(evidence: &Evidence<'_>) -> bool
-    ensures { result ≡ is_lost_lem (evidence_value evidence.now) }
+    ensures { result ≡ advice_spec.is_lost (evidence_value evidence.now) }
 {
     let outcomes = outcomes_of(evidence);
     is_held(evidence)
@@ -124,7 +125,7 @@ fn is_lost(evidence: &Evidence<'_>) -> bool
 
 /// What to do for a pair of which numbers are lost or missed. Of a pair that is held all missed ones may have arrived.
 fn loss_advice(evidence: &Evidence<'_>) -> Option<Advice>
-    ensures { result ≡ loss_advice_lem (evidence_value evidence.now) }
+    ensures { result ≡ advice_spec.loss_advice (evidence_value evidence.now) }
 {
     if is_lost(evidence) {
         return Some(Advice::Lost);
@@ -136,7 +137,7 @@ fn loss_advice(evidence: &Evidence<'_>) -> Option<Advice>
 }
 
 fn complete_advice(evidence: &Evidence<'_>) -> Advice
-    ensures { result ≡ complete_advice_lem (evidence_value evidence.now) }
+    ensures { result ≡ advice_spec.complete_advice (evidence_value evidence.now) }
 {
     if let Some(advice) = loss_advice(evidence) {
         advice
@@ -149,7 +150,7 @@ fn complete_advice(evidence: &Evidence<'_>) -> Advice
 
 /// Whether a time is in the last second before the end, where there are both.
 fn is_last_second(time: Option<u64>, end: Option<u64>) -> bool
-    ensures { result ≡ is_last_second_lem time end }
+    ensures { result ≡ advice_spec.is_last_second time end }
 {
     match (time, end) {
         (Some(time), Some(end)) => end.saturating_sub(time) <= SECOND,
@@ -159,14 +160,14 @@ fn is_last_second(time: Option<u64>, end: Option<u64>) -> bool
 
 /// Whether a datagram came in the last second of the recording.
 fn came_last(times: &Times, datagram: u64) -> bool
-    ensures { result ≡ came_last_lem times.now datagram }
+    ensures { result ≡ advice_spec.came_last times.now datagram }
 {
     is_last_second(times.of_datagram(datagram), times.of_last_frame())
 }
 
 /// What to do where the reader was not asked since its last answer.
 fn unasked_advice(acknowledged: bool, left: bool) -> Advice
-    ensures { result ≡ unasked_advice_lem acknowledged left }
+    ensures { result ≡ advice_spec.unasked_advice acknowledged left }
 {
     if !acknowledged && left {
         Advice::Left
@@ -177,7 +178,7 @@ fn unasked_advice(acknowledged: bool, left: bool) -> Advice
 
 /// What to do where it was asked, at first in this datagram.
 fn unanswered_advice(times: &Times, acknowledged: bool, datagram: u64) -> Advice
-    ensures { result ≡ unanswered_advice_lem times.now acknowledged datagram }
+    ensures { result ≡ advice_spec.unanswered_advice times.now acknowledged datagram }
 {
     if came_last(times, datagram) {
         Advice::JustAsked
@@ -190,7 +191,7 @@ fn unanswered_advice(times: &Times, acknowledged: bool, datagram: u64) -> Advice
 
 /// What to do for an open pair whose number is told, by where its reader was asked first since its last answer.
 fn asked_advice(times: &Times, evidence: &Evidence<'_>, first: Option<Location>) -> Advice
-    ensures { result ≡ asked_advice_lem times.now (evidence_value evidence.now) first }
+    ensures { result ≡ advice_spec.asked_advice times.now (evidence_value evidence.now) first }
 {
     let acknowledged = evidence.acknowledgement.is_some();
     match first {
@@ -200,7 +201,7 @@ fn asked_advice(times: &Times, evidence: &Evidence<'_>, first: Option<Location>)
 }
 
 fn untold_open_advice(scope: Scope) -> Advice
-    ensures { result ≡ untold_open_advice_lem scope }
+    ensures { result ≡ advice_spec.untold_open_advice scope }
 {
     if scope.unread {
         Advice::OpenUnread
@@ -210,7 +211,7 @@ fn untold_open_advice(scope: Scope) -> Advice
 }
 
 fn are_alike(one: Payload<'_>, other: Payload<'_>) -> bool
-    ensures { result ≡ are_alike_lem (payload_value one.entry) (payload_value other.entry) }
+    ensures { result ≡ advice_spec.are_alike (payload_value one.entry) (payload_value other.entry) }
 {
     match (one, other) {
         (Payload::Absent, Payload::Absent) => true,
@@ -221,7 +222,7 @@ fn are_alike(one: Payload<'_>, other: Payload<'_>) -> bool
 }
 
 fn conflict_advice(first: Option<Sent<'_>>, other: Option<Sent<'_>>) -> Advice
-    ensures { result ≡ conflict_advice_lem (option_map sent_value first.entry) (option_map sent_value other.entry) }
+    ensures { result ≡ advice_spec.conflict_advice (option_map sent_value first.entry) (option_map sent_value other.entry) }
 {
     match (first, other) {
         (Some(first), Some(other)) if are_alike(first.payload, other.payload) => Advice::Alike,
@@ -230,7 +231,7 @@ fn conflict_advice(first: Option<Sent<'_>>, other: Option<Sent<'_>>) -> Advice
 }
 
 fn stand_together(teller: Option<Teller>, claim: Option<Claim>) -> bool
-    ensures { result ≡ stand_together_lem teller claim }
+    ensures { result ≡ advice_spec.stand_together teller claim }
 {
     match (teller, claim) {
         (Some(teller), Some(claim)) => teller.place.datagram == claim.place.datagram,
@@ -239,7 +240,7 @@ fn stand_together(teller: Option<Teller>, claim: Option<Claim>) -> bool
 }
 
 fn is_above(announcement: Option<Announcement>, number: i64) -> bool
-    ensures { result ≡ is_above_lem announcement number }
+    ensures { result ≡ advice_spec.is_above announcement number }
 {
     match announcement {
         None => true,
@@ -253,7 +254,7 @@ fn unfounded_advice(
     teller: Option<Teller>,
     claim: Option<Claim>,
 ) -> Advice
-    ensures { result ≡ unfounded_advice_lem scope (evidence_value evidence.now) teller claim }
+    ensures { result ≡ advice_spec.unfounded_advice scope (evidence_value evidence.now) teller claim }
 {
     if stand_together(teller, claim) {
         Advice::Relayed
@@ -323,7 +324,7 @@ impl Silences {
 
 /// What to do where this would be done of a pair whose two did not match late.
 fn late_advice(matched_late: bool, advice: Advice) -> Advice
-    ensures { result ≡ late_advice_lem matched_late advice }
+    ensures { result ≡ advice_spec.late_advice matched_late advice }
 {
     match advice {
         Advice::Unsent | Advice::MissedUnsent if matched_late => Advice::MatchedLate,
@@ -333,14 +334,14 @@ fn late_advice(matched_late: bool, advice: Advice) -> Advice
 
 /// Whether the reader of a row knows its writer: it acknowledged a number of the row, or all before it.
 fn is_known(evidence: &Evidence<'_>) -> bool
-    ensures { result ≡ is_known_lem (evidence_value evidence.now) }
+    ensures { result ≡ advice_spec.is_known (evidence_value evidence.now) }
 {
     evidence.acknowledgement.is_some() || is_tail(evidence)
 }
 
 /// What to do for a pair, of whose participants this is known.
 pub fn advice_of(scope: Scope, evidence: &Evidence<'_>, silences: Silences, times: &Times) -> Advice
-    ensures { result ≡ advice_of_lem times.now silences scope (evidence_value evidence.now) }
+    ensures { result ≡ advice_spec.advice_of times.now silences scope (evidence_value evidence.now) }
 {
     match silences.advice(is_known(evidence)) {
         Some(advice) => advice,
@@ -351,72 +352,11 @@ pub fn advice_of(scope: Scope, evidence: &Evidence<'_>, silences: Silences, time
 impl Advice {
     /// The last datagram of the participant that ended, where the advice is of one.
     pub fn ended_in(self) -> Option<u64>
-        ensures { result ≡ ended_in_lem self }
+        ensures { result ≡ advice_spec.ended_in self }
     {
         match self {
             Advice::ReaderEnded(last) | Advice::WriterEnded(last) => Some(last),
             _ => None,
-        }
-    }
-
-    /// In one sentence; of a participant that ended, without the time of its last datagram.
-    #[tactic(auto, unfolding(crate::specs::Advice::sentence_of))]
-    pub fn sentence(self) -> &'static str
-        ensures { result.now ≡ sentence_of self }
-    {
-        match self {
-            Advice::TwoLives =>
-                "two processes use the GUID of a participant of this pair, as after a copied disk image or a restart: the pair is a mixture of both",
-            Advice::ReaderEnded(_) =>
-                "the reader's process ended without leaving, or was cut off: see what it did",
-            Advice::WriterEnded(_) =>
-                "the writer's process ended without leaving, or was cut off: see what it did",
-            Advice::NotAnnounced =>
-                "its announcements are lost on the way: look at large announcements in IP fragments, and at multicast",
-            Advice::Lost =>
-                "it was sent and did not reach the reader's host: look at the network; raise the history depth, so that the writer still has what is asked for again",
-            Advice::MatchedLate =>
-                "the two matched late: what was written before that was not for it; use transient local, or wait for the match",
-            Advice::MissedUnsent =>
-                "the reader asked for it and the recording has none: it was lost before this recording, or record at the writer's side",
-            Advice::MissedAgain =>
-                "it was sent again, and nothing shows that it arrived: look at the network; a recording at the reader's side tells",
-            Advice::MissedOnce =>
-                "the reader asked for it and the writer did not send it again: raise the history depth or the lifespan, and look at the network",
-            Advice::Unsent =>
-                "the recording has none for this reader: at the reader's side it was lost on the way; at the writer's side a content filter or a short history kept it back",
-            Advice::Unanswered =>
-                "it was asked about and gave no answer until the writer had dropped them: an outage of the network or of the reader; raise the history depth if these must not be lost",
-            Advice::Tail =>
-                "stop publishing some seconds before the recording ends, or allow a tail (--tail)",
-            Advice::OpenUnread =>
-                "it may be in a fragment or frame that was not read: see below what to do for these",
-            Advice::OpenUntold =>
-                "the recording does not have it: record at the writer's side, on the interface that it uses",
-            Advice::Left =>
-                "it was never asked, or its answers are not in the recording: see that it took anything",
-            Advice::NotAsked =>
-                "the reader may have all: stop publishing, wait some seconds, and only then end the recording",
-            Advice::JustAsked => "record longer",
-            Advice::NeverAnswered =>
-                "the reader was asked and acknowledged nothing: see that it runs, and record both directions",
-            Advice::Silent =>
-                "the reader was asked and did not answer: it ended, nothing reaches it, or its answers take another way",
-            Advice::Alike =>
-                "compare their octets: the writer makes a new payload to resend it, or two processes use one GUID",
-            Advice::Unlike =>
-                "two processes use one GUID, as after a copied disk image or a restart; or the writer has a defect",
-            Advice::Relayed =>
-                "the sample and the answer are in one datagram: a relay packed them, or the recording was changed",
-            Advice::UnfoundedUnread =>
-                "it may be in a fragment or frame that was not read: see below what to do for these",
-            Advice::Late =>
-                "the datagrams are out of order, or the copy that the reader received is not here: record on one host",
-            Advice::Unannounced =>
-                "the reader acknowledged what nobody announced: it has a defect, or another writer had this GUID before",
-            Advice::BeganLate => "record from before the start of the participants",
-            Advice::Lacking =>
-                "the recording lacks it: see how many packets tcpdump says it dropped, and switch off shared memory",
         }
     }
 }

@@ -20,11 +20,11 @@ pub struct AskedAudit {
 }
 
 impl AskedAudit {
-    ghost use Rattle.rtps_report.specs.Asked.{plainly as plainly_lem};
+    ghost use Rattle.rtps_report.specs.Asked as asked_spec;
 
     /// By the numbers from `from` on, with fragments skipped.
     pub fn plainly(from: SeqNum) -> Self
-        ensures { result ≡ plainly_lem from }
+        ensures { result ≡ asked_spec.plainly from }
     {
         AskedAudit {
             from,

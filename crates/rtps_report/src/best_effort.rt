@@ -1,5 +1,6 @@
 ghost use Rattle.std.specs.Prelude.{◌≡◌, IfOk, OnOk, map};
-ghost use Rattle.rtps_report.specs.BestEfforts.{AreSumsOf, AreWithin, IsSmall, IsWithin, added_to, arrived_among as arrived_among_lem, best_effort_value, counted_value, held_among as held_among_lem, held_value, total_of as total_of_lem, with_counted as with_counted_lem};
+ghost use Rattle.rtps_report.specs.BestEfforts.{AreSumsOf, AreWithin, IsSmall, IsWithin, added_to, best_effort_value, counted_value, held_value};
+ghost use Rattle.rtps_report.specs.BestEfforts as best_efforts;
 
 use rtps_discovery::Pair;
 use rtps_evidence::{Arrived, ArrivedNumbers, Recorded};
@@ -63,7 +64,7 @@ impl BestEffort<'_> {
 /// One pair more.
 fn with_counted<'a>(sum: BestEffort<'a>, one: &Counted<'a>) -> BestEffort<'a>
     requires { IsWithin (best_effort_value sum) }
-    ensures sum { best_effort_value result ≡ with_counted_lem (best_effort_value sum.entry) (counted_value one.now) }
+    ensures sum { best_effort_value result ≡ best_efforts.with_counted (best_effort_value sum.entry) (counted_value one.now) }
     ensures small { IsSmall (counted_value one.now) }
 {
     BestEffort {
@@ -107,7 +108,7 @@ fn add_counted<'a>(sums: &mut Vec<BestEffort<'a>>, one: &Counted<'a>) -> Result<
 
 /// The sums of all these pairs.
 pub(crate) fn total_of(counted: &[Counted<'_>]) -> BestEffort<'static>
-    ensures { best_effort_value result ≡ total_of_lem (map counted_value counted.now) }
+    ensures { best_effort_value result ≡ best_efforts.total_of (map counted_value counted.now) }
 {
     let mut total = no_pairs(&[]);
     for one in counted {
@@ -141,7 +142,7 @@ pub(crate) fn held_among<'a>(
     alloc: Global,
     counted: &[Counted<'a>],
 ) -> Result<Vec<HeldPair<'a>>, Memory>
-    ensures { IfOk result (λ held. map held_value held.items ≡ held_among_lem (map counted_value counted.now)) }
+    ensures { IfOk result (λ held. map held_value held.items ≡ best_efforts.held_among (map counted_value counted.now)) }
 {
     let mut held = Vec::new(alloc);
     for one in counted {
@@ -162,7 +163,7 @@ pub(crate) fn arrived_among<'a>(
     alloc: Global,
     counted: &[Counted<'a>],
 ) -> Result<Vec<Counted<'a>>, Memory>
-    ensures { IfOk result (λ held. map counted_value held.items ≡ arrived_among_lem (map counted_value counted.now)) }
+    ensures { IfOk result (λ held. map counted_value held.items ≡ best_efforts.arrived_among (map counted_value counted.now)) }
 {
     let mut held = Vec::new(alloc);
     for one in counted {

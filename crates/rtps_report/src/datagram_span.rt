@@ -1,5 +1,6 @@
 ghost use Rattle.std.specs.Prelude.{◌≡◌, ◌++◌, ◌+◌, ◌≤◌, max, true, false, vec_len, vec_capacity, MatchOption, OnOk, OnErr};
-ghost use Rattle.rtps_report.specs.DatagramSpan.{end_of as end_of_lem, has_span, roomy_size, start_of as start_of_lem};
+ghost use Rattle.rtps_report.specs.DatagramSpan.{has_span, roomy_size};
+ghost use Rattle.rtps_report.specs.DatagramSpan as datagram_span;
 
 use std::alloc::AllocError;
 
@@ -27,7 +28,7 @@ impl DatagramSpan {
     pub fn new(from: usize, to: usize) -> Option<DatagramSpan>
         ensures { MatchOption result
             (has_span from to ≡ false)
-            (λ span. (has_span from to ≡ true) × (start_of_lem span ≡ from) × (end_of_lem span ≡ to)) }
+            (λ span. (has_span from to ≡ true) × (datagram_span.start_of span ≡ from) × (datagram_span.end_of span ≡ to)) }
     {
         if from > to || from >= STARTS {
             return None;
@@ -45,7 +46,7 @@ impl DatagramSpan {
     #[inline]
     #[tactic(auto, unfolding(crate::specs::DatagramSpan::start_of))]
     pub fn start(self) -> usize
-        ensures { result ≡ start_of_lem self }
+        ensures { result ≡ datagram_span.start_of self }
     {
         (self.bits / SIZES) as usize
     }
@@ -54,7 +55,7 @@ impl DatagramSpan {
     #[inline]
     #[tactic(auto, unfolding(crate::specs::DatagramSpan::end_of))]
     pub fn end(self) -> usize
-        ensures { result ≡ end_of_lem self }
+        ensures { result ≡ datagram_span.end_of self }
     {
         (self.bits / SIZES + self.bits % SIZES) as usize
     }

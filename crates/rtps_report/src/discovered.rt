@@ -36,7 +36,7 @@ pub(crate) struct Discovered<'a> {
     pub(crate) not_told: Vec<NotTold<'a>>,
     pub(crate) lives: Vec<TwoLives>,
     /// When writers and readers matched.
-    pub(crate) matches: Matches<'a>,
+    pub(crate) matches: Matches,
 }
 
 /// Who is there, and when.

@@ -5,7 +5,8 @@ ghost use Rattle.rtps_fragments.specs.RecordedSamples.{intake_as};
 ghost use Rattle.rtps_fragments.specs.declared.fragments.Fragments.TheVariants.{Read as ReadFragments};
 ghost use Rattle.rtps_receiver.specs.Values.{spoken_value};
 ghost use Rattle.rtps_report.specs.ActsRead.{datagrams_read};
-ghost use Rattle.rtps_report.specs.Early.{early_in as early_in_lem, early_of as early_of_lem, is_before as is_before_lem, is_early as is_early_lem, sources_of, speaks_behind as speaks_behind_lem, with_source};
+ghost use Rattle.rtps_report.specs.Early.{sources_of, with_source};
+ghost use Rattle.rtps_report.specs.Early as early_spec;
 ghost use Rattle.rtps_report.specs.Participants.{AreJoined};
 
 use crate::participant::joined_of;
@@ -36,7 +37,7 @@ const OF_READERS: [EntityId; 2] = [
 
 /// Whether an entity speaks only behind the announcement of its participant: one of a user, or one that announces endpoints.
 fn speaks_behind(entity: EntityId) -> bool
-    ensures { result ≡ speaks_behind_lem entity }
+    ensures { result ≡ early_spec.speaks_behind entity }
 {
     entity.0[3] < BUILT_IN
         || entity == OF_WRITERS[0]
@@ -47,7 +48,7 @@ fn speaks_behind(entity: EntityId) -> bool
 
 /// Whether a datagram stands before this place, if there is one.
 fn is_before(datagram: u64, place: Option<Location>) -> bool
-    ensures { result ≡ is_before_lem datagram place }
+    ensures { result ≡ early_spec.is_before datagram place }
 {
     match place {
         Some(place) => datagram < place.datagram,
@@ -57,7 +58,7 @@ fn is_before(datagram: u64, place: Option<Location>) -> bool
 
 /// Whether an act of a datagram stands before its participant is announced, or that is never announced.
 fn is_early(joined: &BTreeMap<Guid, Location>, datagram: u64, act: &Spoken<'_>) -> bool
-    ensures { (announcing : List PlacedValue) → AreJoined announcing joined.now → result ≡ is_early_lem announcing datagram (spoken_value act.now) }
+    ensures { (announcing : List PlacedValue) → AreJoined announcing joined.now → result ≡ early_spec.is_early announcing datagram (spoken_value act.now) }
 {
     let origin = act.origin();
     let place = joined.get(&participant_of(origin.prefix)).copied();
@@ -72,7 +73,7 @@ fn note_early(
     acts: &[Spoken<'_>],
 ) -> Result<(), Memory>
     ensures { OnOk result ((announcing : List PlacedValue) → AreJoined announcing joined.now
-        → early.new.keys ≡ fold with_source early.old.keys (filter (is_early_lem announcing datagram) (map spoken_value acts.now))) }
+        → early.new.keys ≡ fold with_source early.old.keys (filter (early_spec.is_early announcing datagram) (map spoken_value acts.now))) }
 {
     for act in acts {
         if is_early(joined, datagram, act) {
@@ -89,7 +90,7 @@ fn early_in(
     joined: &BTreeMap<Guid, Location>,
 ) -> Result<BTreeSet<GuidPrefix>, Memory>
     ensures { IfOk result (λ early. (announcing : List PlacedValue) → AreJoined announcing joined.now
-        → early.keys ≡ sources_of (early_in_lem announcing (datagrams_read (map (λ datagram. datagram.now) recording.now)))) }
+        → early.keys ≡ sources_of (early_spec.early_in announcing (datagrams_read (map (λ datagram. datagram.now) recording.now)))) }
 {
     let mut early = BTreeSet::new(alloc);
     let mut walk = FragmentWalk::new(alloc);
@@ -120,7 +121,7 @@ fn announcements_of<'a>(
 /// How many participants of a recording speak before they are announced, or are never announced. `Memory` is answered where there is none
 /// to find out.
 pub(crate) fn early_of(alloc: Global, recording: &Recording) -> Result<u64, Memory>
-    ensures { IfOk result (λ early. early ≡ early_of_lem recording.now.datagrams) }
+    ensures { IfOk result (λ early. early ≡ early_spec.early_of recording.now.datagrams) }
 {
     let mut samples = Samples::none(alloc);
     let announcements = announcements_of(alloc, recording, &mut samples)?;

@@ -1,6 +1,7 @@
 ghost use Rattle.std.specs.Prelude.{ℕ, ◌≡◌, ◌++◌, ◌∷◌, [], if◌then◌else◌, IfOk, List, OnOk, Some, map, not};
 ghost use Rattle.rtps_evidence.specs.Explanation.{ExplanationValue as ExplanationValueOf, explanation_value};
-ghost use Rattle.rtps_report.specs.Events.{AreEventRows, has_none, is_key, key_by, noted_key as noted_key_lem, rows_at, rows_value};
+ghost use Rattle.rtps_report.specs.Events.{AreEventRows, has_none, is_key, key_by, rows_at, rows_value};
+ghost use Rattle.rtps_report.specs.Events as events_spec;
 ghost use Rattle.rtps_report.specs.Talk.{TalkValue as TalkValueOf, talk_value};
 ghost use Rattle.rtps_report.specs.declared.event_rows.EventKey.{EventKey as EventKeyOf};
 
@@ -51,7 +52,7 @@ fn key_of(silences: Silences, pair: Pair) -> EventKey
 
 /// The event that a row belongs to; None of one that nobody has to look at.
 fn noted_key(talk: &Talk<'_>, tail: u64, row: &Explanation<'_>) -> Option<EventKey>
-    ensures { result ≡ noted_key_lem (talk_value talk.now) tail (explanation_value row.now) }
+    ensures { result ≡ events_spec.noted_key (talk_value talk.now) tail (explanation_value row.now) }
 {
     let silences = talk.silences(row.pair);
     if is_noted(tail, &row.evidence, silences) {
@@ -90,7 +91,7 @@ impl<'r, 'a> EventRows<'r, 'a> {
 
     /// Appends a row to those of its event, which there may not be yet. After an `Err` the rows are of no use.
     fn note(&mut self, key: EventKey, row: &'r Explanation<'a>) -> Result<(), AllocError>
-        ensures { OnOk result ((talk : TalkValueOf) (tail : ℕ) (rows : List ExplanationValueOf) → noted_key_lem talk tail (explanation_value row.entry.now) ≡ Some key
+        ensures { OnOk result ((talk : TalkValueOf) (tail : ℕ) (rows : List ExplanationValueOf) → events_spec.noted_key talk tail (explanation_value row.entry.now) ≡ Some key
             → AreEventRows talk tail rows self.old → AreEventRows talk tail (rows ++ explanation_value row.entry.now ∷ []) self.new) }
     {
         if !self.has_rows(key) {

@@ -1,9 +1,10 @@
 ghost use Rattle.std.specs.Prelude.{◌≡◌, IfOk, map, sum_by};
 ghost use Rattle.rtps_evidence.specs.Explanation.{evidence_value, explanation_value};
 ghost use Rattle.rtps_evidence.specs.Kinds.{lost_value};
-ghost use Rattle.rtps_evidence.specs.Waits.{precedes as precedes_lem};
+ghost use Rattle.rtps_evidence.specs.Waits as waits;
 ghost use Rattle.rtps_report.specs.Asked.{asked_value};
-ghost use Rattle.rtps_report.specs.Events.{asked_among, asked_in as asked_in_lem, earlier as earlier_lem, event_value, event_with, events_in, events_of as events_of_lem, first_among, first_sent as first_sent_lem, heard_in, last_among, last_sent as last_sent_lem, later as later_lem, numbers_lost as numbers_lost_lem, rows_value, sent_in, waiting_in};
+ghost use Rattle.rtps_report.specs.Events.{asked_among, event_value, event_with, events_in, first_among, heard_in, last_among, rows_value, sent_in, waiting_in};
+ghost use Rattle.rtps_report.specs.Events as events_spec;
 ghost use Rattle.rtps_report.specs.FullReport.{lost_of as lost_of_report, report_value, rows_of};
 ghost use Rattle.rtps_report.specs.Talk.{talk_value};
 
@@ -44,7 +45,7 @@ struct Losses<'t> {
 /// How many numbers of a row are lost: those that are asked about and are neither received nor arrived, and of a row that is not held
 /// neither likely nor unconfirmed.
 fn numbers_lost(from: u64, evidence: &Evidence<'_>) -> u64
-    ensures { result ≡ numbers_lost_lem from (evidence_value evidence.now) }
+    ensures { result ≡ events_spec.numbers_lost from (evidence_value evidence.now) }
 {
     let numbers = asked_about(row_from(from, evidence), evidence.announcement);
     let outcomes = outcomes_of(evidence);
@@ -61,14 +62,14 @@ fn numbers_lost(from: u64, evidence: &Evidence<'_>) -> u64
 
 /// Whether a place stands before another: in an earlier datagram, or further to the front of the same one.
 fn precedes(one: Location, other: Location) -> bool
-    ensures { result ≡ precedes_lem one other }
+    ensures { result ≡ waits.precedes one other }
 {
     one.datagram < other.datagram || (one.datagram == other.datagram && one.at < other.at)
 }
 
 /// The earlier of two places, where there are two.
 fn earlier(one: Option<Location>, other: Option<Location>) -> Option<Location>
-    ensures { result ≡ earlier_lem one other }
+    ensures { result ≡ events_spec.earlier one other }
 {
     match (one, other) {
         (Some(one), Some(other)) => Some(if precedes(other, one) { other } else { one }),
@@ -79,7 +80,7 @@ fn earlier(one: Option<Location>, other: Option<Location>) -> Option<Location>
 
 /// The later of two places, where there are two.
 fn later(one: Option<Location>, other: Option<Location>) -> Option<Location>
-    ensures { result ≡ later_lem one other }
+    ensures { result ≡ events_spec.later one other }
 {
     match (one, other) {
         (Some(one), Some(other)) => Some(if precedes(one, other) { other } else { one }),
@@ -97,7 +98,7 @@ fn sent_of(losses: Losses<'_>, row: &Explanation<'_>) -> Option<SentSpan>
 
 /// Where the first of them is sent first.
 fn first_sent(losses: Losses<'_>, row: &Explanation<'_>) -> Option<Location>
-    ensures { result ≡ first_sent_lem (map lost_value losses.entry.lost.now) (explanation_value row.now) }
+    ensures { result ≡ events_spec.first_sent (map lost_value losses.entry.lost.now) (explanation_value row.now) }
 {
     match sent_of(losses, row) {
         Some(span) => Some(span.first),
@@ -107,7 +108,7 @@ fn first_sent(losses: Losses<'_>, row: &Explanation<'_>) -> Option<Location>
 
 /// Where the last of them is.
 fn last_sent(losses: Losses<'_>, row: &Explanation<'_>) -> Option<Location>
-    ensures { result ≡ last_sent_lem (map lost_value losses.entry.lost.now) (explanation_value row.now) }
+    ensures { result ≡ events_spec.last_sent (map lost_value losses.entry.lost.now) (explanation_value row.now) }
 {
     match sent_of(losses, row) {
         Some(span) => Some(span.last),
@@ -127,7 +128,7 @@ fn waiting_at(evidence: &Evidence<'_>) -> Option<Location>
 
 /// The same, where the reader's participant is the silent one of an event.
 fn asked_in(key: EventKey, row: &Explanation<'_>) -> Option<Location>
-    ensures { result ≡ asked_in_lem key (explanation_value row.now) }
+    ensures { result ≡ events_spec.asked_in key (explanation_value row.now) }
 {
     if key.second.is_none() && key.first == row.pair.reader.prefix {
         waiting_at(&row.evidence)
@@ -149,7 +150,7 @@ fn places_of(alloc: Global, rows: &[&Explanation<'_>]) -> Result<Vec<u64>, Alloc
 
 /// How many numbers of these rows are lost.
 fn numbers_of(losses: Losses<'_>, rows: &[&Explanation<'_>]) -> u128
-    ensures { result ≡ sum_by (λ row. numbers_lost_lem losses.entry.from row.evidence) (rows_value rows.now) }
+    ensures { result ≡ sum_by (λ row. events_spec.numbers_lost losses.entry.from row.evidence) (rows_value rows.now) }
 {
     let mut numbers = 0u128;
     for row in rows {
@@ -247,7 +248,7 @@ fn found_in(alloc: Global, report: &FullReport<'_>) -> Result<Vec<Event>, AllocE
 
 /// The events of a report: first that with most numbers; of those with as many, the one with the first row.
 pub fn events_of(alloc: Global, report: &FullReport<'_>) -> Result<Vec<Event>, AllocError>
-    ensures { IfOk result (λ events. map event_value events.items ≡ events_of_lem (asked_value report.now.asked.now) (report_value report.now)) }
+    ensures { IfOk result (λ events. map event_value events.items ≡ events_spec.events_of (asked_value report.now.asked.now) (report_value report.now)) }
 {
     let mut events = found_in(alloc, report)?;
     events.sort_by_key(|event| Reverse(event.numbers))?;

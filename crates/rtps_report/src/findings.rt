@@ -1,6 +1,7 @@
 ghost use Rattle.std.specs.Prelude.{◌≡◌, Option};
 ghost use Rattle.rtps_report.specs.Asked.{asked_value};
-ghost use Rattle.rtps_report.specs.Findings.{are_none, ending_by, few_of as few_of_lem, findings_of as findings_of_lem, lossy_of as lossy_of_lem, no_findings, nobody};
+ghost use Rattle.rtps_report.specs.Findings.{are_none, ending_by, no_findings, nobody};
+ghost use Rattle.rtps_report.specs.Findings as findings_spec;
 
 use crate::asked::Asked;
 use crate::best_effort::BestEffortNumbers;
@@ -131,7 +132,7 @@ impl Findings {
 }
 
 fn few_of(expect: Option<u64>, rows: u64) -> Option<FewRows>
-    ensures { result ≡ few_of_lem expect rows }
+    ensures { result ≡ findings_spec.few_of expect rows }
 {
     match expect {
         Some(expected) if rows < expected => Some(FewRows { rows, expected }),
@@ -140,7 +141,7 @@ fn few_of(expect: Option<u64>, rows: u64) -> Option<FewRows>
 }
 
 fn lossy_of(rows: u64, best_effort: BestEffortNumbers) -> Option<BestEffortNumbers>
-    ensures { result ≡ lossy_of_lem rows best_effort }
+    ensures { result ≡ findings_spec.lossy_of rows best_effort }
 {
     if rows == 0 && best_effort.recorded < best_effort.numbers {
         Some(best_effort)
@@ -150,7 +151,7 @@ fn lossy_of(rows: u64, best_effort: BestEffortNumbers) -> Option<BestEffortNumbe
 }
 
 fn findings_of(asked: &Asked<'_>, facts: &Facts) -> Findings
-    ensures { result ≡ findings_of_lem (asked_value asked.now) facts.now }
+    ensures { result ≡ findings_spec.findings_of (asked_value asked.now) facts.now }
 {
     let reasons = known(facts.reasons);
     Findings {
@@ -171,7 +172,7 @@ fn findings_of(asked: &Asked<'_>, facts: &Facts) -> Findings
 
 /// How a run ends that printed a report of which this is known.
 pub fn ending_of(asked: &Asked<'_>, facts: &Facts) -> Ending
-    ensures { result ≡ ending_by (findings_of_lem (asked_value asked.now) facts.now) facts.now.met }
+    ensures { result ≡ ending_by (findings_spec.findings_of (asked_value asked.now) facts.now) facts.now.met }
 {
     let findings = findings_of(asked, facts);
     if !findings.is_none() {

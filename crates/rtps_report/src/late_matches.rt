@@ -5,9 +5,12 @@ ghost use Rattle.rtps_discovery.specs.Matching.{reliable_pairs};
 ghost use Rattle.rtps_discovery.specs.declared.matching.Pair.{Pair as PairOf};
 ghost use Rattle.rtps_known.specs.Matched.{AreMatchesOf};
 ghost use Rattle.rtps_known.specs.Places.{PlacedAct};
-ghost use Rattle.rtps_policies.specs.Unmatched.{pair_of as pair_of_lem, unmatched_value};
-ghost use Rattle.rtps_report.specs.LateMatches.{is_mixed as is_mixed_lem, late_by as late_by_lem, late_of as late_of_lem, late_with as late_with_lem, location_of};
-ghost use Rattle.rtps_report.specs.Talk.{is_pair, late_among as late_among_lem, late_kept};
+ghost use Rattle.rtps_policies.specs.Unmatched.{unmatched_value};
+ghost use Rattle.rtps_policies.specs.Unmatched as unmatched;
+ghost use Rattle.rtps_report.specs.LateMatches.{location_of};
+ghost use Rattle.rtps_report.specs.LateMatches as late_matches;
+ghost use Rattle.rtps_report.specs.Talk.{is_pair, late_kept};
+ghost use Rattle.rtps_report.specs.Talk as talk_spec;
 
 use crate::talk::pair_of;
 use crate::two_lives::{TwoLives, lives_twice};
@@ -33,7 +36,7 @@ const MOST_DELAY: u64 = 1_000_000_000;
 
 /// A match at a place, if it is late.
 fn late_with(place: Place, delay: Option<u64>) -> Option<LateMatch>
-    ensures { result ≡ late_with_lem place delay }
+    ensures { result ≡ late_matches.late_with place delay }
 {
     match delay {
         Some(delay) if delay > MOST_DELAY => Some(LateMatch {
@@ -49,7 +52,7 @@ fn late_with(place: Place, delay: Option<u64>) -> Option<LateMatch>
 
 /// A match, if it is late.
 fn late_by(matched: Option<Matched>) -> Option<LateMatch>
-    ensures { result ≡ late_by_lem matched }
+    ensures { result ≡ late_matches.late_by matched }
 {
     match matched {
         Some(matched) => late_with(matched.place, matched.delay),
@@ -59,7 +62,7 @@ fn late_by(matched: Option<Matched>) -> Option<LateMatch>
 
 /// Whether a participant of the two of a pair has two of these lives.
 pub(crate) fn is_mixed(lives: &[TwoLives], pair: Pair) -> bool
-    ensures { result ≡ is_mixed_lem lives.now pair }
+    ensures { result ≡ late_matches.is_mixed lives.now pair }
 {
     let writer = participant_of(pair.writer.prefix);
     let reader = participant_of(pair.reader.prefix);
@@ -67,8 +70,8 @@ pub(crate) fn is_mixed(lives: &[TwoLives], pair: Pair) -> bool
 }
 
 /// That the two of a pair matched late, if they did.
-fn late_of(matches: &Matches<'_>, lives: &[TwoLives], pair: Pair) -> Option<LateMatch>
-    ensures { (acts : List PlacedAct) → AreMatchesOf acts matches.now → result ≡ late_of_lem acts lives.now pair }
+fn late_of(matches: &Matches, lives: &[TwoLives], pair: Pair) -> Option<LateMatch>
+    ensures { (acts : List PlacedAct) → AreMatchesOf acts matches.now → result ≡ late_matches.late_of acts lives.now pair }
 {
     if is_mixed(lives, pair) {
         return None;
@@ -94,12 +97,12 @@ fn keep_late(
 /// Which of these pairs matched late.
 pub(crate) fn late_among(
     alloc: Global,
-    matches: &Matches<'_>,
+    matches: &Matches,
     lives: &[TwoLives],
     pairs: &[Pair],
 ) -> Result<BTreeMap<Pair, LateMatch>, Memory>
     ensures { IfOk result (λ late. (acts : List PlacedAct) → AreMatchesOf acts matches.now
-        → (pair : PairOf) → get pair_cmp late pair ≡ late_among_lem acts lives.now pairs.now pair) }
+        → (pair : PairOf) → get pair_cmp late pair ≡ talk_spec.late_among acts lives.now pairs.now pair) }
 {
     let mut late = BTreeMap::new(alloc);
     for pair in pairs {
@@ -122,7 +125,7 @@ fn push_reliable(pairs: &mut Vec<Pair>, matched: &[Match]) -> Result<(), Memory>
 
 /// Adds the pairs that talk though they do not match.
 fn push_talking(pairs: &mut Vec<Pair>, talking: &[Unmatched<'_>]) -> Result<(), Memory>
-    ensures { OnOk result (pairs.new.items ≡ pairs.old.items ++ map pair_of_lem (map unmatched_value talking.now)) }
+    ensures { OnOk result (pairs.new.items ≡ pairs.old.items ++ map unmatched.pair_of (map unmatched_value talking.now)) }
 {
     for one in talking {
         pairs.push(pair_of(one))?;
@@ -136,7 +139,7 @@ pub(crate) fn judged_pairs(
     matched: &[Match],
     talking: &[Unmatched<'_>],
 ) -> Result<Vec<Pair>, Memory>
-    ensures { IfOk result (λ pairs. pairs.items ≡ reliable_pairs matched.now ++ map pair_of_lem (map unmatched_value talking.now)) }
+    ensures { IfOk result (λ pairs. pairs.items ≡ reliable_pairs matched.now ++ map unmatched.pair_of (map unmatched_value talking.now)) }
 {
     let mut pairs = Vec::new(alloc);
     push_reliable(&mut pairs, matched)?;

@@ -1,7 +1,7 @@
 ghost use Rattle.std.specs.Prelude.{◌≡◌, ◌≤◌, ◌++◌, drop, filter, IfOk, length, List, OnOk, map, take};
 ghost use Rattle.rtps_audit.specs.Intake.{Intake};
 ghost use Rattle.rtps_audit.specs.Placed.{PlacedValue, placed_value};
-ghost use Rattle.rtps_evidence.specs.UnansweredLaw.{is_data_frag as is_data_frag_lem};
+ghost use Rattle.rtps_evidence.specs.UnansweredLaw as unanswered_law;
 ghost use Rattle.rtps_fragments.specs.Announcements.{announcements_in};
 ghost use Rattle.rtps_known.specs.Matched.{AreMatchesOf};
 ghost use Rattle.rtps_known.specs.Places.{PlacedAct};
@@ -10,7 +10,8 @@ ghost use Rattle.rtps_known.specs.Tellings.{TimedAct};
 ghost use Rattle.rtps_policies.specs.Namings.{AreNamingsOf};
 ghost use Rattle.rtps_receiver.specs.Values.{spoken_value};
 ghost use Rattle.rtps_report.specs.ActsRead.{acts_at, datagrams_read, timed_acts};
-ghost use Rattle.rtps_report.specs.MatchingActs.{act_placed, acts_placed, came_as as came_lem, of_datagram, run_of, run_past, samples_at, sent_as as sent_as_lem, with_samples};
+ghost use Rattle.rtps_report.specs.MatchingActs.{act_placed, acts_placed, of_datagram, run_of, run_past, samples_at, with_samples};
+ghost use Rattle.rtps_report.specs.MatchingActs as matching_acts;
 ghost use Rattle.rtps_report.specs.Talk.{acts_of_matching};
 
 use rtps_audit::{Placed, place};
@@ -24,13 +25,13 @@ use std::alloc::Global;
 
 /// What all acts of a recording say that are read, fragments among them.
 #[derive(Drop)]
-pub(crate) struct Walked<'a> {
+pub(crate) struct Walked {
     /// Which participants name which.
     pub(crate) namings: Namings,
     /// What discovery has told whom.
     pub(crate) known: Known,
     /// When writers and readers matched.
-    pub(crate) matches: Matches<'a>,
+    pub(crate) matches: Matches,
 }
 
 /// The number of a datagram, counted from 1, and when it came.
@@ -42,7 +43,7 @@ pub(crate) struct Came {
 
 /// The datagram of this number, as it came.
 fn came_as(times: &Times, datagram: u64) -> Came
-    ensures { result ≡ came_lem times.now.of_datagrams datagram }
+    ensures { result ≡ matching_acts.came_as times.now.of_datagrams datagram }
 {
     Came {
         datagram,
@@ -73,7 +74,7 @@ fn place_in(came: Came, act: &Spoken<'_>) -> Place
 }
 
 fn is_data_frag(act: &Spoken<'_>) -> bool
-    ensures { result ≡ is_data_frag_lem (spoken_value act.now).body }
+    ensures { result ≡ unanswered_law.is_data_frag (spoken_value act.now).body }
 {
     match &act.body {
         SpokenBody::Act(_) | SpokenBody::NackFrag(_) => false,
@@ -83,7 +84,7 @@ fn is_data_frag(act: &Spoken<'_>) -> bool
 
 /// A sample, for those to whom the act is sent that completes it.
 fn sent_as<'a>(act: &Spoken<'_>, sample: &Placed<'a>) -> Spoken<'a>
-    ensures { spoken_value result ≡ sent_as_lem (spoken_value act.now) (placed_value sample.now).act }
+    ensures { spoken_value result ≡ matching_acts.sent_as (spoken_value act.now) (placed_value sample.now).act }
 {
     let copy = place(sample.datagram, &sample.act);
     Spoken {
@@ -93,10 +94,10 @@ fn sent_as<'a>(act: &Spoken<'_>, sample: &Placed<'a>) -> Spoken<'a>
 }
 
 /// Keeps those of the samples of a datagram that an act completes. After `Memory` it is of no use.
-fn note_samples<'a>(
-    matches: &mut Matches<'a>,
+fn note_samples(
+    matches: &mut Matches,
     act: &Spoken<'_>,
-    samples: &[Placed<'a>],
+    samples: &[Placed<'_>],
     came: Came,
 ) -> Result<(), Memory>
     ensures { OnOk result ((before : List PlacedAct) → AreMatchesOf before matches.old
@@ -111,10 +112,10 @@ fn note_samples<'a>(
 }
 
 /// Keeps an act, and behind it the samples that it completes, of these of its datagram. After `Memory` it is of no use.
-fn note_act<'a>(
-    matches: &mut Matches<'a>,
-    act: &Spoken<'a>,
-    samples: &[Placed<'a>],
+fn note_act(
+    matches: &mut Matches,
+    act: &Spoken<'_>,
+    samples: &[Placed<'_>],
     came: Came,
 ) -> Result<(), Memory>
     ensures { OnOk result ((before : List PlacedAct) (announcements : List PlacedValue) → map placed_value samples.now ≡ filter (of_datagram came.datagram) announcements
@@ -128,10 +129,10 @@ fn note_act<'a>(
 }
 
 /// Keeps the acts of a datagram, each with the samples that it completes. After `Memory` it is of no use.
-fn note_matches<'a>(
-    matches: &mut Matches<'a>,
-    acts: &[Spoken<'a>],
-    samples: &[Placed<'a>],
+fn note_matches(
+    matches: &mut Matches,
+    acts: &[Spoken<'_>],
+    samples: &[Placed<'_>],
     came: Came,
 ) -> Result<(), Memory>
     ensures { OnOk result ((before : List PlacedAct) (announcements : List PlacedValue) → map placed_value samples.now ≡ filter (of_datagram came.datagram) announcements
@@ -173,12 +174,12 @@ pub(crate) fn namings_of(alloc: Global, recording: &[&[u8]]) -> Result<Namings, 
 
 /// What a recording says, any datagrams, which came then. These are the DATA of its built-in writers. `Memory` is answered where what is kept
 /// cannot grow.
-pub(crate) fn walk_all<'a>(
+pub(crate) fn walk_all(
     alloc: Global,
-    recording: &[&'a [u8]],
-    announcements: &[Placed<'a>],
+    recording: &[&[u8]],
+    announcements: &[Placed<'_>],
     times: &Times,
-) -> Result<Walked<'a>, Memory>
+) -> Result<Walked, Memory>
     ensures namings { IfOk result (λ walked. AreNamingsOf (datagrams_read (map (λ datagram. datagram.now) recording.now)) walked.namings) }
     ensures known { IfOk result (λ walked. IsKnownOf (timed_acts (map (λ datagram. datagram.now) recording.now) times.now.of_datagrams) walked.known) }
     ensures matches { IfOk result (λ walked. (intake : Intake) → map placed_value announcements.now ≡ announcements_in intake.announcing

@@ -4,11 +4,12 @@ ghost use Rattle.rtps_audit.specs.Index.{IsIndexBy};
 ghost use Rattle.rtps_fragments.specs.RecordedSamples.{intake_as};
 ghost use Rattle.rtps_fragments.specs.declared.fragments.Fragments.TheVariants.{Read as ReadFragments};
 ghost use Rattle.rtps_report.specs.Asked.{asked_value};
-ghost use Rattle.rtps_report.specs.Early.{early_of as early_of_lem};
+ghost use Rattle.rtps_report.specs.Early as early_spec;
 ghost use Rattle.rtps_report.specs.FullReport.{report_value};
-ghost use Rattle.rtps_report.specs.NoPair.{IsNoPairOf, apart_in as apart_in_lem, by_endpoints as by_endpoints_lem, by_participants as by_participants_lem, in_domain as in_domain_lem, in_domains as in_domains_lem, is_elsewhere as is_elsewhere_lem, is_rtps as is_rtps_lem, no_pair_by};
+ghost use Rattle.rtps_report.specs.NoPair.{IsNoPairOf, no_pair_by};
+ghost use Rattle.rtps_report.specs.NoPair as no_pair;
 ghost use Rattle.rtps_report.specs.OneSides.{one_sided_value};
-ghost use Rattle.rtps_report.specs.Stays.{sender_of as sender_of_lem};
+ghost use Rattle.rtps_report.specs.Stays as stays;
 ghost use Rattle.rtps_report.specs.Talk.{talk_value};
 
 use crate::early::early_of;
@@ -63,14 +64,14 @@ pub enum NoPair {
 
 /// Whether a datagram has a header of RTPS.
 fn has_header(datagram: &[u8]) -> bool
-    ensures { result ≡ is_some (sender_of_lem datagram.now) }
+    ensures { result ≡ is_some (stays.sender_of datagram.now) }
 {
     sender_of(datagram).is_some()
 }
 
 /// Whether some datagram has one.
 fn is_rtps(recording: &[&[u8]]) -> bool
-    ensures { result ≡ is_rtps_lem (map (λ datagram. datagram.now) recording.now) }
+    ensures { result ≡ no_pair.is_rtps (map (λ datagram. datagram.now) recording.now) }
 {
     for datagram in recording {
         if has_header(datagram) {
@@ -82,7 +83,7 @@ fn is_rtps(recording: &[&[u8]]) -> bool
 
 /// A participant and its domain, where that is known.
 fn in_domain(participant: &Participant) -> Option<InDomain>
-    ensures { result ≡ in_domain_lem participant.now }
+    ensures { result ≡ no_pair.in_domain participant.now }
 {
     Some(InDomain {
         participant: participant.guid,
@@ -92,7 +93,7 @@ fn in_domain(participant: &Participant) -> Option<InDomain>
 
 /// Adds a participant, if its domain is known.
 fn push_known(known: &mut Vec<InDomain>, participant: &Participant) -> Result<(), Memory>
-    ensures { OnOk result (known.new.items ≡ known.old.items ++ in_domains_lem (participant.now ∷ [])) }
+    ensures { OnOk result (known.new.items ≡ known.old.items ++ no_pair.in_domains (participant.now ∷ [])) }
 {
     match in_domain(participant) {
         Some(one) => known.push(one)?,
@@ -103,7 +104,7 @@ fn push_known(known: &mut Vec<InDomain>, participant: &Participant) -> Result<()
 
 /// The participants whose domain is known.
 fn in_domains(alloc: Global, participants: &[Participant]) -> Result<Vec<InDomain>, Memory>
-    ensures { IfOk result (λ known. known.items ≡ in_domains_lem participants.now) }
+    ensures { IfOk result (λ known. known.items ≡ no_pair.in_domains participants.now) }
 {
     let mut known = Vec::new(alloc);
     for participant in participants {
@@ -114,7 +115,7 @@ fn in_domains(alloc: Global, participants: &[Participant]) -> Result<Vec<InDomai
 
 /// The first of these that is in another domain.
 fn elsewhere(one: InDomain, others: &[InDomain]) -> Option<InDomain>
-    ensures { result ≡ find (is_elsewhere_lem one) others.now }
+    ensures { result ≡ find (no_pair.is_elsewhere one) others.now }
 {
     for other in others {
         if other.domain != one.domain {
@@ -126,7 +127,7 @@ fn elsewhere(one: InDomain, others: &[InDomain]) -> Option<InDomain>
 
 /// The first of these, and the first behind it that is in another domain.
 fn apart_in(known: &[InDomain]) -> Option<(InDomain, InDomain)>
-    ensures { result ≡ apart_in_lem known.now }
+    ensures { result ≡ no_pair.apart_in known.now }
 {
     let (one, others) = known.split_first()?;
     let other = elsewhere(*one, others)?;
@@ -147,7 +148,7 @@ fn share_memory(participants: &[Participant]) -> bool
 
 /// The cause by endpoints.
 fn by_endpoints(talk: &Talk<'_>, one_side: bool) -> NoPair
-    ensures { result ≡ by_endpoints_lem (talk_value talk.now) one_side }
+    ensures { result ≡ no_pair.by_endpoints (talk_value talk.now) one_side }
 {
     if !talk.one_way.is_empty() {
         NoPair::OneWay
@@ -166,7 +167,7 @@ fn by_endpoints(talk: &Talk<'_>, one_side: bool) -> NoPair
 
 /// The cause by participants, and then by endpoints.
 fn by_participants(talk: &Talk<'_>, known: &[InDomain], one_side: bool) -> NoPair
-    ensures { known.now ≡ in_domains_lem (talk_value talk.now).participants → result ≡ by_participants_lem (talk_value talk.now) one_side }
+    ensures { known.now ≡ no_pair.in_domains (talk_value talk.now).participants → result ≡ no_pair.by_participants (talk_value talk.now) one_side }
 {
     let participants = &talk.participants;
     if participants.is_empty() {
@@ -195,7 +196,7 @@ pub struct WhyNoPair<'a> {
 
 /// The cause of a report, by the topics that have one side alone.
 fn cause_in(alloc: Global, report: &FullReport<'_>, one_side: bool) -> Result<NoPair, Memory>
-    ensures { IfOk result (λ cause. cause ≡ no_pair_by report.now.recording.now.datagrams (early_of_lem report.now.recording.now.datagrams) (talk_value report.now.talk) one_side) }
+    ensures { IfOk result (λ cause. cause ≡ no_pair_by report.now.recording.now.datagrams (early_spec.early_of report.now.recording.now.datagrams) (talk_value report.now.talk) one_side) }
 {
     let talk = &report.talk;
     if talk.best_effort_total.numbers > 0 {

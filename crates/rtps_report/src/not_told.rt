@@ -4,7 +4,8 @@ ghost use Rattle.std.specs.BTreeSet.{contains};
 ghost use Rattle.rtps_ids.specs.declared.identity.Guid.{Guid as GuidOf};
 ghost use Rattle.rtps_audit.specs.Placed.{is_guid};
 ghost use Rattle.rtps_discovery.specs.GuidOrder.{guid_cmp};
-ghost use Rattle.rtps_report.specs.NotTold.{endpoints_of as endpoints_of_lem, is_between as is_between_lem, is_not_told_of as is_not_told_of_lem, not_told_by, not_told_counts as not_told_counts_lem, not_told_value, topic_end_value, with_topic as with_topic_lem};
+ghost use Rattle.rtps_report.specs.NotTold.{not_told_by, not_told_value, topic_end_value};
+ghost use Rattle.rtps_report.specs.NotTold as not_told;
 
 use crate::participant::Participant;
 use crate::topics::topic_of;
@@ -49,7 +50,7 @@ fn with_topics<'a>(
     directory: &Directory<'a>,
     guids: &[Guid],
 ) -> Result<Vec<TopicEnd<'a>>, AllocError>
-    ensures { IfOk result (λ ends. map topic_end_value ends.items ≡ map (with_topic_lem directory.now.endpoints) guids.now) }
+    ensures { IfOk result (λ ends. map topic_end_value ends.items ≡ map (not_told.with_topic directory.now.endpoints) guids.now) }
 {
     let mut ends = Vec::with_capacity(alloc, guids.len())?;
     for guid in guids {
@@ -105,7 +106,7 @@ fn those_not_told(alloc: Global, found: &[NotTold<'_>]) -> Result<BTreeSet<Guid>
 
 /// How many endpoints that is, as far as a `u64` counts.
 fn endpoints_of(one: &NotTold<'_>) -> u64
-    ensures { result ≡ endpoints_of_lem (not_told_value one.now) }
+    ensures { result ≡ not_told.endpoints_of (not_told_value one.now) }
 {
     let writers = one.writers.len() as u64;
     let readers = one.readers.len() as u64;
@@ -114,7 +115,7 @@ fn endpoints_of(one: &NotTold<'_>) -> u64
 
 /// How many all of these are.
 fn endpoints_among(found: &[NotTold<'_>]) -> u128
-    ensures { result ≡ sum_by endpoints_of_lem (map not_told_value found.now) }
+    ensures { result ≡ sum_by not_told.endpoints_of (map not_told_value found.now) }
 {
     let mut endpoints: u128 = 0;
     for one in found {
@@ -140,7 +141,7 @@ pub(crate) fn not_told_counts(
     participants: &[Participant],
     found: &[NotTold<'_>],
 ) -> Result<NotToldCounts, Memory>
-    ensures { IfOk result (λ counts. counts ≡ not_told_counts_lem participants.now (map not_told_value found.now)) }
+    ensures { IfOk result (λ counts. counts ≡ not_told.not_told_counts participants.now (map not_told_value found.now)) }
 {
     let those = those_not_told(alloc, found)?;
     Ok(NotToldCounts {
@@ -151,14 +152,14 @@ pub(crate) fn not_told_counts(
 
 /// Whether it is of these two.
 fn is_between(one: &NotTold<'_>, from: Guid, to: Guid) -> bool
-    ensures { result ≡ is_between_lem from to (not_told_value one.now) }
+    ensures { result ≡ not_told.is_between from to (not_told_value one.now) }
 {
     one.from == from && one.to == to
 }
 
 /// Whether a participant was not told of something of another.
 pub(crate) fn is_not_told_of(found: &[NotTold<'_>], from: Guid, to: Guid) -> bool
-    ensures { result ≡ is_not_told_of_lem (map not_told_value found.now) from to }
+    ensures { result ≡ not_told.is_not_told_of (map not_told_value found.now) from to }
 {
     for one in found {
         if is_between(one, from, to) {

@@ -2,7 +2,7 @@ ghost use Rattle.std.specs.Prelude.{◌≡◌, map};
 ghost use Rattle.rtps_evidence.specs.Explanation.{evidence_value, explanation_value};
 ghost use Rattle.rtps_report.specs.Asked.{asked_value};
 ghost use Rattle.rtps_report.specs.FullReport.{report_value};
-ghost use Rattle.rtps_report.specs.NoteFacts.{back_in as back_in_lem, clean_tail_of as clean_tail_of_lem, is_unread as is_unread_lem, longest_clean_tail as longest_clean_tail_lem, note_facts as note_facts_lem, scope_of as scope_of_lem, short_in as short_in_lem};
+ghost use Rattle.rtps_report.specs.NoteFacts as note_facts;
 
 use crate::advice::Scope;
 use crate::full_report::FullReport;
@@ -42,7 +42,7 @@ pub struct NoteFacts {
 
 /// Whether parts of the recording were not read that may have samples.
 fn is_unread(counts: &Counts, reasons: Option<Reasons>) -> bool
-    ensures { result ≡ is_unread_lem counts.now reasons }
+    ensures { result ≡ note_facts.is_unread counts.now reasons }
 {
     let reasons = known(reasons);
     counts.fragments > 0 || reasons.pieces > 0 || reasons.cut > 0
@@ -52,14 +52,14 @@ fn is_unread(counts: &Counts, reasons: Option<Reasons>) -> bool
 const MOST_BACK: u64 = 1_000_000;
 
 fn back_in(times: &Times) -> u64
-    ensures { result ≡ back_in_lem times.now.of_datagrams }
+    ensures { result ≡ note_facts.back_in times.now.of_datagrams }
 {
     let step = times.step_back();
     if step > MOST_BACK { step } else { 0 }
 }
 
 fn short_in(recording: &Recording) -> u64
-    ensures { result ≡ short_in_lem recording.now.datagrams }
+    ensures { result ≡ note_facts.short_in recording.now.datagrams }
 {
     let datagrams = recording.datagrams();
     datagrams.filter(|octets| octets.len() <= 1).count() as u64
@@ -67,7 +67,7 @@ fn short_in(recording: &Recording) -> u64
 
 /// What a row of a report is told by beside its pair.
 pub fn scope_of(report: &FullReport<'_>) -> Scope
-    ensures { result ≡ scope_of_lem (asked_value report.now.asked.now) report.now.recording.now (report_value report.now) }
+    ensures { result ≡ note_facts.scope_of (asked_value report.now.asked.now) report.now.recording.now (report_value report.now) }
 {
     Scope {
         from: report.asked.first_asked(),
@@ -77,7 +77,7 @@ pub fn scope_of(report: &FullReport<'_>) -> Scope
 }
 
 fn longest_clean_tail(tail: u64, rows: &[Explanation<'_>]) -> u64
-    ensures { result ≡ longest_clean_tail_lem tail (map explanation_value rows.now) }
+    ensures { result ≡ note_facts.longest_clean_tail tail (map explanation_value rows.now) }
 {
     let mut longest = 0u64;
     for row in rows {
@@ -87,7 +87,7 @@ fn longest_clean_tail(tail: u64, rows: &[Explanation<'_>]) -> u64
 }
 
 fn clean_tail_of(tail: u64, evidence: &Evidence<'_>) -> u64
-    ensures { result ≡ clean_tail_of_lem tail (evidence_value evidence.now) }
+    ensures { result ≡ note_facts.clean_tail_of tail (evidence_value evidence.now) }
 {
     if is_clean_tail(tail, evidence) {
         outcomes_of(evidence).unconfirmed
@@ -98,7 +98,7 @@ fn clean_tail_of(tail: u64, evidence: &Evidence<'_>) -> u64
 
 /// What weakens a report.
 pub fn notes_on(report: &FullReport<'_>) -> NoteFacts
-    ensures { result ≡ note_facts_lem (asked_value report.now.asked.now) report.now.recording.now (report_value report.now) }
+    ensures { result ≡ note_facts.note_facts (asked_value report.now.asked.now) report.now.recording.now (report_value report.now) }
 {
     let recording = report.recording;
     let rows = &report.explained.rows;

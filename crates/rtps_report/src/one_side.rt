@@ -7,8 +7,9 @@ ghost use Rattle.rtps_discovery.specs.declared.endpoint.Endpoint.{Endpoint as En
 ghost use Rattle.rtps_fragments.specs.RecordedSamples.{intake_as};
 ghost use Rattle.rtps_fragments.specs.declared.fragments.Fragments.TheVariants.{Read as ReadFragments};
 ghost use Rattle.rtps_report.specs.Asked.{asked_value};
-ghost use Rattle.rtps_report.specs.OneSides.{AreByTopic, AreOneSidesIn, are_asked as are_asked_lem, have_one_topic, is_side, one_side as one_side_lem, one_sided_value, one_sides_among as one_sides_among_lem, topics_of};
-ghost use Rattle.rtps_report.specs.Rows.{has_node as has_node_lem};
+ghost use Rattle.rtps_report.specs.OneSides.{AreByTopic, AreOneSidesIn, have_one_topic, is_side, one_sided_value, topics_of};
+ghost use Rattle.rtps_report.specs.OneSides as one_sides;
+ghost use Rattle.rtps_report.specs.Rows as rows;
 ghost use Rattle.rtps_report.specs.Talk.{talk_value};
 
 use crate::asked::Asked;
@@ -65,14 +66,14 @@ fn front_len(endpoints: &[Endpoint<'_>]) -> usize
 
 /// Whether an endpoint has a node that is asked for.
 fn is_node_asked(talk: &Talk<'_>, asked: &Asked<'_>, endpoint: &Endpoint<'_>) -> bool
-    ensures { result ≡ has_node_lem (asked_value asked.now).nodes ((talk_value talk.now).node (endpoint_value endpoint.now).guid) }
+    ensures { result ≡ rows.has_node (asked_value asked.now).nodes ((talk_value talk.now).node (endpoint_value endpoint.now).guid) }
 {
     has_node(asked.nodes, talk.node(endpoint.guid))
 }
 
 /// Whether one of these has.
 fn has_asked_node(talk: &Talk<'_>, asked: &Asked<'_>, endpoints: &[Endpoint<'_>]) -> bool
-    ensures { result ≡ list_any (λ end. has_node_lem (asked_value asked.now).nodes ((talk_value talk.now).node end.guid)) (map endpoint_value endpoints.now) }
+    ensures { result ≡ list_any (λ end. rows.has_node (asked_value asked.now).nodes ((talk_value talk.now).node end.guid)) (map endpoint_value endpoints.now) }
 {
     for endpoint in endpoints {
         if is_node_asked(talk, asked, endpoint) {
@@ -89,7 +90,7 @@ fn are_asked(
     one: &Endpoint<'_>,
     endpoints: &[Endpoint<'_>],
 ) -> bool
-    ensures { result ≡ are_asked_lem (asked_value asked.now) (talk_value talk.now).node (endpoint_value one.now) (map endpoint_value endpoints.now) }
+    ensures { result ≡ one_sides.are_asked (asked_value asked.now) (talk_value talk.now).node (endpoint_value one.now) (map endpoint_value endpoints.now) }
 {
     fits_one(asked.topics, one.topic)
         && (asked.nodes.is_empty() || has_asked_node(talk, asked, endpoints))
@@ -124,7 +125,7 @@ fn one_side<'a>(
     asked: &Asked<'_>,
     endpoints: &[Endpoint<'a>],
 ) -> Option<OneSided<'a>>
-    ensures { option_map one_sided_value result ≡ one_side_lem (asked_value asked.now) (talk_value talk.now).node (map endpoint_value endpoints.now) }
+    ensures { option_map one_sided_value result ≡ one_sides.one_side (asked_value asked.now) (talk_value talk.now).node (map endpoint_value endpoints.now) }
 {
     let (one, others) = endpoints.split_first()?;
     if are_asked(talk, asked, one, endpoints) && are_on(one.side, others) {
@@ -146,7 +147,7 @@ fn push_one_side<'a>(
     endpoints: &[Endpoint<'a>],
 ) -> Result<(), Memory>
     ensures { OnOk result (map one_sided_value found.new.items
-        ≡ map one_sided_value found.old.items ++ cons_option (one_side_lem (asked_value asked.now) (talk_value talk.now).node (map endpoint_value endpoints.now)) []) }
+        ≡ map one_sided_value found.old.items ++ cons_option (one_sides.one_side (asked_value asked.now) (talk_value talk.now).node (map endpoint_value endpoints.now)) []) }
 {
     if let Some(one) = one_side(talk, asked, endpoints) {
         found.push(one)?;
@@ -162,7 +163,7 @@ fn one_sides_among<'a>(
     endpoints: &[Endpoint<'a>],
 ) -> Result<Vec<OneSided<'a>>, Memory>
     ensures { IfOk result (λ found. map one_sided_value found.items
-        ≡ one_sides_among_lem (asked_value asked.now) (talk_value talk.now).node (map endpoint_value endpoints.now)) }
+        ≡ one_sides.one_sides_among (asked_value asked.now) (talk_value talk.now).node (map endpoint_value endpoints.now)) }
 {
     let mut found = Vec::new(alloc);
     let mut start = 0;

@@ -1,6 +1,6 @@
 ghost use Rattle.std.specs.Prelude.{◌≡◌, IfOk, map};
 ghost use Rattle.rtps_evidence.specs.Explanation.{explanation_value};
-ghost use Rattle.rtps_report.specs.Order.{order_by as order_by_lem};
+ghost use Rattle.rtps_report.specs.Order as order_spec;
 ghost use Rattle.rtps_report.specs.ReaderSide.{arrived_value};
 
 use crate::full_report::Subject;
@@ -70,7 +70,7 @@ pub(crate) fn order_by(
     rows: &[Explanation<'_>],
     best_effort: Ways,
 ) -> Result<Order, AllocError>
-    ensures { IfOk result (λ order. order ≡ order_by_lem (arrived_value subject.entry.arrived) subject.entry.recording.now (map explanation_value rows.now) best_effort) }
+    ensures { IfOk result (λ order. order ≡ order_spec.order_by (arrived_value subject.entry.arrived) subject.entry.recording.now (map explanation_value rows.now) best_effort) }
 {
     let is_twice = is_twice(alloc, subject.arrived, subject.recording)?;
     let rows = ways_of_rows(rows);

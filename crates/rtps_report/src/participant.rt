@@ -4,7 +4,8 @@ ghost use Rattle.rtps_ids.specs.declared.identity.Guid.{Guid as GuidOf};
 ghost use Rattle.rtps_audit.specs.Placed.{PlacedValue, placed_value};
 ghost use Rattle.rtps_discovery.specs.GuidOrder.{guid_cmp};
 ghost use Rattle.rtps_policies.specs.Told.{KeepsFirst};
-ghost use Rattle.rtps_report.specs.Participants.{AreJoined, are_on_one_host as are_on_one_host_lem, has_address as has_address_lem, is_silent as is_silent_lem};
+ghost use Rattle.rtps_report.specs.Participants.{AreJoined};
+ghost use Rattle.rtps_report.specs.Participants as participants_spec;
 
 use crate::presence::Stay;
 use rtps_audit::Placed;
@@ -40,7 +41,7 @@ pub(crate) fn is_silent(
     latest: Option<u64>,
     end: Option<u64>,
 ) -> bool
-    ensures { result ≡ is_silent_lem lease left latest end }
+    ensures { result ≡ participants_spec.is_silent lease left latest end }
 {
     match (left, latest, end) {
         (None, Some(latest), Some(end)) => end.saturating_sub(latest) > SILENCE.min(lease),
@@ -93,7 +94,7 @@ pub(crate) fn joined_of(
 
 /// Whether a participant has this address.
 fn has_address(participant: &Participant, address: Address) -> bool
-    ensures { result ≡ has_address_lem address participant.now }
+    ensures { result ≡ participants_spec.has_address address participant.now }
 {
     match participant.host.address {
         Some(own) => own == address,
@@ -103,7 +104,7 @@ fn has_address(participant: &Participant, address: Address) -> bool
 
 /// Whether there are participants, each with an address, all with the same one.
 pub fn are_on_one_host(participants: &[Participant]) -> bool
-    ensures { result ≡ are_on_one_host_lem participants.now }
+    ensures { result ≡ participants_spec.are_on_one_host participants.now }
 {
     let Some((first, others)) = participants.split_first() else {
         return false;

@@ -1,5 +1,6 @@
 ghost use Rattle.std.specs.Prelude.{◌≡◌, ◌≤◌, ◌++◌, ◌∷◌, MatchOption, codes, length, true};
-ghost use Rattle.rtps_report.specs.Patterns.{fits as fits_lem, is_plain, parts_fit as parts_fit_lem, star};
+ghost use Rattle.rtps_report.specs.Patterns.{is_plain, star};
+ghost use Rattle.rtps_report.specs.Patterns as patterns;
 ghost use Rattle.rtps_who.specs.Samples.{full_name, node_value};
 
 use rtps_who::Node;
@@ -22,7 +23,7 @@ fn cut(pattern: &[u8]) -> Option<(&[u8], &[u8])>
 }
 
 fn fits_behind(pattern: &[u8], topic: &[u8]) -> bool
-    ensures { result ≡ fits_lem (star ∷ pattern.now) topic.now }
+    ensures { result ≡ patterns.fits (star ∷ pattern.now) topic.now }
 {
     let mut rest = pattern;
     let mut left = topic;
@@ -41,7 +42,7 @@ fn fits_behind(pattern: &[u8], topic: &[u8]) -> bool
 
 /// Whether a topic fits a pattern, in which each `*` stands for any octets, also for none.
 pub fn fits(pattern: &[u8], topic: &[u8]) -> bool
-    ensures { result ≡ fits_lem pattern.now topic.now }
+    ensures { result ≡ patterns.fits pattern.now topic.now }
 {
     let Some((part, behind)) = cut(pattern) else {
         return pattern == topic;
@@ -56,7 +57,7 @@ pub fn fits(pattern: &[u8], topic: &[u8]) -> bool
 /// pattern there that stands for any octets belongs to both.
 fn parts_fit(pattern: &[u8], place: usize, name: &[u8], word: &[u8]) -> bool
     requires { place ≤ length pattern.now }
-    ensures { result ≡ parts_fit_lem pattern.now place name.now word.now }
+    ensures { result ≡ patterns.parts_fit pattern.now place name.now word.now }
 {
     let (front, behind) = pattern.split_at(place);
     let shared = match behind.first() {
@@ -68,7 +69,7 @@ fn parts_fit(pattern: &[u8], place: usize, name: &[u8], word: &[u8]) -> bool
 
 /// Whether a name with a word behind it fits a pattern, as [`fits`] says of one text.
 pub(crate) fn fits_followed(pattern: &[u8], name: &[u8], word: &[u8]) -> bool
-    ensures { result ≡ fits_lem pattern.now (name.now ++ word.now) }
+    ensures { result ≡ patterns.fits pattern.now (name.now ++ word.now) }
 {
     for place in 0..pattern.len() {
         if parts_fit(pattern, place, name, word) {
@@ -82,7 +83,7 @@ pub(crate) fn fits_followed(pattern: &[u8], name: &[u8], word: &[u8]) -> bool
 /// [`parts_fit`] says.
 fn slashed_fit(pattern: &[u8], place: usize, namespace: &[u8], name: &[u8]) -> bool
     requires { place ≤ length pattern.now }
-    ensures { result ≡ parts_fit_lem pattern.now place namespace.now (codes "/" ++ name.now) }
+    ensures { result ≡ patterns.parts_fit pattern.now place namespace.now (codes "/" ++ name.now) }
 {
     let (front, behind) = pattern.split_at(place);
     let shared = match behind.first() {
@@ -94,7 +95,7 @@ fn slashed_fit(pattern: &[u8], place: usize, namespace: &[u8], name: &[u8]) -> b
 
 /// Whether a namespace, a slash and a name fit a pattern, as [`fits`] says of one text.
 fn fits_slashed(pattern: &[u8], namespace: &[u8], name: &[u8]) -> bool
-    ensures { result ≡ fits_lem pattern.now (namespace.now ++ (codes "/" ++ name.now)) }
+    ensures { result ≡ patterns.fits pattern.now (namespace.now ++ (codes "/" ++ name.now)) }
 {
     for place in 0..pattern.len() {
         if slashed_fit(pattern, place, namespace, name) {
@@ -106,7 +107,7 @@ fn fits_slashed(pattern: &[u8], namespace: &[u8], name: &[u8]) -> bool
 
 /// Whether the full name of a node fits a pattern, as [`fits`] says of a text.
 pub(crate) fn fits_node(pattern: &[u8], node: &Node<'_>) -> bool
-    ensures { result ≡ fits_lem pattern.now (full_name (node_value node.now)) }
+    ensures { result ≡ patterns.fits pattern.now (full_name (node_value node.now)) }
 {
     if node.namespace.ends_with(b"/") {
         fits_followed(pattern, node.namespace, node.name)

@@ -2,7 +2,8 @@ ghost use Rattle.std.specs.Prelude.{ℕ, ◌≡◌, List, Option, IfOk, OnOk, ma
 ghost use Rattle.std.specs.BTreeMap.{get};
 ghost use Rattle.rtps_ids.specs.declared.identity.GuidPrefix.{GuidPrefix as GuidPrefixOf};
 ghost use Rattle.rtps_receiver.specs.Speech.{is_prefix};
-ghost use Rattle.rtps_report.specs.Stays.{ArePresencesOf, both_later, is_sender, latest_of, prefix_cmp, presence_with, sender_of as sender_of_lem, stay_of};
+ghost use Rattle.rtps_report.specs.Stays.{ArePresencesOf, both_later, is_sender, latest_of, prefix_cmp, presence_with, stay_of};
+ghost use Rattle.rtps_report.specs.Stays as stays;
 
 use rtps_evidence::Times;
 use rtps_ids::{GuidPrefix, Memory};
@@ -44,7 +45,7 @@ fn later_of_both(one: Option<u64>, other: Option<u64>) -> Option<u64>
 
 /// Who sent a datagram of any length, by its header. None where that cannot be read.
 pub(crate) fn sender_of(datagram: &[u8]) -> Option<GuidPrefix>
-    ensures { result ≡ sender_of_lem datagram.now }
+    ensures { result ≡ stays.sender_of datagram.now }
 {
     match Items::open(datagram) {
         Ok((header, _)) => Some(header.prefix),
@@ -79,7 +80,7 @@ impl Presences {
     /// Notes one datagram more, of this number. It came at this time. After `Memory` it is of no use.
     fn note(&mut self, number: u64, time: Option<u64>, datagram: &[u8]) -> Result<(), Memory>
         ensures { OnOk result ((prefix : GuidPrefixOf) → get prefix_cmp self.new.of_senders prefix
-            ≡ presence_with number time (is_sender prefix (sender_of_lem datagram.now)) (get prefix_cmp self.old.of_senders prefix)) }
+            ≡ presence_with number time (is_sender prefix (stays.sender_of datagram.now)) (get prefix_cmp self.old.of_senders prefix)) }
     {
         match sender_of(datagram) {
             Some(sender) => note_presence(&mut self.of_senders, number, time, sender),

@@ -1,7 +1,8 @@
 ghost use Rattle.std.specs.Prelude.{◌≡◌, ◌<◌, ◌^◌, IfOk, length, map, Some, None};
 ghost use Rattle.rtps_evidence.specs.Times.{no_times};
 ghost use Rattle.rtps_report.specs.DatagramSpan.{AreSpans, pieces};
-ghost use Rattle.rtps_report.specs.Recording.{ignored_by, known as known_lem};
+ghost use Rattle.rtps_report.specs.Recording.{ignored_by};
+ghost use Rattle.rtps_report.specs.Recording as recording_spec;
 
 use crate::datagram_list::{DatagramList, Datagrams};
 use crate::datagram_span::DatagramSpan;
@@ -41,7 +42,7 @@ pub(crate) fn no_links() -> Links
 
 /// The reasons; none of each where they are not known.
 pub(crate) fn known(reasons: Option<Reasons>) -> Reasons
-    ensures { result ≡ known_lem reasons }
+    ensures { result ≡ recording_spec.known reasons }
 {
     match reasons {
         Some(reasons) => reasons,

@@ -1,11 +1,14 @@
 ghost use Rattle.std.specs.Prelude.{◌≡◌, ◌<◌, ◌^◌, map};
 ghost use Rattle.std.specs.List.{list_all};
-ghost use Rattle.rtps_receiver.specs.Said.{natural as natural_lem};
+ghost use Rattle.rtps_receiver.specs.Said as said;
 ghost use Rattle.rtps_evidence.specs.Explanation.{evidence_value, explanation_value};
 ghost use Rattle.rtps_report.specs.Asked.{asked_value};
-ghost use Rattle.rtps_report.specs.FullReport.{facts_with, is_met as is_met_lem};
-ghost use Rattle.rtps_report.specs.Reported.{is_complete as completes, number_of as number_of_lem};
-ghost use Rattle.rtps_report.specs.RowFacts.{absent_in, asked_about as asked_about_lem, is_certain as is_certain_lem, is_clean as is_clean_lem, is_clean_tail as is_clean_tail_lem, is_held_in, is_joined_in, is_late as is_late_lem, is_noted as is_noted_lem, is_tail as is_tail_lem, is_tail_alone as is_tail_alone_lem, left_in, outcomes_of as outcomes_of_lem, row_from as row_from_lem, way_in, wrote_before_in};
+ghost use Rattle.rtps_report.specs.FullReport.{facts_with};
+ghost use Rattle.rtps_report.specs.FullReport as full_report;
+ghost use Rattle.rtps_report.specs.Reported.{is_complete as completes};
+ghost use Rattle.rtps_report.specs.Reported as reported;
+ghost use Rattle.rtps_report.specs.RowFacts.{absent_in, is_held_in, is_joined_in, left_in, way_in, wrote_before_in};
+ghost use Rattle.rtps_report.specs.RowFacts as row_facts;
 
 use crate::asked::Asked;
 use crate::findings::{Facts, TalkFacts};
@@ -24,7 +27,7 @@ pub fn is_complete(verdict: &Verdict) -> bool
 
 /// The number of a verdict.
 pub fn number_of(verdict: &Verdict) -> i64
-    ensures { result ≡ number_of_lem verdict.now }
+    ensures { result ≡ reported.number_of verdict.now }
 {
     match *verdict {
         Verdict::Complete { last } => last,
@@ -36,7 +39,7 @@ pub fn number_of(verdict: &Verdict) -> i64
 
 /// A number, or 0 for one below it.
 pub(crate) fn natural(number: i64) -> u64
-    ensures value { result ≡ natural_lem number }
+    ensures value { result ≡ said.natural number }
     ensures in_range { result < 2 ^ 63 }
 {
     number.max(0).cast_unsigned()
@@ -44,7 +47,7 @@ pub(crate) fn natural(number: i64) -> u64
 
 /// How many numbers are asked about, from `from` on.
 pub fn asked_about(from: u64, announcement: Option<Announcement>) -> u64
-    ensures { result ≡ asked_about_lem from announcement }
+    ensures { result ≡ row_facts.asked_about from announcement }
 {
     match announcement {
         None => 0,
@@ -54,7 +57,7 @@ pub fn asked_about(from: u64, announcement: Option<Announcement>) -> u64
 
 /// The number from which on a row is, where numbers are asked for from `from` on.
 pub fn row_from(from: u64, evidence: &Evidence<'_>) -> u64
-    ensures { result ≡ row_from_lem from evidence.now.in_span }
+    ensures { result ≡ row_facts.row_from from evidence.now.in_span }
 {
     match &evidence.in_span {
         Some(in_span) => in_span.from,
@@ -113,7 +116,7 @@ pub fn absent_of(evidence: &Evidence<'_>) -> u64
 
 /// What became of the numbers of a row. Of a row that is in no span it is told what is received and what is missed, and no more.
 pub fn outcomes_of(evidence: &Evidence<'_>) -> Outcomes
-    ensures { result ≡ outcomes_of_lem (evidence_value evidence.now) }
+    ensures { result ≡ row_facts.outcomes_of (evidence_value evidence.now) }
 {
     match &evidence.in_span {
         Some(in_span) => in_span.outcomes,
@@ -131,7 +134,7 @@ pub fn outcomes_of(evidence: &Evidence<'_>) -> Outcomes
 
 /// Whether a row is clean, where a tail may have so many numbers.
 pub fn is_clean(tail: u64, evidence: &Evidence<'_>) -> bool
-    ensures { result ≡ is_clean_lem tail (evidence_value evidence.now) }
+    ensures { result ≡ row_facts.is_clean tail (evidence_value evidence.now) }
 {
     match &evidence.in_span {
         Some(in_span) => in_span.is_clean(&evidence.verdict, tail),
@@ -140,7 +143,7 @@ pub fn is_clean(tail: u64, evidence: &Evidence<'_>) -> bool
 }
 
 pub(crate) fn is_tail(evidence: &Evidence<'_>) -> bool
-    ensures { result ≡ is_tail_lem (evidence_value evidence.now) }
+    ensures { result ≡ row_facts.is_tail (evidence_value evidence.now) }
 {
     match &evidence.in_span {
         Some(in_span) => in_span.is_tail(&evidence.verdict),
@@ -150,21 +153,21 @@ pub(crate) fn is_tail(evidence: &Evidence<'_>) -> bool
 
 /// Whether a row is not clean for its tail alone, and neither of its participants is silent.
 pub fn is_tail_alone(tail: u64, evidence: &Evidence<'_>, silences: Silences) -> bool
-    ensures { result ≡ is_tail_alone_lem silences tail (evidence_value evidence.now) }
+    ensures { result ≡ row_facts.is_tail_alone silences tail (evidence_value evidence.now) }
 {
     !is_clean(tail, evidence) && is_tail(evidence) && silences.are_heard()
 }
 
 /// Whether someone has to look at a row: it is not clean, and not for its tail alone.
 pub fn is_noted(tail: u64, evidence: &Evidence<'_>, silences: Silences) -> bool
-    ensures { result ≡ is_noted_lem silences tail (evidence_value evidence.now) }
+    ensures { result ≡ row_facts.is_noted silences tail (evidence_value evidence.now) }
 {
     !is_clean(tail, evidence) && !is_tail_alone(tail, evidence, silences)
 }
 
 /// Whether a row is clean with a tail, which has numbers: where all of them arrived, nothing is lacking.
 pub fn is_clean_tail(tail: u64, evidence: &Evidence<'_>) -> bool
-    ensures { result ≡ is_clean_tail_lem tail (evidence_value evidence.now) }
+    ensures { result ≡ row_facts.is_clean_tail tail (evidence_value evidence.now) }
 {
     is_clean(tail, evidence) && is_tail(evidence) && outcomes_of(evidence).unconfirmed > 0
 }
@@ -181,25 +184,25 @@ fn wrote_before(evidence: &Evidence<'_>) -> bool
 
 /// Whether a row is complete, and its writer announced numbers, all of which stand before it.
 pub(crate) fn is_late(from: u64, evidence: &Evidence<'_>) -> bool
-    ensures { result ≡ is_late_lem from (evidence_value evidence.now) }
+    ensures { result ≡ row_facts.is_late from (evidence_value evidence.now) }
 {
     is_complete(&evidence.verdict) && wrote_before(evidence) && from < row_from(from, evidence)
 }
 
 pub(crate) fn is_certain(from: u64, evidence: &Evidence<'_>) -> bool
-    ensures { result ≡ is_certain_lem from (evidence_value evidence.now) }
+    ensures { result ≡ row_facts.is_certain from (evidence_value evidence.now) }
 {
     asked_about(row_from(from, evidence), evidence.announcement) <= outcomes_of(evidence).received
 }
 
 fn is_met(asked: &Asked<'_>, evidence: &Evidence<'_>) -> bool
-    ensures { result ≡ is_met_lem (asked_value asked.now) (evidence_value evidence.now) }
+    ensures { result ≡ full_report.is_met (asked_value asked.now) (evidence_value evidence.now) }
 {
     is_clean(asked.tail, evidence) && (!asked.certain || is_certain(asked.first_asked(), evidence))
 }
 
 fn are_met(asked: &Asked<'_>, rows: &[Explanation<'_>]) -> bool
-    ensures { result ≡ list_all (λ row. is_met_lem (asked_value asked.now) row.evidence) (map explanation_value rows.now) }
+    ensures { result ≡ list_all (λ row. full_report.is_met (asked_value asked.now) row.evidence) (map explanation_value rows.now) }
 {
     for row in rows {
         if !is_met(asked, &row.evidence) {

@@ -1,11 +1,13 @@
 ghost use Rattle.std.specs.Prelude.{◌≡◌, ◌++◌, IfOk, List, OnOk, filter, map};
 ghost use Rattle.rtps_discovery.specs.Directory.{settled_in};
 ghost use Rattle.rtps_discovery.specs.Matching.{matches_among, reliable_pairs};
-ghost use Rattle.rtps_policies.specs.Unmatched.{pair_of as pair_of_lem, unmatched_value};
+ghost use Rattle.rtps_policies.specs.Unmatched.{unmatched_value};
+ghost use Rattle.rtps_policies.specs.Unmatched as unmatched;
 ghost use Rattle.rtps_report.specs.Asked.{asked_value};
 ghost use Rattle.rtps_who.specs.Recorded.{node_in};
 ghost use Rattle.rtps_report.specs.Rows.{chosen_by};
-ghost use Rattle.rtps_report.specs.RowPairs.{AreRowPairs, is_match_told as is_match_told_lem, is_pair_asked};
+ghost use Rattle.rtps_report.specs.RowPairs.{AreRowPairs, is_pair_asked};
+ghost use Rattle.rtps_report.specs.RowPairs as row_pairs_spec;
 ghost use Rattle.rtps_report.specs.Talk.{IsKeptOf};
 ghost use Rattle.rtps_report.specs.Vocabulary.{Intake};
 ghost use Rattle.rtps_policies.specs.Silence.{Traffic};
@@ -38,7 +40,7 @@ impl Wanted<'_, '_, '_, '_, '_> {
 
     /// Whether a reliable match has a row: the two match by all policies, and the recording can speak of them.
     fn is_match_told(&self, pair: Pair) -> bool
-        ensures { result ≡ is_match_told_lem self.now.talk.now (chosen_by (asked_value self.now.asked.now) (node_in self.now.talk.now.who)) self.now.directory.now.endpoints pair }
+        ensures { result ≡ row_pairs_spec.is_match_told self.now.talk.now (chosen_by (asked_value self.now.asked.now) (node_in self.now.talk.now.who)) self.now.directory.now.endpoints pair }
     {
         !self.talk.is_unfit(pair) && are_observed(&self.talk.namings, pair) && self.is_asked(pair)
     }
@@ -51,7 +53,7 @@ fn push_matches(
     wanted: Wanted<'_, '_, '_, '_, '_>,
 ) -> Result<(), Memory>
     ensures { OnOk result (pairs.new.items ≡ pairs.old.items
-        ++ filter (is_match_told_lem wanted.entry.talk.now (chosen_by (asked_value wanted.entry.asked.now) (node_in wanted.entry.talk.now.who)) wanted.entry.directory.now.endpoints) (map (λ row. row.pair) matched.now)) }
+        ++ filter (row_pairs_spec.is_match_told wanted.entry.talk.now (chosen_by (asked_value wanted.entry.asked.now) (node_in wanted.entry.talk.now.who)) wanted.entry.directory.now.endpoints) (map (λ row. row.pair) matched.now)) }
 {
     for row in matched {
         if wanted.is_match_told(row.pair) {
@@ -64,7 +66,7 @@ fn push_matches(
 /// Adds the pairs that talk though they do not match.
 fn push_talking(pairs: &mut Vec<Pair>, wanted: Wanted<'_, '_, '_, '_, '_>) -> Result<(), Memory>
     ensures { OnOk result (pairs.new.items ≡ pairs.old.items
-        ++ filter (is_pair_asked (chosen_by (asked_value wanted.entry.asked.now) (node_in wanted.entry.talk.now.who)) wanted.entry.directory.now.endpoints) (map pair_of_lem (map unmatched_value wanted.entry.talk.now.talking.items))) }
+        ++ filter (is_pair_asked (chosen_by (asked_value wanted.entry.asked.now) (node_in wanted.entry.talk.now.who)) wanted.entry.directory.now.endpoints) (map unmatched.pair_of (map unmatched_value wanted.entry.talk.now.talking.items))) }
 {
     for one in &wanted.talk.talking {
         let pair = pair_of(one);

@@ -5,7 +5,8 @@ ghost use Rattle.std.specs.Option.{option_map};
 ghost use Rattle.rtps_who.specs.Recorded.{node_in};
 ghost use Rattle.rtps_who.specs.Samples.{node_value};
 ghost use Rattle.rtps_report.specs.Asked.{asked_value};
-ghost use Rattle.rtps_report.specs.Rows.{chosen_by, AreNamedIn, fits_one as fits_one_lem, fits_topic as fits_topic_lem, has_node as has_node_lem, is_named_by, is_observed};
+ghost use Rattle.rtps_report.specs.Rows.{chosen_by, AreNamedIn, is_named_by, is_observed};
+ghost use Rattle.rtps_report.specs.Rows as rows;
 
 use crate::asked::Asked;
 use crate::pattern::{fits, fits_followed, fits_node};
@@ -28,14 +29,14 @@ pub(crate) fn are_observed(namings: &Namings, pair: Pair) -> bool
 
 /// Whether the name of a topic fits a pattern, or the name that ROS 2 gives it.
 fn fits_topic(pattern: &[u8], topic: &[u8]) -> bool
-    ensures { result ≡ fits_topic_lem pattern.now topic.now }
+    ensures { result ≡ rows.fits_topic pattern.now topic.now }
 {
     let name = ros_topic(topic);
     fits(pattern, topic) || fits_followed(pattern, name.name, name.word.as_bytes())
 }
 
 pub(crate) fn fits_one(patterns: &[String], topic: &[u8]) -> bool
-    ensures { result ≡ fits_one_lem (map string_bytes patterns.now) topic.now }
+    ensures { result ≡ rows.fits_one (map string_bytes patterns.now) topic.now }
 {
     patterns.is_empty()
         || patterns
@@ -45,7 +46,7 @@ pub(crate) fn fits_one(patterns: &[String], topic: &[u8]) -> bool
 
 /// Whether an end has a node whose name fits one of these patterns.
 pub(crate) fn has_node(patterns: &[String], node: Option<Node<'_>>) -> bool
-    ensures { result ≡ has_node_lem (map string_bytes patterns.now) (option_map node_value node.entry) }
+    ensures { result ≡ rows.has_node (map string_bytes patterns.now) (option_map node_value node.entry) }
 {
     match node {
         Some(node) => patterns

@@ -1,7 +1,8 @@
 ghost use Rattle.std.specs.Prelude.{◌≡◌, map};
 ghost use Rattle.rtps_evidence.specs.Explanation.{explanation_value};
 ghost use Rattle.rtps_report.specs.FullReport.{report_value};
-ghost use Rattle.rtps_report.specs.SideFacts.{facts_beside as facts_beside_lem, numbers_absent as numbers_absent_lem, rows_absent as rows_absent_lem, rows_alone as rows_alone_lem, side_facts};
+ghost use Rattle.rtps_report.specs.SideFacts.{side_facts};
+ghost use Rattle.rtps_report.specs.SideFacts as side_facts_spec;
 
 use crate::full_report::FullReport;
 use crate::order::Order;
@@ -28,7 +29,7 @@ pub struct SideFacts {
 
 /// Of how many rows the other recording has nothing.
 fn rows_alone(rows: &[Explanation<'_>]) -> u64
-    ensures { result ≡ rows_alone_lem (map explanation_value rows.now) }
+    ensures { result ≡ side_facts_spec.rows_alone (map explanation_value rows.now) }
 {
     let mut alone = 0;
     for row in rows {
@@ -41,7 +42,7 @@ fn rows_alone(rows: &[Explanation<'_>]) -> u64
 
 /// How many rows have numbers that are received for certain though the other recording has none of them.
 fn rows_absent(rows: &[Explanation<'_>]) -> u64
-    ensures { result ≡ rows_absent_lem (map explanation_value rows.now) }
+    ensures { result ≡ side_facts_spec.rows_absent (map explanation_value rows.now) }
 {
     let mut absent = 0;
     for row in rows {
@@ -54,7 +55,7 @@ fn rows_absent(rows: &[Explanation<'_>]) -> u64
 
 /// How many numbers these are.
 fn numbers_absent(rows: &[Explanation<'_>]) -> u128
-    ensures { result ≡ numbers_absent_lem (map explanation_value rows.now) }
+    ensures { result ≡ side_facts_spec.numbers_absent (map explanation_value rows.now) }
 {
     let mut absent = 0;
     for row in rows {
@@ -65,7 +66,7 @@ fn numbers_absent(rows: &[Explanation<'_>]) -> u128
 
 /// What is told of these rows, and of the recording against which they are held, where the two were given in this order.
 fn facts_beside(rows: &[Explanation<'_>], order: Order, other: &Recording) -> SideFacts
-    ensures { result ≡ facts_beside_lem (map explanation_value rows.now) order other.now }
+    ensures { result ≡ side_facts_spec.facts_beside (map explanation_value rows.now) order other.now }
 {
     let reasons = known(other.reasons());
     SideFacts {

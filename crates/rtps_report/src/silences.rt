@@ -1,6 +1,7 @@
 ghost use Rattle.std.specs.Prelude.{◌≡◌};
 ghost use Rattle.std.specs.List.{find};
-ghost use Rattle.rtps_report.specs.Silences.{address_behind as address_behind_lem, are_heard as are_heard_lem, has_guid, is_one_way as is_one_way_lem, silence_among as silence_among_lem, silent_since as silent_since_lem, silences_of};
+ghost use Rattle.rtps_report.specs.Silences.{has_guid, silences_of};
+ghost use Rattle.rtps_report.specs.Silences as silences_spec;
 ghost use Rattle.rtps_report.specs.Talk.{talk_value};
 
 use crate::late_matches::is_mixed;
@@ -29,7 +30,7 @@ pub struct Silences {
 impl Silences {
     /// Whether neither is silent, and neither has two lives.
     pub(crate) fn are_heard(self) -> bool
-        ensures { result ≡ are_heard_lem self }
+        ensures { result ≡ silences_spec.are_heard self }
     {
         self.writer.is_none() && self.reader.is_none() && !self.is_twice
     }
@@ -44,7 +45,7 @@ fn first_of(participants: &[Participant], guid: Guid) -> Option<Participant>
 
 /// Since which datagram a participant is silent, where there is one that is.
 fn silent_since(participant: Option<Participant>) -> Option<u64>
-    ensures { result ≡ silent_since_lem participant }
+    ensures { result ≡ silences_spec.silent_since participant }
 {
     match participant {
         Some(participant) if participant.silent => Some(participant.stay?.last),
@@ -54,14 +55,14 @@ fn silent_since(participant: Option<Participant>) -> Option<u64>
 
 /// Since which datagram the first of these participants that has this GUID is silent.
 fn silence_among(participants: &[Participant], guid: Guid) -> Option<u64>
-    ensures { result ≡ silence_among_lem participants.now guid }
+    ensures { result ≡ silences_spec.silence_among participants.now guid }
 {
     silent_since(first_of(participants, guid))
 }
 
 /// Whether the one names the other, and never the other way round.
 fn is_one_way(found: &[OneWay], source: GuidPrefix, dest: GuidPrefix) -> bool
-    ensures { result ≡ is_one_way_lem found.now source dest }
+    ensures { result ≡ silences_spec.is_one_way found.now source dest }
 {
     for one in found {
         if one.naming.source == source && one.naming.dest == dest {
@@ -74,7 +75,7 @@ fn is_one_way(found: &[OneWay], source: GuidPrefix, dest: GuidPrefix) -> bool
 impl Talk<'_> {
     /// From where nothing comes back of two participants, of which the one names the other; None where something does.
     pub fn address_behind(&self, from: Guid, to: Guid) -> Option<Address>
-        ensures { result ≡ address_behind_lem (talk_value self.now) from to }
+        ensures { result ≡ silences_spec.address_behind (talk_value self.now) from to }
     {
         if is_one_way(&self.one_way, from.prefix, to.prefix) {
             self.end(to).address
@@ -85,7 +86,7 @@ impl Talk<'_> {
 
     /// Since which datagram a participant is silent; None where it is not.
     pub(crate) fn silent_since(&self, guid: Guid) -> Option<u64>
-        ensures { result ≡ silence_among_lem (talk_value self.now).participants guid }
+        ensures { result ≡ silences_spec.silence_among (talk_value self.now).participants guid }
     {
         silence_among(&self.participants, guid)
     }

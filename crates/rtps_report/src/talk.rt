@@ -5,13 +5,14 @@ ghost use Rattle.rtps_audit.specs.Intake.{Intake, acts_together};
 ghost use Rattle.rtps_audit.specs.Placed.{placed_in, placed_value};
 ghost use Rattle.rtps_discovery.specs.Listings.{pair_cmp};
 ghost use Rattle.rtps_evidence.specs.OtherSide.{IsOtherSide, OtherRecording};
-ghost use Rattle.rtps_evidence.specs.Spans.{left_in as left_in_lem};
+ghost use Rattle.rtps_evidence.specs.Spans as spans;
 ghost use Rattle.rtps_fragments.specs.Announcements.{announcements_in};
 ghost use Rattle.rtps_fragments.specs.RecordedSamples.{intake_as};
 ghost use Rattle.rtps_fragments.specs.declared.fragments.Fragments.TheVariants.{Read};
 ghost use Rattle.rtps_policies.specs.Announcing.{IsAnnouncedBy};
 ghost use Rattle.rtps_policies.specs.Silence.{Traffic as TrafficOf, silence_by};
-ghost use Rattle.rtps_policies.specs.Unmatched.{pair_of as pair_of_lem, unmatched_value};
+ghost use Rattle.rtps_policies.specs.Unmatched.{unmatched_value};
+ghost use Rattle.rtps_policies.specs.Unmatched as unmatched_spec;
 ghost use Rattle.rtps_receiver.specs.Values.{ActValue};
 ghost use Rattle.rtps_report.specs.Asked.{asked_value};
 ghost use Rattle.rtps_report.specs.BestEfforts.{counted_value};
@@ -22,7 +23,8 @@ ghost use Rattle.rtps_report.specs.Rows.{chosen_by};
 ghost use Rattle.rtps_who.specs.Recorded.{node_in};
 ghost use Rattle.rtps_who.specs.Samples.{node_value};
 ghost use Rattle.std.specs.Option.{option_map};
-ghost use Rattle.rtps_report.specs.Talk.{AreCounted, AreUnfit, IsHeardIn, IsKeptOf, IsTalkOf, is_counted_by, is_counted_of, is_left_out_by, is_left_out_of, left_out_of as left_out_of_lem, left_out_value, talk_value, talks as talks_lem, traffic_of, unfit_in as unfit_in_lem};
+ghost use Rattle.rtps_report.specs.Talk.{AreCounted, AreUnfit, IsHeardIn, IsKeptOf, IsTalkOf, is_counted_by, is_counted_of, is_left_out_by, is_left_out_of, left_out_value, talk_value, traffic_of};
+ghost use Rattle.rtps_report.specs.Talk as talk_spec;
 
 use crate::asked::Asked;
 use crate::best_effort::{
@@ -171,7 +173,7 @@ fn announced_in<'a>(alloc: Global, announcements: &[Placed<'a>]) -> Result<Annou
 
 /// The writer and the reader of two that do not match.
 pub(crate) fn pair_of(one: &Unmatched<'_>) -> Pair
-    ensures { result ≡ pair_of_lem (unmatched_value one.now) }
+    ensures { result ≡ unmatched_spec.pair_of (unmatched_value one.now) }
 {
     Pair {
         writer: one.writer.endpoint.guid,
@@ -221,8 +223,8 @@ fn parted_unfit<'a>(
     unfit: Vec<Unmatched<'a>>,
 ) -> Result<PartedUnfit<'a>, Memory>
     ensures { IfOk result (λ parted. (intake : Intake) → IsIndexBy intake index.now
-        → (map unmatched_value parted.silent.items ≡ filter (λ one. not (talks_lem intake (pair_of_lem one))) (map unmatched_value unfit.entry.items))
-        × (map unmatched_value parted.talking.items ≡ filter (λ one. talks_lem intake (pair_of_lem one)) (map unmatched_value unfit.entry.items))) }
+        → (map unmatched_value parted.silent.items ≡ filter (λ one. not (talk_spec.talks intake (unmatched_spec.pair_of one))) (map unmatched_value unfit.entry.items))
+        × (map unmatched_value parted.talking.items ≡ filter (λ one. talk_spec.talks intake (unmatched_spec.pair_of one)) (map unmatched_value unfit.entry.items))) }
 {
     let mut parted = PartedUnfit {
         silent: Vec::new(alloc),
@@ -251,7 +253,7 @@ fn left_out_of<'a>(
     heard: &Heard<'_, 'a, '_, '_>,
     matched: &[Match],
 ) -> Result<Vec<LeftOut<'a>>, Memory>
-    ensures { IfOk result (λ left. map left_out_value left.items ≡ map (left_out_of_lem heard.now.directory.now.endpoints)
+    ensures { IfOk result (λ left. map left_out_value left.items ≡ map (talk_spec.left_out_of heard.now.directory.now.endpoints)
         (filter (is_left_out_of talk.now.unfit talk.now.namings (chosen_by (asked_value heard.now.asked.now) (node_in talk.now.who)) heard.now.directory.now.endpoints) matched.now)) }
 {
     let mut left = Vec::new(alloc);
@@ -314,7 +316,7 @@ fn counted_of<'a>(
 
 /// When a participant leaves that joins at this place, if it does.
 fn left_of(index: &Index<'_>, guid: Guid, place: Option<Location>) -> Option<u64>
-    ensures { (intake : Intake) → IsIndexBy intake index.now → result ≡ left_in_lem place guid (placed_in intake.acts) }
+    ensures { (intake : Intake) → IsIndexBy intake index.now → result ≡ spans.left_in place guid (placed_in intake.acts) }
 {
     match place {
         Some(place) => left_in(index, guid, place),
@@ -360,7 +362,7 @@ fn unfit_in<'a>(
     heard: &Heard<'_, 'a, '_, '_>,
 ) -> Result<Vec<Unmatched<'a>>, Memory>
     ensures { IfOk result (λ unfit. (traffic : TrafficOf) → IsAnnouncedBy traffic.announcing announced.now
-        → map unmatched_value unfit.items ≡ unfit_in_lem (chosen_by (asked_value heard.now.asked.now) (node_in who.now)) traffic heard.now.directory.now.endpoints) }
+        → map unmatched_value unfit.items ≡ talk_spec.unfit_in (chosen_by (asked_value heard.now.asked.now) (node_in who.now)) traffic heard.now.directory.now.endpoints) }
 {
     let asked = heard.asked;
     let mut unfit = unmatched_pairs(announced, heard.directory)?;

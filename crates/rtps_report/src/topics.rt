@@ -1,8 +1,10 @@
 ghost use Rattle.std.specs.Prelude.{◌≡◌, ◌<◌, ◌≤◌, ◌∷◌, ◌-◌, IfOk, drop, length, map, slice_index_or, take};
 ghost use Rattle.rtps_discovery.specs.Directory.{settled_at};
-ghost use Rattle.rtps_evidence.specs.Explanation.{explanation_value, topic_of as topic_of_lem};
+ghost use Rattle.rtps_evidence.specs.Explanation.{explanation_value};
+ghost use Rattle.rtps_evidence.specs.Explanation as explanation;
 ghost use Rattle.rtps_evidence.specs.declared.explanation.Explanation.{Explanation as ExplanationOf};
-ghost use Rattle.rtps_report.specs.ByTopic.{AreByTopic, have_one_topic, topics_of as topics_of_lem};
+ghost use Rattle.rtps_report.specs.ByTopic.{AreByTopic, have_one_topic};
+ghost use Rattle.rtps_report.specs.ByTopic as by_topic_spec;
 
 use rtps_discovery::Directory;
 use rtps_evidence::Explanation;
@@ -11,7 +13,7 @@ use std::alloc::{AllocError, Global};
 
 /// The topic of a GUID's endpoint; empty where it has none.
 pub(crate) fn topic_of<'a>(directory: &Directory<'a>, guid: Guid) -> &'a [u8]
-    ensures { result.now ≡ topic_of_lem (settled_at directory.now.endpoints guid) }
+    ensures { result.now ≡ explanation.topic_of (settled_at directory.now.endpoints guid) }
 {
     match directory.endpoint(guid) {
         Some(endpoint) => endpoint.topic,
@@ -45,8 +47,8 @@ fn front_len(rows: &[Explanation<'_>]) -> usize
     requires { 0 < length rows.now }
     ensures some { 0 < result }
     ensures within { result ≤ length rows.now }
-    ensures first { topics_of_lem (map explanation_value rows.now)
-        ≡ map explanation_value (take result rows.now) ∷ topics_of_lem (map explanation_value (drop result rows.now)) }
+    ensures first { by_topic_spec.topics_of (map explanation_value rows.now)
+        ≡ map explanation_value (take result rows.now) ∷ by_topic_spec.topics_of (map explanation_value (drop result rows.now)) }
 {
     for place in 1..rows.len() {
         if !goes_on(rows, place) {
@@ -61,7 +63,7 @@ pub fn topics_of<'r, 'a>(
     alloc: Global,
     rows: &'r [Explanation<'a>],
 ) -> Result<Vec<&'r [Explanation<'a>]>, AllocError>
-    ensures { IfOk result (λ topics. map (λ topic. map explanation_value topic.now) topics.items ≡ topics_of_lem (map explanation_value rows.now)) }
+    ensures { IfOk result (λ topics. map (λ topic. map explanation_value topic.now) topics.items ≡ by_topic_spec.topics_of (map explanation_value rows.now)) }
 {
     let mut topics = Vec::new(alloc);
     let mut start = 0;

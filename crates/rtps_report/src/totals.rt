@@ -1,6 +1,6 @@
 ghost use Rattle.std.specs.Prelude.{◌≡◌, ◌+◌, ◌<◌, ◌≤◌, ◌^◌, map};
 ghost use Rattle.rtps_evidence.specs.Explanation.{evidence_value, explanation_value};
-ghost use Rattle.rtps_report.specs.Totals.{before_of as before_of_lem, is_unclean as is_unclean_lem, lost_of as lost_of_lem, numbers_of as numbers_of_lem, totals_of as totals_of_lem};
+ghost use Rattle.rtps_report.specs.Totals as totals_spec;
 
 use crate::advice::Scope;
 use crate::row_facts::{
@@ -54,28 +54,28 @@ pub struct Totals {
 }
 
 fn is_unclean(tail: u64, evidence: &Evidence<'_>) -> bool
-    ensures { result ≡ is_unclean_lem tail (evidence_value evidence.now) }
+    ensures { result ≡ totals_spec.is_unclean tail (evidence_value evidence.now) }
 {
     !is_complete(&evidence.verdict) && !is_clean(tail, evidence)
 }
 
 /// How many of the numbers from `from` on stand before the first of a row.
 pub(crate) fn before_of(from: u64, evidence: &Evidence<'_>) -> u64
-    ensures { result ≡ before_of_lem from (evidence_value evidence.now) }
+    ensures { result ≡ totals_spec.before_of from (evidence_value evidence.now) }
 {
     row_from(from, evidence).saturating_sub(from)
 }
 
 /// How many numbers a row asks about.
 fn numbers_of(from: u64, evidence: &Evidence<'_>) -> u64
-    ensures { result ≡ numbers_of_lem from (evidence_value evidence.now) }
+    ensures { result ≡ totals_spec.numbers_of from (evidence_value evidence.now) }
 {
     asked_about(row_from(from, evidence), evidence.announcement)
 }
 
 /// How many likely numbers of a row did not arrive: all of them, where it is held.
 fn lost_of(evidence: &Evidence<'_>) -> u64
-    ensures { result ≡ lost_of_lem (evidence_value evidence.now) }
+    ensures { result ≡ totals_spec.lost_of (evidence_value evidence.now) }
 {
     if is_held(evidence) {
         outcomes_of(evidence).likely
@@ -86,11 +86,12 @@ fn lost_of(evidence: &Evidence<'_>) -> u64
 
 impl Totals {
     ghost use Rattle.std.specs.Prelude.{[]};
-    ghost use Rattle.rtps_report.specs.Totals.{AreWithin, with_row as with_row_lem};
+    ghost use Rattle.rtps_report.specs.Totals.{AreWithin};
+    ghost use Rattle.rtps_report.specs.Totals as totals_spec;
     ghost use Rattle.rtps_report.specs.declared.advice.Scope.{Scope as ScopeOf};
 
     fn none() -> Totals
-        ensures counted { (scope : ScopeOf) → result ≡ totals_of_lem scope [] }
+        ensures counted { (scope : ScopeOf) → result ≡ totals_spec.totals_of scope [] }
         ensures pairs { result.pairs ≡ 0 }
         ensures within { AreWithin result }
     {
@@ -121,7 +122,7 @@ impl Totals {
     fn with_row(self, row: &Explanation<'_>, scope: Scope) -> Totals
         requires counted { AreWithin self }
         requires few { self.pairs + 1 < 2 ^ 64 }
-        ensures counted { result ≡ with_row_lem scope self (explanation_value row.now) }
+        ensures counted { result ≡ totals_spec.with_row scope self (explanation_value row.now) }
         ensures within { AreWithin result }
     {
         let evidence = &row.evidence;
@@ -153,7 +154,7 @@ impl Totals {
 
 /// What is counted of rows.
 pub fn totals_of(rows: &[Explanation<'_>], scope: Scope) -> Totals
-    ensures { result ≡ totals_of_lem scope (map explanation_value rows.now) }
+    ensures { result ≡ totals_spec.totals_of scope (map explanation_value rows.now) }
 {
     let mut totals = Totals::none();
     for row in rows {

@@ -2,7 +2,7 @@ ghost use Rattle.std.specs.Prelude.{◌≡◌, ◌&&◌, IfOk, map};
 ghost use Rattle.std.specs.Cmp.Lexicographic.{pointwise};
 ghost use Rattle.std.specs.Str.{bytes_eq};
 ghost use Rattle.rtps_report.specs.ReaderSide.{arrived_value};
-ghost use Rattle.rtps_report.specs.Twice.{are_one as are_one_lem, have_same_times as have_same_times_lem, is_same_time as is_same_time_lem, is_twice as is_twice_lem};
+ghost use Rattle.rtps_report.specs.Twice as twice;
 
 use crate::recording::{Recording, datagrams_of};
 use rtps_evidence::Times;
@@ -10,7 +10,7 @@ use std::alloc::{AllocError, Global};
 
 /// Whether two times are known, and the same.
 fn is_same_time(one: Option<u64>, other: Option<u64>) -> bool
-    ensures { result ≡ is_same_time_lem one other }
+    ensures { result ≡ twice.is_same_time one other }
 {
     match (one, other) {
         (Some(one), Some(other)) => one == other,
@@ -21,7 +21,7 @@ fn is_same_time(one: Option<u64>, other: Option<u64>) -> bool
 
 /// Whether those of each of the first `count` datagrams are so.
 fn have_same_times(count: u64, one: &Times, other: &Times) -> bool
-    ensures { result ≡ have_same_times_lem count one.now.of_datagrams other.now.of_datagrams }
+    ensures { result ≡ twice.have_same_times count one.now.of_datagrams other.now.of_datagrams }
 {
     (0..count).all(|place| {
         is_same_time(one.of_datagram(place + 1), other.of_datagram(place + 1))
@@ -38,7 +38,7 @@ fn are_equal(one: &[&[u8]], other: &[&[u8]]) -> bool
 /// Whether the datagrams of two recordings are the same, and came at the same times. `AllocError` is answered where there is no
 /// memory for the lists of them.
 fn are_one(alloc: Global, one: &Recording, other: &Recording) -> Result<bool, AllocError>
-    ensures { IfOk result (λ same. same ≡ are_one_lem one.now other.now) }
+    ensures { IfOk result (λ same. same ≡ twice.are_one one.now other.now) }
 {
     let count = one.len() as u64;
     if !have_same_times(count, one.times(), other.times()) {
@@ -55,7 +55,7 @@ pub(crate) fn is_twice(
     arrived: Option<&Recording>,
     recording: &Recording,
 ) -> Result<bool, AllocError>
-    ensures { IfOk result (λ same. same ≡ is_twice_lem (arrived_value arrived.entry) recording.now) }
+    ensures { IfOk result (λ same. same ≡ twice.is_twice (arrived_value arrived.entry) recording.now) }
 {
     match arrived {
         Some(other) => are_one(alloc, recording, other),

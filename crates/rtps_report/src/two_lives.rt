@@ -1,5 +1,6 @@
 ghost use Rattle.std.specs.Prelude.{◌≡◌, ◌++◌, ◌∷◌, [], if◌then◌else◌, IfOk, None, OnOk, map};
-ghost use Rattle.rtps_report.specs.TwoLives.{firsts_behind, is_of as is_of_lem, lives_twice as lives_twice_lem, nanoseconds_of as nanoseconds_of_lem, two_lives_of as two_lives_of_lem};
+ghost use Rattle.rtps_report.specs.TwoLives.{firsts_behind};
+ghost use Rattle.rtps_report.specs.TwoLives as two_lives;
 
 use rtps_ids::{Guid, GuidPrefix, Stamp};
 use rtps_known::Life;
@@ -22,13 +23,13 @@ const PARTS: u64 = 0x1_0000_0000;
 
 /// A source time in nanoseconds since 1970 began.
 fn nanoseconds_of(stamp: Stamp) -> u64
-    ensures { result ≡ nanoseconds_of_lem stamp }
+    ensures { result ≡ two_lives.nanoseconds_of stamp }
 {
     u64::from(stamp.seconds) * SECOND + u64::from(stamp.fraction) * SECOND / PARTS
 }
 
 fn two_lives_of(life: Life) -> TwoLives
-    ensures { result ≡ two_lives_of_lem life }
+    ensures { result ≡ two_lives.two_lives_of life }
 {
     let (first, other) = life.sent;
     TwoLives {
@@ -39,7 +40,7 @@ fn two_lives_of(life: Life) -> TwoLives
 
 /// Whether a life is of the participant before, if there is one.
 fn is_of(before: Option<GuidPrefix>, life: Life) -> bool
-    ensures { result ≡ is_of_lem before life }
+    ensures { result ≡ two_lives.is_of before life }
 {
     match before {
         Some(prefix) => life.participant == prefix,
@@ -53,7 +54,7 @@ fn push_first(
     before: Option<GuidPrefix>,
     life: Life,
 ) -> Result<(), AllocError>
-    ensures { OnOk result (found.new.items ≡ found.old.items ++ (if is_of_lem before life then [] else two_lives_of_lem life ∷ [])) }
+    ensures { OnOk result (found.new.items ≡ found.old.items ++ (if two_lives.is_of before life then [] else two_lives.two_lives_of life ∷ [])) }
 {
     if !is_of(before, life) {
         found.push(two_lives_of(life))?;
@@ -63,7 +64,7 @@ fn push_first(
 
 /// The first of each participant, of lives that stand by participant.
 pub(crate) fn first_lives(alloc: Global, lives: &[Life]) -> Result<Vec<TwoLives>, AllocError>
-    ensures { IfOk result (λ found. found.items ≡ map two_lives_of_lem (firsts_behind None lives.now)) }
+    ensures { IfOk result (λ found. found.items ≡ map two_lives.two_lives_of (firsts_behind None lives.now)) }
 {
     let mut found = Vec::new(alloc);
     let mut before = None;
@@ -76,7 +77,7 @@ pub(crate) fn first_lives(alloc: Global, lives: &[Life]) -> Result<Vec<TwoLives>
 
 /// Whether a participant has two of these lives.
 pub(crate) fn lives_twice(found: &[TwoLives], participant: Guid) -> bool
-    ensures { result ≡ lives_twice_lem found.now participant }
+    ensures { result ≡ two_lives.lives_twice found.now participant }
 {
     for one in found {
         if one.participant == participant {

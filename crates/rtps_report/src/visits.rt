@@ -8,7 +8,8 @@ ghost use Rattle.rtps_audit.specs.Intake.{Intake};
 ghost use Rattle.rtps_audit.specs.Placed.{placed_in};
 ghost use Rattle.rtps_report.specs.Participants.{AreJoined, participant_told};
 ghost use Rattle.rtps_report.specs.Stays.{ArePresencesOf, latest_of, prefix_cmp};
-ghost use Rattle.rtps_report.specs.Visits.{AreVisitsIn, is_participant, left_time as left_time_lem, place_time as place_time_lem, visit_by, visit_with};
+ghost use Rattle.rtps_report.specs.Visits.{AreVisitsIn, is_participant, visit_by, visit_with};
+ghost use Rattle.rtps_report.specs.Visits as visits_spec;
 
 use crate::participant::Participant;
 use crate::presence::Presences;
@@ -21,7 +22,7 @@ use std::collections::BTreeMap;
 
 /// When the datagram of a place came, where there is a place.
 fn place_time(times: &Times, place: Option<Location>) -> Option<u64>
-    ensures { result ≡ place_time_lem times.now.of_datagrams place }
+    ensures { result ≡ visits_spec.place_time times.now.of_datagrams place }
 {
     match place {
         Some(place) => times.of_datagram(place.datagram),
@@ -31,7 +32,7 @@ fn place_time(times: &Times, place: Option<Location>) -> Option<u64>
 
 /// When a participant leaves: in no datagram, or then. None where that is not known.
 fn left_time(times: &Times, left: Option<u64>) -> Option<Option<u64>>
-    ensures { result ≡ left_time_lem times.now.of_datagrams left }
+    ensures { result ≡ visits_spec.left_time times.now.of_datagrams left }
 {
     match left {
         Some(datagram) => match times.of_datagram(datagram) {
@@ -64,8 +65,8 @@ pub(crate) struct Seen<'r> {
 /// When a participant is there; None where that is not known.
 fn visit_for(seen: Seen<'_>, participant: &Participant) -> Option<Visit>
     ensures { (recording : List (List ℕ)) → ArePresencesOf recording seen.entry.times.now.of_datagrams seen.entry.presences.now
-        → result ≡ visit_by (place_time_lem seen.entry.times.now.of_datagrams (get guid_cmp seen.entry.joined.now participant.now.guid))
-        (left_time_lem seen.entry.times.now.of_datagrams participant.now.left) (latest_of recording seen.entry.times.now.of_datagrams participant.now.guid.prefix) }
+        → result ≡ visit_by (visits_spec.place_time seen.entry.times.now.of_datagrams (get guid_cmp seen.entry.joined.now participant.now.guid))
+        (visits_spec.left_time seen.entry.times.now.of_datagrams participant.now.left) (latest_of recording seen.entry.times.now.of_datagrams participant.now.guid.prefix) }
 {
     let since = place_time(seen.times, seen.joined.get(&participant.guid).copied());
     let left = left_time(seen.times, participant.left);
@@ -95,8 +96,8 @@ fn note_visit(
 ) -> Result<(), Memory>
     ensures { OnOk result ((recording : List (List ℕ)) → ArePresencesOf recording seen.entry.times.now.of_datagrams seen.entry.presences.now
         → (other : GuidPrefixOf) → get prefix_cmp visits.new other
-        ≡ visit_with (is_participant other participant.now.guid) (visit_by (place_time_lem seen.entry.times.now.of_datagrams (get guid_cmp seen.entry.joined.now participant.now.guid))
-        (left_time_lem seen.entry.times.now.of_datagrams participant.now.left) (latest_of recording seen.entry.times.now.of_datagrams participant.now.guid.prefix))
+        ≡ visit_with (is_participant other participant.now.guid) (visit_by (visits_spec.place_time seen.entry.times.now.of_datagrams (get guid_cmp seen.entry.joined.now participant.now.guid))
+        (visits_spec.left_time seen.entry.times.now.of_datagrams participant.now.left) (latest_of recording seen.entry.times.now.of_datagrams participant.now.guid.prefix))
         (get prefix_cmp visits.old other)) }
 {
     if participant.guid != participant_of(participant.guid.prefix) {

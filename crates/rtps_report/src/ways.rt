@@ -1,9 +1,9 @@
 ghost use Rattle.std.specs.Prelude.{◌≡◌, count_by, map};
 ghost use Rattle.rtps_evidence.specs.Explanation.{explanation_value};
 ghost use Rattle.rtps_report.specs.BestEfforts.{counted_value};
-ghost use Rattle.rtps_report.specs.Order.{ways_of_rows as ways_of_rows_lem};
+ghost use Rattle.rtps_report.specs.Order as order;
 ghost use Rattle.rtps_report.specs.RowFacts.{way_in};
-ghost use Rattle.rtps_report.specs.Ways.{is_way as is_way_lem, ways_of_counted as ways_of_counted_lem};
+ghost use Rattle.rtps_report.specs.Ways as ways;
 
 use crate::best_effort::Counted;
 use crate::row_facts::way_of;
@@ -36,7 +36,7 @@ impl Ways {
 
 /// Whether two recordings are this way round, by a pair of which the other one has something.
 fn is_way(way: Way, found: Option<Way>) -> bool
-    ensures { result ≡ is_way_lem way found }
+    ensures { result ≡ ways.is_way way found }
 {
     match (way, found) {
         (Way::Right, Some(Way::Right))
@@ -49,7 +49,7 @@ fn is_way(way: Way, found: Option<Way>) -> bool
 
 /// By how many rows they are this way round.
 fn rows_of_way(rows: &[Explanation<'_>], way: Way) -> u64
-    ensures { result ≡ count_by (λ row. is_way_lem way (way_in row.evidence.in_span)) (map explanation_value rows.now) }
+    ensures { result ≡ count_by (λ row. ways.is_way way (way_in row.evidence.in_span)) (map explanation_value rows.now) }
 {
     let mut count = 0;
     for row in rows {
@@ -62,7 +62,7 @@ fn rows_of_way(rows: &[Explanation<'_>], way: Way) -> u64
 
 /// By how many rows they are which way round.
 pub(crate) fn ways_of_rows(rows: &[Explanation<'_>]) -> Ways
-    ensures { result ≡ ways_of_rows_lem (map explanation_value rows.now) }
+    ensures { result ≡ order.ways_of_rows (map explanation_value rows.now) }
 {
     Ways {
         right: rows_of_way(rows, Way::Right),
@@ -74,7 +74,7 @@ pub(crate) fn ways_of_rows(rows: &[Explanation<'_>]) -> Ways
 
 /// By how many of these pairs of best effort they are this way round.
 fn counted_of_way(counted: &[Counted<'_>], way: Way) -> u64
-    ensures { result ≡ count_by (λ one. is_way_lem way one.arrived.way) (map counted_value counted.now) }
+    ensures { result ≡ count_by (λ one. ways.is_way way one.arrived.way) (map counted_value counted.now) }
 {
     let mut count = 0;
     for one in counted {
@@ -87,7 +87,7 @@ fn counted_of_way(counted: &[Counted<'_>], way: Way) -> u64
 
 /// By how many of these pairs of best effort they are which way round.
 pub(crate) fn ways_of_counted(counted: &[Counted<'_>]) -> Ways
-    ensures { result ≡ ways_of_counted_lem (map counted_value counted.now) }
+    ensures { result ≡ ways.ways_of_counted (map counted_value counted.now) }
 {
     Ways {
         right: counted_of_way(counted, Way::Right),

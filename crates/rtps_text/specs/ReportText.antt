@@ -12,7 +12,7 @@ use Rattle.rtps_report.specs.Recording.{RecordingValue}
 use Rattle.rtps_report.specs.Reported.{IsAuditExplained, IsReportAs, is_complete}
 use Rattle.rtps_lines.specs.Lines.{line_of, verdict_text}
 use Rattle.rtps_parts.specs.Names.{guid_text}
-use Rattle.rtps_lines.specs.JsonText.{IsJsonLine, report_json}
+use Rattle.rtps_json.specs.JsonText.{IsJsonLine, report_json}
 
 -- the first line of the report: how many pairs it has
 abbrev pub pairs_line : ℕ → List ℕ

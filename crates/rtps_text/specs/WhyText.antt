@@ -18,7 +18,7 @@ use Rattle.rtps_report.specs.RowFacts.{is_clean, outcomes_of}
 use Rattle.rtps_report.specs.Silences.{silences_of}
 use Rattle.rtps_report.specs.Talk.{TalkValue, talk_value}
 use Rattle.rtps_report.specs.declared.late_matches.LateMatch.{LateMatch}
-use Rattle.rtps_lines.specs.CheckMembers.{report_last}
+use Rattle.rtps_lines.specs.ReportEnds.{report_last}
 use Rattle.rtps_lines.specs.EndText.{paired_text}
 use Rattle.rtps_lines.specs.LateNotes.{late_text}
 use Rattle.rtps_lines.specs.Lines.{line_of, verdict_text, acknowledged_line, advice_text, announced_line, asked_line, claimed_line, inner_line, kind_text, place_comma, place_text, questions_line, second_text, sent_line, silence_lines, told_line, wait_text}

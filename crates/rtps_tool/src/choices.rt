@@ -1,7 +1,8 @@
 ghost use Rattle.std.specs.Prelude.{◌≡◌};
 ghost use Rattle.std.specs.Option.{option_map};
 ghost use Rattle.std.specs.String.{string_bytes};
-ghost use Rattle.rtps_tool.specs.Choices.{RunsBy, audit_command as audit_command_lem, options_of};
+ghost use Rattle.rtps_tool.specs.Choices.{RunsBy, options_of};
+ghost use Rattle.rtps_tool.specs.Choices as choices;
 ghost use Rattle.rtps_tool.specs.Commands.{command_value};
 ghost use Rattle.rtps_tool.specs.Options.{options_value};
 ghost use Rattle.rtps_tool.specs.Words.{arrived_name, file_name};
@@ -105,7 +106,7 @@ fn text_of(name: &Option<String>) -> Option<&str>
 
 /// What prints an audit in this form.
 fn audit_command<'a>(form: AuditForm, asked: AskedAudit) -> Command<'a>
-    ensures { command_value result ≡ audit_command_lem form asked }
+    ensures { command_value result ≡ choices.audit_command form asked }
 {
     match form {
         AuditForm::Lines => Command::Audit(asked),

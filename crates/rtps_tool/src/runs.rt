@@ -11,7 +11,7 @@ ghost use Rattle.rtps_fragments.specs.declared.fragments.Fragments.TheVariants.{
 ghost use Rattle.rtps_report.specs.FullReport.{IsTold, report_value};
 ghost use Rattle.rtps_report.specs.ReaderSide.{arrived_value};
 ghost use Rattle.rtps_tool.specs.Commands.{IsFormOf, IsPageForm, IsTextOf, command_value};
-ghost use Rattle.rtps_tool.specs.Limits.{usual as usual_lem};
+ghost use Rattle.rtps_tool.specs.Limits as limits_spec;
 ghost use Rattle.rtps_tool.specs.Runs.{FailsReading, IsOtherFault, ReadsRecording, Runs, RunsBeside, RunsWithin, Writes};
 
 use crate::command::VERSION;
@@ -43,7 +43,7 @@ pub struct Limits {
 impl Limits {
     /// The limits where none are chosen: 1,000,000 datagrams and 1,073,741,824 octets.
     pub fn usual() -> Limits
-        ensures { result ≡ usual_lem }
+        ensures { result ≡ limits_spec.usual }
     {
         Limits {
             datagrams: 1_000_000,

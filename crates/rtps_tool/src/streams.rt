@@ -1,6 +1,6 @@
 ghost use Rattle.std.specs.Prelude.{◌≡◌, [], true, false, ◌+◌, ◌≤◌, ◌<◌, ℕ, List, Option, length, take, drop, vec_len, MatchResult, IfErr, IfOk, OnOk};
 ghost use Rattle.std.specs.Io.KnownBytes.{Appends, Consumes, IsAtEnd};
-ghost use Rattle.rtps_tool.specs.Forms.{begins_capture as begins_capture_lem};
+ghost use Rattle.rtps_tool.specs.Forms as forms;
 ghost use Rattle.rtps_capture.specs.declared.captures.Captures.{Captures as CapturesValue};
 ghost use Rattle.rtps_tool.specs.RecordingText.{unframed};
 ghost use Rattle.rtps_tool.specs.Runs.{ReadsRecording, FailsReading, FailsWriting};
@@ -100,7 +100,7 @@ fn read_text_input<R: Read>(
     requires room { length held.old ≡ 196607 }
     requires begun { (4 ≤ start) × (start ≤ 65539) }
     ensures { (captures : CapturesValue) (before : Option (List ℕ))
-        → begins_capture_lem captures (take start held.old) ≡ false → Consumes before (R.remaining input.old) (take start held.old)
+        → forms.begins_capture captures (take start held.old) ≡ false → Consumes before (R.remaining input.old) (take start held.old)
         → MatchResult result (ReadsRecording limits captures before (R.remaining input.new)) (FailsReading limits captures before (R.remaining input.new)) }
 {
     let mut reader = LineReader::new(alloc);
@@ -120,7 +120,7 @@ fn read_pieces<R: Read>(
     requires room { length held.old ≡ 196607 }
     requires begun { (4 ≤ start) × (start ≤ 65539) }
     ensures { (captures : CapturesValue) (before : Option (List ℕ))
-        → begins_capture_lem captures (take start held.old) ≡ false → Consumes before (R.remaining input.old) (take start held.old) → MatchResult result
+        → forms.begins_capture captures (take start held.old) ≡ false → Consumes before (R.remaining input.old) (take start held.old) → MatchResult result
         (λ _. ReadsRecording limits captures before (R.remaining input.new) (unframed reader.new.datagrams))
         (FailsReading limits captures before (R.remaining input.new)) }
 {
@@ -189,7 +189,7 @@ fn read_capture_input<R: Read>(
     begun: &[u8],
 ) -> Result<Recording, RunFault>
     requires begun { 4 ≤ length begun.now }
-    requires form { begins_capture_lem captures begun.now ≡ true }
+    requires form { forms.begins_capture captures begun.now ≡ true }
     ensures { (before : Option (List ℕ)) → Consumes before (R.remaining input.old) begun.now
         → MatchResult result (ReadsRecording limits captures before (R.remaining input.new)) (FailsReading limits captures before (R.remaining input.new)) }
 {
@@ -205,7 +205,7 @@ fn read_whole<R: Read>(
     begun: &[u8],
 ) -> Result<Vec<u8>, RunFault>
     requires begun { 4 ≤ length begun.now }
-    ensures form { IfOk result (λ octets. (captures : CapturesValue) → begins_capture_lem captures octets.items ≡ begins_capture_lem captures begun.now) }
+    ensures form { IfOk result (λ octets. (captures : CapturesValue) → forms.begins_capture captures octets.items ≡ forms.begins_capture captures begun.now) }
     ensures small { IfOk result (λ octets. length octets.items ≤ limits.octets) }
     ensures read { (captures : CapturesValue) (before : Option (List ℕ)) → Consumes before (R.remaining input.old) begun.now → MatchResult result
         (λ octets. Consumes before (R.remaining input.new) octets.items × IsAtEnd (R.remaining input.new))

@@ -1,5 +1,6 @@
 //! What discovery has told whom in recordings with times.
 
+use crate::arrivals::{Arrival, arrivals_of};
 use crate::fault::Fault;
 use rtps_discovery::leaves;
 use rtps_fragments::FragmentWalk;
@@ -11,13 +12,6 @@ use rtps_wire::Items;
 use std::alloc::Global;
 use std::collections::BTreeMap;
 use std::fmt::Write;
-
-/// A datagram, and when it came, in nanoseconds.
-#[derive(Drop)]
-struct Arrival {
-    time: Option<u64>,
-    octets: Vec<u8>,
-}
 
 /// What is known of a participant.
 #[derive(Clone, Copy)]
@@ -35,32 +29,14 @@ struct Heard<'a> {
     stages: BTreeMap<GuidPrefix, Stage>,
 }
 
-/// Tells it of each recording of a text, and an empty line behind it; an empty line stands between two. A line is a time, or a dash, and a
-/// datagram.
+/// Tells it of each recording of a text, and an empty line behind it; an empty line stands between two.
 pub(crate) fn tell_each(alloc: Global, input: &str, text: &mut String) -> Result<(), Fault> {
     for recording in input.split("\n\n") {
-        let arrivals = read(alloc, recording)?;
+        let arrivals = arrivals_of(alloc, recording)?;
         tell(alloc, &arrivals, text)?;
         writeln!(text)?;
     }
     Ok(())
-}
-
-/// The lines of a text.
-fn read(alloc: Global, text: &str) -> Result<Vec<Arrival>, Fault> {
-    let mut arrivals = Vec::new(alloc);
-    for line in text.split("\n") {
-        if line.is_empty() {
-            continue;
-        }
-        let (time, digits) = line.split_once(" ").ok_or(Fault::Words)?;
-        let Ok(octets) = hex::decode(alloc, digits.as_bytes()) else {
-            return Err(Fault::Words);
-        };
-        let time = time.parse::<u64>().ok();
-        arrivals.push(Arrival { time, octets })?;
-    }
-    Ok(arrivals)
 }
 
 /// Tells of one recording who has two lives, and who was not told of whom.

@@ -14,6 +14,7 @@
 //! reading or writing fails.
 #![tactic(auto)]
 
+mod arrivals;
 mod cases;
 mod discoveries;
 mod fault;

@@ -1,5 +1,6 @@
 //! When writers and readers matched in recordings with times.
 
+use crate::arrivals::{Arrival, arrivals_of};
 use crate::fault::Fault;
 use rtps_discovery::{Side, announced_endpoint};
 use rtps_fragments::FragmentWalk;
@@ -10,47 +11,22 @@ use std::alloc::Global;
 use std::collections::BTreeMap;
 use std::fmt::Write;
 
-/// A datagram, and when it came, in nanoseconds.
-#[derive(Drop)]
-struct Arrival {
-    time: Option<u64>,
-    octets: Vec<u8>,
-}
-
 /// What a recording has, act by act.
 #[derive(Drop)]
-struct Heard<'a> {
+struct Heard {
     known: Known,
-    matches: Matches<'a>,
+    matches: Matches,
     sides: BTreeMap<Guid, Side>,
 }
 
-/// Tells it of each recording of a text, and an empty line behind it; an empty line stands between two. A line is a time, or a dash, and a
-/// datagram.
+/// Tells it of each recording of a text, and an empty line behind it; an empty line stands between two.
 pub(crate) fn tell_each(alloc: Global, input: &str, text: &mut String) -> Result<(), Fault> {
     for recording in input.split("\n\n") {
-        let arrivals = read(alloc, recording)?;
+        let arrivals = arrivals_of(alloc, recording)?;
         tell(alloc, &arrivals, text)?;
         writeln!(text)?;
     }
     Ok(())
-}
-
-/// The lines of a text.
-fn read(alloc: Global, text: &str) -> Result<Vec<Arrival>, Fault> {
-    let mut arrivals = Vec::new(alloc);
-    for line in text.split("\n") {
-        if line.is_empty() {
-            continue;
-        }
-        let (time, digits) = line.split_once(" ").ok_or(Fault::Words)?;
-        let Ok(octets) = hex::decode(alloc, digits.as_bytes()) else {
-            return Err(Fault::Words);
-        };
-        let time = time.parse::<u64>().ok();
-        arrivals.push(Arrival { time, octets })?;
-    }
-    Ok(arrivals)
 }
 
 /// Tells of one recording when each writer and each reader matched.
@@ -82,9 +58,9 @@ fn is_twice(lives: &[Life], prefix: GuidPrefix) -> bool {
     lives.iter().any(|life| life.participant == prefix)
 }
 
-impl<'a> Heard<'a> {
+impl Heard {
     /// Keeps an act.
-    fn note(&mut self, act: &Spoken<'a>, place: Place) -> Result<(), Fault> {
+    fn note(&mut self, act: &Spoken<'_>, place: Place) -> Result<(), Fault> {
         self.known.note(act, place.time)?;
         self.matches.note(act, place)?;
         let Some(endpoint) = announced_endpoint(act) else {

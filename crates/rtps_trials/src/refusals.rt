@@ -8,7 +8,8 @@ use crate::rewriting::items_of;
 use rtps_audit::{MergedRanges, PlainRanges, Verdict, judge_from};
 use rtps_ids::{Memory, Order};
 use rtps_params::write_list;
-use rtps_wire::{Header, Item, write_message};
+use rtps_wire::{Header, Item};
+use rtps_write::write_message;
 use std::alloc::{AllocError, Global};
 use std::fmt::Write;
 

@@ -2,7 +2,8 @@
 
 use crate::fault::Fault;
 use crate::recording::read;
-use rtps_wire::{Header, Item, Items, Refusal, write_message};
+use rtps_wire::{Header, Item, Items, Refusal};
+use rtps_write::write_message;
 use std::alloc::Global;
 use std::fmt::Write;
 use std::slice;

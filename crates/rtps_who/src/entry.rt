@@ -1,7 +1,8 @@
 ghost use Rattle.std.specs.Prelude.{◌≡◌, OnOk};
 ghost use Rattle.std.specs.Option.{option_map};
 ghost use Rattle.rtps_who.specs.Listings.{Lists, listings_by};
-ghost use Rattle.rtps_who.specs.Samples.{entry_value, front_entry as front_entry_lem};
+ghost use Rattle.rtps_who.specs.Samples.{entry_value};
+ghost use Rattle.rtps_who.specs.Samples as samples;
 
 use crate::gids::{Gids, Width, front_gids};
 use crate::node::Node;
@@ -33,7 +34,7 @@ impl<'a> Entry<'a> {
 
 /// The node at the beginning of octets, and what is behind it. None if it cannot be read.
 pub(crate) fn front_entry(octets: &[u8], order: Order, width: Width) -> Option<(Entry<'_>, &[u8])>
-    ensures { option_map (λ found. (entry_value found.0, found.1.now)) result ≡ front_entry_lem order width octets.now }
+    ensures { option_map (λ found. (entry_value found.0, found.1.now)) result ≡ samples.front_entry order width octets.now }
 {
     let (namespace, behind_namespace) = front_text(octets, order)?;
     let (name, behind_name) = front_text(behind_namespace, order)?;

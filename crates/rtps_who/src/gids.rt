@@ -2,7 +2,8 @@ ghost use Rattle.std.specs.Prelude.{◌≡◌, ◌≤◌, ◌∷◌, [], OnOk, l
 ghost use Rattle.std.specs.Option.{option_map};
 ghost use Rattle.rtps_who.specs.Items.{rest_behind};
 ghost use Rattle.rtps_who.specs.Listings.{Lists, listings_of};
-ghost use Rattle.rtps_who.specs.Samples.{front_gid as front_gid_lem, front_gids as front_gids_lem, gids_value, is_filled as is_filled_lem, node_value, size_of, width_of as width_of_lem};
+ghost use Rattle.rtps_who.specs.Samples.{gids_value, node_value, size_of};
+ghost use Rattle.rtps_who.specs.Samples as samples;
 
 use crate::layout::gid::{GUID_SIZE, WIDE_ROOM, WIDE_SIZE, ZEROS};
 use crate::layout::sequence::COUNT_SIZE;
@@ -31,7 +32,7 @@ impl Width {
 
     /// The form of the gids of a sample, by what is behind its representation.
     pub(crate) fn of(body: &[u8]) -> Width
-        ensures { result ≡ width_of_lem body.now }
+        ensures { result ≡ samples.width_of body.now }
     {
         if body.len() >= WIDE_ROOM && is_filled(body, Width::Wide) {
             Width::Wide
@@ -44,7 +45,7 @@ impl Width {
 /// Whether what is behind the GUID of a gid is as it has to be.
 fn is_filled(octets: &[u8], width: Width) -> bool
     requires { size_of width ≤ length octets.now }
-    ensures { result ≡ is_filled_lem width octets.now }
+    ensures { result ≡ samples.is_filled width octets.now }
 {
     match width {
         Width::Narrow => true,
@@ -54,7 +55,7 @@ fn is_filled(octets: &[u8], width: Width) -> bool
 
 /// The gid at the beginning of octets, and what is behind it. None if it cannot be read.
 fn front_gid(octets: &[u8], width: Width) -> Option<(Guid, &[u8])>
-    ensures { option_map (λ found. (found.0, found.1.now)) result ≡ front_gid_lem width octets.now }
+    ensures { option_map (λ found. (found.0, found.1.now)) result ≡ samples.front_gid width octets.now }
 {
     if octets.len() < width.size() || !is_filled(octets, width) {
         return None;
@@ -65,7 +66,7 @@ fn front_gid(octets: &[u8], width: Width) -> Option<(Guid, &[u8])>
 
 /// What is behind so many gids, if all of them can be read.
 fn behind_gids(octets: &[u8], width: Width, count: u32) -> Option<&[u8]>
-    ensures { option_copied result ≡ rest_behind (front_gid_lem width) count octets.now }
+    ensures { option_copied result ≡ rest_behind (samples.front_gid width) count octets.now }
 {
     let mut rest = octets;
     for _ in 0..count {
@@ -122,7 +123,7 @@ fn list_one<'n>(
 
 /// The list of gids at the beginning of octets, and what is behind it. None if it cannot be read.
 pub(crate) fn front_gids(octets: &[u8], order: Order, width: Width) -> Option<(Gids<'_>, &[u8])>
-    ensures { option_map (λ found. (gids_value found.0, found.1.now)) result ≡ front_gids_lem order width octets.now }
+    ensures { option_map (λ found. (gids_value found.0, found.1.now)) result ≡ samples.front_gids order width octets.now }
 {
     let count = read_u32(octets, order)?;
     let octets = &octets[COUNT_SIZE..];

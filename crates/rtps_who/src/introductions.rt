@@ -2,7 +2,8 @@ ghost use Rattle.std.specs.Prelude.{◌≡◌, ◌++◌, ◌∷◌, [], List, On
 ghost use Rattle.std.specs.Option.{option_map};
 ghost use Rattle.rtps_receiver.specs.Values.{ActValue, spoken_value};
 ghost use Rattle.rtps_discovery.specs.Endpoint.{endpoint_value};
-ghost use Rattle.rtps_who.specs.Introducing.{IsIntroducedBy, KeepsEndpoint, KeepsService, KeepsTeller, is_teller_among, process_kept, process_told as process_told_lem, services_kept, tells_nodes as tells_nodes_lem};
+ghost use Rattle.rtps_who.specs.Introducing.{IsIntroducedBy, KeepsEndpoint, KeepsService, KeepsTeller, is_teller_among, process_kept, services_kept};
+ghost use Rattle.rtps_who.specs.Introducing as introducing;
 ghost use Rattle.rtps_who.specs.Processes.{process_value};
 ghost use Rattle.rtps_who.specs.Samples.{node_value};
 
@@ -86,7 +87,7 @@ impl<'a> Introductions<'a> {
 
 /// Whether an endpoint is a writer that tells of nodes.
 pub fn tells_nodes(endpoint: &Endpoint<'_>) -> bool
-    ensures { result ≡ tells_nodes_lem (endpoint_value endpoint.now) }
+    ensures { result ≡ introducing.tells_nodes (endpoint_value endpoint.now) }
 {
     endpoint.side == Side::Writer
         && endpoint.topic == b"ros_discovery_info".as_slice()
@@ -122,7 +123,7 @@ fn note_service<'a>(
 
 /// The participant that an act announces, and its process.
 fn process_told<'a>(act: &Spoken<'a>) -> Option<(Guid, Process<'a>)>
-    ensures { option_map (λ told. (told.0, process_value told.1)) result ≡ process_told_lem (spoken_value act.now) }
+    ensures { option_map (λ told. (told.0, process_value told.1)) result ≡ introducing.process_told (spoken_value act.now) }
 {
     let guid = announced_participant(act)?;
     let process = match list_in(payload_of(act)) {

@@ -1,7 +1,8 @@
 ghost use Rattle.std.specs.Prelude.{◌≡◌, option_and_then, option_copied};
 ghost use Rattle.rtps_discovery.specs.Fields.{fields_value};
-ghost use Rattle.rtps_who.specs.Processes.{enclave_among as enclave_among_lem, enclave_in as enclave_in_lem, fast_host_among, host_among as host_among_lem, is_given as is_given_lem, is_nothing, is_root as is_root_lem, name_in as name_in_lem, octets_of as octets_of_lem, pid_among as pid_among_lem, process_in, process_value, program_among as program_among_lem, properties_in as properties_in_lem, unknown_process, unless, up_to_colon as up_to_colon_lem};
-ghost use Rattle.rtps_who.specs.Digits.{number_in as number_in_lem};
+ghost use Rattle.rtps_who.specs.Processes.{fast_host_among, is_nothing, process_in, process_value, unknown_process, unless};
+ghost use Rattle.rtps_who.specs.Processes as processes;
+ghost use Rattle.rtps_who.specs.Digits as digits;
 ghost use Rattle.rtps_who.specs.Texts.{value_among};
 ghost use Rattle.rtps_who.specs.Views.{properties_value};
 
@@ -63,7 +64,7 @@ impl<'a> Process<'a> {
 
 /// The properties in a list.
 fn properties_in<'a>(list: &ParamList<'a>) -> Properties<'a>
-    ensures { properties_value result ≡ properties_in_lem (fields_value list.now) }
+    ensures { properties_value result ≡ processes.properties_in (fields_value list.now) }
 {
     let Some(value) = list.first(pid::PROPERTY_LIST) else {
         return Properties::NONE;
@@ -84,7 +85,7 @@ fn text_of<'a>(properties: &Properties<'a>, name: &[u8]) -> Option<&'a [u8]>
 
 /// A text up to its first colon.
 fn up_to_colon(text: &[u8]) -> &[u8]
-    ensures { result.now ≡ up_to_colon_lem text.now }
+    ensures { result.now ≡ processes.up_to_colon text.now }
 {
     match place_of(text, COLON) {
         Some(place) => &text[..place],
@@ -105,7 +106,7 @@ fn fast_host<'a>(properties: &Properties<'a>) -> Option<&'a [u8]>
 
 /// The name of the host.
 fn host_among<'a>(properties: &Properties<'a>) -> Option<&'a [u8]>
-    ensures { option_copied result ≡ host_among_lem (properties_value properties.now) }
+    ensures { option_copied result ≡ processes.host_among (properties_value properties.now) }
 {
     match text_of(properties, b"__Hostname") {
         Some(host) => Some(host),
@@ -115,21 +116,21 @@ fn host_among<'a>(properties: &Properties<'a>) -> Option<&'a [u8]>
 
 /// The program that runs in the process.
 fn program_among<'a>(properties: &Properties<'a>) -> Option<&'a [u8]>
-    ensures { option_copied result ≡ program_among_lem (properties_value properties.now) }
+    ensures { option_copied result ≡ processes.program_among (properties_value properties.now) }
 {
     text_of(properties, b"__ProcessName")
 }
 
 /// The number that the first property of a name spells.
 fn number_of(properties: &Properties<'_>, name: &[u8]) -> Option<u32>
-    ensures { result ≡ option_and_then number_in_lem (value_among name.now (properties_value properties.now)) }
+    ensures { result ≡ option_and_then digits.number_in (value_among name.now (properties_value properties.now)) }
 {
     number_in(properties.get(name)?)
 }
 
 /// The id of the process.
 fn pid_among(properties: &Properties<'_>) -> Option<u32>
-    ensures { result ≡ pid_among_lem (properties_value properties.now) }
+    ensures { result ≡ processes.pid_among (properties_value properties.now) }
 {
     match number_of(properties, b"__Pid") {
         Some(pid) => Some(pid),
@@ -139,14 +140,14 @@ fn pid_among(properties: &Properties<'_>) -> Option<u32>
 
 /// Whether a name is one that stacks give by themselves.
 fn is_given(text: &[u8]) -> bool
-    ensures { result ≡ is_given_lem text.now }
+    ensures { result ≡ processes.is_given text.now }
 {
     text.is_empty() || text == b"/".as_slice() || text == b"RTPSParticipant".as_slice()
 }
 
 /// The name of the participant.
 fn name_in<'a>(list: &ParamList<'a>) -> Option<&'a [u8]>
-    ensures { option_copied result ≡ name_in_lem (fields_value list.now) }
+    ensures { option_copied result ≡ processes.name_in (fields_value list.now) }
 {
     let name = read_text(list.first(pid::ENTITY_NAME)?, list.order())?;
     if is_given(name) {
@@ -157,7 +158,7 @@ fn name_in<'a>(list: &ParamList<'a>) -> Option<&'a [u8]>
 
 /// The octets behind their count, or None if some of them are not there (DDSI-RTPS 2.5, 9.3.2 "OctetSeq").
 fn octets_of(value: &[u8], order: Order) -> Option<&[u8]>
-    ensures { option_copied result ≡ octets_of_lem order value.now }
+    ensures { option_copied result ≡ processes.octets_of order value.now }
 {
     let count = read_u32(value, order)? as usize;
     if COUNT_SIZE + count > value.len() {
@@ -168,7 +169,7 @@ fn octets_of(value: &[u8], order: Order) -> Option<&[u8]>
 
 /// The first enclave that user data names. Each part of it ends with a semicolon.
 fn enclave_among(octets: &[u8]) -> Option<&[u8]>
-    ensures { option_copied result ≡ enclave_among_lem octets.now }
+    ensures { option_copied result ≡ processes.enclave_among octets.now }
 {
     let mut rest = octets;
     for _ in 0..octets.len() {
@@ -183,14 +184,14 @@ fn enclave_among(octets: &[u8]) -> Option<&[u8]>
 
 /// Whether an enclave is none, or that of all.
 fn is_root(text: &[u8]) -> bool
-    ensures { result ≡ is_root_lem text.now }
+    ensures { result ≡ processes.is_root text.now }
 {
     text.is_empty() || text == b"/".as_slice()
 }
 
 /// The enclave of the participant.
 fn enclave_in<'a>(list: &ParamList<'a>) -> Option<&'a [u8]>
-    ensures { option_copied result ≡ enclave_in_lem (fields_value list.now) }
+    ensures { option_copied result ≡ processes.enclave_in (fields_value list.now) }
 {
     let octets = octets_of(list.first(pid::USER_DATA)?, list.order())?;
     let enclave = enclave_among(octets)?;

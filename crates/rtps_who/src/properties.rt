@@ -1,7 +1,8 @@
 ghost use Rattle.std.specs.Prelude.{◌≡◌, option_copied};
 ghost use Rattle.std.specs.Option.{is_some, option_map};
 ghost use Rattle.rtps_who.specs.Items.{rest_behind};
-ghost use Rattle.rtps_who.specs.Texts.{front_property as front_property_lem, properties_of, value_among};
+ghost use Rattle.rtps_who.specs.Texts.{properties_of, value_among};
+ghost use Rattle.rtps_who.specs.Texts as texts;
 ghost use Rattle.rtps_who.specs.Views.{properties_value, property_value};
 
 use crate::layout::sequence::COUNT_SIZE;
@@ -26,7 +27,7 @@ pub(crate) struct Properties<'a> {
 
 /// The property at the beginning of octets, and what is from the next one on. None if it cannot be read.
 fn front_property(octets: &[u8], order: Order) -> Option<(Property<'_>, &[u8])>
-    ensures { option_map (λ found. (property_value found.0, found.1.now)) result ≡ front_property_lem order octets.now }
+    ensures { option_map (λ found. (property_value found.0, found.1.now)) result ≡ texts.front_property order octets.now }
 {
     let (name, behind) = front_text(octets, order)?;
     let (value, rest) = front_text(behind, order)?;
@@ -35,7 +36,7 @@ fn front_property(octets: &[u8], order: Order) -> Option<(Property<'_>, &[u8])>
 
 /// Whether so many properties are at the beginning of octets.
 fn are_properties(octets: &[u8], order: Order, count: u32) -> bool
-    ensures { result ≡ is_some (rest_behind (front_property_lem order) count octets.now) }
+    ensures { result ≡ is_some (rest_behind (texts.front_property order) count octets.now) }
 {
     let mut rest = octets;
     for _ in 0..count {

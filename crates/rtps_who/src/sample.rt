@@ -2,7 +2,8 @@ ghost use Rattle.std.specs.Prelude.{◌≡◌, ◌≤◌, IfOk, OnOk, length, ma
 ghost use Rattle.std.specs.Option.{option_map};
 ghost use Rattle.rtps_who.specs.Items.{items_in, rest_behind};
 ghost use Rattle.rtps_who.specs.Listings.{Lists, listings_in};
-ghost use Rattle.rtps_who.specs.Samples.{front_entry as front_entry_lem, node_value, nodes_among, nodes_in as nodes_in_lem, only_among, order_in as order_in_lem, sample_of, sample_value};
+ghost use Rattle.rtps_who.specs.Samples.{node_value, nodes_among, only_among, sample_of, sample_value};
+ghost use Rattle.rtps_who.specs.Samples as samples;
 
 use crate::entry::front_entry;
 use crate::gids::Width;
@@ -28,7 +29,7 @@ pub(crate) struct Sample<'a> {
 
 /// The node, where there is one alone.
 fn only_in(octets: &[u8], order: Order, width: Width, count: u32) -> Option<Node<'_>>
-    ensures { option_map node_value result ≡ only_among count (items_in (front_entry_lem order width) count octets.now) }
+    ensures { option_map node_value result ≡ only_among count (items_in (samples.front_entry order width) count octets.now) }
 {
     if count != 1 {
         return None;
@@ -39,7 +40,7 @@ fn only_in(octets: &[u8], order: Order, width: Width, count: u32) -> Option<Node
 
 /// What is behind so many nodes, if all of them can be read.
 fn behind_entries(octets: &[u8], order: Order, width: Width, count: u32) -> Option<&[u8]>
-    ensures { option_copied result ≡ rest_behind (front_entry_lem order width) count octets.now }
+    ensures { option_copied result ≡ rest_behind (samples.front_entry order width) count octets.now }
 {
     let mut rest = octets;
     for _ in 0..count {
@@ -51,7 +52,7 @@ fn behind_entries(octets: &[u8], order: Order, width: Width, count: u32) -> Opti
 
 /// The order that the representation of a payload gives, if it is a plain one.
 fn order_in(payload: &[u8]) -> Option<Order>
-    ensures { result ≡ order_in_lem payload.now }
+    ensures { result ≡ samples.order_in payload.now }
 {
     if payload.len() < header::SIZE {
         return None;
@@ -68,7 +69,7 @@ fn order_in(payload: &[u8]) -> Option<Order>
 
 /// The nodes in what is behind a participant's gid, or None if they cannot be read.
 fn nodes_in(octets: &[u8], order: Order, width: Width) -> Option<Sample<'_>>
-    ensures { option_map sample_value result ≡ nodes_in_lem order width octets.now }
+    ensures { option_map sample_value result ≡ samples.nodes_in order width octets.now }
 {
     let count = read_u32(octets, order)?;
     let octets = &octets[COUNT_SIZE..];

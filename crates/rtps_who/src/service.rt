@@ -2,7 +2,8 @@ ghost use Rattle.std.specs.Prelude.{◌≡◌, Some, length, option_copied};
 ghost use Rattle.std.specs.Option.{option_map};
 ghost use Rattle.rtps_discovery.specs.Endpoint.{endpoint_value};
 ghost use Rattle.rtps_who.specs.Samples.{node_value};
-ghost use Rattle.rtps_who.specs.Services.{between as between_lem, node_by, service_of as service_of_lem, service_value, with_name};
+ghost use Rattle.rtps_who.specs.Services.{node_by, service_value, with_name};
+ghost use Rattle.rtps_who.specs.Services as services_spec;
 
 use crate::node::Node;
 use rtps_discovery::{Endpoint, Side};
@@ -17,7 +18,7 @@ pub(crate) enum Service<'a> {
 /// What a topic has between three octets at its beginning and this end, if that is not empty.
 fn between<'a>(topic: &'a [u8], begins: &[u8], ends: &[u8]) -> Option<&'a [u8]>
     requires { length begins.now ≡ 3 }
-    ensures { option_copied result ≡ between_lem begins.now ends.now topic.now }
+    ensures { option_copied result ≡ services_spec.between begins.now ends.now topic.now }
 {
     if topic.len() <= 3 + ends.len() || !topic.starts_with(begins) || !topic.ends_with(ends) {
         return None;
@@ -27,7 +28,7 @@ fn between<'a>(topic: &'a [u8], begins: &[u8], ends: &[u8]) -> Option<&'a [u8]>
 
 /// The name of the node whose parameter service an endpoint is of.
 pub(crate) fn service_of<'a>(endpoint: &Endpoint<'a>) -> Option<&'a [u8]>
-    ensures { option_copied result ≡ service_of_lem (endpoint_value endpoint.now) }
+    ensures { option_copied result ≡ services_spec.service_of (endpoint_value endpoint.now) }
 {
     match endpoint.side {
         Side::Reader => between(endpoint.topic, b"rq/", b"/get_parametersRequest"),

@@ -5,7 +5,8 @@ ghost use Rattle.rtps_wire.specs.Values.{payload_value};
 ghost use Rattle.rtps_discovery.specs.Notice.{whole_payload};
 ghost use Rattle.rtps_who.specs.Introducing.{IsIntroducedBy};
 ghost use Rattle.rtps_who.specs.Samples.{node_value, sample_value};
-ghost use Rattle.rtps_who.specs.Telling.{IsToldBy, listing_kept, nodes_told as nodes_told_lem, sample_kept, sent_by, sent_in as sent_in_lem};
+ghost use Rattle.rtps_who.specs.Telling.{IsToldBy, listing_kept, sample_kept, sent_by};
+ghost use Rattle.rtps_who.specs.Telling as telling;
 
 use crate::introductions::Introductions;
 use crate::node::Node;
@@ -47,7 +48,7 @@ fn told_whole<'a>(fragment: &FragmentBody<'a>) -> Option<(EntityId, &'a [u8])>
 
 /// The sample that an act has, with the entity of its writer.
 fn sent_in<'a>(body: &SpokenBody<'a>) -> Option<(EntityId, &'a [u8])>
-    ensures { option_map (λ sent. (sent.0, sent.1.now)) result ≡ sent_in_lem (spoken_body_value body.now) }
+    ensures { option_map (λ sent. (sent.0, sent.1.now)) result ≡ telling.sent_in (spoken_body_value body.now) }
 {
     match body {
         SpokenBody::Act(ActBody::Data(data)) => whole(data.writer, &data.payload),
@@ -59,7 +60,7 @@ fn sent_in<'a>(body: &SpokenBody<'a>) -> Option<(EntityId, &'a [u8])>
 /// The nodes that an act tells of the participant that sends it.
 fn nodes_told<'a>(introductions: &Introductions<'_>, act: &Spoken<'a>) -> Option<Sample<'a>>
     ensures { (announcing : List ActValue) → IsIntroducedBy announcing introductions.now
-        → option_map (λ sample. (act.now.source, sample_value sample)) result ≡ nodes_told_lem announcing (spoken_value act.now) }
+        → option_map (λ sample. (act.now.source, sample_value sample)) result ≡ telling.nodes_told announcing (spoken_value act.now) }
 {
     let (entity, octets) = sent_in(&act.body)?;
     let prefix = act.source;

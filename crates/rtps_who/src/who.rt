@@ -1,6 +1,7 @@
 ghost use Rattle.std.specs.Prelude.{◌≡◌, IfOk, map};
 ghost use Rattle.std.specs.Option.{option_map};
-ghost use Rattle.rtps_who.specs.Naming.{Recorded, node_of as node_of_lem, node_of_end as node_of_end_lem, nodes_of_participant, only_node as only_node_lem, participant_title as participant_title_lem, process_of as process_of_lem, title_by as title_by_lem, title_of as title_of_lem, title_value};
+ghost use Rattle.rtps_who.specs.Naming.{Recorded, nodes_of_participant, title_value};
+ghost use Rattle.rtps_who.specs.Naming as naming;
 ghost use Rattle.rtps_who.specs.Processes.{process_value};
 ghost use Rattle.rtps_who.specs.Recorded.{IsWhoIn, node_in, node_of_end_in, nodes_in, only_in, process_in};
 ghost use Rattle.rtps_who.specs.Samples.{node_value};
@@ -23,7 +24,7 @@ pub struct Who<'a> {
 
 /// The title by a node, or else by a process.
 pub fn title_by<'a>(node: Option<Node<'a>>, process: &Process<'a>) -> Title<'a>
-    ensures { title_value result ≡ title_by_lem (option_map node_value node.entry) (process_value process.now) }
+    ensures { title_value result ≡ naming.title_by (option_map node_value node.entry) (process_value process.now) }
 {
     if let Some(node) = node {
         return Title::Node(node);
@@ -41,7 +42,7 @@ impl<'a> Who<'a> {
     /// The process of a participant. Unknown where it is not announced.
     pub fn process(&self, prefix: GuidPrefix) -> Process<'a>
         ensures kept { process_value result ≡ process_in self.now prefix }
-        ensures told { (recorded : Recorded) → IsWhoIn recorded self.now → process_value result ≡ process_of_lem recorded prefix }
+        ensures told { (recorded : Recorded) → IsWhoIn recorded self.now → process_value result ≡ naming.process_of recorded prefix }
     {
         self.introductions.process(participant_of(prefix))
     }
@@ -49,7 +50,7 @@ impl<'a> Who<'a> {
     /// The node of a participant that has one alone.
     pub fn only_node(&self, prefix: GuidPrefix) -> Option<Node<'a>>
         ensures kept { option_map node_value result ≡ only_in self.now prefix }
-        ensures told { (recorded : Recorded) → IsWhoIn recorded self.now → option_map node_value result ≡ only_node_lem recorded prefix }
+        ensures told { (recorded : Recorded) → IsWhoIn recorded self.now → option_map node_value result ≡ naming.only_node recorded prefix }
     {
         match self.told.sample(prefix) {
             Some(sample) => sample.only,
@@ -76,7 +77,7 @@ impl<'a> Who<'a> {
     /// The node of an endpoint: the one that had it in its lists last, or else the one that its participant has alone.
     pub fn node(&self, endpoint: Guid) -> Option<Node<'a>>
         ensures kept { option_map node_value result ≡ node_in self.now endpoint }
-        ensures told { (recorded : Recorded) → IsWhoIn recorded self.now → option_map node_value result ≡ node_of_lem recorded endpoint }
+        ensures told { (recorded : Recorded) → IsWhoIn recorded self.now → option_map node_value result ≡ naming.node_of recorded endpoint }
     {
         match self.told.listing(endpoint) {
             Some(node) => Some(node),
@@ -87,7 +88,7 @@ impl<'a> Who<'a> {
     /// The node of an end, an endpoint or a participant: of a participant the one that it has alone.
     pub fn node_of_end(&self, end: Guid) -> Option<Node<'a>>
         ensures kept { option_map node_value result ≡ node_of_end_in self.now end }
-        ensures told { (recorded : Recorded) → IsWhoIn recorded self.now → option_map node_value result ≡ node_of_end_lem recorded end }
+        ensures told { (recorded : Recorded) → IsWhoIn recorded self.now → option_map node_value result ≡ naming.node_of_end recorded end }
     {
         if end.entity == participant_of(end.prefix).entity {
             self.only_node(end.prefix)
@@ -98,14 +99,14 @@ impl<'a> Who<'a> {
 
     /// The title of an endpoint: its node, else the program of its process, else the name of its participant.
     pub fn title(&self, endpoint: Guid) -> Title<'a>
-        ensures { (recorded : Recorded) → IsWhoIn recorded self.now → title_value result ≡ title_of_lem recorded endpoint }
+        ensures { (recorded : Recorded) → IsWhoIn recorded self.now → title_value result ≡ naming.title_of recorded endpoint }
     {
         title_by(self.node(endpoint), &self.process(endpoint.prefix))
     }
 
     /// The title of a participant: its node where it has one alone, else as that of an endpoint.
     pub fn participant_title(&self, prefix: GuidPrefix) -> Title<'a>
-        ensures { (recorded : Recorded) → IsWhoIn recorded self.now → title_value result ≡ participant_title_lem recorded prefix }
+        ensures { (recorded : Recorded) → IsWhoIn recorded self.now → title_value result ≡ naming.participant_title recorded prefix }
     {
         title_by(self.only_node(prefix), &self.process(prefix))
     }

@@ -5,7 +5,7 @@ use Rattle.std.specs.Int.RustNames.{unsigned_abs}
 use Rattle.std.proofs.lemmas.Bool.{cases_lt, ltb-true}
 use Rattle.std.proofs.lemmas.Bool.Decides.{nat_tests}
 use Rattle.std.proofs.lemmas.Int.{ints}
-use Rattle.std.proofs.lemmas.List.{get_or_past}
+use Rattle.std.proofs.lemmas.List.{get_or-drop, get_or_past, length-drop}
 use Rattle.std.proofs.lemmas.List.Elements.{All-cons, All-nil, All-take}
 use Rattle.rtps_ids.specs.NumberSet.{is_bad, spelled_base, spelled_count}
 use Rattle.rtps_ids.specs.Octets.{number_of, sequence_number_of}
@@ -15,7 +15,7 @@ use Rattle.rtps_wire.specs.AckNack.{ack_nack_fault, ack_nack_of}
 use Rattle.rtps_wire.specs.Data.{data_fault, data_number, data_of}
 use Rattle.rtps_wire.specs.Gap.{gap_fault, gap_of}
 use Rattle.rtps_wire.specs.Header.{header_fault}
-use Rattle.rtps_wire.specs.Held.{IsOfNumbers, TellsOfNumbers}
+use Rattle.rtps_wire.specs.Numbers.{IsOfNumbers, TellsOfNumbers}
 use Rattle.rtps_wire.specs.Heartbeat.{first_number, heartbeat_fault, heartbeat_of}
 use Rattle.rtps_wire.specs.Info.{info_dst_fault, info_dst_of, info_src_fault, info_src_of, info_ts_fault, info_ts_of}
 use Rattle.rtps_wire.specs.Message.{body_fault, body_length, body_octets, body_of, fault_at, flags_of, id_of, item_at, next_rest, octets_to_next_header, order_of, source_value}
@@ -30,7 +30,13 @@ use Rattle.rtps_wire.specs.declared.layout.header.TheConstants as header
 use Rattle.rtps_wire.specs.declared.layout.heartbeat.TheConstants.{FIRST}
 use Rattle.rtps_wire.specs.declared.layout.id.TheConstants.{ACKNACK, DATA, GAP, HEARTBEAT, INFO_DST, INFO_SRC, INFO_TS}
 use Rattle.rtps_wire.specs.declared.layout.submessage.TheConstants as submessage
-use Rattle.rtps_wire.proofs.SpelledFields.{AreOctets, octets-drop}
+
+abbrev pub AreOctets : List ℕ → Type 0
+AreOctets octets = All (λ octet. octet < 256) octets
+
+pub octets-drop : (octets : List ℕ) (at : ℕ) → AreOctets octets → AreOctets (drop at octets)
+octets-drop octets at small k d inside =
+    rw (get_or-drop at octets k d) (small (at + k) d (omega (arith, length-drop at octets)))
 
 -- ---- numbers of octets
 

@@ -3,7 +3,7 @@ use Rattle.std.proofs.Common.{◌≡◌, ◌<◌, ℕ, All, List, [], ◌∷◌,
 use Rattle.std.specs.List.{concat, range_with_len}
 use Rattle.rtps_wire.specs.DataFrag.{DataFragValue, IsDataFrag, data_frag_at, fragment_length, parts_of}
 use Rattle.rtps_wire.specs.Dataless.{dataless_next, is_dataless}
-use Rattle.rtps_wire.specs.Held.{TellsOfNumbers}
+use Rattle.rtps_wire.specs.Numbers.{TellsOfNumbers}
 use Rattle.rtps_wire.specs.Message.{item_at}
 use Rattle.rtps_wire.specs.Reading.{Outcome, Unread, outcomes, outcomes_left, outcomes_with, reading_of}
 use Rattle.rtps_wire.specs.Skipped.{skipped_id, skipped_next}
@@ -17,7 +17,10 @@ use Rattle.rtps_wire.proofs.Fragments.{concat-parts_of, length-parts_in, lengths
 use Rattle.rtps_wire.proofs.Numbers.{numbers_fit}
 use Rattle.rtps_wire.proofs.Places.{items_placed}
 use Rattle.rtps_wire.proofs.Readings.{outcomes-done, outcomes-step}
-pub use Rattle.rtps_wire.proofs.Submessages.{whole_not_cut}
+pub use Rattle.rtps_wire.proofs.Numbers.{AreOctets, octets-drop}
+pub use Rattle.rtps_wire.proofs.OneReading.{has_reading, one_reading}
+pub use Rattle.rtps_wire.proofs.Readings.{fault_at-body}
+pub use Rattle.rtps_wire.proofs.Submessages.{item_of_parts, whole_not_cut}
 
 last_with : (more : List ℕ → ℕ → List Outcome) (fault : Option WireFault) (rest : List ℕ) (at : ℕ) (refusal : Refusal) (behind : List Outcome)
     → outcomes_with more fault rest at ≡ Err refusal ∷ behind → behind ≡ []

@@ -1,12 +1,10 @@
 -- ACKNACK. DDSI-RTPS 2.5, 8.3.8.1 "AckNack" and 9.4.5.3 "AckNack Submessage".
-use Rattle.std.specs.Prelude.{ℕ, ◌==◌, ◌+◌, bit_and, not, nat_lt, List, [], ◌∷◌, ◌++◌, length, drop, Option}
+use Rattle.std.specs.Prelude.{ℕ, ◌==◌, ◌+◌, bit_and, not, nat_lt, List, [], ◌∷◌, length, drop, Option}
 use Rattle.rtps_ids.specs.NumberSet.{is_bad, octets_of_count, spelled_base, spelled_count, spelled_set}
-use Rattle.rtps_ids.specs.Octets.{number_of, octets_of}
+use Rattle.rtps_ids.specs.Octets.{number_of}
 use Rattle.rtps_ids.specs.declared.order.Order.{Order}
 use Rattle.rtps_wire.specs.Fault.{first_fault}
 use Rattle.rtps_wire.specs.Fields.{entity_at}
-use Rattle.rtps_wire.specs.Flags.{flag_if}
-use Rattle.rtps_wire.specs.SetField.{set_octets}
 use Rattle.rtps_wire.specs.declared.body.AckNackBody.{AckNackBody}
 use Rattle.rtps_wire.specs.declared.fault.WireFault.{WireFault}
 use Rattle.rtps_wire.specs.declared.fault.WireFault.TheVariants.{ShortBody, BadSet}
@@ -34,11 +32,3 @@ ack_nack_of order flags body =
       count = number_of order 4 (drop (count_place order body) body);
       is_final = not (bit_and flags FINAL == 0);
     }
-
--- the flags of an ACKNACK that is written
-abbrev pub ack_nack_flags : AckNackBody → ℕ
-ack_nack_flags body = flag_if body.is_final FINAL
-
--- its octets: readerId, writerId, the set, count
-abbrev pub ack_nack_octets : Order → AckNackBody → List ℕ
-ack_nack_octets order body = body.reader.0 ++ (body.writer.0 ++ (set_octets order body.set ++ octets_of order 4 body.count))

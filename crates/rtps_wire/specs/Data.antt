@@ -1,11 +1,11 @@
 -- DATA. DDSI-RTPS 2.5, 8.3.8.2 "Data" and 9.4.5.4 "Data Submessage".
-use Rattle.std.specs.Prelude.{ℕ, ℤ, ◌+◌, ◌-◌, ◌==◌, ◌&&◌, ◌||◌, bit_and, bit_or, not, pos, int_le, nat_lt, Bool, false, List, [], ◌∷◌, ◌++◌, length, take, drop, is_err, Option, Some, None, if◌then◌else◌}
+use Rattle.std.specs.Prelude.{ℕ, ℤ, ◌+◌, ◌==◌, ◌&&◌, ◌||◌, bit_and, pos, int_le, nat_lt, Bool, List, [], ◌∷◌, length, take, drop, is_err, Option, Some, None, if◌then◌else◌}
 use Rattle.std.specs.Int.RustNames.{unsigned_abs}
 use Rattle.std.specs.Result.{result_unwrap_or}
-use Rattle.rtps_ids.specs.Octets.{number_of, octets_of, sequence_number_octets, sequence_number_of}
+use Rattle.rtps_ids.specs.Octets.{number_of, sequence_number_of}
 use Rattle.rtps_ids.specs.declared.order.Order.{Order}
 use Rattle.rtps_params.specs.Reading.{list_end}
-use Rattle.rtps_params.specs.Lists.{ListValue, is_same_order}
+use Rattle.rtps_params.specs.Lists.{ListValue}
 use Rattle.rtps_wire.specs.Fault.{first_fault}
 use Rattle.rtps_wire.specs.Fields.{entity_at}
 use Rattle.rtps_wire.specs.Values.{DataValue, PayloadValue}
@@ -76,43 +76,7 @@ data_of order flags body =
       payload = payload_of flags (behind_qos order flags (behind_fields order body));
     }
 
--- whether there is an inline QoS in another order than the submessage
-abbrev pub is_other_order : Order → Option ListValue → Bool
-is_other_order order None = false
-is_other_order order (Some list) = not (is_same_order order list.order)
-
--- the flag for an inline QoS
-abbrev pub qos_flag : Option ListValue → ℕ
-qos_flag None = 0
-qos_flag (Some list) = Q
-
 -- the octets of the inline QoS
 abbrev pub qos_octets : Option ListValue → List ℕ
 qos_octets None = []
 qos_octets (Some list) = list.octets
-
--- the flag for the kind of a payload
-abbrev pub payload_flag : PayloadValue → ℕ
-payload_flag Absent = 0
-payload_flag (Whole octets) = D
-payload_flag (Key octets) = K
-
--- the octets of a payload; an absent one has none
-abbrev pub payload_octets : PayloadValue → List ℕ
-payload_octets Absent = []
-payload_octets (Whole octets) = octets
-payload_octets (Key octets) = octets
-
--- the flags of a DATA that is written
-abbrev pub data_flags : DataValue → ℕ
-data_flags body = bit_or (qos_flag body.qos) (payload_flag body.payload)
-
--- the fields of a DATA that is written. own: extraFlags are 0, and the inline QoS comes right after the fields
-abbrev pub field_octets : Order → DataValue → List ℕ
-field_octets order body =
-    0 ∷ 0 ∷ (octets_of order 2 (SIZE - QOS_FROM) ++ (body.reader.0 ++ (body.writer.0 ++ sequence_number_octets order (pos body.number))))
-
--- the octets of a DATA that is written: its fields, its inline QoS and its payload
-abbrev pub data_octets : Order → DataValue → List ℕ
-data_octets order body =
-    0 ∷ 0 ∷ (octets_of order 2 (SIZE - QOS_FROM) ++ (body.reader.0 ++ (body.writer.0 ++ (sequence_number_octets order (pos body.number) ++ (qos_octets body.qos ++ payload_octets body.payload)))))

@@ -2,8 +2,6 @@
 use Rattle.std.specs.Prelude.{ℕ, List, codes}
 use Rattle.rtps_wire.specs.declared.fault.WireFault.{WireFault}
 use Rattle.rtps_wire.specs.declared.fault.WireFault.TheVariants.{Short, NotRtps, BadVersion, CutHeader, Overrun, ShortBody, BadFlags, BadOffset, BadNumber, BadRange, BadSet, BadInlineQos}
-use Rattle.rtps_wire.specs.declared.write_fault.WriteFault.{WriteFault}
-use Rattle.rtps_wire.specs.declared.write_fault.WriteFault.TheVariants.{NotWritable, TooLong, Unaligned, Memory}
 
 -- the name of a fault: that of its variant
 unfoldable pub fault_name : WireFault → List ℕ
@@ -34,17 +32,3 @@ fault_number BadNumber = 9
 fault_number BadRange = 10
 fault_number BadSet = 11
 fault_number BadInlineQos = 12
-
--- the name of a reason why a message is not written
-unfoldable pub write_fault_name : WriteFault → List ℕ
-write_fault_name NotWritable = codes "NotWritable"
-write_fault_name TooLong = codes "TooLong"
-write_fault_name Unaligned = codes "Unaligned"
-write_fault_name Memory = codes "Memory"
-
--- the number of such a reason, after the numbers of the faults above
-abbrev pub write_fault_number : WriteFault → ℕ
-write_fault_number NotWritable = 13
-write_fault_number TooLong = 14
-write_fault_number Unaligned = 15
-write_fault_number Memory = 16

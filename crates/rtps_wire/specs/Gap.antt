@@ -1,12 +1,11 @@
 -- GAP. DDSI-RTPS 2.5, 8.3.8.4 "Gap" and 9.4.5.6 "Gap Submessage".
-use Rattle.std.specs.Prelude.{ℕ, ℤ, ◌||◌, ◌+◌, int_le, pos, nat_lt, Bool, List, [], ◌∷◌, ◌++◌, length, drop, Option}
+use Rattle.std.specs.Prelude.{ℕ, ℤ, ◌||◌, ◌+◌, int_le, pos, nat_lt, Bool, List, [], ◌∷◌, length, drop, Option}
 use Rattle.std.specs.Int.RustNames.{unsigned_abs}
 use Rattle.rtps_ids.specs.NumberSet.{is_bad, octets_of_count, spelled_base, spelled_count, spelled_set}
-use Rattle.rtps_ids.specs.Octets.{sequence_number_octets, sequence_number_of}
+use Rattle.rtps_ids.specs.Octets.{sequence_number_of}
 use Rattle.rtps_ids.specs.declared.order.Order.{Order}
 use Rattle.rtps_wire.specs.Fault.{first_fault}
 use Rattle.rtps_wire.specs.Fields.{entity_at}
-use Rattle.rtps_wire.specs.SetField.{set_octets}
 use Rattle.rtps_wire.specs.declared.body.GapBody.{GapBody}
 use Rattle.rtps_wire.specs.declared.fault.WireFault.{WireFault}
 use Rattle.rtps_wire.specs.declared.fault.WireFault.TheVariants.{ShortBody, BadNumber, BadSet}
@@ -44,7 +43,3 @@ gap_of order body =
       start = unsigned_abs (start_number order body);
       list = spelled_set order (drop LIST body);
     }
-
--- the octets of a GAP that is written; it has no flag of its own
-abbrev pub gap_octets : Order → GapBody → List ℕ
-gap_octets order body = body.reader.0 ++ (body.writer.0 ++ (sequence_number_octets order (pos body.start) ++ set_octets order body.list))

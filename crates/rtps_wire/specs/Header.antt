@@ -1,5 +1,5 @@
 -- The header of a message. DDSI-RTPS 2.5, 8.3.6 "The RTPS Header" and 9.4.4 "Mapping of the RTPS Header".
-use Rattle.std.specs.Prelude.{ℕ, ◌==◌, not, nat_lt, List, [], ◌∷◌, ◌++◌, ◌||◌, length, slice_index, Option}
+use Rattle.std.specs.Prelude.{ℕ, ◌==◌, not, nat_lt, List, [], ◌∷◌, ◌||◌, length, slice_index, Option}
 use Rattle.rtps_wire.specs.Fault.{first_fault}
 use Rattle.rtps_wire.specs.Fields.{prefix_at, vendor_at}
 use Rattle.rtps_wire.specs.declared.fault.WireFault.{WireFault}
@@ -25,7 +25,3 @@ header_of octets =
       vendor = vendor_at VENDOR octets;
       prefix = prefix_at PREFIX octets;
     }
-
--- the octets of a header that is written
-abbrev pub header_octets : Header → List ℕ
-header_octets header = PROTOCOL ++ (header.version.major ∷ header.version.minor ∷ (header.vendor.0 ++ header.prefix.0))

@@ -1,12 +1,10 @@
 -- INFO_TS, INFO_DST and INFO_SRC. DDSI-RTPS 2.5, 8.3.8.11 "InfoTimestamp" and 9.4.5.12 "InfoTimestamp Submessage",
 -- 8.3.8.8 "InfoDestination" and 9.4.5.9 "InfoDestination Submessage", 8.3.8.10 "InfoSource" and 9.4.5.11 "InfoSource
 -- Submessage".
-use Rattle.std.specs.Prelude.{ℕ, ◌==◌, ◌&&◌, bit_and, nat_lt, List, [], ◌∷◌, ◌++◌, length, slice_index, drop, Option, Some, None, if◌then◌else◌}
-use Rattle.rtps_ids.specs.Octets.{number_of, octets_of}
+use Rattle.std.specs.Prelude.{ℕ, ◌==◌, ◌&&◌, bit_and, nat_lt, List, [], ◌∷◌, length, slice_index, drop, Option, Some, None, if◌then◌else◌}
+use Rattle.rtps_ids.specs.Octets.{number_of}
 use Rattle.rtps_ids.specs.declared.identity.GuidPrefix.{GuidPrefix}
 use Rattle.rtps_ids.specs.declared.identity.Stamp.{Stamp}
-use Rattle.rtps_ids.specs.declared.identity.Vendor.{Vendor}
-use Rattle.rtps_ids.specs.declared.identity.Version.{Version}
 use Rattle.rtps_ids.specs.declared.order.Order.{Order}
 use Rattle.rtps_wire.specs.Fault.{first_fault}
 use Rattle.rtps_wire.specs.Fields.{prefix_at, vendor_at}
@@ -47,21 +45,3 @@ info_src_of body =
       vendor = vendor_at header.VENDOR body;
       prefix = prefix_at header.PREFIX body;
     }
-
--- the flags of an INFO_TS that is written: I if there is no time
-abbrev pub info_ts_flags : Option Stamp → ℕ
-info_ts_flags None = INVALIDATE
-info_ts_flags (Some stamp) = 0
-
--- its time, or nothing
-abbrev pub info_ts_octets : Order → Option Stamp → List ℕ
-info_ts_octets order None = []
-info_ts_octets order (Some stamp) = octets_of order 4 stamp.seconds ++ octets_of order 4 stamp.fraction
-
--- the octets of an INFO_DST that is written; it has no flag of its own
-abbrev pub info_dst_octets : GuidPrefix → List ℕ
-info_dst_octets prefix = prefix.0
-
--- the octets of an INFO_SRC that is written; it has no flag of its own. own: the unused octets are written as 0
-abbrev pub info_src_octets : Version → Vendor → GuidPrefix → List ℕ
-info_src_octets version vendor prefix = 0 ∷ 0 ∷ 0 ∷ 0 ∷ version.major ∷ version.minor ∷ (vendor.0 ++ prefix.0)

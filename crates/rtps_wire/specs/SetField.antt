@@ -1,8 +1,6 @@
 -- A sequence number set as a field of a body. DDSI-RTPS 2.5, 9.4.2.6 "SequenceNumberSet".
-use Rattle.std.specs.Prelude.{ℕ, pos, ◌≡◌, ◌≤◌, nat_lt, false, List, [], ◌∷◌, ◌++◌, length, take, Some}
-use Rattle.std.specs.List.{flat_map}
-use Rattle.rtps_ids.specs.NumberSet.{NumberSetValue, is_bad, octets_of_count, spelled_base, spelled_count, spelled_set, words_of_count}
-use Rattle.rtps_ids.specs.Octets.{octets_of, sequence_number_octets}
+use Rattle.std.specs.Prelude.{ℕ, ◌≡◌, ◌≤◌, nat_lt, false, List, [], ◌∷◌, length, Some}
+use Rattle.rtps_ids.specs.NumberSet.{NumberSetValue, is_bad, octets_of_count, spelled_base, spelled_count, spelled_set}
 use Rattle.rtps_ids.specs.declared.order.Order.{Order}
 use Rattle.rtps_wire.specs.Fault.{first_fault}
 use Rattle.rtps_wire.specs.declared.fault.WireFault.{WireFault}
@@ -21,8 +19,3 @@ LacksSet order octets fault = first_fault (
     (BadSet, is_bad (spelled_base order octets) (spelled_count order octets))
     ∷ (ShortBody, nat_lt (length octets) (octets_of_count (spelled_count order octets)))
     ∷ []) ≡ Some fault
-
--- the octets of a set that is written: its base, how many bits it has, and as many words as hold the bits
-abbrev pub set_octets : Order → NumberSetValue → List ℕ
-set_octets order set =
-    sequence_number_octets order (pos set.base) ++ (octets_of order 4 set.count ++ flat_map (octets_of order 4) (take (words_of_count set.count) set.words))

@@ -16,13 +16,13 @@ pub struct Tally {
 }
 
 impl<'a> Body<'a> {
-    ghost use Rattle.rtps_wire.specs.Tally.{is_fragment as is_fragment_lem, is_skipped as is_skipped_lem};
+    ghost use Rattle.rtps_wire.specs.Tally as tally;
 
     /// Whether it is a NACK_FRAG, HEARTBEAT_FRAG or DATA_FRAG, which are skipped and counted apart (DDSI-RTPS 2.5,
     /// 9.4.5.1.1 "SubmessageId").
     #[inline(always)]
     pub fn is_fragment(&self) -> bool
-        ensures { result ≡ is_fragment_lem (body_value self.now) }
+        ensures { result ≡ tally.is_fragment (body_value self.now) }
     {
         match self {
             Body::Skipped {
@@ -35,7 +35,7 @@ impl<'a> Body<'a> {
     /// Whether it is skipped and is no fragment. A PAD is such an item.
     #[inline(always)]
     pub fn is_skipped(&self) -> bool
-        ensures { result ≡ is_skipped_lem (body_value self.now) }
+        ensures { result ≡ tally.is_skipped (body_value self.now) }
     {
         match self {
             Body::Skipped { .. } => !self.is_fragment(),

@@ -1,51 +1,15 @@
 //! Laws of the definitions, as contracts of functions that do nothing.
 
-ghost use Rattle.std.specs.Prelude.{◌≡◌, ◌<◌, ◌++◌, ℕ, List, All, map, option_to_list, Ok, Err, None};
-ghost use Rattle.rtps_wire.specs.Held.{IsHeldHeader, IsHeldItem};
+ghost use Rattle.std.specs.Prelude.{◌≡◌, ◌++◌, ℕ, List, map, option_to_list, Ok, Err};
 ghost use Rattle.rtps_wire.specs.Layout.{ack_nack_is, data_frag_is, data_is, gap_is, header_is, heartbeat_is, id_is, info_dst_is, info_ts_is, nack_frag_is, submessage_is};
 ghost use Rattle.rtps_wire.specs.Message.{Reading, Reads};
 ghost use Rattle.rtps_wire.specs.Reading.{items_among, outcomes, reading_of, refusal_among};
-ghost use Rattle.rtps_wire.specs.Spelling.{AreAlike, IsReadAs, Spells};
-ghost use Rattle.rtps_wire.specs.Values.{ItemValue};
-ghost use Rattle.rtps_wire.specs.Writable.{write_fault};
-ghost use Rattle.rtps_wire.specs.Written.{clean_reading, message_octets};
-ghost use Rattle.rtps_wire.specs.declared.header.Header.{Header};
 
 /// Each datagram has exactly one reading. `Items` gives its items in order, and then its refusal, if there is one.
 pub fn one_reading()
     ensures exists { (datagram : List ℕ) → Reads datagram (reading_of datagram) }
     ensures unique { (datagram : List ℕ) (reading other : Reading) → Reads datagram reading → Reads datagram other → reading ≡ other }
     ensures order { (rest : List ℕ) (at : ℕ) → outcomes rest at ≡ map Ok (items_among (outcomes rest at)) ++ map Err (option_to_list (refusal_among (outcomes rest at))) }
-{}
-
-/// What is written reads back: if a header and items can be written, their octets are read as this header and these
-/// items, each at its place, without a refusal.
-#[tactic(auto, using(crate::proofs::WrittenMessage::written_reads))]
-pub fn written_reads_back()
-    ensures { (header : Header) (items : List ItemValue) → IsHeldHeader header → All IsHeldItem items → write_fault header items ≡ None
-        → reading_of (message_octets header items) ≡ clean_reading header items }
-{}
-
-/// A message is read as what it spells, and as nothing else. So each octet of a message without a refusal is a part of
-/// its header or of an item, at its place, or it is ignored.
-pub fn a_message_is_read_as_it_is_spelled()
-    ensures spelled { (header : Header) (items : List ItemValue) (message : List ℕ) → All (λ octet. octet < 256) message
-        → IsReadAs header items (reading_of message) → Spells header items message }
-    ensures read { (header : Header) (items : List ItemValue) (message : List ℕ) → IsHeldHeader header → All IsHeldItem items
-        → Spells header items message → IsReadAs header items (reading_of message) }
-{}
-
-/// What is written spells the same items. So if a message is read and written again, only these can differ: flags that
-/// have no name here, octetsToNextHeader 0 of the last submessage, extraFlags, flag N of a DATA, octets that
-/// octetsToInlineQos skips, octets of a DATA without a payload and of an INFO_TS without a time, the unused octets of
-/// an INFO_SRC, bits of a set past its count, and octets after the last field. If such octets are left out,
-/// octetsToNextHeader and octetsToInlineQos are smaller.
-#[tactic(auto, using(crate::proofs::SpelledAgain::written_spelled, crate::proofs::SpelledAgain::written_alike))]
-pub fn what_is_written_is_spelled()
-    ensures written { (header : Header) (items : List ItemValue) → All IsHeldItem items → write_fault header items ≡ None
-        → Spells header items (message_octets header items) }
-    ensures again { (header : Header) (items : List ItemValue) (message : List ℕ) → All (λ octet. octet < 256) message
-        → IsReadAs header items (reading_of message) → write_fault header items ≡ None → AreAlike message (message_octets header items) }
 {}
 
 /// The ids, flags, sizes and offsets that the code and the definitions use are those of the standard.

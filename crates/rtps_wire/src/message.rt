@@ -2,9 +2,11 @@ ghost use Rattle.std.specs.Prelude.{◌≡◌, ◌≤◌, ◌+◌, drop, false, 
 ghost use Rattle.std.specs.Iterator.{YieldsFirstBy, item_count};
 ghost use Rattle.rtps_wire.specs.Dataless.{dataless_next, is_dataless_at, is_dataless_with};
 ghost use Rattle.rtps_wire.specs.Fault.{ReadsOrFaults};
-ghost use Rattle.rtps_wire.specs.Message.{body_fault, body_length, body_octets, body_of, extent_of, fault_at, flags_of, item_at, octets_to_next_header, order_of as order_of_lem};
+ghost use Rattle.rtps_wire.specs.Message.{body_fault, body_length, body_octets, body_of, extent_of, fault_at, flags_of, item_at, octets_to_next_header};
+ghost use Rattle.rtps_wire.specs.Message as message_spec;
 ghost use Rattle.rtps_wire.specs.Reading.{outcome_value, outcomes_left, read_as, reading_of, refused_with};
-ghost use Rattle.rtps_wire.specs.Skipped.{is_read as is_read_lem, begins_with, skipped_next};
+ghost use Rattle.rtps_wire.specs.Skipped.{begins_with, skipped_next};
+ghost use Rattle.rtps_wire.specs.Skipped as skipped_spec;
 ghost use Rattle.rtps_wire.specs.Values.{body_value, item_value};
 ghost use Rattle.rtps_wire.specs.declared.layout.submessage.TheConstants.{SIZE};
 
@@ -147,7 +149,7 @@ pub(crate) fn declared_by(rest: &[u8]) -> usize
 /// Whether submessages of this id are read, and not skipped.
 #[inline(always)]
 fn is_read(id: u8) -> bool
-    ensures { result ≡ is_read_lem id }
+    ensures { result ≡ skipped_spec.is_read id }
 {
     match id {
         id::ACKNACK
@@ -190,7 +192,7 @@ fn dataless_size(rest: &[u8]) -> Option<usize>
 
 /// The flags and the body of the submessage at the front, if it has this id, which is not read, and no fault.
 pub(crate) fn skipped_body(rest: &[u8], id: u8) -> Option<(u8, &[u8])>
-    requires { is_read_lem id ≡ false }
+    requires { skipped_spec.is_read id ≡ false }
     ensures { MatchOption result (begins_with id rest.now ≡ false)
         (λ found. (begins_with id rest.now ≡ true) × (found.0 ≡ flags_of rest.now) × (found.1.now ≡ body_octets rest.now)) }
 {
@@ -265,7 +267,7 @@ pub(crate) fn extent(id: u8, declared: usize, left: usize) -> usize
 /// The order that flag E gives.
 #[inline(always)]
 pub(crate) fn order_of(flags: u8) -> Order
-    ensures { result ≡ order_of_lem flags }
+    ensures { result ≡ message_spec.order_of flags }
 {
     if flags & submessage::E != 0 {
         Order::Little

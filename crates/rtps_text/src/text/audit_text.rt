@@ -1,7 +1,7 @@
 ghost use Rattle.std.specs.Prelude.{◌≡◌, ◌++◌, if◌then◌else◌, IfOk, OnOk, Some, flat_map, map, string_bytes};
 ghost use Rattle.std.specs.List.{list_all};
 ghost use Rattle.rtps_evidence.specs.Explanation.{explanation_value, row_of};
-ghost use Rattle.rtps_lines.specs.JsonText.{IsJsonLine, report_json};
+ghost use Rattle.rtps_json.specs.JsonText.{IsJsonLine, report_json};
 ghost use Rattle.rtps_text.specs.ReportText.{IsAuditedAs, IsJsonTextAs, further_counts_text, ignored_text, report_counts_line, report_text as text_of_report, row_line};
 ghost use Rattle.rtps_report.specs.Reported.{is_complete as completes};
 ghost use Rattle.rtps_report.specs.declared.findings.Ending.TheVariants.{Clean, Unclean};
@@ -10,7 +10,8 @@ use json::Writer;
 use rtps_audit::{Counts, Report, Row, Watch};
 use rtps_evidence::{Explained, Explanation};
 use rtps_ids::Memory;
-use rtps_lines::{VerdictText, json_line, push_report};
+use rtps_json::{json_line, push_report};
+use rtps_lines::VerdictText;
 use rtps_report::{
     AskedAudit, Ending, Recording, Samples, audit_asked, explain_asked, is_complete,
 };

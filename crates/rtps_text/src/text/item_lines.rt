@@ -4,7 +4,8 @@ ghost use Rattle.hex.specs.Hex.{encode_lower};
 ghost use Rattle.rtps_params.specs.Lists.{list_value};
 ghost use Rattle.rtps_wire.specs.DataFrag.{data_frag_value};
 ghost use Rattle.rtps_wire.specs.Values.{data_value, item_value};
-ghost use Rattle.rtps_text.specs.ShowText.{IsTailIn, ack_nack_line, data_frag_line, data_line, gap_line, heartbeat_line, info_dst_line, info_src_line, info_ts_line, item_line, nack_frag_line, bitmap_text, digit_of, order_text, qos_octets as qos_octets_lem, skipped_line, version_text};
+ghost use Rattle.rtps_text.specs.ShowText.{IsTailIn, ack_nack_line, data_frag_line, data_line, gap_line, heartbeat_line, info_dst_line, info_src_line, info_ts_line, item_line, nack_frag_line, bitmap_text, digit_of, order_text, skipped_line, version_text};
+ghost use Rattle.rtps_text.specs.ShowText as show_text;
 
 use crate::text::parts::{
     order_name, push_bitmap, push_digits, push_flag, push_id, push_tail, push_time, push_version,
@@ -130,7 +131,7 @@ fn push_fragments(text: &mut String, data_frag: &DataFrag<'_>) -> Result<(), All
 
 fn push_sample(text: &mut String, data_frag: &DataFrag<'_>) -> Result<(), AllocError>
     ensures { OnOk result (string_bytes text.new
-        ≡ string_bytes text.old ++ (codes " qos " ++ (decimal (qos_octets_lem (option_map list_value data_frag.now.qos))
+        ≡ string_bytes text.old ++ (codes " qos " ++ (decimal (show_text.qos_octets (option_map list_value data_frag.now.qos))
         ++ (codes " key " ++ (digit_of data_frag.now.shape.is_key ++ (codes " octets " ++ decimal (length data_frag.now.octets.now))))))) }
 {
     push_field(text, " qos ", qos_octets(&data_frag.qos))?;
@@ -141,7 +142,7 @@ fn push_sample(text: &mut String, data_frag: &DataFrag<'_>) -> Result<(), AllocE
 /// How many octets the inline QoS has.
 #[tactic(auto, unfolding(crate::specs::ShowText::qos_octets))]
 fn qos_octets(qos: &Option<ParamList>) -> usize
-    ensures { result ≡ qos_octets_lem (option_map list_value qos.now) }
+    ensures { result ≡ show_text.qos_octets (option_map list_value qos.now) }
 {
     match qos {
         None => 0,

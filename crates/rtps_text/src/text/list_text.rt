@@ -5,7 +5,8 @@ ghost use Rattle.rtps_discovery.specs.Endpoint.{endpoint_value};
 ghost use Rattle.rtps_fragments.specs.declared.fragments.Fragments.TheVariants.{Read};
 ghost use Rattle.rtps_receiver.specs.Acts.{acts_in};
 ghost use Rattle.rtps_discovery.specs.Notice.{faults_in};
-ghost use Rattle.rtps_text.specs.ListText.{IsListedWith, announcing_in, directory_text as directory_text_lem, endpoint_line, match_line, match_text, participant_line};
+ghost use Rattle.rtps_text.specs.ListText.{IsListedWith, announcing_in, endpoint_line, match_line, match_text, participant_line};
+ghost use Rattle.rtps_text.specs.ListText as list_text_spec;
 
 use rtps_audit::Placed;
 use rtps_discovery::{Directory, Endpoint, Match};
@@ -90,7 +91,7 @@ fn note_datagrams<'a>(
 }
 
 fn directory_text(alloc: Global, directory: &Directory<'_>, faults: u128) -> Result<String, Memory>
-    ensures { IfOk result (λ text. string_bytes text ≡ directory_text_lem directory.now faults) }
+    ensures { IfOk result (λ text. string_bytes text ≡ list_text_spec.directory_text directory.now faults) }
 {
     let participants = directory.participants()?;
     let endpoints = directory.endpoints()?;

@@ -1,5 +1,5 @@
 ghost use Rattle.std.specs.Prelude.{◌≡◌, ◌++◌, OnOk, flat_map, map, option_copied, string_bytes};
-ghost use Rattle.rtps_lines.specs.Lines.{silence_lines as silence_lines_lem};
+ghost use Rattle.rtps_lines.specs.Lines as lines;
 ghost use Rattle.rtps_text.specs.WhyText.{late_line, outcome_line, outcome_lines, sentence_line, wait_line};
 
 use rtps_evidence::{InSpan, Outcomes, Times};
@@ -77,7 +77,7 @@ pub(crate) fn push_silences(
     silences: Silences,
     times: &Times,
 ) -> Result<(), AllocError>
-    ensures { OnOk result (string_bytes text.new ≡ string_bytes text.old ++ flat_map sentence_line (silence_lines_lem times.now silences)) }
+    ensures { OnOk result (string_bytes text.new ≡ string_bytes text.old ++ flat_map sentence_line (lines.silence_lines times.now silences)) }
 {
     let sentences = silence_lines(alloc, times, silences)?;
     push_sentences(text, &sentences)

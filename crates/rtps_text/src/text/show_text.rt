@@ -1,9 +1,11 @@
 ghost use Rattle.std.specs.Prelude.{◌≡◌, [], ◌∷◌, ◌++◌, ◌<◌, length, IfOk, MatchOption, OnOk, Some, None, string_bytes};
 ghost use Rattle.rtps_receiver.specs.Acts.{state_behind};
-ghost use Rattle.rtps_wire.specs.Message.{flags_of, order_of as order_of_lem};
+ghost use Rattle.rtps_wire.specs.Message.{flags_of};
+ghost use Rattle.rtps_wire.specs.Message as message;
 ghost use Rattle.rtps_wire.specs.Reading.{outcomes_left};
 ghost use Rattle.rtps_wire.specs.Values.{body_value, item_value};
-ghost use Rattle.rtps_text.specs.ShowText.{IsTailIn, says_of_state, IsShownWith, datagram_line, datagram_text, fragments_at as fragments_at_lem, outcomes_text, refusal_line, said_at, text_from, unread_line};
+ghost use Rattle.rtps_text.specs.ShowText.{IsTailIn, says_of_state, IsShownWith, datagram_line, datagram_text, outcomes_text, refusal_line, said_at, text_from, unread_line};
+ghost use Rattle.rtps_text.specs.ShowText as show_text_spec;
 
 use crate::text::item_lines::{
     push_data_frag, push_item, push_nack_frag, push_origin, push_skipped,
@@ -92,7 +94,7 @@ fn push_items(
     datagram: ShownDatagram<'_>,
 ) -> Result<(), AllocError>
     ensures { OnOk result (string_bytes text.new
-        ≡ string_bytes text.old ++ outcomes_text (fragments_at_lem datagram.entry.fragments datagram.entry.octets.now) start (outcomes_left items.entry)) }
+        ≡ string_bytes text.old ++ outcomes_text (show_text_spec.fragments_at datagram.entry.fragments datagram.entry.octets.now) start (outcomes_left items.entry)) }
 {
     let mut state = start;
     let mut items = items;
@@ -120,8 +122,8 @@ fn push_items(
 /// The octets from this place on, if what is said of fragments is read.
 #[inline(always)]
 fn fragments_at<'a>(datagram: ShownDatagram<'a>, at: usize) -> Option<&'a [u8]>
-    ensures { MatchOption result (fragments_at_lem datagram.entry.fragments datagram.entry.octets.now at ≡ None)
-        (λ submessage. fragments_at_lem datagram.entry.fragments datagram.entry.octets.now at ≡ said_at submessage.now) }
+    ensures { MatchOption result (show_text_spec.fragments_at datagram.entry.fragments datagram.entry.octets.now at ≡ None)
+        (λ submessage. show_text_spec.fragments_at datagram.entry.fragments datagram.entry.octets.now at ≡ said_at submessage.now) }
 {
     match datagram.fragments {
         Fragments::Skipped => None,
@@ -132,7 +134,7 @@ fn fragments_at<'a>(datagram: ShownDatagram<'a>, at: usize) -> Option<&'a [u8]>
 /// The order of the octets of a submessage's numbers, by its flags.
 fn order_of(submessage: &[u8]) -> Order
     requires { 1 < length submessage.now }
-    ensures { result ≡ order_of_lem (flags_of submessage.now) }
+    ensures { result ≡ message.order_of (flags_of submessage.now) }
 {
     if submessage[1] & 1 != 0 {
         Order::Little

@@ -3,7 +3,7 @@ ghost use Rattle.rtps_evidence.specs.Explanation.{evidence_value, explanation_va
 ghost use Rattle.rtps_evidence.specs.Grounds.{grounds_value};
 ghost use Rattle.rtps_report.specs.Asked.{asked_value};
 ghost use Rattle.rtps_report.specs.FullReport.{report_value};
-ghost use Rattle.rtps_report.specs.Reported.{number_of as number_of_lem};
+ghost use Rattle.rtps_report.specs.Reported as reported;
 ghost use Rattle.rtps_report.specs.Talk.{talk_value};
 ghost use Rattle.rtps_text.specs.WhyText.{IsWhyText, advice_line, ends_lines, explanation_text, kept_text, missed_lines, not_received_line, numbers_lines, pair_line, rest_lines, row_text, row_told, shown_by, span_line, until_text};
 
@@ -227,7 +227,7 @@ fn push_missed(
 
 fn push_shown(text: &mut String, evidence: &Evidence<'_>, times: &Times) -> Result<(), AllocError>
     ensures { OnOk result (string_bytes text.new
-        ≡ string_bytes text.old ++ shown_by times.now (number_of_lem evidence.now.verdict) (grounds_value evidence.now.grounds)) }
+        ≡ string_bytes text.old ++ shown_by times.now (reported.number_of evidence.now.verdict) (grounds_value evidence.now.grounds)) }
 {
     let number = number_of(&evidence.verdict);
     match evidence.grounds {

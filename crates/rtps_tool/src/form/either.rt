@@ -1,6 +1,7 @@
 ghost use Rattle.std.specs.Prelude.{◌≡◌, Ok, MatchResult};
 ghost use Rattle.rtps_tool.specs.Outcomes.{IsFaultOf};
-ghost use Rattle.rtps_tool.specs.Forms.{begins_capture as begins_capture_lem, recording_of, recording_within};
+ghost use Rattle.rtps_tool.specs.Forms.{recording_of, recording_within};
+ghost use Rattle.rtps_tool.specs.Forms as forms_spec;
 ghost use Rattle.rtps_capture.specs.declared.captures.Captures.TheVariants.{Classic};
 
 use crate::faults::RecFault;
@@ -51,7 +52,7 @@ pub fn read_recording_within(
 /// Whether an input begins as a capture does, of those that are read: its first four octets tell. What is no capture of these is
 /// a text.
 pub(crate) fn begins_capture(captures: Captures, octets: &[u8]) -> bool
-    ensures { result ≡ begins_capture_lem captures octets.now }
+    ensures { result ≡ forms_spec.begins_capture captures octets.now }
 {
     match captures {
         Captures::Classic => capture_order(octets).is_some(),

@@ -3,7 +3,8 @@ ghost use Rattle.std.specs.List.{position};
 ghost use Rattle.std.specs.Str.Lines.{strip_carriage_return};
 ghost use Rattle.rtps_tool.specs.Outcomes.{IsFaultOf};
 ghost use Rattle.rtps_tool.specs.Lines.{is_line_feed};
-ghost use Rattle.rtps_tool.specs.RecordingText.{is_datagram_line as is_datagram_line_lem, recording_of_lines, recording_of_text};
+ghost use Rattle.rtps_tool.specs.RecordingText.{recording_of_lines, recording_of_text};
+ghost use Rattle.rtps_tool.specs.RecordingText as recording_text;
 
 use crate::faults::RecFault;
 use crate::form::line_reader::LineReader;
@@ -79,7 +80,7 @@ pub(crate) fn read_line(
 
 /// Whether a line stands for a datagram.
 fn is_datagram_line(line: &[u8]) -> bool
-    ensures { result ≡ is_datagram_line_lem line.now }
+    ensures { result ≡ recording_text.is_datagram_line line.now }
 {
     !line.is_empty() && line[0] != b'#'
 }

@@ -4,7 +4,8 @@ use crate::fault::Fault;
 use crate::words::{Words, order_of, push_octets};
 use rtps_ids::{EntityId, GuidPrefix, NumberSet, Order, SeqNum, Vendor, Version};
 use rtps_params::write_list;
-use rtps_wire::{Body, DataBody, GapBody, Header, HeartbeatBody, Item, Payload, write_message};
+use rtps_wire::{Body, DataBody, GapBody, Header, HeartbeatBody, Item, Payload};
+use rtps_write::write_message;
 use std::alloc::Global;
 use std::fmt::Write;
 

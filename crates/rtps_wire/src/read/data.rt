@@ -1,5 +1,6 @@
 ghost use Rattle.std.specs.Prelude.{◌≡◌, MatchResult};
-ghost use Rattle.rtps_wire.specs.Data.{data_fault, data_of, payload_of as payload_of_lem};
+ghost use Rattle.rtps_wire.specs.Data.{data_fault, data_of};
+ghost use Rattle.rtps_wire.specs.Data as data_spec;
 ghost use Rattle.rtps_wire.specs.Fault.{ReadsOrFaults};
 ghost use Rattle.rtps_wire.specs.InlineQos.{HasQos, LacksQos};
 ghost use Rattle.rtps_wire.specs.Values.{data_value, payload_value};
@@ -69,7 +70,7 @@ pub(super) fn inline_qos(
 /// The payload, which is all of these octets.
 #[inline(always)]
 fn payload(flags: DataFlags, octets: &[u8]) -> Payload<'_>
-    ensures { payload_value result ≡ payload_of_lem flags.0 octets.now }
+    ensures { payload_value result ≡ data_spec.payload_of flags.0 octets.now }
 {
     if flags.contains(DataFlags::D) {
         Payload::Whole(octets)

@@ -1,4 +1,4 @@
-use Rattle.std.proofs.Common.{◌≡◌, ◌++◌, ◌∙◌, ◌==◌, [], List, None, Bor, ap, append-nil, codes, false, filter, length, map, string_bytes, subst, sum_by, sym, ℕ}
+use Rattle.std.proofs.Common.{◌≡◌, ◌++◌, ◌∙◌, ◌==◌, [], List, None, Bor, ap, append-nil, false, filter, length, map, string_bytes, subst, sum_by, sym, ℕ}
 use Rattle.std.proofs.lemmas.List.{length-map}
 use Rattle.std.proofs.lemmas.Result.{on_ok_weaker}
 use Rattle.rtps_lines.proofs.Offered.{three_parts}
@@ -6,9 +6,10 @@ use Rattle.rtps_report.specs.BestEfforts.{HeldValue, held_value}
 use Rattle.rtps_report.specs.declared.best_effort.HeldPair.{HeldPair}
 use Rattle.rtps_report.specs.Talk.{talk_value}
 use Rattle.rtps_check.specs.ArrivedText.{AreByTopic, is_lossy, lossy_head, lossy_pairs, lost_of}
-use Rattle.rtps_check.proofs.AppendLemmas.{appended}
+use Rattle.rtps_check.specs.TalkText.{remedy_line}
 use Rattle.rtps_check.proofs.ArrivedLemmas.{empty_list, some_lossy}
 use Rattle.rtps_check.proofs.arrived_block.push_arrived_block.Goals as goal
+use Rattle.rtps_lines.specs.declared.sentences.block.TheConstants as said
 
 abbrev values : List (Bor HeldPair) → List HeldValue
 values pairs = map (λ (one : Bor HeldPair). held_value one.now) pairs
@@ -39,8 +40,8 @@ returns c =
     let long : length sorted ≡ number = length-map stored.items (λ (one : Bor HeldPair). held_value one.now) ∙ sym stored.ok.0 ∙ sym c.len.ensures in
     let sum : sum_by lost_of sorted ≡ lost = sym (c.lost_among.ensures ∙ ap (λ (all : List (Bor HeldPair)). sum_by lost_of (values all)) c.deref-2.ensures.value) in
     let some : (number == 0) ≡ false = ap (λ (n : ℕ). n == 0) c.len.ensures ∙ sym c.is_empty.ensures ∙ c.if-is_empty.false in
-    let end = codes "  -> by best effort nothing is sent again: look at the network, or make both reliable\n" in
-    on_ok_weaker c.push_str.result
+    let end = remedy_line said.LOST_REMEDY.now in
+    on_ok_weaker c.writeln.result
     (λ last.
     record {
       sorted = sorted;
@@ -48,4 +49,4 @@ returns c =
       is_text = three_parts old (lossy_head lost number) (lossy_pairs talk.ends None sorted) end (c.in_ok-render.ensures ∙ ap (λ head. old ++ head) c.lossy_head.ensures) c.in_ok-push_pairs.ensures last
           ∙ ap (λ lines. old ++ lines) (some_lossy talk.ends sorted lost number sum long some);
     })
-    (appended c.push_str.result (string_bytes c.push_pairs.new.text) end (string_bytes c.push_str.new.self) c.push_str.ensures.bytes)
+    c.writeln.ensures.bytes

@@ -3,9 +3,10 @@ use Rattle.json.specs.Token.{Token, begin_object, end_object}
 use Rattle.json.specs.Tree.{json_tokens}
 use Rattle.rtps_report.specs.Asked.{asked_value}
 use Rattle.rtps_report.specs.FullReport.{report_value}
-use Rattle.rtps_lines.specs.CheckMembers.{check_members}
-use Rattle.rtps_lines.specs.JsonText.{object_of, tokens_of}
-use Rattle.rtps_lines.proofs.Offered.{check_within, object_tokens, three_parts}
+use Rattle.rtps_json.specs.CheckMembers.{check_members}
+use Rattle.rtps_json.specs.JsonText.{object_of, tokens_of}
+use Rattle.rtps_lines.proofs.Offered.{three_parts}
+use Rattle.rtps_json.proofs.Offered.{check_within, object_tokens}
 use Rattle.rtps_check.proofs.checked_text.check_json.Goals as goal
 
 pub json_line-requires : goal.json_line-requires

@@ -1,6 +1,6 @@
 use Rattle.std.proofs.Common.{◌∙◌, List, ap, sym}
-use Rattle.rtps_lines.specs.JsonText.{Member, json_line, object_of}
-use Rattle.rtps_lines.proofs.Offered.{same_members}
+use Rattle.rtps_json.specs.JsonText.{Member, json_line, object_of}
+use Rattle.rtps_json.proofs.Offered.{same_members}
 use Rattle.rtps_check.proofs.laws.one_json.Goals as goal
 
 pub returns : goal.returns

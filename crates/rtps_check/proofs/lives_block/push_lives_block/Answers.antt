@@ -7,10 +7,11 @@ use Rattle.rtps_parts.specs.Parts.{WordsValue, amount}
 use Rattle.rtps_report.specs.Talk.{talk_value}
 use Rattle.rtps_report.specs.declared.two_lives.TwoLives.{TwoLives}
 use Rattle.rtps_check.specs.DiscoveryText.{lives_line}
-use Rattle.rtps_check.proofs.AppendLemmas.{appended}
+use Rattle.rtps_check.specs.TalkText.{remedy_line}
 use Rattle.rtps_check.proofs.DiscoveryLemmas.{some_lives}
 use Rattle.rtps_check.proofs.OneWayLemmas.{lines_more}
 use Rattle.rtps_check.proofs.lives_block.push_lives_block.Goals as goal
+use Rattle.rtps_lines.specs.declared.sentences.block.TheConstants as said
 
 pub loop-one-preserved : goal.loop-one-preserved
 loop-one-preserved c =
@@ -27,13 +28,13 @@ returns c =
     let lines : List TwoLives → List ℕ = flat_map (lives_line times talk) in
     let number = c.len.result in
     let head : List ℕ = concat (codes "\n" ∷ amount number lives_words ∷ codes "\n" ∷ []) in
-    let end = codes "  -> two processes use one GUID, as after a copied disk image or a restart: give each its own, and record again\n" in
+    let end = remedy_line said.LIVES_REMEDY.now in
     let long : length stored.items ≡ number = sym stored.ok.0 ∙ sym c.len.ensures in
     let some : (number == 0) ≡ false = ap (λ (n : ℕ). n == 0) c.len.ensures ∙ sym c.is_empty.ensures ∙ c.if-is_empty.false in
     let begun : headed ≡ old ++ head =
     c.in_ok-render.ensures ∙ ap (λ (words : WordsValue). old ++ concat (codes "\n" ∷ amount number words ∷ codes "\n" ∷ [])) c.lives_words.ensures in
     let told : string_bytes c.loop-one.text ≡ headed ++ lines stored.items =
     c.loop-one.invariant ∙ ap (λ (ones : List TwoLives). headed ++ lines ones) (take_all c.loop-one.one-index c.deref-one-items.result.now c.loop-one-test.false ∙ c.deref-one-items.ensures.value) in
-    on_ok_weaker c.push_str.result
+    on_ok_weaker c.writeln.result
     (λ last. three_parts old head (lines stored.items) end begun told last ∙ ap (λ text. old ++ text) (some_lives times talk stored.items number long some))
-    (appended c.push_str.result (string_bytes c.loop-one.text) end (string_bytes c.push_str.new.self) c.push_str.ensures.bytes)
+    c.writeln.ensures.bytes

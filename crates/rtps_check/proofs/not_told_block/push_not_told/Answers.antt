@@ -9,14 +9,15 @@ use Rattle.rtps_report.specs.Talk.{talk_value}
 use Rattle.rtps_report.specs.declared.not_told.TopicEnd.{TopicEnd}
 use Rattle.rtps_check.specs.DiscoveryText.{end_lines, unnamed_line}
 use Rattle.rtps_check.proofs.not_told_block.push_not_told.Goals as goal
+use Rattle.rtps_lines.specs.declared.sentences.block.TheConstants as said
 
 pub returns : goal.returns
 returns c =
     let talk = talk_value c.args.talk.now in
     let one = not_told_value c.args.one.now in
     let old = string_bytes c.args.text.now in
-    let writer = codes " was never told of the writer of " in
-    let reader = codes " was never told of the reader of " in
+    let writer = said.NOT_TOLD_WRITER.now in
+    let reader = said.NOT_TOLD_READER.now in
     let advice = not_told_advice (address_behind talk one.from one.to) in
     on_ok_weaker c.writeln.result
     (λ last. four_parts old (end_lines talk one writer one.writers) (end_lines talk one reader one.readers) (unnamed_line talk one) (codes "  -> " ++ (advice ++ codes "\n"))

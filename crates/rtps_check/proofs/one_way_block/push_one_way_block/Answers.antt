@@ -5,10 +5,10 @@ use Rattle.rtps_lines.proofs.Offered.{three_parts}
 use Rattle.rtps_parts.specs.Parts.{amount}
 use Rattle.rtps_policies.specs.declared.one_way.OneWay.{OneWay}
 use Rattle.rtps_report.specs.Talk.{talk_value}
-use Rattle.rtps_check.specs.TalkText.{one_way_lines}
-use Rattle.rtps_check.proofs.AppendLemmas.{appended}
+use Rattle.rtps_check.specs.TalkText.{one_way_lines, remedy_line}
 use Rattle.rtps_check.proofs.OneWayLemmas.{lines_more, some_one_way}
 use Rattle.rtps_check.proofs.one_way_block.push_one_way_block.Goals as goal
+use Rattle.rtps_lines.specs.declared.sentences.block.TheConstants as said
 
 pub loop-one-preserved : goal.loop-one-preserved
 loop-one-preserved c =
@@ -24,12 +24,12 @@ returns c =
     let lines : List OneWay → List ℕ = flat_map (one_way_lines talk.ends) in
     let number = c.len.result in
     let head : List ℕ =
-    concat (codes "\n" ∷ amount number (record { one = codes "pair of participants talks one way"; many = codes "pairs of participants talk one way" }) ∷ codes "\n" ∷ []) in
-    let end = codes "  -> a firewall, or its datagrams are not in this recording\n" in
+    concat (codes "\n" ∷ amount number (record { one = said.ONE_WAY_ONE.now; many = said.ONE_WAY_MANY.now }) ∷ codes "\n" ∷ []) in
+    let end = remedy_line said.ONE_WAY_REMEDY.now in
     let long : length stored.items ≡ number = sym stored.ok.0 ∙ sym c.len.ensures in
     let some : (number == 0) ≡ false = ap (λ (n : ℕ). n == 0) c.len.ensures ∙ sym c.is_empty.ensures ∙ c.if-is_empty.false in
     let told : string_bytes c.loop-one.text ≡ headed ++ lines stored.items =
     c.loop-one.invariant ∙ ap (λ (ones : List OneWay). headed ++ lines ones) (take_all c.loop-one.one-index c.deref-one-items.result.now c.loop-one-test.false ∙ c.deref-one-items.ensures.value) in
-    on_ok_weaker c.push_str.result
+    on_ok_weaker c.writeln.result
     (λ last. three_parts old head (lines stored.items) end c.in_ok-render.ensures told last ∙ ap (λ text. old ++ text) (some_one_way talk.ends stored.items number long some))
-    (appended c.push_str.result (string_bytes c.loop-one.text) end (string_bytes c.push_str.new.self) c.push_str.ensures.bytes)
+    c.writeln.ensures.bytes

@@ -8,10 +8,10 @@ use Rattle.rtps_parts.specs.Parts.{WordsValue, amount}
 use Rattle.rtps_policies.specs.Unmatched.{unmatched_value}
 use Rattle.rtps_policies.specs.declared.unmatched.Unmatched.{Unmatched}
 use Rattle.rtps_report.specs.Talk.{talk_value}
-use Rattle.rtps_check.specs.TalkText.{AreByTopic, unmatched_pairs}
-use Rattle.rtps_check.proofs.AppendLemmas.{appended}
+use Rattle.rtps_check.specs.TalkText.{AreByTopic, remedy_line, unmatched_pairs}
 use Rattle.rtps_check.proofs.UnmatchedLemmas.{none_by_topic, some_lines}
 use Rattle.rtps_check.proofs.unmatched_block.push_unmatched_block.Goals as goal
+use Rattle.rtps_lines.specs.declared.sentences.block.TheConstants as said
 
 pub returns-then-is_empty : goal.returns-then-is_empty
 returns-then-is_empty c =
@@ -32,8 +32,8 @@ returns c =
     length_permutation talk.unmatched values ordered.all ∙ length-map stored.items unmatched_value ∙ sym stored.ok.0 ∙ sym c.len.ensures in
     let some : (number == 0) ≡ false = ap (λ (n : ℕ). n == 0) c.len.ensures ∙ sym c.is_empty.ensures ∙ c.if-is_empty.false in
     let head : WordsValue → List ℕ = λ words. codes "\n" ++ (amount number words ++ (codes "\n" ++ [])) in
-    let end = codes "  -> by the standard nothing passes between them: change what one offers or what the other asks for\n" in
-    on_ok_weaker c.push_str.result
+    let end = remedy_line said.UNMATCHED_REMEDY.now in
+    on_ok_weaker c.writeln.result
     (λ last.
     record {
       sorted = values;
@@ -42,4 +42,4 @@ returns c =
           (c.in_ok-render.ensures ∙ ap (λ words. old ++ head words) c.unmatched_words.ensures) c.in_ok-push_pairs.ensures last
           ∙ ap (λ lines. old ++ lines) (some_lines talk.ends values number long some);
     })
-    (appended c.push_str.result (string_bytes c.push_pairs.new.text) end (string_bytes c.push_str.new.self) c.push_str.ensures.bytes)
+    c.writeln.ensures.bytes

@@ -1,15 +1,16 @@
-use Rattle.std.proofs.Common.{◌++◌, ◌∙◌, ◌==◌, ℕ, List, ap, append_assoc, codes, if◌then◌else◌, string_bytes, sym}
+use Rattle.std.proofs.Common.{◌++◌, ◌∙◌, ◌==◌, ℕ, List, ap, append_assoc, if◌then◌else◌, string_bytes, sym}
 use Rattle.std.proofs.lemmas.Result.{on_ok_weaker}
 use Rattle.std.specs.List.{flat_map}
 use Rattle.rtps_parts.specs.Parts.{part_text}
 use Rattle.rtps_lines.specs.Causes.{best_effort_text, certain_detail}
 use Rattle.rtps_lines.proofs.causes.push_detail.Goals as goal
+use Rattle.rtps_lines.specs.declared.sentences.reason.TheConstants as said
 
 pub returns-in_ok-push_str : goal.returns-in_ok-push_str
 returns-in_ok-push_str c =
     let old = string_bytes c.args.text.now in
     let totals = c.args.judged.totals.now in
-    let words = codes ": no reliable pair; " in
+    let words = said.CLEAN_BEST_EFFORT.now in
     let text = best_effort_text c.args.judged.best_effort in
     on_ok_weaker c.render.result
     (λ is. is

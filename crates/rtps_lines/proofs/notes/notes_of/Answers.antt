@@ -3,7 +3,7 @@ use Rattle.std.specs.List.{flat_map}
 use Rattle.std.specs.String.{string_bytes}
 use Rattle.rtps_report.specs.BestEfforts.{best_effort_value}
 use Rattle.rtps_lines.specs.LateNotes.{matched_note}
-use Rattle.rtps_lines.specs.Notes.{best_effort_note, host_note, late_note, left_out_notes, names_if, note, noted_value, notes as notes_lem, order_note, shares_if, side_notes, tail_names_if, tail_note, talking_note, weaknesses}
+use Rattle.rtps_lines.specs.Notes.{best_effort_note, host_note, late_note, left_out_notes, names_if, note, noted_value, notes as said_notes, order_note, shares_if, side_notes, tail_names_if, tail_note, talking_note, weaknesses}
 use Rattle.rtps_lines.proofs.NoteLemmas.{behind}
 use Rattle.rtps_lines.proofs.notes.notes_of.Goals as goal
 
@@ -53,4 +53,4 @@ returns c =
     let from_talking = behind second of_talk last of_talking (of_left ++ (of_best ++ (of_side ++ (of_late ++ (matched ++ tails))))) c.in_ok-push_talking.ensures from_left in
     let from_hosts = behind first second last of_hosts (of_talking ++ (of_left ++ (of_best ++ (of_side ++ (of_late ++ (matched ++ tails)))))) c.in_ok-push_hosts.ensures from_talking in
     behind new first last of_order (of_hosts ++ (of_talking ++ (of_left ++ (of_best ++ (of_side ++ (of_late ++ (matched ++ tails))))))) c.in_ok-push_order.ensures from_hosts
-    ∙ ap (λ items. map string_bytes items ++ notes_lem arrow facts noted) c.new-notes.ensures.items
+    ∙ ap (λ items. map string_bytes items ++ said_notes arrow facts noted) c.new-notes.ensures.items

@@ -6,12 +6,13 @@ use Rattle.std.specs.String.{string_bytes}
 use Rattle.rtps_parts.specs.Parts.{WordsValue, amount, words_value}
 use Rattle.rtps_lines.specs.Notes.{number_words}
 use Rattle.rtps_lines.proofs.notes.push_tails.Goals as goal
+use Rattle.rtps_lines.specs.declared.sentences.noted.TheConstants as said
 
 pub returns : goal.returns
 returns c =
     let facts = c.args.facts.now in
     let told : ℕ → ℕ → WordsValue → List (List ℕ) = λ pairs longest words. concat (amount pairs (record { one = codes "pair is"; many = codes "pairs are" })
-    ∷ codes " clean with a tail, of at most " ∷ amount longest words ∷ c.args.names.now ∷ []) ∷ [] in
+    ∷ said.TAIL.now ∷ amount longest words ∷ c.args.names.now ∷ []) ∷ [] in
     let note = ap (λ pairs. told pairs c.from-2.result (words_value c.number_words.result)) c.from.ensures
     ∙ ap (λ longest. told facts.tails longest (words_value c.number_words.result)) c.from-2.ensures
     ∙ ap (told facts.tails facts.longest) c.number_words.ensures

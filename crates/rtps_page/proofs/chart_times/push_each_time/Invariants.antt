@@ -1,5 +1,5 @@
 use Rattle.std.proofs.Common.{◌≡◌, ◌++◌, flat_map, take}
-use Rattle.rtps_lines.specs.JsonText.{clock_times}
+use Rattle.rtps_json.specs.JsonText.{clock_times}
 use Rattle.rtps_page.specs.ChartTimes.{time_of_json}
 use Rattle.rtps_page.proofs.Written.{json_tokens}
 use Rattle.rtps_page.proofs.chart_times.push_each_time.Given as goal

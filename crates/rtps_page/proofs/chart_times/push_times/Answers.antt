@@ -1,6 +1,6 @@
 use Rattle.std.proofs.Common.{◌≡◌, ◌++◌, ◌∷◌, [], ◌∙◌, ℕ, List, true, ap, append-nil, codes, cond, flat_map, sym}
 use Rattle.rtps_evidence.specs.Times.{are_there}
-use Rattle.rtps_lines.specs.JsonText.{clock_times}
+use Rattle.rtps_json.specs.JsonText.{clock_times}
 use Rattle.rtps_page.specs.ChartTimes.{datagrams_shown, time_of_json, times_json}
 use Rattle.rtps_page.proofs.EntryLemmas.{array_tokens}
 use Rattle.rtps_page.proofs.TimeLemmas.{times_tokens}

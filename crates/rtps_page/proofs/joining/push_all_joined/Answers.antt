@@ -2,7 +2,7 @@ use Rattle.std.proofs.Common.{◌++◌, ◌∷◌, [], ◌∙◌, List, ap, code
 use Rattle.std.proofs.lemmas.List.Folds.{flat_map-map}
 use Rattle.rtps_evidence.specs.Explanation.{ExplanationValue, explanation_value}
 use Rattle.rtps_evidence.specs.declared.explanation.Explanation.{Explanation}
-use Rattle.rtps_lines.specs.JsonText.{clock_times}
+use Rattle.rtps_json.specs.JsonText.{clock_times}
 use Rattle.rtps_page.proofs.Written.{Token, begin_array, end_array, four_parts, joining_json, json_tokens, key, mapped_tokens, on_ok_weaker}
 use Rattle.rtps_page.proofs.joining.push_all_joined.Goals as goal
 

@@ -1,6 +1,6 @@
 use Rattle.std.proofs.Common.{◌≡◌, ◌++◌, flat_map, take}
 use Rattle.rtps_evidence.specs.Explanation.{explanation_value}
-use Rattle.rtps_lines.specs.JsonText.{clock_times}
+use Rattle.rtps_json.specs.JsonText.{clock_times}
 use Rattle.rtps_page.proofs.Written.{joining_json, json_tokens}
 use Rattle.rtps_page.proofs.joining.push_all_joined.Given as goal
 

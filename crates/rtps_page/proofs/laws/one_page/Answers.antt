@@ -5,9 +5,9 @@ use Rattle.rtps_report.specs.Asked.{AskedValue}
 use Rattle.rtps_report.specs.Recording.{RecordingValue}
 use Rattle.rtps_report.specs.FullReport.{ReportValue, rows_of}
 use Rattle.rtps_report.specs.Laws.{AreSame}
-use Rattle.rtps_lines.specs.CheckMembers.{check_members}
-use Rattle.rtps_lines.specs.JsonText.{Member, object_of}
-use Rattle.rtps_lines.proofs.Offered.{same_members}
+use Rattle.rtps_json.specs.CheckMembers.{check_members}
+use Rattle.rtps_json.specs.JsonText.{Member, object_of}
+use Rattle.rtps_json.proofs.Offered.{same_members}
 use Rattle.rtps_page.specs.ChartRoom.{charted_pairs}
 use Rattle.rtps_page.specs.Origin.{OriginValue}
 use Rattle.rtps_page.specs.Page.{acts_judged, own_members, page_json, page_text, pairs_with_charts}

@@ -1,5 +1,5 @@
 use Rattle.std.proofs.Common.{◌++◌, ◌∷◌, [], ◌∙◌, List, ap, codes, sym}
-use Rattle.rtps_lines.specs.JsonText.{Member}
+use Rattle.rtps_json.specs.JsonText.{Member}
 use Rattle.rtps_page.proofs.Written.{Token, begin_object, end_object, four_parts, key, object_tokens, on_ok_weaker, origin_value, recording_members, tokens_of}
 use Rattle.rtps_page.proofs.origin.push_recording.Goals as goal
 

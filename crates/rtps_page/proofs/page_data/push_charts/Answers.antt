@@ -1,5 +1,5 @@
 use Rattle.std.proofs.Common.{◌∷◌, [], List, None, codes, map}
-use Rattle.rtps_lines.specs.JsonText.{clock_times}
+use Rattle.rtps_json.specs.JsonText.{clock_times}
 use Rattle.rtps_page.proofs.Written.{Token, answers_json, array_of, json_tokens, key, on_ok_weaker, placed_in, three_parts, timed_members, times_member, tokens_of, writer_json, writers_behind}
 use Rattle.rtps_page.proofs.page_data.push_charts.Goals as goal
 

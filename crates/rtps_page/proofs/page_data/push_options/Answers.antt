@@ -1,5 +1,5 @@
 use Rattle.std.proofs.Common.{◌++◌, ◌∷◌, [], ◌∙◌, List, ap, codes, sym}
-use Rattle.rtps_lines.specs.JsonText.{Member}
+use Rattle.rtps_json.specs.JsonText.{Member}
 use Rattle.rtps_page.proofs.Written.{asked_value, begin_object, end_object, four_parts, key, object_tokens, on_ok_weaker, option_members, Token, tokens_of}
 use Rattle.rtps_page.proofs.page_data.push_options.Goals as goal
 

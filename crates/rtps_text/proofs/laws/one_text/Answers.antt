@@ -13,7 +13,7 @@ use Rattle.rtps_report.specs.Talk.{TalkValue}
 use Rattle.rtps_report.specs.Totals.{totals_of}
 use Rattle.rtps_report.proofs.Offered.{same_talk}
 use Rattle.rtps_lines.specs.Causes.{causes_of, findings_in, last_line}
-use Rattle.rtps_lines.specs.JsonText.{json_line, report_json}
+use Rattle.rtps_json.specs.JsonText.{json_line, report_json}
 use Rattle.rtps_text.specs.ListText.{announcing_in, directory_text}
 use Rattle.rtps_text.specs.ReportText.{ending_of, pairs_line, report_counts_line, report_text}
 use Rattle.rtps_text.specs.WhyText.{row_text, why_text}

@@ -1,8 +1,8 @@
 use Rattle.std.proofs.Common.{◌++◌, ◌∙◌, ap, map}
 use Rattle.json.specs.Tree.{json_tokens}
 use Rattle.rtps_evidence.specs.Explanation.{explanation_value}
-use Rattle.rtps_lines.specs.JsonText.{report_json}
-use Rattle.rtps_lines.proofs.Offered.{report_within}
+use Rattle.rtps_json.specs.JsonText.{report_json}
+use Rattle.rtps_json.proofs.Offered.{report_within}
 use Rattle.rtps_text.proofs.text.audit_text.json_of.Goals as goal
 
 pub json_line-requires : goal.json_line-requires

@@ -11,7 +11,7 @@ use Rattle.rtps_report.specs.NoteFacts.{scope_of}
 use Rattle.rtps_report.specs.Talk.{talk_value}
 use Rattle.rtps_report.specs.Vocabulary.{Explanation}
 use Rattle.rtps_report.specs.declared.advice.Scope.{Scope}
-use Rattle.rtps_lines.specs.CheckMembers.{report_last}
+use Rattle.rtps_lines.specs.ReportEnds.{report_last}
 use Rattle.rtps_lines.proofs.Offered.{four_parts}
 use Rattle.rtps_text.specs.ReportText.{pairs_line, report_counts_line}
 use Rattle.rtps_text.specs.WhyText.{RowTold, row_text}

@@ -1,0 +1,7 @@
+mod CheckLemmas
+mod EventLemmas
+mod JsonLemmas
+pub mod Offered
+mod OneMembers
+mod SecondLemmas
+mod TalkLemmas

@@ -1,9 +1,0 @@
-use Rattle.std.proofs.Common.{◌≤◌, ◌+◌, length, map, take}
-use Rattle.std.specs.List.{flat_map}
-use Rattle.rtps_wire.specs.Values.{item_value}
-use Rattle.rtps_wire.specs.Written.{item_octets}
-use Rattle.rtps_wire.proofs.write.message.room_for.Given as goal
-
--- there is room for no more than the items up to here
-abbrev pub invariant-loop-item : goal.invariant-loop-item
-invariant-loop-item l = l.room ≤ 20 + length (flat_map item_octets (map item_value (take l.item-index l.items)))
