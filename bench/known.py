@@ -174,14 +174,23 @@ def vendors_of(datagram):
     return found
 
 
-def known_of(datagrams, times):
+def said_by(kind, datagrams, times):
+    """what datagrams say of discovery, of this kind"""
     headers = [read(d)[0] for d in datagrams]
     prefixes = [header and header['prefix'] for header in headers]
-    return Known([acts_of(d, True) for d in datagrams], [vendors_of(d) for d in datagrams], prefixes, times)
+    return kind([acts_of(d, True) for d in datagrams], [vendors_of(d) for d in datagrams], prefixes, times)
+
+
+def known_of(datagrams, times):
+    return said_by(Known, datagrams, times)
+
+
+def told_by(kind, datagrams, times):
+    return ''.join(f'{line}\n' for line in said_by(kind, datagrams, Times(of_datagrams=times)).lines()) + '\n'
 
 
 def told_of(datagrams, times):
-    return ''.join(f'{line}\n' for line in known_of(datagrams, Times(of_datagrams=times)).lines()) + '\n'
+    return told_by(Known, datagrams, times)
 
 
 # ---- random systems

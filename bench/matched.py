@@ -29,12 +29,12 @@ import sys
 sys.dont_write_bytecode = True
 import known
 from fragments import by_writer, payloads_told
-from known import PARTICIPANTS, PREFIXES, PUBLICATIONS, READERS, SUBSCRIPTIONS, Known, vendors_of
+from known import PREFIXES, PUBLICATIONS, READERS, SUBSCRIPTIONS, Known
 from random_recordings import parameter, put, sn, u
-from reference import acts_of, guid_text, input_of, members, read, times_of
+from reference import guid_text, input_of, members, times_of
 from systems import Comparison
 from talk import PARTICIPANT
-from times import SECOND, Times
+from times import SECOND
 
 NEAR = SECOND // 10         # a clock fits that is not further away
 LATE = SECOND               # a match that is later is told
@@ -127,13 +127,11 @@ class Matches:
 
 
 def matches_of(datagrams, times):
-    headers = [read(d)[0] for d in datagrams]
-    prefixes = [header and header['prefix'] for header in headers]
-    return Matches([acts_of(d, True) for d in datagrams], [vendors_of(d) for d in datagrams], prefixes, times)
+    return known.said_by(Matches, datagrams, times)
 
 
 def told_of(datagrams, times):
-    return ''.join(f'{line}\n' for line in matches_of(datagrams, Times(of_datagrams=times)).lines()) + '\n'
+    return known.told_by(Matches, datagrams, times)
 
 
 # ---- random systems
