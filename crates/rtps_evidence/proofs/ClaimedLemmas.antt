@@ -1,37 +1,30 @@
 -- What is claimed up to a datagram, and what is received by that.
 use Rattle.std.proofs.lemmas.Grind.{common_steps}
-use Rattle.std.proofs.Common.{◌≡◌, ◌∙◌, ℕ, ◌<◌, ◌≤◌, ◌&&◌, ◌||◌, Bool, true, false, nat_le, nat_lt, not, max, map, filter, List, [], ◌∷◌, Option, Some, None, refl, sym, ap, arith, rules}
+use Rattle.std.proofs.Common.{◌≡◌, ◌∙◌, ℕ, ◌<◌, ◌≤◌, ◌&&◌, ◌||◌, Bool, true, false, nat_le, nat_lt, not, max, map, filter, List, [], ◌∷◌, ◌++◌, Option, Some, None, refl, sym, ap, arith, rules}
 use Rattle.std.specs.Prelude.{Contains, unwrap_or, if◌then◌else◌}
 use Rattle.std.specs.List.{cons_option, list_any}
 use Rattle.std.proofs.lemmas.Bool.{cases_lt, and_parts, not-true, false_from_ne_true}
 use Rattle.std.proofs.lemmas.Bool.Decides.{nat_tests}
-use Rattle.std.proofs.lemmas.List.Folds.{list_any-from_Any}
+use Rattle.std.proofs.lemmas.List.Folds.{list_any-append, list_any-from_Any}
 use Rattle.std.proofs.Math.Bool.{and-false}
 use Rattle.rtps_ids.specs.declared.identity.Guid.{Guid}
 use Rattle.rtps_discovery.specs.declared.matching.Pair.{Pair}
 use Rattle.rtps_receiver.specs.Speech.{is_heard_by, is_spoken_by}
 use Rattle.rtps_receiver.specs.Values.{ActValue}
-use Rattle.rtps_audit.specs.Delivery.{HasRun, IsAsked, Speech, Word, greatest}
+use Rattle.rtps_audit.specs.Delivery.{Word, greatest}
 use Rattle.rtps_audit.specs.Placed.{PlacedValue, answer_at, answers_among, is_from, placed_in}
-use Rattle.rtps_audit.specs.RunVerdict.{IsVerdictFrom}
 use Rattle.rtps_receiver.specs.Said.{natural}
-use Rattle.rtps_audit.specs.Speech.{base_for, speech_by, word_of}
+use Rattle.rtps_audit.specs.Speech.{base_for, word_of}
 use Rattle.rtps_audit.specs.declared.answer.Answer.{Answer}
-use Rattle.rtps_audit.specs.declared.verdict.Verdict.{Verdict}
 use Rattle.rtps_audit.proofs.Offered.{speaker_is_origin}
-use Rattle.rtps_evidence.specs.Claimed.{AreWithdrawals, IsCertaintyOf, certain_at, claims_up_to, is_unfounded, withdrawn_past, withdrawn_unclaimed}
+use Rattle.rtps_coverage.specs.Stretches.{stretch_has, stretches_have}
+use Rattle.rtps_coverage.specs.declared.stretch.Stretch.{Stretch}
+use Rattle.rtps_evidence.specs.Claimed.{claims_up_to, is_unclaimed, sends_early, withdraws_early}
 use Rattle.rtps_evidence.specs.Locations.{base_said, sends}
 use Rattle.rtps_evidence.specs.Received.{claims, first_claiming, gone_before, is_certain_by, is_gone, is_received, sends_before, withdraws, withdraws_before}
-use Rattle.rtps_coverage.specs.Rising.{some_reaches}
-use Rattle.rtps_evidence.specs.WriterSummary.{IsHeardBy}
-use Rattle.rtps_evidence.specs.declared.amount.HeardNumbers.{HeardNumbers}
-use Rattle.rtps_coverage.specs.declared.stretch.Stretch.{Stretch}
-use Rattle.rtps_evidence.specs.declared.claimed.Certainty.{Certainty}
-use Rattle.rtps_evidence.specs.declared.withdrawal.Withdrawal.{Withdrawal}
 use Rattle.rtps_evidence.proofs.AnswerLemmas.{bases_same}
-use Rattle.rtps_evidence.proofs.FindLemmas.{any_and, any_filter, find_filter}
-use Rattle.rtps_evidence.proofs.ReceivedRuns.{sent_before}
-use Rattle.rtps_evidence.proofs.PlacedOrder.{first_is_first, found_is_there, none_found, none_passes, placed_ordered, some_passes}
+use Rattle.rtps_evidence.proofs.FindLemmas.{any_filter, find_filter}
+use Rattle.rtps_evidence.proofs.PlacedOrder.{first_is_first, found_is_there, none_found, placed_ordered, some_passes}
 
 or_false : (b : Bool) → (b || false) ≡ b
 or_false b = grind (arith, nat_tests)
@@ -76,10 +69,6 @@ sender writer reader n at is = search rules
 pub withdrawer : (writer reader : Guid) (n : ℕ) (at : PlacedValue) → withdraws writer reader n at ≡ true → is_from writer at ≡ true
 withdrawer writer reader n at is = speaker_is_origin writer at (spoken_word (is_spoken_by at.act writer) (is_heard_by at.act reader) (word_of at.act.body n) is_gone refl is)
 
--- what the reader hears of numbers that will not come is said by the writer's acts
-pub withdrawals_same : (writer reader : Guid) (placed acts : List PlacedValue) (heard : HeardNumbers) → acts ≡ filter (is_from writer) placed → IsHeardBy writer reader acts heard → AreWithdrawals writer reader placed heard.gone.items
-withdrawals_same writer reader placed acts heard same is = grind (arith, nat_tests, common_steps, any_filter, withdrawer, and_parts)
-
 -- ---- what is claimed first
 
 -- where no claim stands up to a datagram, the first one stands behind it
@@ -107,21 +96,6 @@ unclaimed_before pair recording answers n claim same found datagram = grind (ari
 any_same : {X : Type 0} (one other : X → Bool) → ((x : X) → one x ≡ other x) → (xs : List X) → list_any one xs ≡ list_any other xs
 any_same one other h xs = grind (arith, nat_tests)
 
--- by how far is claimed up to each datagram, a withdrawal stands before the claims of a number or not
-pub past_same : (items lent : List Stretch) (answers : List Answer) (withdrawals : List Withdrawal) (n : ℕ) → lent ≡ items → ((d m : ℕ) → some_reaches items d m ≡ list_any (claims_up_to d m) answers)
-    → list_any (withdrawn_past lent n) withdrawals ≡ list_any (withdrawn_unclaimed answers n) withdrawals
-past_same items lent answers withdrawals n same is = grind (arith, nat_tests)
-
--- withdrawals that end up to a number have none from there on
-pub none_past : (withdrawals : List Withdrawal) (answers : List Answer) (from n : ℕ) → from ≤ n → list_any (λ withdrawal. nat_lt from withdrawal.hi) withdrawals ≡ false → list_any (withdrawn_unclaimed answers n) withdrawals ≡ false
-none_past withdrawals answers from n low none = grind (arith, nat_tests, common_steps, false_from_ne_true, some_passes, and_parts, none_passes)
-
--- what is told gone before it is claimed
-gone_first : (pair : Pair) (recording : List (List ActValue)) (answers : List Answer) (withdrawals : List Withdrawal) (n : ℕ) (claim : PlacedValue) → answers ≡ answers_among pair (placed_in recording)
-    → AreWithdrawals pair.writer pair.reader (placed_in recording) withdrawals → first_claiming pair.writer pair.reader n (placed_in recording) ≡ Some claim
-    → list_any (withdrawn_unclaimed answers n) withdrawals ≡ list_any (withdraws_before pair.writer pair.reader n claim.datagram) (placed_in recording)
-gone_first pair recording answers withdrawals n claim same are found = grind (arith, nat_tests, common_steps, any_same, unclaimed_before)
-
 -- a number is below the greatest base where some answer claims it
 base_same : (pair : Pair) (placed : List PlacedValue) (answers : List Answer) (n : ℕ) → answers ≡ answers_among pair placed → nat_lt n (greatest (map (λ answer. natural answer.base) answers)) ≡ list_any (claims pair.writer pair.reader n) placed
 base_same pair placed answers n same =
@@ -144,75 +118,62 @@ is_past pair placed answers n same none =
 
 -- ---- what is received
 
--- what is found to be received is
-pub received_same : (pair : Pair) (recording : List (List ActValue)) (acts : List PlacedValue) (answers : List Answer) (withdrawals : List Withdrawal) (certainty : Certainty) (n : ℕ)
-    → acts ≡ filter (is_from pair.writer) (placed_in recording) → answers ≡ answers_among pair (placed_in recording) → AreWithdrawals pair.writer pair.reader (placed_in recording) withdrawals → IsCertaintyOf withdrawals answers certainty
-    → list_any (λ at. certain_at certainty at.datagram n && sends pair.writer pair.reader n at) acts ≡ is_received pair.writer pair.reader (placed_in recording) n
-received_same pair recording acts answers withdrawals certainty n of_writer of_reader are is =
-    ap (list_any (λ (at : PlacedValue). certain_at certainty at.datagram n && sends pair.writer pair.reader n at)) of_writer
-    ∙ any_filter (λ (at : PlacedValue). certain_at certainty at.datagram n && sends pair.writer pair.reader n at) (is_from pair.writer) (λ at passes. sender pair.writer pair.reader n at (and_parts (certain_at certainty at.datagram n) _ passes).1) (placed_in recording)
-    ∙ by (first_claiming pair.writer pair.reader n (placed_in recording)) refl
+-- what the writer says of a number before it is claimed is what all acts say before the first claim
+early_same : (test : PlacedValue → Bool) (pair : Pair) (recording : List (List ActValue)) (answers : List Answer) (n : ℕ) (claim : PlacedValue) → answers ≡ answers_among pair (placed_in recording)
+    → first_claiming pair.writer pair.reader n (placed_in recording) ≡ Some claim → ((at : PlacedValue) → test at ≡ true → is_from pair.writer at ≡ true)
+    → list_any (λ at. is_unclaimed answers n at && test at) (filter (is_from pair.writer) (placed_in recording)) ≡ list_any (λ at. nat_lt at.datagram claim.datagram && test at) (placed_in recording)
+early_same test pair recording answers n claim same found says =
+    any_filter (λ (at : PlacedValue). is_unclaimed answers n at && test at) (is_from pair.writer) (λ at passes. says at (and_parts (is_unclaimed answers n at) (test at) passes).1) (placed_in recording)
+    ∙ any_same (λ (at : PlacedValue). is_unclaimed answers n at && test at) (λ (at : PlacedValue). nat_lt at.datagram claim.datagram && test at)
+    (λ at. ap (λ b. b && test at) (unclaimed_before pair recording answers n claim same found at.datagram)) (placed_in recording)
+
+-- what has no payload before it is claimed, or is told gone before that, or is not claimed, is not received
+pub lacking_same : (pair : Pair) (recording : List (List ActValue)) (answers : List Answer) (n : ℕ) → answers ≡ answers_among pair (placed_in recording)
+    → ((not (list_any (sends_early answers pair n) (filter (is_from pair.writer) (placed_in recording))) || list_any (withdraws_early answers pair n) (filter (is_from pair.writer) (placed_in recording)))
+    || not (nat_lt n (greatest (map (λ answer. natural answer.base) answers)))) ≡ not (is_received pair.writer pair.reader (placed_in recording) n)
+lacking_same pair recording answers n same = by (first_claiming pair.writer pair.reader n (placed_in recording)) refl
   where
-    swapped : (a b c : Bool) → ((a && b) && c) ≡ ((a && c) && b)
-    swapped true b true = sym (and_true b)
-      where
-        and_true : (b : Bool) → b ≡ (b && true)
-        and_true true = refl
-        and_true false = refl
-    swapped true b false = and-false b
-    swapped false b c = refl
+    all : List PlacedValue
+    all = placed_in recording
 
-    certain : (claim at : PlacedValue) → first_claiming pair.writer pair.reader n (placed_in recording) ≡ Some claim
-        → (certain_at certainty at.datagram n && sends pair.writer pair.reader n at)
-        ≡ (sends_before pair.writer pair.reader n claim.datagram at && not (list_any (withdraws_before pair.writer pair.reader n claim.datagram) (placed_in recording)))
-    certain claim at found =
-        let unclaimed = ap not (is.claims at.datagram n) ∙ unclaimed_before pair recording answers n claim of_reader found at.datagram in
-        let below = ap (nat_lt n) is.below ∙ is_below pair (placed_in recording) answers n claim of_reader found in
-        let gone = is.gone n ∙ gone_first pair recording answers withdrawals n claim of_reader are found in
-        ap (λ b. (b && (nat_lt n certainty.below && not (some_reaches certainty.gone.items n n))) && sends pair.writer pair.reader n at) unclaimed
-        ∙ ap (λ b. (nat_lt at.datagram claim.datagram && (b && not (some_reaches certainty.gone.items n n))) && sends pair.writer pair.reader n at) below
-        ∙ ap (λ b. (nat_lt at.datagram claim.datagram && not b) && sends pair.writer pair.reader n at) gone
-        ∙ swapped (nat_lt at.datagram claim.datagram) _ (sends pair.writer pair.reader n at)
+    its : List PlacedValue
+    its = filter (is_from pair.writer) (placed_in recording)
 
-    by : (claim : Option PlacedValue) → first_claiming pair.writer pair.reader n (placed_in recording) ≡ claim
-        → list_any (λ at. certain_at certainty at.datagram n && sends pair.writer pair.reader n at) (placed_in recording) ≡ is_certain_by pair.writer pair.reader n (placed_in recording) claim
-    by None found = false_from_ne_true (list_any (λ (at : PlacedValue). certain_at certainty at.datagram n && sends pair.writer pair.reader n at) (placed_in recording)) (λ some.
-        let at = some_passes (λ (at : PlacedValue). certain_at certainty at.datagram n && sends pair.writer pair.reader n at) (placed_in recording) some in
-        let certain = (and_parts (certain_at certainty at.0.datagram n) _ at.2).0 in
-        let below = (and_parts (nat_lt n certainty.below) _ (and_parts (not (some_reaches certainty.claims.items at.0.datagram n)) _ certain).1).0 in
-        never_both (nat_lt n certainty.below) below (ap (nat_lt n) is.below ∙ is_past pair (placed_in recording) answers n of_reader found))
-    by (Some claim) found =
-        any_same (λ (at : PlacedValue). certain_at certainty at.datagram n && sends pair.writer pair.reader n at) (λ (at : PlacedValue). sends_before pair.writer pair.reader n claim.datagram at && not (list_any (withdraws_before pair.writer pair.reader n claim.datagram) (placed_in recording)))
-        (λ at. certain claim at found) (placed_in recording)
-        ∙ any_and (sends_before pair.writer pair.reader n claim.datagram) (not (list_any (withdraws_before pair.writer pair.reader n claim.datagram) (placed_in recording))) (placed_in recording)
-
--- where a run exists, all that is claimed is told before; so what is not told gone before it is claimed is received
-pub founded_same : (from : ℕ) (pair : Pair) (recording : List (List ActValue)) (answers : List Answer) (withdrawals : List Withdrawal) (n : ℕ) → IsAsked from n → HasRun from (speech_by pair.writer pair.reader recording)
-    → answers ≡ answers_among pair (placed_in recording) → AreWithdrawals pair.writer pair.reader (placed_in recording) withdrawals
-    → (list_any (withdrawn_unclaimed answers n) withdrawals || not (nat_lt n (greatest (map (λ answer. natural answer.base) answers)))) ≡ not (is_received pair.writer pair.reader (placed_in recording) n)
-founded_same from pair recording answers withdrawals n asked run same are = by (first_claiming pair.writer pair.reader n (placed_in recording)) refl
-  where
     or_true : (b : Bool) → (b || true) ≡ true
     or_true true = refl
     or_true false = refl
 
-    sent : (claim : PlacedValue) (gone : Bool) → first_claiming pair.writer pair.reader n (placed_in recording) ≡ Some claim → list_any (withdraws_before pair.writer pair.reader n claim.datagram) (placed_in recording) ≡ gone
-        → gone ≡ not (list_any (sends_before pair.writer pair.reader n claim.datagram) (placed_in recording) && not gone)
-    sent claim true found is = sym (ap not (and-false (list_any (sends_before pair.writer pair.reader n claim.datagram) (placed_in recording))))
-    sent claim false found is = sym (ap (λ b. not (b && true)) (sent_before from pair recording n claim asked run found is))
+    alone : (sent gone : Bool) → (not sent || gone) ≡ not (sent && not gone)
+    alone true true = refl
+    alone true false = refl
+    alone false gone = refl
 
     by : (claim : Option PlacedValue) → first_claiming pair.writer pair.reader n (placed_in recording) ≡ claim
-        → (list_any (withdrawn_unclaimed answers n) withdrawals || not (nat_lt n (greatest (map (λ answer. natural answer.base) answers)))) ≡ not (is_certain_by pair.writer pair.reader n (placed_in recording) claim)
-    by None found = ap (λ b. list_any (withdrawn_unclaimed answers n) withdrawals || not b) (is_past pair (placed_in recording) answers n same found) ∙ or_true (list_any (withdrawn_unclaimed answers n) withdrawals)
+        → ((not (list_any (sends_early answers pair n) its) || list_any (withdraws_early answers pair n) its) || not (nat_lt n (greatest (map (λ answer. natural answer.base) answers))))
+        ≡ not (is_certain_by pair.writer pair.reader n (placed_in recording) claim)
+    by None found =
+        ap (λ b. (not (list_any (sends_early answers pair n) its) || list_any (withdraws_early answers pair n) its) || not b) (is_past pair all answers n same found)
+        ∙ or_true (not (list_any (sends_early answers pair n) its) || list_any (withdraws_early answers pair n) its)
     by (Some claim) found =
-        ap (λ b. list_any (withdrawn_unclaimed answers n) withdrawals || not b) (is_below pair (placed_in recording) answers n claim same found)
-        ∙ or_false (list_any (withdrawn_unclaimed answers n) withdrawals)
-        ∙ gone_first pair recording answers withdrawals n claim same are found
-        ∙ sent claim (list_any (withdraws_before pair.writer pair.reader n claim.datagram) (placed_in recording)) found refl
+        ap (λ b. (not (list_any (sends_early answers pair n) its) || list_any (withdraws_early answers pair n) its) || not b) (is_below pair all answers n claim same found)
+        ∙ or_false (not (list_any (sends_early answers pair n) its) || list_any (withdraws_early answers pair n) its)
+        ∙ ap (λ b. not b || list_any (withdraws_early answers pair n) its) (early_same (sends pair.writer pair.reader n) pair recording answers n claim same found (λ at is. sender pair.writer pair.reader n at is))
+        ∙ ap (λ b. not (list_any (sends_before pair.writer pair.reader n claim.datagram) all) || b) (early_same (withdraws pair.writer pair.reader n) pair recording answers n claim same found (λ at is. withdrawer pair.writer pair.reader n at is))
+        ∙ alone (list_any (sends_before pair.writer pair.reader n claim.datagram) all) (list_any (withdraws_before pair.writer pair.reader n claim.datagram) all)
 
--- a verdict that is not unfounded says that a run exists
-pub has_run : (from : ℕ) (speech : Speech) (verdict : Verdict) → IsVerdictFrom from speech verdict → is_unfounded verdict ≡ false → HasRun from speech
-has_run from speech verdict h h2 = grind (arith, nat_tests)
+-- the same as stretches
+pub put_together : (rest gone lacking : List Stretch) (n lo hi : ℕ) (early told : Bool) → n < hi → lacking ≡ (rest ++ gone) ++ (let one : Stretch = record { lo = lo; hi = hi } in one) ∷ []
+    → stretches_have rest n ≡ not early → stretches_have gone n ≡ told → stretches_have lacking n ≡ ((not early || told) || not (nat_lt n lo))
+put_together rest gone lacking n lo hi early told lt is no_early its =
+    ap (λ l. stretches_have l n) is
+    ∙ list_any-append (stretch_has n) (rest ++ gone) ((let one : Stretch = record { lo = lo; hi = hi } in one) ∷ [])
+    ∙ ap (λ b. b || ((nat_le lo n && nat_lt n hi) || false)) (list_any-append (stretch_has n) rest gone)
+    ∙ ap (λ b. (b || stretches_have gone n) || ((nat_le lo n && nat_lt n hi) || false)) no_early
+    ∙ ap (λ b. (not early || b) || ((nat_le lo n && nat_lt n hi) || false)) its
+    ∙ ap (λ b. (not early || told) || b) unclaimed
+  where
+    unclaimed : ((nat_le lo n && nat_lt n hi) || false) ≡ not (nat_lt n lo)
+    unclaimed = grind (arith, nat_tests)
 
 -- the first act that tells a number gone is one that the writer says
 pub gone_same_before : (writer reader : Guid) (n datagram : ℕ) (placed : List PlacedValue) → gone_before writer reader n datagram (filter (is_from writer) placed) ≡ gone_before writer reader n datagram placed

@@ -23,20 +23,6 @@ pub any_filter : {X : Type 0} (test keeps : X → Bool) → ((x : X) → test x 
 any_filter test keeps h [] = refl
 any_filter test keeps h (x ∷ xs) = any_kept test x (keeps x) (filter keeps xs) (h x) ∙ ap (λ b. test x || b) (any_filter test keeps h xs)
 
--- where the same test follows each
-pub any_and : {X : Type 0} (test : X → Bool) (b : Bool) (xs : List X) → list_any (λ x. test x && b) xs ≡ (list_any test xs && b)
-any_and test b [] = refl
-any_and test b (x ∷ xs) = ap (λ c. (test x && b) || c) (any_and test b xs) ∙ shared (test x) (list_any test xs)
-  where
-    shared : (a c : Bool) → ((a && b) || (c && b)) ≡ ((a || c) && b)
-    shared true c = either b c
-      where
-        either : (b c : Bool) → (b || (c && b)) ≡ b
-        either true c = refl
-        either false true = refl
-        either false false = refl
-    shared false c = refl
-
 -- ---- one after another
 
 find_more : {X Y : Type 0} (v : X → Y) (test : Y → Bool) (xs : List X) (i : ℕ) (d : X) → i < length xs → find test (map v (take i xs)) ≡ None → find test (map v (take (i + 1) xs)) ≡ cond (test (v (get_or xs i d))) (Some (v (get_or xs i d))) None

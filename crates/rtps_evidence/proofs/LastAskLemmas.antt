@@ -19,7 +19,7 @@ use Rattle.rtps_evidence.specs.Locations.{base_said, find_last, location_of}
 use Rattle.rtps_evidence.specs.LostAnswers.{answers, behind_last, is_claimed_then, lacks_by_answer}
 use Rattle.rtps_evidence.specs.Missed.{again_behind, is_excused_by, lacks_there}
 use Rattle.rtps_evidence.specs.Received.{claims}
-use Rattle.rtps_evidence.specs.WriterSummary.{option_any}
+use Rattle.rtps_evidence.specs.Requests.{option_any}
 use Rattle.rtps_evidence.specs.declared.last_asks.LastAsk.{LastAsk}
 use Rattle.rtps_evidence.specs.declared.location.Location.{Location}
 use Rattle.rtps_evidence.proofs.FindLemmas.{any_filter}

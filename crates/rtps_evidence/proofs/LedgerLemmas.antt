@@ -1,10 +1,12 @@
 -- What is kept of what a pair said, at the start and with one act more.
-use Rattle.std.proofs.Common.{◌≡◌, ◌∙◌, ℕ, Bool, true, false, ◌||◌, cond, filter, List, [], ◌∷◌, ◌++◌, Option, Some, None, refl, ap, arith}
+use Rattle.std.proofs.Common.{◌≡◌, ◌∙◌, ◌==◌, ℕ, Bool, true, false, ◌||◌, cond, filter, length, List, [], ◌∷◌, ◌++◌, Option, Some, None, refl, ap, arith}
 use Rattle.std.specs.List.{list_any}
 use Rattle.std.specs.Option.{option_map}
 use Rattle.std.proofs.lemmas.Bool.Decides.{nat_tests}
 use Rattle.std.proofs.lemmas.List.Folds.{list_any-append}
 use Rattle.rtps_audit.specs.Placed.{PlacedValue}
+use Rattle.rtps_coverage.specs.Stretches.{stretches_have}
+use Rattle.rtps_coverage.specs.declared.stretch.Stretch.{Stretch}
 use Rattle.rtps_discovery.specs.declared.matching.Pair.{Pair}
 use Rattle.rtps_evidence.specs.Requests.{met_among, new_request, requested}
 use Rattle.rtps_evidence.specs.Locations.{find_last, location_of}
@@ -24,6 +26,18 @@ met_none since pair n (Some request) =
 -- a number that does not lack has no request
 pub unasked : (since : Option Location) (pair : Pair) (n : ℕ) (acts asks : List PlacedValue) (lacks : ℕ → Bool) → lacks n ≡ false → option_map (met_among since pair n acts) (requested pair asks lacks n) ≡ None
 unasked since pair n acts asks lacks out = ap (λ b. option_map (met_among since pair n acts) (cond b (option_map (λ asking. new_request (location_of asking)) (find_last (asks_for pair.writer pair.reader n) asks)) None)) out
+
+-- no stretches have no number
+pub none_has : (stretches : List Stretch) (n : ℕ) → (length stretches == 0) ≡ true → stretches_have stretches n ≡ false
+none_has stretches n none = by stretches (let zero : length stretches ≡ 0 = grind (arith, nat_tests) in zero)
+  where
+    by : (stretches : List Stretch) → length stretches ≡ 0 → stretches_have stretches n ≡ false
+    by [] zero = refl
+    by (x ∷ xs) zero = absurd (omega arith)
+
+-- a reader that lacks nothing has no requests
+pub none_requested : (stretches : List Stretch) (pair : Pair) (asks : List PlacedValue) (n : ℕ) → (length stretches == 0) ≡ true → requested pair asks (stretches_have stretches) n ≡ None
+none_requested stretches pair asks n none = ap (λ b. cond b (option_map (λ asking. new_request (location_of asking)) (find_last (asks_for pair.writer pair.reader n) asks)) None) (none_has stretches n none)
 
 -- one act more
 pub any_more : (test : PlacedValue → Bool) (acts : List PlacedValue) (x : PlacedValue) → list_any test (acts ++ x ∷ []) ≡ (list_any test acts || test x)

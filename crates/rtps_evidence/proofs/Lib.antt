@@ -5,7 +5,6 @@ pub mod MadeLemmas
 pub mod OriginLemmas
 pub mod Shown
 pub mod RowLemmas
-pub mod HeardLemmas
 pub mod OneSpan
 pub mod OneExplanation
 pub mod AnswerLemmas
@@ -36,6 +35,7 @@ pub mod UnansweredLemmas
 pub mod RecordedLemmas
 pub mod TimeLemmas
 pub mod WaitLemmas
+pub mod HeardLemmas
 pub mod LedgerLemmas
 pub mod PlaceOrder
 pub mod KeptLemmas

@@ -18,7 +18,7 @@ use Rattle.rtps_evidence.specs.Locations.{find_last, is_behind, location_of}
 use Rattle.rtps_evidence.specs.Missed.{AreMissed, again_behind, announces, asks_for, brings, brings_before, brings_behind, first_place, gone_behind, has_guid, is_asked_in_vain, is_missed, is_missed_for_good, is_unmet, is_wanting, missed_at, missed_by, place_announced}
 use Rattle.rtps_evidence.specs.Received.{is_received, least_in}
 use Rattle.rtps_evidence.specs.Requests.{is_in_vain, met_among, new_request, requested}
-use Rattle.rtps_evidence.specs.WriterSummary.{option_any}
+use Rattle.rtps_evidence.specs.Requests.{option_any}
 use Rattle.rtps_coverage.specs.declared.stretch.Stretch.{Stretch}
 use Rattle.rtps_evidence.specs.declared.first_missed.FirstMissed.{FirstMissed}
 use Rattle.rtps_evidence.specs.declared.teller.Teller.{Teller}

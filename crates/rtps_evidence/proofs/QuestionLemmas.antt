@@ -1,29 +1,28 @@
--- The last element that passes, and how many do, one after another; and where the last answer stands.
+-- The last element that passes, and where the last answer stands; how often the reader was asked since then, one act more at a time.
 use Rattle.std.proofs.lemmas.Grind.{common_steps}
-use Rattle.std.proofs.Common.{◌≡◌, ◌∙◌, ℕ, zero, suc, ◌+◌, ◌-◌, ◌<◌, ◌≤◌, ◌&&◌, ◌⊎◌, Bool, true, false, cond, List, [], ◌∷◌, ◌++◌, drop, filter, get_or, length, map, take, Option, Some, None, refl, sym, ap, subst, arith, inl, inr, pos}
-use Rattle.std.specs.Prelude.{IfSome, is_some, if◌then◌else◌, slice_get}
-use Rattle.std.specs.List.{cons_option, drop-map, find, last_or}
-use Rattle.std.specs.Option.{option_map}
-use Rattle.std.proofs.lemmas.Bool.{cases_lt, and_parts}
+use Rattle.std.proofs.Common.{◌≡◌, ◌∙◌, ℕ, ◌+◌, ◌-◌, ◌^◌, ◌<◌, ◌≤◌, ◌&&◌, Bool, true, false, cond, List, [], ◌∷◌, ◌++◌, filter, get_or, length, map, min, take, Option, Some, None, refl, sym, ap, subst, arith, pos}
+use Rattle.std.specs.Prelude.{is_some, if◌then◌else◌, slice_get, unwrap_or}
+use Rattle.std.specs.List.{cons_option, find, last_or}
+use Rattle.std.specs.Option.{option_map, option_or}
+use Rattle.std.proofs.lemmas.Bool.{and_parts}
 use Rattle.std.proofs.lemmas.Bool.Decides.{nat_tests}
-use Rattle.std.proofs.lemmas.List.{length-append, length-drop, take-append-drop, take_all, take_more}
-use Rattle.std.proofs.lemmas.Option.{get_or_from_slice_get, slice_get-map, slice_get_within}
-use Rattle.std.proofs.lemmas.List.Elements.{filter-append}
+use Rattle.std.proofs.lemmas.List.{append-nil, length-append, take_more}
+use Rattle.std.proofs.lemmas.List.Folds.{find-append}
 use Rattle.rtps_ids.specs.declared.identity.Guid.{Guid}
 use Rattle.rtps_ids.specs.declared.identity.GuidPrefix.{GuidPrefix}
 use Rattle.rtps_discovery.specs.declared.matching.Pair.{Pair}
 use Rattle.rtps_receiver.specs.Speech.{is_answer, is_for, is_heard_by, is_prefix, is_spoken_by, names_pair}
-use Rattle.rtps_receiver.specs.Values.{ActBodyValue, ActValue}
-use Rattle.rtps_audit.specs.Placed.{PlacedValue, answer_at, answers_among, is_from, placed_in, placed_value}
+use Rattle.rtps_receiver.specs.Values.{ActBodyValue}
+use Rattle.rtps_audit.specs.Placed.{PlacedValue, answer_at, answers_among, is_from, placed_value}
 use Rattle.rtps_audit.specs.Speech.{base_for, base_of_body}
 use Rattle.rtps_audit.specs.declared.answer.Answer.{Answer}
 use Rattle.rtps_audit.specs.declared.placed.Placed.{Placed}
 use Rattle.rtps_audit.proofs.Offered.{speaker_is_origin}
 use Rattle.rtps_evidence.specs.Locations.{is_behind, location_of}
-use Rattle.rtps_evidence.specs.Questions.{AreAsked, is_question, place_answered, place_of, questions_behind}
+use Rattle.rtps_evidence.specs.Questions.{AreAsked, AreQuestions, is_question, place_answered, place_of, questions_behind}
 use Rattle.rtps_evidence.specs.declared.location.Location.{Location}
 use Rattle.rtps_evidence.specs.declared.questions.Questions.{Questions}
-use Rattle.rtps_evidence.proofs.PlacedOrder.{AreOrdered, kept_ordered, none_lower, placed_ordered}
+use Rattle.rtps_evidence.proofs.LedgerLemmas.{filter_more}
 
 last_is : {X : Type 0} (o : Option X) (xs : List X) (x : X) → last_or o (xs ++ x ∷ []) ≡ Some x
 last_is o [] x = refl
@@ -34,26 +33,6 @@ last_is o (y ∷ xs) x = last_is (Some y) xs x
 filter_past : {X Y : Type 0} (v : X → Y) (test : Y → Bool) (xs : List X) (i : ℕ) (x : X) → i < length xs → x ≡ get_or xs i x → (b : Bool) → test (v x) ≡ b
     → filter test (map v (take (i + 1) xs)) ≡ filter test (map v (take i xs)) ++ cond b (v x ∷ []) []
 filter_past v test xs i x lt at b is = grind (arith, nat_tests, common_steps)
-
--- of the first `i` acts, so many pass, and the last of them stands there
-pub record IsCountedSo (test : PlacedValue → Bool) (acts : List Placed) (i n : ℕ) (place : Option Location) : Type 0 where
-  pub count : n ≡ length (filter test (map placed_value (take i acts)))
-  pub last : place ≡ option_map location_of (last_or None (filter test (map placed_value (take i acts))))
-  pub few : n ≤ i
-
-pub one_counted : (test : PlacedValue → Bool) (acts : List Placed) (i count : ℕ) (last : Option Location) (x : Placed) (place : Location) → i < length acts → x ≡ get_or acts i x → test (placed_value x) ≡ true → place ≡ location_of (placed_value x)
-    → IsCountedSo test acts i count last → IsCountedSo test acts (i + 1) (count + 1) (Some place)
-one_counted test acts i count last x place lt at is stands so_far =
-    let more = filter_past placed_value test acts i x lt at true is in
-    record {
-      count = (let had = so_far.count in let size = ap length more in let both = length-append (filter test (map placed_value (take i acts))) (placed_value x ∷ []) in omega arith);
-      last = ap Some stands ∙ sym (ap (λ l. option_map location_of (last_or None l)) more ∙ ap (option_map location_of) (last_is None (filter test (map placed_value (take i acts))) (placed_value x)));
-      few = (let few = so_far.few in omega arith);
-    }
-
-pub none_counted : (test : PlacedValue → Bool) (acts : List Placed) (i count : ℕ) (last : Option Location) (x : Placed) → i < length acts → x ≡ get_or acts i x → test (placed_value x) ≡ false
-    → IsCountedSo test acts i count last → IsCountedSo test acts (i + 1) count last
-none_counted test acts i count last x lt at is so_far = grind (arith, nat_tests, common_steps)
 
 -- of the first `i` acts, the last that passes stands there
 pub last_passing : (test : PlacedValue → Bool) (acts : List Placed) (i : ℕ) (x : Placed) (place : Location) → i < length acts → x ≡ get_or acts i x → test (placed_value x) ≡ true → place ≡ location_of (placed_value x)
@@ -120,96 +99,72 @@ asked_kept : (place : Option Location) (writer reader : Guid) (placed : List Pla
 asked_kept place writer reader placed = filter_filter (questions_behind place writer reader) (is_from writer) (λ at passes. speaker_is_origin writer at
     (and_parts (is_spoken_by at.act writer) (is_heard_by at.act reader && is_question at.act.body) (and_parts (is_behind place at) (is_spoken_by at.act writer && (is_heard_by at.act reader && is_question at.act.body)) passes).1).0) placed
 
-pub first_kept : (place : Option Location) (writer reader : Guid) (placed : List PlacedValue) → option_map location_of (find (questions_behind place writer reader) (filter (is_from writer) placed)) ≡ option_map location_of (find (questions_behind place writer reader) placed)
+first_kept : (place : Option Location) (writer reader : Guid) (placed : List PlacedValue) → option_map location_of (find (questions_behind place writer reader) (filter (is_from writer) placed)) ≡ option_map location_of (find (questions_behind place writer reader) placed)
 first_kept place writer reader placed = ap (option_map location_of) (find_same (questions_behind place writer reader) (filter (is_from writer) placed) placed (asked_kept place writer reader placed))
 
 pub asked_same : (place : Option Location) (writer reader : Guid) (placed : List PlacedValue) (questions : Questions) → AreAsked place writer reader (filter (is_from writer) placed) questions → AreAsked place writer reader placed questions
 asked_same place writer reader placed questions is =
     let same = asked_kept place writer reader placed in
     record {
+      since = is.since;
       count = is.count ∙ ap length same;
       first = is.first ∙ first_kept place writer reader placed;
       last = is.last ∙ ap (λ l. option_map location_of (last_or None l)) same;
     }
 
--- ---- what stands before
+-- those of the pair's own acts and answers are those of all
+pub questions_of_pair : (pair : Pair) (placed acts : List PlacedValue) (answers : List Answer) (questions : Questions) → acts ≡ filter (is_from pair.writer) placed → answers ≡ answers_among pair placed
+    → AreAsked (option_map place_of (last_or None answers)) pair.writer pair.reader acts questions → AreQuestions pair.writer pair.reader placed questions
+questions_of_pair pair placed acts answers questions of_acts of_answers are =
+    let place = ap (λ (l : List Answer). option_map place_of (last_or None l)) of_answers ∙ place_answered_same pair placed in
+    subst (λ p. AreAsked p pair.writer pair.reader placed questions) place
+    (asked_same (option_map place_of (last_or None answers)) pair.writer pair.reader placed questions
+    (subst (λ l. AreAsked (option_map place_of (last_or None answers)) pair.writer pair.reader l questions) of_acts are))
 
--- an act in a datagram before that of a place does not stand behind it
-not_behind : (place : Location) (at : PlacedValue) → at.datagram < place.datagram → is_behind (Some place) at ≡ false
-not_behind place at lt = grind (arith, nat_tests)
+-- ---- an act more
 
--- so where an act stands in a datagram before that of a place, none up to it asks behind the place
-none_asks : (place : Location) (writer reader : Guid) (low : ℕ) (acts : List PlacedValue) (k : ℕ) (x : PlacedValue) → AreOrdered low acts → slice_get acts k ≡ Some x → x.datagram < place.datagram
-    → filter (questions_behind (Some place) writer reader) (take (suc k) acts) ≡ []
-none_asks place writer reader low acts k x ordered there early = by low acts k ordered there
+few_pass : {X : Type 0} (test : X → Bool) (xs : List X) → length (filter test xs) ≤ length xs
+few_pass test [] = omega arith
+few_pass test (x ∷ xs) = by (test x) (few_pass test xs)
   where
-    left_out : (at : PlacedValue) (rest : List PlacedValue) → at.datagram ≤ x.datagram → filter (questions_behind (Some place) writer reader) rest ≡ [] → filter (questions_behind (Some place) writer reader) (at ∷ rest) ≡ []
-    left_out at rest le none =
-        ap (λ b. cond (b && (is_spoken_by at.act writer && (is_heard_by at.act reader && is_question at.act.body))) (at ∷ filter (questions_behind (Some place) writer reader) rest) (filter (questions_behind (Some place) writer reader) rest)) (not_behind place at (omega arith))
-        ∙ none
+    by : (b : Bool) → length (filter test xs) ≤ length xs → length (cond b (x ∷ filter test xs) (filter test xs)) ≤ length (x ∷ xs)
+    by true le = omega arith
+    by false le = omega arith
 
-    nothing : (acts : List PlacedValue) → filter (questions_behind (Some place) writer reader) (take zero acts) ≡ []
-    nothing [] = refl
-    nothing (at ∷ acts) = refl
-
-    by : (low : ℕ) (acts : List PlacedValue) (k : ℕ) → AreOrdered low acts → slice_get acts k ≡ Some x → filter (questions_behind (Some place) writer reader) (take (suc k) acts) ≡ []
-    by low [] k ordered there = absurd (let no : None ≡ Some x = there in cc)
-    by low (y ∷ ys) zero ordered there =
-        let same : y ≡ x = (let e : Some y ≡ Some x = there in cc) in
-        let at = ap (λ (p : PlacedValue). p.datagram) same in
-        left_out y (take zero ys) (omega arith) (nothing ys)
-    by low (y ∷ ys) (suc k) (first, rest) there =
-        left_out y (take (suc k) ys) (none_lower y.datagram ys x rest (k, slice_get_within ys k x there, get_or_from_slice_get ys k x x there)) (by y.datagram ys k rest there)
-
-some_at : {X : Type 0} (xs : List X) (k : ℕ) → k < length xs → (x : X) × (slice_get xs k ≡ Some x)
-some_at [] k lt = absurd (omega arith)
-some_at (x ∷ xs) zero lt = (x, refl)
-some_at (x ∷ xs) (suc k) lt = some_at xs k (omega arith)
-
--- the first acts of a writer do not, where the last of them stands in a datagram before that of the place
-pub none_asks_before : (place : Location) (writer reader : Guid) (recording : List (List ActValue)) (acts : List Placed) (count : ℕ) → map placed_value acts ≡ filter (is_from writer) (placed_in recording) → count ≤ length acts
-    → (0 < count → IfSome (slice_get acts (count - 1)) (λ placed. placed.datagram < place.datagram)) → filter (questions_behind (Some place) writer reader) (take count (map placed_value acts)) ≡ []
-none_asks_before place writer reader recording acts count of_writer within before = by (cases_lt 0 count)
+first_more : (test : PlacedValue → Bool) (xs : List PlacedValue) (x : PlacedValue) (here : Location) → test x ≡ true → here ≡ location_of x
+    → Some (unwrap_or (option_map location_of (find test xs)) here) ≡ option_map location_of (find test (xs ++ x ∷ []))
+first_more test xs x here passes at =
+    by (find test xs) ∙ sym (ap (option_map location_of) (find-append test xs (x ∷ []) ∙ ap (λ b. option_or (find test xs) (cond b (Some x) None)) passes))
   where
-    by : (0 < count) ⊎ (count ≤ 0) → filter (questions_behind (Some place) writer reader) (take count (map placed_value acts)) ≡ []
-    by (inr none) = let zero_is : count ≡ 0 = omega arith in ap (λ n. filter (questions_behind (Some place) writer reader) (take n (map placed_value acts))) zero_is ∙ nothing (map placed_value acts)
-      where
-        nothing : (xs : List PlacedValue) → filter (questions_behind (Some place) writer reader) (take zero xs) ≡ []
-        nothing [] = refl
-        nothing (x ∷ xs) = refl
-    by (inl some) =
-        let at = some_at acts (count - 1) (omega arith) in
-        let early : at.0.datagram < place.datagram = subst (λ (o : Option Placed). IfSome o (λ placed. placed.datagram < place.datagram)) at.1 (before some) in
-        let next : count ≡ suc (count - 1) = omega arith in
-        let there : slice_get (map placed_value acts) (count - 1) ≡ Some (placed_value at.0) = slice_get-map placed_value acts (count - 1) ∙ ap (option_map placed_value) at.1 in
-        ap (λ n. filter (questions_behind (Some place) writer reader) (take n (map placed_value acts))) next
-        ∙ none_asks place writer reader 1 (map placed_value acts) (count - 1) (placed_value at.0)
-        (subst (AreOrdered 1) (sym of_writer) (kept_ordered (is_from writer) 1 (placed_in recording) (placed_ordered 0 recording))) there early
+    by : (found : Option PlacedValue) → Some (unwrap_or (option_map location_of found) here) ≡ option_map location_of (option_or found (Some x))
+    by None = ap Some at
+    by (Some one) = refl
 
--- so what all acts ask behind the place is what the others ask
-rest_kept : (place : Option Location) (writer reader : Guid) (acts : List Placed) (start : ℕ) → filter (questions_behind place writer reader) (take start (map placed_value acts)) ≡ []
-    → filter (questions_behind place writer reader) (map placed_value (take (length acts - start) (drop start acts))) ≡ filter (questions_behind place writer reader) (map placed_value acts)
-rest_kept place writer reader acts start none =
-    ap (λ l. filter (questions_behind place writer reader) (map placed_value l)) all
-    ∙ ap (filter (questions_behind place writer reader)) (sym (drop-map placed_value start acts))
-    ∙ sym (ap (filter (questions_behind place writer reader)) (sym (take-append-drop start (map placed_value acts)))
-    ∙ filter-append (questions_behind place writer reader) (take start (map placed_value acts)) (drop start (map placed_value acts))
-    ∙ ap (λ l. l ++ filter (questions_behind place writer reader) (drop start (map placed_value acts))) none)
-  where
-    all : take (length acts - start) (drop start acts) ≡ drop start acts
-    all = take_all (length acts - start) (drop start acts) (let e = length-drop start acts in omega arith)
-
-pub first_rest : (place : Option Location) (writer reader : Guid) (acts : List Placed) (start : ℕ) → filter (questions_behind place writer reader) (take start (map placed_value acts)) ≡ []
-    → option_map location_of (find (questions_behind place writer reader) (map placed_value (take (length acts - start) (drop start acts)))) ≡ option_map location_of (find (questions_behind place writer reader) (map placed_value acts))
-first_rest place writer reader acts start none =
-    ap (option_map location_of) (find_same (questions_behind place writer reader) (map placed_value (take (length acts - start) (drop start acts))) (map placed_value acts) (rest_kept place writer reader acts start none))
-
-pub asked_rest : (place : Option Location) (writer reader : Guid) (acts : List Placed) (start : ℕ) (questions : Questions) → filter (questions_behind place writer reader) (take start (map placed_value acts)) ≡ []
-    → AreAsked place writer reader (map placed_value (take (length acts - start) (drop start acts))) questions → AreAsked place writer reader (map placed_value acts) questions
-asked_rest place writer reader acts start questions none is =
-    let same = rest_kept place writer reader acts start none in
+-- one that does not ask changes nothing
+pub asked_still : (place : Option Location) (writer reader : Guid) (acts : List PlacedValue) (x : PlacedValue) (questions : Questions) → questions_behind place writer reader x ≡ false
+    → AreAsked place writer reader acts questions → AreAsked place writer reader (acts ++ x ∷ []) questions
+asked_still place writer reader acts x questions fails are =
+    let test = questions_behind place writer reader in
+    let same : filter test (acts ++ x ∷ []) ≡ filter test acts = filter_more test acts x false fails ∙ append-nil (filter test acts) in
     record {
-      count = is.count ∙ ap length same;
-      first = is.first ∙ first_rest place writer reader acts start none;
-      last = is.last ∙ ap (λ l. option_map location_of (last_or None l)) same;
+      since = are.since;
+      count = are.count ∙ sym (ap length same);
+      first = are.first ∙ ap (option_map location_of) (find_same test acts (acts ++ x ∷ []) (sym same));
+      last = are.last ∙ sym (ap (λ l. option_map location_of (last_or None l)) same);
+    }
+
+-- one that asks is counted, is the first where none was before, and is the last
+pub asked_more : (place : Option Location) (writer reader : Guid) (acts : List PlacedValue) (x : PlacedValue) (old new : Questions) (here : Location) → questions_behind place writer reader x ≡ true → length acts + 1 < 2 ^ 64 → here ≡ location_of x
+    → AreAsked place writer reader acts old → new.since ≡ old.since → new.count ≡ min (old.count + 1) (2 ^ 64 - 1) → new.first ≡ Some (unwrap_or old.first here) → new.last ≡ Some here → AreAsked place writer reader (acts ++ x ∷ []) new
+asked_more place writer reader acts x old new here passes few at are since count first last =
+    let test = questions_behind place writer reader in
+    let more : filter test (acts ++ x ∷ []) ≡ filter test acts ++ x ∷ [] = filter_more test acts x true passes in
+    let size : length (filter test (acts ++ x ∷ [])) ≡ length (filter test acts) + 1 = ap length more ∙ length-append (filter test acts) (x ∷ []) in
+    let old_count = are.count in
+    let most : length (filter test acts) ≤ length acts = few_pass test acts in
+    record {
+      since = since ∙ are.since;
+      count = omega arith;
+      first = first ∙ ap (λ o. Some (unwrap_or o here)) are.first ∙ first_more test acts x here passes at;
+      last = last ∙ ap Some at ∙ sym (ap (λ l. option_map location_of (last_or None l)) more ∙ ap (option_map location_of) (last_is None (filter test acts) x));
     }

@@ -16,7 +16,7 @@ use Rattle.rtps_audit.specs.declared.placed.Placed.{Placed}
 use Rattle.rtps_evidence.specs.Locations.{find_last, is_before, is_behind, location_of}
 use Rattle.rtps_evidence.specs.Missed.{asks_for, brings, brings_before, brings_behind}
 use Rattle.rtps_evidence.specs.Requests.{is_in_vain, met_among, met_at, met_by, new_request, requested}
-use Rattle.rtps_evidence.specs.WriterSummary.{option_any}
+use Rattle.rtps_evidence.specs.Requests.{option_any}
 use Rattle.rtps_evidence.specs.declared.location.Location.{Location}
 use Rattle.rtps_evidence.specs.declared.missed_numbers.Request.{Request}
 

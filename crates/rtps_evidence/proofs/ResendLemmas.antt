@@ -10,7 +10,7 @@ use Rattle.rtps_evidence.specs.CountedAnswers.{lacks_among}
 use Rattle.rtps_evidence.specs.LastAsks.{asked_before, excuses, lacks_at, left_by, left_where}
 use Rattle.rtps_evidence.specs.Locations.{is_behind, location_of}
 use Rattle.rtps_evidence.specs.Missed.{again_behind, brings, brings_behind}
-use Rattle.rtps_evidence.specs.WriterSummary.{option_any}
+use Rattle.rtps_evidence.specs.Requests.{option_any}
 use Rattle.rtps_evidence.specs.declared.counted_answers.CountedAnswer.{CountedAnswer}
 use Rattle.rtps_evidence.specs.declared.last_asks.LastAsk.{LastAsk}
 

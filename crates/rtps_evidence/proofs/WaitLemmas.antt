@@ -1,4 +1,4 @@
--- The first answer behind a place, the longest of some waits, one after another, and that there is none without times.
+-- The first answer behind a place, and the longest of some waits, one after another.
 use Rattle.std.proofs.lemmas.Grind.{common_steps}
 use Rattle.std.proofs.Common.{◌≡◌, ◌∙◌, ℕ, zero, suc, ◌+◌, ◌<◌, ◌≤◌, ◌==◌, Bool, true, false, cond, nat_lt, List, [], ◌∷◌, ◌++◌, add-one, append-nil, filter, get_or, length, map, max, take, Option, Some, None, refl, sym, ap, arith, inl, inr}
 use Rattle.std.specs.Prelude.{slice_get}
@@ -14,9 +14,7 @@ use Rattle.rtps_audit.specs.Delivery.{greatest}
 use Rattle.rtps_audit.specs.Placed.{PlacedValue, is_from}
 use Rattle.rtps_audit.specs.declared.answer.Answer.{Answer}
 use Rattle.rtps_audit.proofs.Offered.{greatest-append, speaker_is_origin}
-use Rattle.rtps_evidence.specs.Locations.{location_of}
-use Rattle.rtps_evidence.specs.Times.{are_there, time_of}
-use Rattle.rtps_evidence.specs.Waits.{HasPassed, answered_at, answers_behind, ended_at, length_of, longer_of, longest, precedes, questions_of, wait_from, wait_of, waits_of}
+use Rattle.rtps_evidence.specs.Waits.{HasPassed, answers_behind, length_of, longer_of, longest, precedes, questions_of, wait_from, waits_of}
 use Rattle.rtps_evidence.specs.declared.location.Location.{Location}
 use Rattle.rtps_evidence.specs.declared.waits.Wait.{Wait}
 use Rattle.rtps_evidence.proofs.QuestionLemmas.{filter_filter}
@@ -142,16 +140,3 @@ waits_more times end answers questions question = grind (arith, nat_tests, commo
 -- those of the writer's acts are those of all acts
 pub questions_same : (since : Option Location) (pair : Pair) (acts : List PlacedValue) → questions_of since pair (filter (is_from pair.writer) acts) ≡ questions_of since pair acts
 questions_same since pair acts = grind (arith, nat_tests, common_steps, filter_filter, speaker_is_origin, and_parts)
-
--- ---- where no datagram has a time
-
-untimed : (times : List (Option ℕ)) (number : ℕ) → are_there times ≡ false → time_of times number ≡ None
-untimed times number lacks = grind (arith, nat_tests, common_steps)
-
-pub no_waits : (times : List (Option ℕ)) (end : Option ℕ) (answers : List Answer) (questions : List PlacedValue) → are_there times ≡ false → waits_of times end answers questions ≡ []
-no_waits times end answers [] lacks = refl
-no_waits times end answers (question ∷ questions) lacks =
-    let asked = location_of question in
-    let answered = answered_at asked answers in
-    ap (λ since. cons_option (wait_of asked answered since (ended_at times end answered)) (waits_of times end answers questions)) (untimed times asked.datagram lacks)
-    ∙ no_waits times end answers questions lacks

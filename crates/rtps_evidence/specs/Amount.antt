@@ -1,6 +1,6 @@
 -- How many numbers have a payload, are gone, or have no word. own: numbers go up to 2^63 - 1, so they are counted by stretches
 -- of them and never one by one.
-use Rattle.std.specs.Prelude.{ℕ, Bool, ◌+◌, ◌≡◌, ◌&&◌, nat_le, nat_lt, not, List}
+use Rattle.std.specs.Prelude.{ℕ, Bool, ◌+◌, ◌≡◌, ◌&&◌, ◌||◌, not, List}
 use Rattle.std.specs.List.{list_any}
 use Rattle.rtps_ids.specs.declared.identity.Guid.{Guid}
 use Rattle.rtps_audit.specs.Placed.{PlacedValue}
@@ -9,7 +9,6 @@ use Rattle.rtps_coverage.specs.Stretches.{stretches_have}
 use Rattle.rtps_evidence.specs.Locations.{sends, tells}
 use Rattle.rtps_evidence.specs.declared.amount.Amounts.{Amounts}
 use Rattle.rtps_evidence.specs.declared.amount.HeardNumbers.{HeardNumbers}
-use Rattle.rtps_evidence.specs.declared.withdrawal.Withdrawal.{Withdrawal}
 
 -- whether the reader hears a word for n from the writer, by some act
 abbrev pub is_told : Guid → Guid → List PlacedValue → ℕ → Bool
@@ -19,23 +18,20 @@ is_told writer reader acts n = list_any (tells writer reader n) acts
 abbrev pub is_sent : Guid → Guid → List PlacedValue → ℕ → Bool
 is_sent writer reader acts n = list_any (sends writer reader n) acts
 
--- whether a withdrawal has n
-abbrev pub withdrawal_has : ℕ → Withdrawal → Bool
-withdrawal_has n withdrawal = nat_le withdrawal.lo n && nat_lt n withdrawal.hi
+-- n has a payload by what is heard
+abbrev pub has_sent : HeardNumbers → ℕ → Bool
+has_sent heard n = stretches_have heard.early.items n || stretches_have heard.late.items n
 
--- whether it does, and stands before a datagram
-abbrev pub withdrawn_before : ℕ → ℕ → Withdrawal → Bool
-withdrawn_before n datagram withdrawal = nat_lt withdrawal.datagram datagram && withdrawal_has n withdrawal
+-- n has a word
+abbrev pub has_told : HeardNumbers → ℕ → Bool
+has_told heard n = (has_sent heard n || stretches_have heard.gone.items n) || stretches_have heard.gone_late.items n
 
--- whether some withdrawal does
-abbrev pub some_withdrawn : List Withdrawal → ℕ → ℕ → Bool
-some_withdrawn withdrawals n datagram = list_any (withdrawn_before n datagram) withdrawals
-
--- they are the numbers that have a word, those that have a payload, and those that are told gone before a datagram
-pub record AreNumbers (has_word has_payload : ℕ → Bool) (is_gone : ℕ → ℕ → Bool) (heard : HeardNumbers) : Type 0 where
-  pub told : (n : ℕ) → stretches_have heard.told.items n ≡ has_word n
-  pub sent : (n : ℕ) → stretches_have heard.sent.items n ≡ has_payload n
-  pub gone : (n datagram : ℕ) → some_withdrawn heard.gone.items n datagram ≡ is_gone n datagram
+-- they are the numbers that have a word, those that have a payload, and those that have one, or are told gone, before they are claimed
+pub record AreNumbers (has_word has_payload is_early is_gone : ℕ → Bool) (heard : HeardNumbers) : Type 0 where
+  pub told : (n : ℕ) → has_told heard n ≡ has_word n
+  pub sent : (n : ℕ) → has_sent heard n ≡ has_payload n
+  pub early : (n : ℕ) → stretches_have heard.early.items n ≡ is_early n
+  pub gone : (n : ℕ) → stretches_have heard.gone.items n ≡ is_gone n
 
 -- Of the numbers from `from` to the last one: those with a payload, those told gone that have no payload, and those
 -- without a word.

@@ -12,7 +12,7 @@ use Rattle.rtps_evidence.specs.CountedAnswers.{lacks_among}
 use Rattle.rtps_evidence.specs.Locations.{base_said, find_last, is_behind, location_of}
 use Rattle.rtps_evidence.specs.LostAnswers.{behind_last, lacks_by_answer}
 use Rattle.rtps_evidence.specs.Missed.{again_behind}
-use Rattle.rtps_evidence.specs.WriterSummary.{option_any}
+use Rattle.rtps_evidence.specs.Requests.{option_any}
 use Rattle.rtps_evidence.specs.declared.counted_answers.CountedAnswer.{CountedAnswer}
 use Rattle.rtps_evidence.specs.declared.excused.Resends.{Resends}
 use Rattle.rtps_evidence.specs.declared.last_asks.LastAsk.{LastAsk}

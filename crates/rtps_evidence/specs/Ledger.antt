@@ -6,30 +6,18 @@ use Rattle.std.specs.List.{list_any}
 use Rattle.std.specs.Option.{option_map}
 use Rattle.std.specs.Ordering.{nat_cmp}
 use Rattle.rtps_audit.specs.Placed.{PlacedValue, placed_value}
-use Rattle.rtps_audit.specs.Said.{datagrams_until}
 use Rattle.rtps_coverage.specs.Stretches.{stretches_have}
 use Rattle.rtps_evidence.specs.Missed.{brings_behind}
 use Rattle.rtps_evidence.specs.Requests.{met_among, requested}
 use Rattle.rtps_evidence.specs.SilentNumbers.{AreSilent}
 use Rattle.rtps_evidence.specs.Spans.{since_of}
-use Rattle.rtps_evidence.specs.Times.{end_of}
-use Rattle.rtps_evidence.specs.Waits.{longest, questions_of, waits_of}
 use Rattle.rtps_evidence.specs.declared.exchange.Exchange.{Exchange}
 use Rattle.rtps_evidence.specs.declared.ledger.Ledger.{Ledger}
-use Rattle.rtps_evidence.specs.declared.waits.Waiting.{Waiting}
-
--- the longest wait by these acts of the writer, up to the end of what was said
-pub record IsLongest (exchange : Exchange) (acts : List PlacedValue) (waiting : Waiting) : Type 0 where
-  pub answers : waiting.answers ≡ exchange.said.answers.now
-  pub longest : waiting.longest
-      ≡ longest (waits_of exchange.times.now.of_datagrams (end_of (datagrams_until exchange.span.until exchange.times.now.of_datagrams)) exchange.said.answers.now
-      (questions_of (since_of exchange.span) exchange.pair acts))
 
 -- The ledger stands for these acts of the writer: of each number that the reader lacks it has what became of its last request, whether it
--- came since the reader is there, and how far it came with it in silence; and it has the longest wait.
+-- came since the reader is there, and how far it came with it in silence.
 pub record Stands (exchange : Exchange) (lacks : ℕ → Bool) (acts : List PlacedValue) (ledger : Ledger) : Type 0 where
   pub requests : (n : ℕ) → get nat_cmp ledger.requests n
       ≡ option_map (met_among (since_of exchange.span) exchange.pair n acts) (requested exchange.pair (map placed_value exchange.said.asks.now) lacks n)
   pub brought : (n : ℕ) → lacks n ≡ true → stretches_have ledger.brought.items n ≡ list_any (brings_behind (since_of exchange.span) exchange.pair.writer exchange.pair.reader n) acts
   pub silent : (n : ℕ) → lacks n ≡ true → AreSilent exchange acts ledger.silent
-  pub wait : IsLongest exchange acts ledger.wait

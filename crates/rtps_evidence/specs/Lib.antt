@@ -25,8 +25,8 @@ pub mod Grounds
 pub mod Evidence
 pub mod Certificates
 pub mod Explanation
-pub mod WriterSummary
 pub mod Times
 pub mod Waits
+pub mod Heard
 pub mod Ledger
 pub mod WayRound

@@ -34,8 +34,9 @@ place_answered writer reader acts = option_map location_of (find_last (λ placed
 abbrev pub place_of : Answer → Location
 place_of answer = record { datagram = answer.datagram; at = answer.at }
 
--- how many of these acts ask behind a place, and where the first and the last of them stand
+-- how many of these acts ask behind the place of the last answer, and where the first and the last of them stand
 pub record AreAsked (place : Option Location) (writer reader : Guid) (acts : List PlacedValue) (questions : Questions) : Type 0 where
+  pub since : questions.since ≡ place
   pub count : questions.count ≡ length (filter (questions_behind place writer reader) acts)
   pub first : questions.first ≡ option_map location_of (find (questions_behind place writer reader) acts)
   pub last : questions.last ≡ option_map location_of (find_last (questions_behind place writer reader) acts)

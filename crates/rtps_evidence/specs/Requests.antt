@@ -9,6 +9,11 @@ use Rattle.rtps_evidence.specs.Missed.{asks_for, brings, brings_before, brings_b
 use Rattle.rtps_evidence.specs.declared.location.Location.{Location}
 use Rattle.rtps_evidence.specs.declared.missed_numbers.Request.{Request}
 
+-- it is there, and passes a test
+abbrev pub option_any : {X : Type 0} → (X → Bool) → Option X → Bool
+option_any test None = false
+option_any test (Some x) = test x
+
 -- a request of which nothing became yet
 abbrev pub new_request : Location → Request
 new_request place = record { place = place; is_met = false; is_again = false }

@@ -1,4 +1,5 @@
-ghost use Rattle.std.specs.Prelude.{ℕ, ◌≡◌, ◌-◌, ◌<◌, ◌≤◌, ◌||◌, ◌^◌, IfOk, IfSome, List, OnOk};
+ghost use Rattle.std.specs.Prelude.{ℕ, ◌≡◌, ◌+◌, ◌-◌, ◌<◌, ◌≤◌, ◌&&◌, ◌||◌, ◌^◌, nat_le, nat_lt, IfOk, IfSome, List, OnOk};
+ghost use Rattle.rtps_coverage.specs.Counts.{count_in};
 ghost use Rattle.rtps_receiver.specs.Said.{is_at, numbers_have};
 ghost use Rattle.rtps_audit.specs.Placed.{placed_value};
 ghost use Rattle.rtps_coverage.specs.Stretches.{stretches_have};
@@ -6,10 +7,9 @@ ghost use Rattle.rtps_evidence.specs.Amount.{AreAmounts, is_sent, is_told};
 ghost use Rattle.rtps_evidence.specs.Locations.{sends, tells};
 
 use crate::said_to::said_to;
-use crate::withdrawal::{Withdrawal, push_withdrawn};
 use rtps_audit::{FirstAsked, Placed};
 use rtps_coverage::Stretch;
-use rtps_coverage::stretches::{count_of, in_order, push};
+use rtps_coverage::stretches::{count_of, push};
 use rtps_discovery::Pair;
 use rtps_ids::Memory;
 use rtps_receiver::Numbers;
@@ -31,19 +31,30 @@ pub(crate) struct Amounts {
     pub(crate) untold: u64,
 }
 
-/// The numbers that have a word by what is heard, those that have a payload, and those that are told gone.
+/// The numbers that have a payload by what is heard, and those that are told gone. An answer claims what is told before it alone: so of both
+/// those stand apart of which it is heard in a datagram up to which no answer claims the number.
 #[derive(Drop)]
 pub(crate) struct HeardNumbers {
-    pub(crate) told: Vec<Stretch>,
-    pub(crate) sent: Vec<Stretch>,
-    pub(crate) gone: Vec<Withdrawal>,
+    /// Those that have a payload before they are claimed.
+    pub(crate) early: Vec<Stretch>,
+    /// Those that have one behind that.
+    pub(crate) late: Vec<Stretch>,
+    /// Those that are told gone before they are claimed.
+    pub(crate) gone: Vec<Stretch>,
+    /// Those that are told gone behind that.
+    pub(crate) gone_late: Vec<Stretch>,
 }
 
-/// Appends these numbers, range by range. After `Memory` the stretches are of no use.
-fn push_numbers(stretches: &mut Vec<Stretch>, numbers: &Numbers<'_>) -> Result<(), Memory>
-    ensures { OnOk result ((n : ℕ) → stretches_have stretches.new.items n ≡ (stretches_have stretches.old.items n || numbers_have numbers.now n)) }
+/// Appends these numbers from `from` on, range by range. After `Memory` the stretches are of no use.
+fn push_numbers(
+    stretches: &mut Vec<Stretch>,
+    numbers: &Numbers<'_>,
+    from: u64,
+) -> Result<(), Memory>
+    ensures { OnOk result ((n : ℕ) → stretches_have stretches.new.items n
+        ≡ (stretches_have stretches.old.items n || (nat_le from n && numbers_have numbers.now n))) }
 {
-    let mut at = 0;
+    let mut at = from;
     'apart: while let Some(range) = numbers.range_from(at) {
         let (lo, hi) = (range.start, range.end);
         push(stretches, Stretch { lo, hi })?;
@@ -63,76 +74,122 @@ pub(crate) fn push_number(stretches: &mut Vec<Stretch>, number: Option<u64>) -> 
     push(stretches, Stretch { lo, hi: lo + 1 })
 }
 
+/// Appends these numbers below an end, range by range. After `Memory` the stretches are of no use.
+fn push_below(stretches: &mut Vec<Stretch>, numbers: &Numbers<'_>, end: u64) -> Result<(), Memory>
+    ensures { OnOk result ((n : ℕ) → stretches_have stretches.new.items n
+        ≡ (stretches_have stretches.old.items n || (nat_lt n end && numbers_have numbers.now n))) }
+{
+    let mut at = 0;
+    'apart: while let Some(range) = numbers.range_from(at) {
+        if end <= range.start {
+            return Ok(());
+        }
+        let (lo, hi) = (range.start, range.end.min(end));
+        push(stretches, Stretch { lo, hi })?;
+        at = range.end;
+    }
+    Ok(())
+}
+
+/// Adds numbers to others, and says how many of those that are asked for are among all of them. After `Memory` the numbers are of
+/// no use.
+pub(crate) fn count_with(
+    numbers: &mut Vec<Stretch>,
+    more: &[Stretch],
+    asked: &AskedNumbers,
+) -> Result<u64, Memory>
+    ensures numbers { OnOk result ((n : ℕ) → stretches_have numbers.new.items n ≡ (stretches_have numbers.old.items n || stretches_have more.now n)) }
+    ensures count { IfOk result (λ count. count ≡ count_in (λ n. stretches_have numbers.old.items n || stretches_have more.now n) asked.now.from (asked.now.last + 1)) }
+{
+    numbers.extend_from_slice(more)?;
+    count_of(numbers, asked.from.get(), asked.last + 1)
+}
+
+/// The number, where it is from `from` on.
+fn number_from(number: Option<u64>, from: u64) -> Option<u64>
+    ensures same { (n : ℕ) → is_at n result ≡ (nat_le from n && is_at n number) }
+    ensures in_range { IfSome number (λ n. n < 2 ^ 63) → IfSome result (λ n. n < 2 ^ 63) }
+{
+    match number {
+        Some(number) => { if from <= number { Some(number) } else { None } }
+        None => None,
+    }
+}
+
+/// The number, where it is below an end.
+fn number_below(number: Option<u64>, end: u64) -> Option<u64>
+    ensures same { (n : ℕ) → is_at n result ≡ (nat_lt n end && is_at n number) }
+    ensures in_range { IfSome number (λ n. n < 2 ^ 63) → IfSome result (λ n. n < 2 ^ 63) }
+{
+    match number {
+        Some(number) => { if number < end { Some(number) } else { None } }
+        None => None,
+    }
+}
+
 impl HeardNumbers {
     ghost use Rattle.std.specs.Prelude.{[], Bool};
     ghost use Rattle.rtps_ids.specs.declared.identity.Guid.{Guid as GuidValue};
     ghost use Rattle.rtps_audit.specs.Placed.{PlacedValue};
-    ghost use Rattle.rtps_evidence.specs.Amount.{AreNumbers, some_withdrawn};
-    ghost use Rattle.rtps_evidence.specs.Received.{withdraws_before};
+    ghost use Rattle.rtps_evidence.specs.Amount.{AreNumbers, has_sent, has_told};
+    ghost use Rattle.rtps_evidence.specs.Received.{withdraws};
 
     /// No numbers.
     pub(crate) fn new(alloc: Global) -> Self
-        ensures told { result.told.items ≡ [] }
-        ensures sent { result.sent.items ≡ [] }
+        ensures early { result.early.items ≡ [] }
+        ensures late { result.late.items ≡ [] }
         ensures gone { result.gone.items ≡ [] }
+        ensures gone_late { result.gone_late.items ≡ [] }
     {
         HeardNumbers {
-            told: Vec::new(alloc),
-            sent: Vec::new(alloc),
+            early: Vec::new(alloc),
+            late: Vec::new(alloc),
             gone: Vec::new(alloc),
+            gone_late: Vec::new(alloc),
         }
     }
 
-    /// Adds those of an act that the pair's reader hears from its writer. After `Memory` they are of no use.
-    pub(crate) fn note(&mut self, placed: &Placed<'_>, pair: Pair) -> Result<(), Memory>
+    /// Adds those of an act that the pair's reader hears from its writer, where all below an end is claimed up to the act's datagram. After
+    /// `Memory` they are of no use.
+    pub(crate) fn note(
+        &mut self,
+        placed: &Placed<'_>,
+        pair: Pair,
+        claimed: u64,
+    ) -> Result<(), Memory>
         ensures { OnOk result (AreNumbers
-            (λ n. stretches_have self.old.told.items n || tells pair.writer pair.reader n (placed_value placed.now))
-            (λ n. stretches_have self.old.sent.items n || sends pair.writer pair.reader n (placed_value placed.now))
-            (λ n datagram. some_withdrawn self.old.gone.items n datagram || withdraws_before pair.writer pair.reader n datagram (placed_value placed.now)) self.new) }
+            (λ n. has_told self.old n || tells pair.writer pair.reader n (placed_value placed.now))
+            (λ n. has_sent self.old n || sends pair.writer pair.reader n (placed_value placed.now))
+            (λ n. stretches_have self.old.early.items n || (nat_le claimed n && sends pair.writer pair.reader n (placed_value placed.now)))
+            (λ n. stretches_have self.old.gone.items n || (nat_le claimed n && withdraws pair.writer pair.reader n (placed_value placed.now))) self.new) }
     {
         let said = said_to(placed, pair);
-        push_numbers(&mut self.told, &said.gone)?;
-        push_number(&mut self.told, said.told)?;
-        push_number(&mut self.sent, said.told)?;
-        push_withdrawn(&mut self.gone, &said.gone, placed.datagram as u64)
+        push_number(&mut self.early, number_from(said.told, claimed))?;
+        push_number(&mut self.late, number_below(said.told, claimed))?;
+        push_numbers(&mut self.gone, &said.gone, claimed)?;
+        push_below(&mut self.gone_late, &said.gone, claimed)
     }
 
-    /// Puts them in order, in as few stretches as they make. After `Memory` they are of no use.
-    pub(crate) fn put_in_order(&mut self, alloc: Global) -> Result<(), Memory>
-        ensures { OnOk result (AreNumbers (stretches_have self.old.told.items) (stretches_have self.old.sent.items)
-            (some_withdrawn self.old.gone.items) self.new) }
-    {
-        self.told = in_order(alloc, &mut self.told)?;
-        self.sent = in_order(alloc, &mut self.sent)?;
-        Ok(())
-    }
-
-    /// The same numbers once more.
-    pub(crate) fn copied(&self, alloc: Global) -> Result<HeardNumbers, Memory>
-        ensures { IfOk result (AreNumbers (stretches_have self.now.told.items) (stretches_have self.now.sent.items)
-            (some_withdrawn self.now.gone.items)) }
-    {
-        let mut copy = HeardNumbers::new(alloc);
-        copy.told.extend_from_slice(&self.told)?;
-        copy.sent.extend_from_slice(&self.sent)?;
-        copy.gone.extend_from_slice(&self.gone)?;
-        Ok(copy)
-    }
-
-    /// The amounts of the numbers that are asked for. It puts the stretches in another order.
+    /// The amounts of the numbers that are asked for. The stretches are of no use then.
     pub(crate) fn amounts(&mut self, asked: &AskedNumbers) -> Result<Amounts, Memory>
-        ensures { (writer reader : GuidValue) (acts : List PlacedValue) (is_gone : ℕ → ℕ → Bool)
-            → AreNumbers (is_told writer reader acts) (is_sent writer reader acts) is_gone self.old
+        ensures { (writer reader : GuidValue) (acts : List PlacedValue) (is_early is_gone : ℕ → Bool)
+            → AreNumbers (is_told writer reader acts) (is_sent writer reader acts) is_early is_gone self.old
             → IfOk result (AreAmounts asked.now.from asked.now.last writer reader acts) }
     {
-        let first = asked.from.get();
-        let end = asked.last + 1;
-        let told = count_of(&mut self.told, first, end)?;
-        let payloads = count_of(&mut self.sent, first, end)?;
+        if asked.last < asked.from.get() {
+            return Ok(Amounts {
+                payloads: 0,
+                gone: 0,
+                untold: 0,
+            });
+        }
+        let payloads = count_with(&mut self.early, &self.late, asked)?;
+        self.early.extend_from_slice(&self.gone)?;
+        let told = count_with(&mut self.early, &self.gone_late, asked)?;
         Ok(Amounts {
             payloads,
             gone: told.saturating_sub(payloads),
-            untold: end - first - told,
+            untold: asked.last + 1 - asked.from.get() - told,
         })
     }
 }

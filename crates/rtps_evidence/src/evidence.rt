@@ -12,6 +12,7 @@ use crate::exchange::Exchange;
 use crate::excused::missed_of;
 use crate::first_missed::FirstMissed;
 use crate::grounds::{Grounds, grounds_of};
+use crate::heard::Heard;
 use crate::in_span::InSpan;
 use crate::judgement::Judgement;
 use crate::kinds::LostNumbers;
@@ -24,7 +25,6 @@ use crate::outcome::Unreceived;
 use crate::received::count_received;
 use crate::spanned::Spanned;
 use crate::times::Times;
-use crate::writer_summary::WriterSummary;
 use rtps_audit::{Index, Row, Said, Verdict};
 use rtps_coverage::rising::rising;
 use rtps_discovery::Pair;
@@ -75,7 +75,6 @@ impl<'a> Evidence<'a> {
     ghost use Rattle.rtps_evidence.specs.Kinds.{IsLostIn, lost_value};
     ghost use Rattle.rtps_evidence.specs.OtherSide.{AreSides, AreThere, Beside, is_there};
     ghost use Rattle.rtps_evidence.specs.Spans.{since_of};
-    ghost use Rattle.rtps_evidence.specs.WriterSummary.{IsSummary, IsSummaryOf};
 
     /// The evidence of an index's recording for a writer and a reader, any two GUIDs, by the writer's numbers from `from` on:
     /// the verdict is that of [`Index::judge_from`]. `Memory` is answered where what is kept of the two cannot grow.
@@ -89,32 +88,27 @@ impl<'a> Evidence<'a> {
     {
         let verdict = index.judge_from(pair, from)?;
         let judgement = Judgement::of(index, Row { pair, verdict }, from, false)?;
-        let summary = WriterSummary::turned_to(alloc, index, None, &judgement)?;
         let times = Times::none(alloc);
         let sides = Sides {
             index,
             other: None,
             times: &times,
         };
-        let found = Evidence::of_judged(alloc, &sides, &summary, &judgement)?;
+        let found = Evidence::of_judged(alloc, &sides, &judgement)?;
         Ok(found.evidence)
     }
 
-    /// The evidence for a judgement, where this is what the pair's writer says. `Memory` as of [`Evidence::of_from`].
+    /// The evidence for a judgement. `Memory` as of [`Evidence::of_from`].
     pub(crate) fn of_judged(
         alloc: Global,
         sides: &Sides<'_, 'a, '_, '_>,
-        summary: &WriterSummary,
         judgement: &Judgement,
     ) -> Result<Found<'a>, Memory>
-        requires writer { summary.now.writer ≡ judgement.now.pair.writer }
-        requires from { summary.now.asked.from ≡ judgement.now.span.from }
-        requires until { summary.now.until ≡ judgement.now.span.until }
         ensures judged { IfOk result (λ found. found.evidence.verdict ≡ judgement.now.verdict) }
-        ensures shown { (intake : Intake) (beside : Beside) → AreSides intake beside sides.now → IsSummaryOf intake.acts summary.now
+        ensures shown { (intake : Intake) (beside : Beside) → AreSides intake beside sides.now
             → IsVerdictIn judgement.now.span judgement.now.pair intake.acts judgement.now.verdict
             → IfOk result (λ found. IsShown (is_there intake.acts beside.other judgement.now.pair) judgement.now.span.from (since_of judgement.now.span) judgement.now.pair (datagrams_until judgement.now.span.until intake.acts) found.evidence) }
-        ensures beside { (intake : Intake) (beside : Beside) → AreSides intake beside sides.now → IsSummaryOf intake.acts summary.now
+        ensures beside { (intake : Intake) (beside : Beside) → AreSides intake beside sides.now
             → IsVerdictIn judgement.now.span judgement.now.pair intake.acts judgement.now.verdict
             → IfOk result (λ found. IsBeside judgement.now.in_spans beside judgement.now.span judgement.now.pair intake.acts (datagrams_until judgement.now.span.until intake.acts) found.evidence.in_span
             × IsLostIn judgement.now.in_spans beside judgement.now.span judgement.now.pair intake.acts (datagrams_until judgement.now.span.until intake.acts) (lost_value found.lost)) }
@@ -130,53 +124,51 @@ impl<'a> Evidence<'a> {
             there: &arrivals.numbers,
             times: sides.times,
         };
-        let found = Evidence::of_exchange(alloc, &exchange, summary, judgement.verdict)?;
+        let found = Evidence::of_exchange(alloc, &exchange, judgement.verdict)?;
         Ok(found)
     }
 
-    /// The evidence for what a pair said, where this is what its writer says. `Memory` as of [`Evidence::of_from`].
+    /// The evidence for what a pair said. `Memory` as of [`Evidence::of_from`].
     pub(crate) fn of_exchange(
         alloc: Global,
         exchange: &Exchange<'_, 'a>,
-        summary: &WriterSummary,
         verdict: Verdict,
     ) -> Result<Found<'a>, Memory>
-        requires writer { summary.now.writer ≡ exchange.now.pair.writer }
-        requires from { summary.now.asked.from ≡ exchange.now.span.from }
         ensures judged { IfOk result (λ found. found.evidence.verdict ≡ verdict) }
-        ensures shown { (recording : List (List ActValue)) (there : ℕ → Bool) → IsSaid exchange.now.pair recording exchange.now.said → IsSummary recording summary.now
+        ensures shown { (recording : List (List ActValue)) (there : ℕ → Bool) → IsSaid exchange.now.pair recording exchange.now.said
             → IsVerdictFrom exchange.now.span.from (speech_by exchange.now.pair.writer exchange.now.pair.reader recording) verdict
             → ((n : ℕ) → stretches_have exchange.now.there.now n ≡ there n)
             → IfOk result (λ found. IsShown there exchange.now.span.from (since_of exchange.now.span) exchange.now.pair recording found.evidence) }
         ensures beside { (all recording : List (List ActValue)) (beside : Beside) → IsSaid exchange.now.pair recording exchange.now.said
-            → IsSummary recording summary.now
             → IsVerdictFrom exchange.now.span.from (speech_by exchange.now.pair.writer exchange.now.pair.reader recording) verdict
             → AreThere all beside.other exchange.now.pair exchange.now.way exchange.now.is_held exchange.now.there.now → exchange.now.times.now.of_datagrams ≡ beside.times
             → IfOk result (λ found. IsBeside exchange.now.in_spans beside exchange.now.span exchange.now.pair all recording found.evidence.in_span
             × IsLostIn exchange.now.in_spans beside exchange.now.span exchange.now.pair all recording (lost_value found.lost)) }
     {
-        let asked = &summary.asked;
-        let mut heard = summary.heard_by(alloc, exchange.said.acts, exchange.pair.reader)?;
-        let mut lacking = heard.lacking(alloc, exchange, &verdict, asked)?;
+        let answers = exchange.said.answers;
+        let mut heard = Heard::of(alloc, exchange)?;
+        let asked = heard.announced.asked(exchange.span.from);
+        let mut lacking = heard.numbers.lacking(alloc, answers, &asked)?;
         let mut lacking = rising(alloc, &mut lacking)?;
         let ledger = Ledger::of(alloc, exchange, &lacking)?;
         let mut unmet = ledger.unmet(alloc)?;
         let unmet = rising(alloc, &mut unmet)?;
-        let mut missed = missed_of(alloc, exchange, &unmet, asked)?;
+        let mut missed = missed_of(alloc, exchange, &unmet, &asked)?;
         let unreceived = Unreceived {
             numbers: &lacking,
             unmet: &unmet,
             missed: &missed,
             ledger: &ledger,
+            heard: &heard,
         };
-        let spanned = Spanned::of(alloc, exchange, unreceived, asked)?;
-        let missed = count_missed(alloc, &mut missed, exchange, asked)?;
-        let received = count_received(&mut lacking, exchange, asked)?;
-        let amounts = heard.amounts(asked)?;
+        let spanned = Spanned::of(alloc, exchange, unreceived, &asked)?;
+        let missed = count_missed(alloc, &mut missed, exchange, &asked)?;
+        let received = count_received(&mut lacking, exchange, &asked)?;
+        let amounts = heard.numbers.amounts(&asked)?;
         let evidence = Evidence {
             verdict,
-            announcement: summary.announcement,
-            acknowledgement: find_acknowledgement(exchange.said.answers, asked.from),
+            announcement: heard.announced.first_from(exchange.span.from),
+            acknowledgement: find_acknowledgement(answers, exchange.span.from),
             payloads: amounts.payloads,
             gone: amounts.gone,
             untold: amounts.untold,
@@ -184,7 +176,7 @@ impl<'a> Evidence<'a> {
             not_received: received.not_received,
             missed: missed.count,
             first_missed: missed.first,
-            grounds: grounds_of(exchange, &verdict),
+            grounds: grounds_of(exchange, &heard.asked, &verdict),
             in_span: spanned.in_span,
         };
         Ok(Found {

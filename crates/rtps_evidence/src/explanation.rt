@@ -16,7 +16,6 @@ use crate::judgement::Judgement;
 use crate::kinds::LostNumbers;
 use crate::other_side::Sides;
 use crate::times::Times;
-use crate::writer_summary::WriterSummary;
 use rtps_audit::{Counts, Index, Row, Watch};
 use rtps_discovery::{Directory, Pair};
 use rtps_ids::{Guid, Memory};
@@ -88,13 +87,10 @@ fn explain_rows<'a, P: Watch>(
     let in_spans = extent.in_spans;
     let mut explained = Vec::with_capacity(alloc, rows.len())?;
     let mut lost = Vec::with_capacity(alloc, rows.len())?;
-    let mut before = None;
     for row in rows {
         let (topic, type_name) = names_of(directory, row.pair.writer);
         let judgement = Judgement::of(index, *row, from, in_spans)?;
-        let summary = WriterSummary::turned_to(alloc, index, before, &judgement)?;
-        let found = Evidence::of_judged(alloc, sides, &summary, &judgement)?;
-        before = Some(summary);
+        let found = Evidence::of_judged(alloc, sides, &judgement)?;
         explained.push(Explanation {
             pair: row.pair,
             topic,

@@ -1,21 +1,22 @@
 ghost use Rattle.std.specs.Prelude.{◌≡◌, ◌<◌, ◌^◌, filter, map, List};
 ghost use Rattle.rtps_receiver.specs.Values.{ActValue};
-ghost use Rattle.rtps_audit.specs.Placed.{answers_among, is_from, placed_in, placed_value};
+ghost use Rattle.rtps_audit.specs.Placed.{is_from, placed_in, placed_value};
 ghost use Rattle.rtps_audit.specs.Said.{IsSaid};
 ghost use Rattle.rtps_receiver.specs.Said as said;
 ghost use Rattle.rtps_evidence.specs.Grounds.{grounds_by, grounds_value, number_in};
 ghost use Rattle.rtps_evidence.specs.Grounds.GroundsValue.{ConflictGrounds, OpenGrounds};
 ghost use Rattle.rtps_evidence.specs.Locations.{teller_of};
 ghost use Rattle.rtps_evidence.specs.Locations as locations;
+ghost use Rattle.rtps_evidence.specs.Questions.{AreQuestions};
 ghost use Rattle.rtps_evidence.specs.Questions as questions_spec;
 
 use crate::acknowledgement::{Claim, find_claim};
 use crate::exchange::Exchange;
 use crate::location::Location;
-use crate::questions::questions_since;
+use crate::questions::Questions;
 use crate::sent_payload::{Sent, first_sent, other_sent};
 use crate::teller::{Teller, find_teller};
-use rtps_audit::{Answer, Placed, Verdict};
+use rtps_audit::{Placed, Verdict};
 use rtps_discovery::Pair;
 
 /// What a verdict rests on, beside what all rows have.
@@ -68,16 +69,20 @@ fn number_of(verdict: &Verdict) -> u64
     }
 }
 
-/// Where the verdict is open, by what the writer says and the answers.
-fn open_grounds<'a>(acts: &[Placed<'a>], answers: &[Answer], pair: Pair, number: u64) -> Grounds<'a>
+/// Where the verdict is open, by what the writer says, and what it asked.
+fn open_grounds<'a>(
+    acts: &[Placed<'a>],
+    questions: &Questions,
+    pair: Pair,
+    number: u64,
+) -> Grounds<'a>
     requires { number < 2 ^ 63 }
     ensures { (recording : List (List ActValue)) → map placed_value acts.now ≡ filter (is_from pair.writer) (placed_in recording)
-        → answers.now ≡ answers_among pair (placed_in recording)
+        → AreQuestions pair.writer pair.reader (placed_in recording) questions.now
         → grounds_value result ≡ OpenGrounds (teller_of pair.writer pair.reader number (placed_in recording))
         (questions_spec.asked_since pair.writer pair.reader (placed_in recording)) (questions_spec.first_asked pair.writer pair.reader (placed_in recording))
         (questions_spec.last_asked pair.writer pair.reader (placed_in recording)) }
 {
-    let questions = questions_since(acts, answers, pair);
     Grounds::Open {
         teller: find_teller(acts, pair, number),
         asked_since: questions.count,
@@ -98,22 +103,26 @@ fn conflict_grounds<'a>(acts: &[Placed<'a>], pair: Pair, number: u64) -> Grounds
     }
 }
 
-/// What a verdict rests on.
-pub(crate) fn grounds_of<'a>(exchange: &Exchange<'_, 'a>, verdict: &Verdict) -> Grounds<'a>
+/// What a verdict rests on, where this is what the writer asked since the reader's last answer.
+pub(crate) fn grounds_of<'a>(
+    exchange: &Exchange<'_, 'a>,
+    questions: &Questions,
+    verdict: &Verdict,
+) -> Grounds<'a>
     ensures { (recording : List (List ActValue)) → IsSaid exchange.now.pair recording exchange.now.said
+        → AreQuestions exchange.now.pair.writer exchange.now.pair.reader (placed_in recording) questions.now
         → grounds_value result ≡ grounds_by verdict.now exchange.now.pair (placed_in recording) }
 {
     let pair = exchange.pair;
     let acts = exchange.said.acts;
-    let answers = exchange.said.answers;
     let number = number_of(verdict);
     match *verdict {
         Verdict::Complete { .. } => Grounds::Complete,
-        Verdict::Open { .. } => open_grounds(acts, answers, pair, number),
+        Verdict::Open { .. } => open_grounds(acts, questions, pair, number),
         Verdict::Conflict { .. } => conflict_grounds(acts, pair, number),
         Verdict::Unfounded { datagram, .. } => Grounds::Unfounded {
             teller: find_teller(acts, pair, number),
-            claim: find_claim(answers, datagram, number),
+            claim: find_claim(exchange.said.answers, datagram, number),
         },
     }
 }

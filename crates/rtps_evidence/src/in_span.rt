@@ -1,11 +1,12 @@
-ghost use Rattle.std.specs.Prelude.{ℕ, ◌≡◌, is_some, map, IfOk, List};
+ghost use Rattle.std.specs.Prelude.{ℕ, ◌≡◌, is_some, filter, map, IfOk, List};
+ghost use Rattle.rtps_ids.specs.declared.identity.Guid.{Guid as GuidValue};
 ghost use Rattle.rtps_receiver.specs.Values.{ActValue};
 ghost use Rattle.rtps_audit.specs.Delivery.{last_announced_from};
-ghost use Rattle.rtps_audit.specs.Placed.{placed_in, placed_value};
+ghost use Rattle.rtps_audit.specs.Placed.{PlacedValue, is_from, placed_in, placed_value};
 ghost use Rattle.rtps_audit.specs.Said.{IsSaid};
 ghost use Rattle.rtps_audit.specs.Speech.{speech_by};
 ghost use Rattle.rtps_evidence.specs.Clean as clean_spec;
-ghost use Rattle.rtps_evidence.specs.Ledger.{IsLongest};
+ghost use Rattle.rtps_evidence.specs.Heard.{IsAnnounced, IsHeard};
 ghost use Rattle.rtps_coverage.specs.Rising.{AreRising};
 ghost use Rattle.rtps_evidence.specs.Spans.{since_of};
 ghost use Rattle.rtps_evidence.specs.Spans as spans_spec;
@@ -15,14 +16,13 @@ use crate::amount::AskedNumbers;
 use crate::exchange::Exchange;
 use crate::first_numbers::FirstNumbers;
 use crate::kinds::LostNumbers;
-use crate::last_announcement::greatest_number;
+use crate::last_announcement::Announced;
 use crate::location::Location;
 use crate::outcome::Outcomes;
 use crate::outcome_sets::OutcomeSets;
-use crate::questions::first_asked;
 use crate::waits::Wait;
 use crate::way::Way;
-use rtps_audit::Verdict;
+use rtps_audit::{FirstAsked, Verdict};
 use rtps_ids::Memory;
 use std::alloc::Global;
 
@@ -82,13 +82,12 @@ fn is_open(verdict: &Verdict) -> bool
     }
 }
 
-/// Whether the writer of an exchange announced numbers in it, and all of them stand before the first one of its span.
-fn wrote_before(exchange: &Exchange<'_, '_>) -> bool
-    ensures { (recording : List (List ActValue)) → IsSaid exchange.now.pair recording exchange.now.said
-        → result ≡ spans_spec.wrote_before exchange.now.span.from exchange.now.pair.writer (placed_in recording) }
+/// Whether a writer announced numbers, and all of them stand before the first one that is asked for.
+fn wrote_before(announced: &Announced, from: FirstAsked) -> bool
+    ensures { (writer : GuidValue) (acts : List PlacedValue) → IsAnnounced writer (filter (is_from writer) acts) announced.now
+        → result ≡ spans_spec.wrote_before from writer acts }
 {
-    let announced = greatest_number(exchange.said.acts, exchange.pair.writer);
-    0 < announced && announced < exchange.span.from.get()
+    0 < announced.last && announced.last < from.get()
 }
 
 impl Outcomes {
@@ -122,9 +121,10 @@ impl InSpan {
             → AreThere all beside.other exchange.now.pair exchange.now.way exchange.now.is_held exchange.now.there.now → exchange.now.times.now.of_datagrams ≡ beside.times
             → asked.now.last ≡ last_announced_from asked.now.from (speech_by exchange.now.pair.writer exchange.now.pair.reader recording)
             → AreSets asked.now.from asked.now.last exchange.now.times.now.of_datagrams (since_of exchange.now.span) exchange.now.pair (placed_in recording) sets.now
-            → IsLongest exchange.now (map placed_value exchange.now.said.acts.now) sets.now.unreceived.ledger.now.wait
+            → IsHeard exchange.now (map placed_value exchange.now.said.acts.now) sets.now.unreceived.heard.now
             → IfOk result (IsInSpan exchange.now.span beside exchange.now.pair all recording) }
     {
+        let heard = sets.unreceived.heard;
         let outcomes = Outcomes::of(alloc, exchange, sets, asked)?;
         let absent = outcomes.absent(alloc, exchange, asked)?;
         let lacking = sets.unreceived.lacking(alloc, exchange, asked)?;
@@ -132,7 +132,7 @@ impl InSpan {
             joined: exchange.span.joined,
             is_joined_here: exchange.span.is_joined_here,
             from: exchange.span.from.get(),
-            wrote_before: wrote_before(exchange),
+            wrote_before: wrote_before(&heard.announced, exchange.span.from),
             until: exchange.span.until,
             outcomes,
             base: greatest_base(exchange.said.answers),
@@ -140,8 +140,8 @@ impl InSpan {
             is_held: exchange.is_held,
             absent,
             lacking,
-            wait: sets.unreceived.ledger.wait.told(),
-            waiting: first_asked(exchange.said.acts, exchange.said.answers, exchange.pair),
+            wait: heard.wait.told(),
+            waiting: heard.asked.first,
         })
     }
 

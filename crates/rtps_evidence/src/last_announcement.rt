@@ -1,11 +1,8 @@
-ghost use Rattle.std.specs.Prelude.{◌≡◌, ◌<◌, ◌==◌, ◌^◌, map};
-ghost use Rattle.std.specs.List.{find};
-ghost use Rattle.std.specs.Option.{option_map};
-ghost use Rattle.rtps_audit.specs.Delivery.{greatest};
+ghost use Rattle.std.specs.Prelude.{◌≡◌, ◌<◌, ◌^◌};
 ghost use Rattle.rtps_audit.specs.Placed.{placed_value};
-ghost use Rattle.rtps_evidence.specs.Locations.{announcement_at, announcement_of};
-ghost use Rattle.rtps_evidence.specs.Locations as locations;
+ghost use Rattle.rtps_evidence.specs.Locations.{announcement_at};
 
+use crate::amount::AskedNumbers;
 use crate::location::{Kind, Location, kind_of, location_of};
 use rtps_audit::{FirstAsked, Placed, announced_number};
 use rtps_ids::Guid;
@@ -20,48 +17,77 @@ pub struct Announcement {
     pub place: Location,
 }
 
-/// The greatest number that the writer announces by these acts, or 0.
-pub(crate) fn greatest_number(acts: &[Placed<'_>], writer: Guid) -> u64
-    ensures value { result ≡ greatest (map (locations.number_said writer) (map placed_value acts.now)) }
-    ensures in_range { result < 2 ^ 63 }
-{
-    let mut greatest = 0u64;
-    for placed in acts {
-        greatest = greatest.max(announced_number(&placed.act, writer));
-    }
-    greatest
+/// What a writer announced, whoever hears it, as far as a recording has come.
+#[derive(Clone, Copy)]
+pub(crate) struct Announced {
+    /// The greatest number, or 0.
+    pub(crate) last: u64,
+    /// The first act that announces it; None where no number is announced.
+    pub(crate) first: Option<Announcement>,
+    ghost in_range: { last < 2 ^ 63 },
 }
 
-/// The first of these acts by which the writer announces the number.
-fn first_announcing(acts: &[Placed<'_>], writer: Guid, number: u64) -> Option<Announcement>
+/// What an act announces, where that is this number.
+fn announcing(placed: &Placed<'_>, number: u64) -> Announcement
     requires { number < 2 ^ 63 }
-    ensures { result ≡ option_map (announcement_at number)
-        (find (λ placed. locations.number_said writer placed == number) (map placed_value acts.now)) }
+    ensures { result ≡ announcement_at number (placed_value placed.now) }
 {
-    for placed in acts {
-        if announced_number(&placed.act, writer) == number {
-            return Some(Announcement {
-                number: number.cast_signed(),
-                kind: kind_of(&placed.act.body),
-                place: location_of(placed),
-            });
+    Announcement {
+        number: number.cast_signed(),
+        kind: kind_of(&placed.act.body),
+        place: location_of(placed),
+    }
+}
+
+impl Announced {
+    ghost use Rattle.std.specs.Prelude.{◌-◌, ◌++◌, ◌∷◌, [], max, List};
+    ghost use Rattle.rtps_ids.specs.declared.identity.Guid.{Guid as GuidValue};
+    ghost use Rattle.rtps_audit.specs.Placed.{PlacedValue};
+    ghost use Rattle.rtps_evidence.specs.Heard.{IsAnnounced};
+    ghost use Rattle.rtps_evidence.specs.Locations.{announcement_of};
+
+    /// Nothing was said.
+    pub(crate) fn new() -> Announced
+        ensures { (writer : GuidValue) → IsAnnounced writer [] result }
+    {
+        Announced {
+            last: 0,
+            first: None,
         }
     }
-    None
-}
 
-/// The first of these acts by which the writer announces the number, where that is asked for.
-pub(crate) fn find_announcement(
-    acts: &[Placed<'_>],
-    writer: Guid,
-    from: FirstAsked,
-    number: u64,
-) -> Option<Announcement>
-    requires { number < 2 ^ 63 }
-    ensures { result ≡ announcement_of from writer number (map placed_value acts.now) }
-{
-    if number < from.get() {
-        return None;
+    /// Is told an act more of the writer.
+    pub(crate) fn hear(&mut self, placed: &Placed<'_>, writer: Guid)
+        ensures { (acts : List PlacedValue) → IsAnnounced writer acts self.old → IsAnnounced writer (acts ++ placed_value placed.now ∷ []) self.new }
+    {
+        let last = announced_number(&placed.act, writer);
+        if last <= self.last {
+            return;
+        }
+        *self = Announced {
+            last,
+            first: Some(announcing(placed, last)),
+        };
     }
-    first_announcing(acts, writer, number)
+
+    /// The numbers from `from` on that are announced.
+    pub(crate) fn asked(&self, from: FirstAsked) -> AskedNumbers
+        ensures from { result.from ≡ from }
+        ensures last { result.last ≡ max self.now.last (from - 1) }
+    {
+        let before = from.get() - 1;
+        let last = self.last.max(before);
+        AskedNumbers { from, last }
+    }
+
+    /// The first act that announces the last of them; None where there are none.
+    pub(crate) fn first_from(&self, from: FirstAsked) -> Option<Announcement>
+        ensures { (writer : GuidValue) (acts : List PlacedValue) → IsAnnounced writer acts self.now
+            → result ≡ announcement_of from writer (max self.now.last (from - 1)) acts }
+    {
+        if self.last < from.get() {
+            return None;
+        }
+        self.first
+    }
 }

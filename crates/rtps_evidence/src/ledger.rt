@@ -1,4 +1,4 @@
-ghost use Rattle.std.specs.Prelude.{ℕ, Bool, true, false, ◌≡◌, ◌<◌, ◌^◌, ◌++◌, ◌∷◌, [], map, not, IfOk, OnOk, List};
+ghost use Rattle.std.specs.Prelude.{ℕ, Bool, ◌≡◌, ◌<◌, ◌^◌, ◌++◌, ◌∷◌, [], map, not, IfOk, OnOk, List};
 ghost use Rattle.rtps_receiver.specs.Values.{ActValue};
 ghost use Rattle.rtps_audit.specs.Placed.{PlacedValue, placed_in, placed_value};
 ghost use Rattle.rtps_audit.specs.Said.{IsSaid};
@@ -8,14 +8,12 @@ ghost use Rattle.rtps_evidence.specs.Ledger.{Stands};
 ghost use Rattle.rtps_evidence.specs.Missed.{is_unmet};
 ghost use Rattle.rtps_evidence.specs.Received.{is_received};
 ghost use Rattle.rtps_evidence.specs.Spans.{since_of};
-ghost use Rattle.rtps_evidence.specs.Times.{are_there};
 ghost use Rattle.rtps_evidence.specs.declared.exchange.Exchange.{Exchange as ExchangeValue};
 
 use crate::brought::push_brought;
 use crate::exchange::Exchange;
 use crate::missed_numbers::{Request, in_vain, note_bringing, requests_of};
 use crate::silence::SilentNumbers;
-use crate::waits::Waiting;
 use rtps_audit::Placed;
 use rtps_coverage::Stretch;
 use rtps_ids::Memory;
@@ -27,23 +25,22 @@ use std::collections::BTreeMap;
 /// It is told the acts of the writer in their order. Which answers and requests of the reader stand before an act, and which behind it, is
 /// told by their places.
 #[derive(Drop)]
-pub(crate) struct Ledger<'s> {
+pub(crate) struct Ledger {
     /// The last request for each number.
     pub(crate) requests: BTreeMap<u64, Request>,
     /// The numbers that came since the reader is there.
     pub(crate) brought: Vec<Stretch>,
     /// The numbers that were told gone in silence.
     pub(crate) silent: SilentNumbers,
-    pub(crate) wait: Waiting<'s>,
 }
 
-impl<'s> Ledger<'s> {
+impl Ledger {
     /// The writer said nothing yet.
     fn new(
         alloc: Global,
-        exchange: &Exchange<'s, '_>,
+        exchange: &Exchange<'_, '_>,
         lacking: &[Stretch],
-    ) -> Result<Ledger<'s>, Memory>
+    ) -> Result<Ledger, Memory>
         requires { AreRising lacking.now }
         ensures { IfOk result (Stands exchange.now (stretches_have lacking.now) []) }
     {
@@ -51,7 +48,6 @@ impl<'s> Ledger<'s> {
             requests: requests_of(alloc, exchange, lacking)?,
             brought: Vec::new(alloc),
             silent: SilentNumbers::new(alloc),
-            wait: Waiting::new(exchange.said.answers),
         })
     }
 
@@ -66,35 +62,23 @@ impl<'s> Ledger<'s> {
         ensures { OnOk result ((acts : List PlacedValue) → Stands exchange.now (stretches_have lacking.now) acts self.old
             → Stands exchange.now (stretches_have lacking.now) (acts ++ placed_value placed.now ∷ []) self.new) }
     {
-        self.wait.hear(placed, exchange);
-        if lacking.is_empty() {
-            return Ok(());
-        }
         let listener = exchange.listener();
         note_bringing(&mut self.requests, placed, &listener)?;
         push_brought(&mut self.brought, placed, &listener, lacking)?;
         self.silent.follow(placed, exchange)
     }
 
-    /// Whether no act of the writer makes a difference: the reader lacks nothing, and no datagram has a time.
-    fn is_settled(exchange: &Exchange<'_, '_>, lacking: &[Stretch]) -> bool
-        ensures lacks { result ≡ true → (n : ℕ) → stretches_have lacking.now n ≡ false }
-        ensures times { result ≡ true → are_there exchange.now.times.now.of_datagrams ≡ false }
-    {
-        lacking.is_empty() && !exchange.times.are_there()
-    }
-
-    /// Of a pair, by all that it said.
+    /// Of a pair, by all that it said. Where the reader lacks nothing, no act makes a difference.
     pub(crate) fn of(
         alloc: Global,
-        exchange: &Exchange<'s, '_>,
+        exchange: &Exchange<'_, '_>,
         lacking: &[Stretch],
-    ) -> Result<Ledger<'s>, Memory>
+    ) -> Result<Ledger, Memory>
         requires { AreRising lacking.now }
         ensures { IfOk result (Stands exchange.now (stretches_have lacking.now) (map placed_value exchange.now.said.acts.now)) }
     {
         let mut ledger = Ledger::new(alloc, exchange, lacking)?;
-        if Ledger::is_settled(exchange, lacking) {
+        if lacking.is_empty() {
             return Ok(ledger);
         }
         for placed in exchange.said.acts {

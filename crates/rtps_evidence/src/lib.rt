@@ -16,6 +16,7 @@ mod first_missed;
 mod first_numbers;
 mod gone_ranges;
 mod grounds;
+mod heard;
 mod in_span;
 mod judged_pairs;
 mod judgement;
@@ -52,9 +53,7 @@ mod waits;
 mod way;
 mod way_round;
 mod window;
-mod withdrawal;
 mod words;
-mod writer_summary;
 
 pub use acknowledgement::{Claim, acknowledges};
 pub use evidence::Evidence;

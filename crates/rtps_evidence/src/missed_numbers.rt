@@ -10,7 +10,7 @@ ghost use Rattle.rtps_evidence.specs.Missed.{asks_for};
 ghost use Rattle.rtps_evidence.specs.Requests.{met_by, requested};
 ghost use Rattle.rtps_evidence.specs.Requests as requests_spec;
 ghost use Rattle.rtps_coverage.specs.Rising.{AreRising};
-ghost use Rattle.rtps_evidence.specs.WriterSummary.{option_any};
+ghost use Rattle.rtps_evidence.specs.Requests.{option_any};
 
 use crate::exchange::Exchange;
 use crate::listener::Listener;
@@ -134,6 +134,9 @@ pub(crate) fn requests_of(
         ≡ requested exchange.now.pair (map placed_value exchange.now.said.asks.now) (stretches_have lacking.now) n) }
 {
     let mut requests = BTreeMap::new(alloc);
+    if lacking.is_empty() {
+        return Ok(requests);
+    }
     for placed in exchange.said.asks {
         note_asking(&mut requests, placed, exchange, lacking)?;
     }

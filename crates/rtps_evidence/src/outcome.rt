@@ -10,13 +10,14 @@ ghost use Rattle.rtps_coverage.specs.Rising.{AreRising};
 ghost use Rattle.rtps_evidence.specs.Spans.{since_of};
 
 use crate::acknowledgement::greatest_base;
-use crate::amount::AskedNumbers;
+use crate::amount::{AskedNumbers, count_with};
 use crate::exchange::Exchange;
 use crate::first_numbers::FirstNumbers;
+use crate::heard::Heard;
 use crate::ledger::Ledger;
 use crate::outcome_sets::OutcomeSets;
 use rtps_coverage::Stretch;
-use rtps_coverage::stretches::{count_of, outside};
+use rtps_coverage::stretches::outside;
 use rtps_ids::Memory;
 use std::alloc::Global;
 
@@ -61,21 +62,9 @@ pub(crate) struct Unreceived<'n, 's> {
     pub(crate) unmet: &'n [Stretch],
     pub(crate) missed: &'n [Stretch],
     /// What became of them.
-    pub(crate) ledger: &'n Ledger<'s>,
-}
-
-/// Adds numbers to others, and says how many of those that are asked for are among all of them. After `Memory` the numbers are of
-/// no use.
-fn count_with(
-    numbers: &mut Vec<Stretch>,
-    more: &[Stretch],
-    asked: &AskedNumbers,
-) -> Result<u64, Memory>
-    ensures numbers { OnOk result ((n : ℕ) → stretches_have numbers.new.items n ≡ (stretches_have numbers.old.items n || stretches_have more.now n)) }
-    ensures count { IfOk result (λ count. count ≡ count_in (λ n. stretches_have numbers.old.items n || stretches_have more.now n) asked.now.from (asked.now.last + 1)) }
-{
-    numbers.extend_from_slice(more)?;
-    count_of(numbers, asked.from.get(), asked.last + 1)
+    pub(crate) ledger: &'n Ledger,
+    /// What the reader heard.
+    pub(crate) heard: &'n Heard<'s>,
 }
 
 impl Unreceived<'_, '_> {

@@ -1,10 +1,11 @@
-ghost use Rattle.std.specs.Prelude.{◌≡◌, ◌-◌, ◌<◌, ◌≤◌, filter, length, map, slice_get, IfSome, List, None};
-ghost use Rattle.std.specs.List.{find, last_or};
+ghost use Rattle.std.specs.Prelude.{◌≡◌, ◌+◌, ◌<◌, ◌^◌, ◌++◌, ◌∷◌, [], length, List, Option, None};
+ghost use Rattle.std.specs.List.{last_or};
 ghost use Rattle.std.specs.Option.{option_map};
-ghost use Rattle.rtps_receiver.specs.Values.{ActValue, spoken_body_value};
-ghost use Rattle.rtps_audit.specs.Placed.{answers_among, is_from, placed_in, placed_value};
-ghost use Rattle.rtps_evidence.specs.Locations as locations;
-ghost use Rattle.rtps_evidence.specs.Questions.{AreAsked, AreQuestions, questions_behind};
+ghost use Rattle.rtps_ids.specs.declared.identity.Guid.{Guid as GuidValue};
+ghost use Rattle.rtps_receiver.specs.Values.{spoken_body_value};
+ghost use Rattle.rtps_audit.specs.Placed.{PlacedValue, placed_value};
+ghost use Rattle.rtps_evidence.specs.declared.location.Location.{Location as Place};
+ghost use Rattle.rtps_evidence.specs.Questions.{AreAsked, questions_behind};
 ghost use Rattle.rtps_evidence.specs.Questions as questions;
 
 use crate::location::{Location, is_behind, location_of};
@@ -12,9 +13,11 @@ use rtps_audit::{Answer, Placed};
 use rtps_discovery::Pair;
 use rtps_receiver::{ActBody, SpokenBody};
 
-/// HEARTBEATs that ask for an answer.
+/// HEARTBEATs that ask for an answer, behind the last one, as far as a recording has come.
 #[derive(Clone, Copy)]
 pub(crate) struct Questions {
+    /// Where the last answer stands; None where there is none.
+    since: Option<Location>,
     pub(crate) count: u64,
     /// Where the first of them stands.
     pub(crate) first: Option<Location>,
@@ -39,45 +42,14 @@ fn is_question(body: &SpokenBody<'_>) -> bool
 pub(crate) fn asks_behind(placed: &Placed<'_>, pair: Pair, place: Option<Location>) -> bool
     ensures { result ≡ questions_behind place pair.writer pair.reader (placed_value placed.now) }
 {
-    is_behind(place, placed)
+    is_question(&placed.act.body)
+        && is_behind(place, placed)
         && placed.act.spoken_by(pair.writer)
         && placed.act.heard_by(pair.reader)
-        && is_question(&placed.act.body)
-}
-
-/// Where the pair's writer asks its reader first by these acts, behind a place.
-fn first_question(acts: &[Placed<'_>], pair: Pair, place: Option<Location>) -> Option<Location>
-    ensures { result ≡ option_map locations.location_of (find (questions_behind place pair.writer pair.reader) (map placed_value acts.now)) }
-{
-    for placed in acts {
-        if asks_behind(placed, pair, place) {
-            return Some(location_of(placed));
-        }
-    }
-    None
-}
-
-/// How often the pair's writer asks its reader by these acts, behind a place.
-fn questions_among(acts: &[Placed<'_>], pair: Pair, place: Option<Location>) -> Questions
-    ensures { AreAsked place pair.writer pair.reader (map placed_value acts.now) result }
-{
-    let mut count = 0;
-    let mut last = None;
-    for placed in acts {
-        if asks_behind(placed, pair, place) {
-            count += 1;
-            last = Some(location_of(placed));
-        }
-    }
-    Questions {
-        count,
-        first: first_question(acts, pair, place),
-        last,
-    }
 }
 
 /// Where an answer stands.
-fn place_of(answer: &Answer) -> Location
+pub(crate) fn place_of(answer: &Answer) -> Location
     ensures { result ≡ questions.place_of answer.now }
 {
     Location {
@@ -97,41 +69,33 @@ fn last_place(answers: &[Answer]) -> Option<Location>
     last
 }
 
-/// How many of these acts, which stand in order, come up to the last one in a datagram before that of a place.
-fn count_before(acts: &[Placed<'_>], place: Location) -> usize
-    ensures within { result ≤ length acts.now }
-    ensures before { 0 < result → IfSome (slice_get acts.now (result - 1)) (λ placed. placed.datagram < place.datagram) }
-{
-    let mut count = acts.len();
-    'back: while 0 < count {
-        if (acts[count - 1].datagram as u64) < place.datagram {
-            return count;
+impl Questions {
+    /// None was asked, where these are the answers.
+    pub(crate) fn behind(answers: &[Answer]) -> Questions
+        ensures { (writer reader : GuidValue) → AreAsked (option_map questions.place_of (last_or None answers.now)) writer reader [] result }
+    {
+        Questions {
+            since: last_place(answers),
+            count: 0,
+            first: None,
+            last: None,
         }
-        count -= 1;
     }
-    0
-}
 
-/// How often a pair's writer asked its reader since the reader's last answer, by what the writer says and the answers.
-pub(crate) fn questions_since(acts: &[Placed<'_>], answers: &[Answer], pair: Pair) -> Questions
-    ensures { (recording : List (List ActValue)) → map placed_value acts.now ≡ filter (is_from pair.writer) (placed_in recording)
-        → answers.now ≡ answers_among pair (placed_in recording) → AreQuestions pair.writer pair.reader (placed_in recording) result }
-{
-    let Some(place) = last_place(answers) else {
-        return questions_among(acts, pair, None);
-    };
-    let before = count_before(acts, place);
-    questions_among(&acts[before..], pair, Some(place))
-}
-
-/// Where a pair's writer asks its reader first since the reader's last answer, by what the writer says and the answers.
-pub(crate) fn first_asked(acts: &[Placed<'_>], answers: &[Answer], pair: Pair) -> Option<Location>
-    ensures { (recording : List (List ActValue)) → map placed_value acts.now ≡ filter (is_from pair.writer) (placed_in recording)
-        → answers.now ≡ answers_among pair (placed_in recording) → result ≡ questions.first_asked pair.writer pair.reader (placed_in recording) }
-{
-    let Some(place) = last_place(answers) else {
-        return first_question(acts, pair, None);
-    };
-    let before = count_before(acts, place);
-    first_question(&acts[before..], pair, Some(place))
+    /// Is told an act more of the writer.
+    pub(crate) fn hear(&mut self, placed: &Placed<'_>, pair: Pair)
+        ensures { (place : Option Place) (acts : List PlacedValue) → length acts + 1 < 2 ^ 64 → AreAsked place pair.writer pair.reader acts self.old
+            → AreAsked place pair.writer pair.reader (acts ++ placed_value placed.now ∷ []) self.new }
+    {
+        if !asks_behind(placed, pair, self.since) {
+            return;
+        }
+        let place = location_of(placed);
+        *self = Questions {
+            since: self.since,
+            count: self.count.saturating_add(1),
+            first: Some(self.first.unwrap_or(place)),
+            last: Some(place),
+        };
+    }
 }

@@ -116,11 +116,13 @@ fn asked_from(placed: &Placed<'_>, pair: Pair, lo: u64) -> Option<u64>
     ensures least { IsLeastFrom (λ n. asks_for pair.writer pair.reader n (placed_value placed.now)) lo result }
     ensures in_range { IfSome result (λ number. number < 2 ^ 63) }
 {
-    if !placed.act.asks(pair.reader, pair.writer) {
-        return None;
-    }
     let said = placed.act.said();
-    first_number_from(&said.lacked, lo)
+    let least = first_number_from(&said.lacked, lo)?;
+    if placed.act.asks(pair.reader, pair.writer) {
+        Some(least)
+    } else {
+        None
+    }
 }
 
 /// The least number from `lo` on that one of these acts brings behind the reader's joining.

@@ -9,6 +9,7 @@ ghost use Rattle.rtps_coverage.specs.Stretches.{stretches_have};
 ghost use Rattle.rtps_evidence.specs.Claimed.{AreLacking};
 ghost use Rattle.rtps_evidence.specs.Evidence.{IsBeside};
 ghost use Rattle.rtps_evidence.specs.Kinds.{IsLostIn, lost_value};
+ghost use Rattle.rtps_evidence.specs.Heard.{IsHeard};
 ghost use Rattle.rtps_evidence.specs.Ledger.{Stands};
 ghost use Rattle.rtps_evidence.specs.Missed.{is_missed, is_unmet};
 ghost use Rattle.rtps_evidence.specs.OtherSide.{AreThere, Beside};
@@ -49,6 +50,7 @@ impl Spanned {
             → ((n : ℕ) → asked.now.from ≤ n → n ≤ asked.now.last → stretches_have unreceived.entry.missed.now n
             ≡ is_missed (since_of exchange.now.span) exchange.now.pair.writer exchange.now.pair.reader (placed_in recording) n)
             → Stands exchange.now (stretches_have unreceived.entry.numbers.now) (map placed_value exchange.now.said.acts.now) unreceived.entry.ledger.now
+            → IsHeard exchange.now (map placed_value exchange.now.said.acts.now) unreceived.entry.heard.now
             → IfOk result (λ spanned. IsBeside exchange.now.in_spans beside exchange.now.span exchange.now.pair all recording spanned.in_span
             × IsLostIn exchange.now.in_spans beside exchange.now.span exchange.now.pair all recording (lost_value spanned.lost)) }
     {

@@ -1,12 +1,11 @@
 ghost use Rattle.std.specs.Prelude.{◌≡◌, find, slice_get, List, None};
 ghost use Rattle.rtps_audit.specs.Placed.{placed_value};
-ghost use Rattle.rtps_evidence.specs.Questions as questions;
 ghost use Rattle.rtps_evidence.specs.Waits.{HasPassed, answered_at, answers_behind, longer_of, told_of};
 ghost use Rattle.rtps_evidence.specs.Waits as waits_spec;
 
 use crate::exchange::Exchange;
 use crate::location::{Location, location_of, precedes};
-use crate::questions::asks_behind;
+use crate::questions::{asks_behind, place_of};
 use crate::times::Times;
 use rtps_audit::{Answer, Placed};
 use std::marker::Model;
@@ -57,16 +56,6 @@ fn longer(one: Option<Wait>, other: Option<Wait>) -> Option<Wait>
         }
         (Some(one), None) => Some(one),
         (None, other) => other,
-    }
-}
-
-/// Where an answer stands.
-fn place_of(answer: &Answer) -> Location
-    ensures { result ≡ questions.place_of answer.now }
-{
-    Location {
-        datagram: answer.datagram as u64,
-        at: answer.at,
     }
 }
 
@@ -168,7 +157,7 @@ pub(crate) struct Waiting<'s> {
 impl<'s> Waiting<'s> {
     ghost use Rattle.std.specs.Prelude.{◌++◌, ◌∷◌, []};
     ghost use Rattle.rtps_audit.specs.Placed.{PlacedValue};
-    ghost use Rattle.rtps_evidence.specs.Ledger.{IsLongest};
+    ghost use Rattle.rtps_evidence.specs.Heard.{IsLongest};
 
     /// Nothing was said, but for these answers of the reader.
     pub(crate) fn new(answers: &'s [Answer]) -> Waiting<'s>

@@ -8,7 +8,7 @@ use Rattle.rtps_evidence.specs.LastAsks.{AreResends, excuses, last_ask}
 use Rattle.rtps_evidence.specs.Locations.{find_last}
 use Rattle.rtps_evidence.specs.LostAnswers.{answers_another, lacks_by_answer}
 use Rattle.rtps_evidence.specs.Missed.{is_excused_by}
-use Rattle.rtps_evidence.specs.WriterSummary.{option_any}
+use Rattle.rtps_evidence.specs.Requests.{option_any}
 use Rattle.rtps_evidence.specs.declared.last_asks.LastAsk.{LastAsk}
 use Rattle.rtps_evidence.proofs.LastAskLemmas.{excused_told}
 use Rattle.rtps_evidence.proofs.RequestLemmas.{taken_more}

@@ -1,13 +1,10 @@
 use Rattle.std.proofs.Common.{◌∙◌, All, refl, subst, sym}
 use Rattle.std.proofs.lemmas.List.Elements.{All-push}
-use Rattle.rtps_audit.specs.Index.{IsIndexBy}
-use Rattle.rtps_audit.specs.Intake.{Intake}
 use Rattle.rtps_audit.specs.Said.{datagrams_until}
 use Rattle.rtps_discovery.specs.declared.matching.Pair.{Pair}
 use Rattle.rtps_evidence.specs.Evidence.{IsBeside, IsEvidenceBy}
 use Rattle.rtps_evidence.specs.Explanation.{IsNamed}
 use Rattle.rtps_evidence.specs.Spans.{IsExtent}
-use Rattle.rtps_evidence.specs.WriterSummary.{IsSummaryOf}
 use Rattle.rtps_evidence.specs.declared.explanation.Explanation.{Explanation}
 use Rattle.rtps_evidence.specs.Kinds.{IsLostIn, lost_value}
 use Rattle.rtps_evidence.proofs.LostLemmas.{losses_rows, places_more}
@@ -19,8 +16,6 @@ loop-row-preserved g c =
     let extent = c.args.extent in
     let judgement = c.in_ok-judgement.judgement in
     let evidence = c.in_ok-found.found.evidence in
-    let known : (intake : Intake) → IsIndexBy intake c.args.sides.now.index.now → IsSummaryOf intake.acts c.in_ok-summary.summary =
-    λ intake is. c.in_ok-summary.ensures.summary intake is (c.loop-row.invariant.known intake is) in
     record {
       pairs = pairs_more c.loop-row.explained.items _ _ c.args.rows.now c.loop-row.row-index _ c.loop-row-test.true c.in_ok-push.ensures.items refl c.loop-row.invariant.pairs;
       rows = λ intake is whole.
@@ -34,8 +29,8 @@ loop-row-preserved g c =
           (subst (λ (p : Pair). IsEvidenceBy extent.in_spans extent.from beside p intake evidence) c.in_ok-judgement.ensures.pair (record {
             span = judgement.span;
             extent = subst (λ (p : Pair). IsExtent extent.in_spans extent.from p intake judgement.span) (sym c.in_ok-judgement.ensures.pair) (c.in_ok-judgement.ensures.extent intake are.index);
-            shown = c.in_ok-found.ensures.shown intake beside are (known intake are.index) its_verdict;
-            in_span = subst (λ b. IsBeside b beside judgement.span judgement.pair intake.acts (datagrams_until judgement.span.until intake.acts) evidence.in_span) c.in_ok-judgement.ensures.in_spans (c.in_ok-found.ensures.beside intake beside are (known intake are.index) its_verdict).0;
+            shown = c.in_ok-found.ensures.shown intake beside are its_verdict;
+            in_span = subst (λ b. IsBeside b beside judgement.span judgement.pair intake.acts (datagrams_until judgement.span.until intake.acts) evidence.in_span) c.in_ok-judgement.ensures.in_spans (c.in_ok-found.ensures.beside intake beside are its_verdict).0;
           })));
       places = places_more c.loop-row.explained.items _ _ c.in_ok-push.ensures.items (c.len.ensures ∙ c.loop-row.explained.ok.0) c.loop-row.invariant.places;
       lost = λ intake beside are judged.
@@ -46,7 +41,6 @@ loop-row-preserved g c =
             extent = c.in_ok-judgement.ensures.extent intake are.index;
             losses = subst (λ (p : Pair). IsLostIn extent.in_spans beside judgement.span p intake.acts (datagrams_until judgement.span.until intake.acts) (lost_value c.in_ok-found.found.lost)) c.in_ok-judgement.ensures.pair
                 (subst (λ b. IsLostIn b beside judgement.span judgement.pair intake.acts (datagrams_until judgement.span.until intake.acts) (lost_value c.in_ok-found.found.lost)) c.in_ok-judgement.ensures.in_spans
-                (c.in_ok-found.ensures.beside intake beside are (known intake are.index) its_verdict).1);
+                (c.in_ok-found.ensures.beside intake beside are its_verdict).1);
           });
-      known = known;
     }

@@ -1,6 +1,5 @@
 use Rattle.std.proofs.Common.{◌≡◌, All, false, length, map, take}
 use Rattle.std.specs.List.{range_with_len}
-use Rattle.std.specs.Prelude.{IfSome}
 use Rattle.rtps_audit.specs.Index.{IsIndexBy}
 use Rattle.rtps_audit.specs.Intake.{Intake}
 use Rattle.rtps_audit.specs.Report.{IsJudgedFrom}
@@ -8,10 +7,9 @@ use Rattle.rtps_evidence.specs.Evidence.{IsEvidenceBy}
 use Rattle.rtps_evidence.specs.Explanation.{AreLostOf, IsNamed, row_of}
 use Rattle.rtps_evidence.specs.Kinds.{lost_value}
 use Rattle.rtps_evidence.specs.OtherSide.{AreSides, Beside}
-use Rattle.rtps_evidence.specs.WriterSummary.{IsSummaryOf}
 use Rattle.rtps_evidence.proofs.explanation.explain_rows.Given as goal
 
--- each row so far is explained, and what the last writer says is known
+-- each row so far is explained
 abbrev pub invariant-loop-row : goal.invariant-loop-row
 invariant-loop-row g l = record {
   pairs : map (λ row. row.pair) l.explained.items ≡ map (λ row. row.pair) (take l.row-index l.rows);
@@ -22,5 +20,4 @@ invariant-loop-row g l = record {
       → All (λ row. IsEvidenceBy l.fn.extent.in_spans l.fn.extent.from beside row.pair intake row.evidence) l.explained.items;
   lost : (intake : Intake) (beside : Beside) → AreSides intake beside l.sides → All (IsJudgedFrom l.fn.extent.from intake.acts) l.rows
       → AreLostOf l.fn.extent.in_spans l.fn.extent.from beside intake (map (λ row. row.pair) (take l.row-index l.rows)) (map lost_value l.lost.items);
-  known : (intake : Intake) → IsIndexBy intake l.sides.index.now → IfSome l.before (IsSummaryOf intake.acts);
 }

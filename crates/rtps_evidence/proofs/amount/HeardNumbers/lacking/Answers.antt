@@ -1,14 +1,21 @@
-use Rattle.std.proofs.Common.{◌∙◌, subst, sym, arith}
-use Rattle.rtps_audit.specs.Placed.{placed_in}
-use Rattle.rtps_audit.specs.Speech.{speech_by}
-use Rattle.rtps_evidence.specs.Claimed.{AreWithdrawals}
-use Rattle.rtps_evidence.proofs.ClaimedLemmas.{founded_same, has_run}
+use Rattle.std.proofs.Common.{◌∙◌, ◌+◌, ◌++◌, ◌∷◌, ◌||◌, [], ap, arith, filter, nat_lt, not}
+use Rattle.rtps_audit.specs.Placed.{is_from, placed_in}
+use Rattle.rtps_coverage.specs.Stretches.{stretches_have}
+use Rattle.rtps_coverage.specs.declared.stretch.Stretch.{Stretch}
+use Rattle.std.specs.List.{list_any}
+use Rattle.rtps_evidence.specs.Claimed.{sends_early, withdraws_early}
+use Rattle.rtps_evidence.proofs.ClaimedLemmas.{lacking_same, put_together}
 use Rattle.rtps_evidence.proofs.amount.HeardNumbers.lacking.Goals as goal
 
 pub returns : goal.returns
-returns c = λ recording is are judged n low high.
-    let pair = c.args.exchange.now.pair in
-    let run = has_run c.args.asked.now.from (speech_by pair.writer pair.reader recording) c.args.verdict.now judged (sym c.is_unfounded.ensures ∙ c.if-is_unfounded.false) in
-    let withdrawals = subst (AreWithdrawals pair.writer pair.reader (placed_in recording)) (sym c.deref.ensures.value) are in
+returns c = λ pair recording same heard n low high.
+    let answers = c.args.answers.now in
+    let its = filter (is_from pair.writer) (placed_in recording) in
     c.in_ok-lacking.ensures n low high
-    ∙ founded_same c.args.asked.now.from pair recording c.args.exchange.now.said.answers.now c.deref.result.now n (omega arith, low) run is.answers withdrawals
+    ∙ ap (λ l. stretches_have l n) c.deref-3.ensures.value
+    ∙ put_together c.in_ok-numbers.numbers.items c.deref-2.result.now _ n c.greatest_base.result (c.args.asked.now.last + 1) (list_any (sends_early answers pair n) its) (list_any (withdraws_early answers pair n) its) (omega arith)
+    (c.in_ok-push.ensures.items ∙ ap (λ l. l ++ (let one : Stretch = record { lo = c.greatest_base.result; hi = c.args.asked.now.last + 1 } in one) ∷ []) c.in_ok-extend_from_slice.ensures.items)
+    (c.in_ok-numbers.ensures n low high ∙ ap (λ l. not (stretches_have l n)) (c.in_ok-early.ensures.items ∙ c.deref.ensures.value) ∙ ap not (heard.early n))
+    (ap (λ l. stretches_have l n) c.deref-2.ensures.value ∙ heard.gone n)
+    ∙ ap (λ m. (not (list_any (sends_early answers pair n) its) || list_any (withdraws_early answers pair n) its) || not (nat_lt n m)) c.greatest_base.ensures.value
+    ∙ lacking_same pair recording answers n same

@@ -15,12 +15,11 @@ returns c = λ intake is.
     let recording = datagrams_until judgement.span.until intake.acts in
     let same : judgement.pair ≡ c.args.pair = c.in_ok-judgement.ensures.pair in
     let verdict = judged_row judgement c.args.pair intake.acts same (c.in_ok-judgement.ensures.judged intake is (c.in_ok-verdict.ensures intake is).verdict) in
-    let summed = c.in_ok-summary.ensures.summary intake is tt in
     record {
       span = judgement.span;
       extent = c.in_ok-judgement.ensures.extent intake is;
-      shown = subst (λ (p : Pair). IsShown (is_there intake.acts alone.other p) judgement.span.from (since_of judgement.span) p recording evidence) same (c.in_ok-found.ensures.shown intake alone (record { index = is; other = tt; times = ap (λ (t : TimesValue). t.of_datagrams) c.none-times.ensures }) summed verdict);
+      shown = subst (λ (p : Pair). IsShown (is_there intake.acts alone.other p) judgement.span.from (since_of judgement.span) p recording evidence) same (c.in_ok-found.ensures.shown intake alone (record { index = is; other = tt; times = ap (λ (t : TimesValue). t.of_datagrams) c.none-times.ensures }) verdict);
       in_span = subst (λ (p : Pair). IsBeside false alone judgement.span p intake.acts recording evidence.in_span) same
           (subst (λ b. IsBeside b alone judgement.span judgement.pair intake.acts recording evidence.in_span) c.in_ok-judgement.ensures.in_spans
-          (c.in_ok-found.ensures.beside intake alone (record { index = is; other = tt; times = ap (λ (t : TimesValue). t.of_datagrams) c.none-times.ensures }) summed verdict).0);
+          (c.in_ok-found.ensures.beside intake alone (record { index = is; other = tt; times = ap (λ (t : TimesValue). t.of_datagrams) c.none-times.ensures }) verdict).0);
     }

@@ -36,5 +36,4 @@ returns c =
           ∙ ap (λ b. b || brings_behind since pair.writer pair.reader n x) (so.brought n lacking)
           ∙ sym (any_more (brings_behind since pair.writer pair.reader n) acts x);
       silent = λ n lacking. follows acts (so.silent n lacking);
-      wait = c.hear.ensures acts so.wait;
     }) c.follow.ensures

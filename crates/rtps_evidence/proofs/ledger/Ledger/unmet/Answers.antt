@@ -2,9 +2,8 @@ use Rattle.std.proofs.Common.{◌∙◌, ap, filter, map}
 use Rattle.std.specs.Option.{option_map}
 use Rattle.std.proofs.lemmas.Result.{IfOk-weaker}
 use Rattle.rtps_audit.specs.Placed.{is_from, placed_in, placed_value}
-use Rattle.rtps_evidence.specs.Requests.{is_in_vain, met_among, requested}
+use Rattle.rtps_evidence.specs.Requests.{is_in_vain, met_among, option_any, requested}
 use Rattle.rtps_evidence.specs.Spans.{since_of}
-use Rattle.rtps_evidence.specs.WriterSummary.{option_any}
 use Rattle.rtps_evidence.proofs.MissedLemmas.{unmet_by_request}
 use Rattle.rtps_evidence.proofs.ledger.Ledger.unmet.Goals as goal
 

@@ -3,7 +3,7 @@ use Rattle.rtps_audit.specs.Delivery.{last_announced_from}
 use Rattle.rtps_audit.specs.Placed.{placed_in, placed_value}
 use Rattle.rtps_audit.specs.Speech.{speech_by}
 use Rattle.rtps_evidence.specs.Evidence.{IsBeside}
-use Rattle.rtps_evidence.specs.Ledger.{IsLongest}
+use Rattle.rtps_evidence.specs.Heard.{IsHeard}
 use Rattle.rtps_evidence.specs.declared.outcome.Unreceived.{Unreceived}
 use Rattle.rtps_evidence.specs.Kinds.{AreLost, IsLostIn, lost_value}
 use Rattle.rtps_evidence.specs.OtherSide.{is_there}
@@ -12,7 +12,7 @@ use Rattle.rtps_evidence.specs.Spans.{since_of}
 use Rattle.rtps_evidence.proofs.spanned.Spanned.of.Goals as goal
 
 pub returns : goal.returns
-returns c = λ whole recording beside is there times last are unmet missed stands.
+returns c = λ whole recording beside is there times last are unmet missed stands hears.
     let exchange = c.args.exchange.now in
     let pair = exchange.pair in
     let since = since_of exchange.span in
@@ -21,10 +21,10 @@ returns c = λ whole recording beside is there times last are unmet missed stand
     let has = is_there whole beside.other pair in
     let speech = speech_by pair.writer pair.reader recording in
     let sets = c.in_ok-sets.ensures.sets exchange recording is are unmet missed stands in
-    let wait = subst (λ (u : Unreceived). IsLongest exchange (map placed_value exchange.said.acts.now) u.ledger.now.wait) (sym c.in_ok-sets.ensures.same) stands.wait in
+    let heard = subst (λ (u : Unreceived). IsHeard exchange (map placed_value exchange.said.acts.now) u.heard.now) (sym c.in_ok-sets.ensures.same) hears in
     let in_span = c.in_ok-in_span.in_span in
     let lost = lost_value c.in_ok-lost.lost in
-    let own = c.in_ok-in_span.ensures whole recording beside is there times last sets wait in
+    let own = c.in_ok-in_span.ensures whole recording beside is there times last sets heard in
     let outcomes = subst (λ n. AreOutcomes has asked.from n exchange.times.now.of_datagrams since pair all in_span.outcomes) (sym last)
     (subst (λ from. AreOutcomes has from (last_announced_from from speech) exchange.times.now.of_datagrams since pair all in_span.outcomes) (sym c.requires.from)
     (subst (λ t. AreOutcomes has exchange.span.from (last_announced_from exchange.span.from speech) t since pair all in_span.outcomes) (sym times) own.outcomes)) in

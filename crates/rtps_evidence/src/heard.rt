@@ -1,0 +1,73 @@
+ghost use Rattle.std.specs.Prelude.{◌≡◌, ◌+◌, ◌<◌, ◌^◌, ◌++◌, ◌∷◌, [], length, map, IfOk, OnOk, List};
+ghost use Rattle.rtps_audit.specs.Placed.{PlacedValue, placed_value};
+ghost use Rattle.rtps_coverage.specs.Rising.{AreRising};
+ghost use Rattle.rtps_evidence.specs.Claimed.{AreClaims};
+ghost use Rattle.rtps_evidence.specs.Heard.{IsHeard};
+
+use crate::amount::HeardNumbers;
+use crate::claimed::claims_of;
+use crate::exchange::Exchange;
+use crate::last_announcement::Announced;
+use crate::questions::Questions;
+use crate::waits::Waiting;
+use rtps_audit::Placed;
+use rtps_coverage::Stretch;
+use rtps_coverage::rising::end_at;
+use rtps_ids::Memory;
+use std::alloc::Global;
+
+/// What a pair's reader heard of its writer, as far as a recording has come.
+///
+/// It is told the acts of the writer in their order. Which answers of the reader stand before an act, and which behind it, is told by their
+/// places.
+#[derive(Drop)]
+pub(crate) struct Heard<'s> {
+    pub(crate) announced: Announced,
+    pub(crate) numbers: HeardNumbers,
+    pub(crate) wait: Waiting<'s>,
+    pub(crate) asked: Questions,
+}
+
+impl<'s> Heard<'s> {
+    /// The writer said nothing yet.
+    fn new(alloc: Global, exchange: &Exchange<'s, '_>) -> Heard<'s>
+        ensures { IsHeard exchange.now [] result }
+    {
+        Heard {
+            announced: Announced::new(),
+            numbers: HeardNumbers::new(alloc),
+            wait: Waiting::new(exchange.said.answers),
+            asked: Questions::behind(exchange.said.answers),
+        }
+    }
+
+    /// Is told an act of the writer, where the answers claim so far up to each datagram. After `Memory` it is of no use.
+    fn hear(
+        &mut self,
+        placed: &Placed<'_>,
+        exchange: &Exchange<'_, '_>,
+        claims: &[Stretch],
+    ) -> Result<(), Memory>
+        requires { AreRising claims.now }
+        ensures { OnOk result ((acts : List PlacedValue) → length acts + 1 < 2 ^ 64 → AreClaims exchange.now.said.answers.now claims.now → IsHeard exchange.now acts self.old
+            → IsHeard exchange.now (acts ++ placed_value placed.now ∷ []) self.new) }
+    {
+        self.announced.hear(placed, exchange.pair.writer);
+        self.wait.hear(placed, exchange);
+        self.asked.hear(placed, exchange.pair);
+        let claimed = end_at(claims, placed.datagram as u64);
+        self.numbers.note(placed, exchange.pair, claimed)
+    }
+
+    /// Of a pair, by all that it said.
+    pub(crate) fn of(alloc: Global, exchange: &Exchange<'s, '_>) -> Result<Heard<'s>, Memory>
+        ensures { IfOk result (IsHeard exchange.now (map placed_value exchange.now.said.acts.now)) }
+    {
+        let claims = claims_of(alloc, exchange.said.answers)?;
+        let mut heard = Heard::new(alloc, exchange);
+        for placed in exchange.said.acts {
+            heard.hear(placed, exchange, &claims)?;
+        }
+        Ok(heard)
+    }
+}
