@@ -1,10 +1,10 @@
--- Which announcements stand in which datagram, and the acts by which matches are told, with one datagram more.
-use Rattle.std.proofs.Common.{Bor, ◌≡◌, ◌∙◌, ℕ, ◌+◌, ◌<◌, ◌≤◌, ◌==◌, ◌&&◌, Bool, true, false, List, [], ◌∷◌, ◌++◌, Option, append-nil, append_assoc, ap, ap₂, arith, cond, filter, get_or, length, map, refl, sym, take, nat_lt}
+-- Which announcements stand in which datagram, and the acts by which matches are told, act by act and datagram by datagram.
+use Rattle.std.proofs.Common.{◌≡◌, ◌∙◌, ℕ, ◌+◌, ◌<◌, ◌≤◌, ◌==◌, ◌&&◌, Bool, true, false, List, [], ◌∷◌, ◌++◌, Option, append-nil, append_assoc, ap, ap₂, arith, cond, filter, get_or, length, map, refl, sym, take, nat_lt}
 use Rattle.std.specs.List.{enumerate_from, flat_map}
 use Rattle.std.proofs.lemmas.Bool.{eqb-true}
 use Rattle.std.proofs.lemmas.Bool.Decides.{nat_tests}
 use Rattle.std.proofs.lemmas.Grind.{flat_map-append}
-use Rattle.std.proofs.lemmas.List.{length-map, length-take-le, map-append, map_more, map_push}
+use Rattle.std.proofs.lemmas.List.{map-append, map_more, map_push}
 use Rattle.std.proofs.lemmas.List.Concat.{flat_map-cons}
 use Rattle.std.proofs.lemmas.List.Elements.{filter-append}
 use Rattle.rtps_receiver.specs.Values.{ActValue}
@@ -12,12 +12,19 @@ use Rattle.rtps_audit.specs.Placed.{PlacedValue, placed_at, placed_behind, place
 use Rattle.rtps_audit.specs.declared.placed.Placed.{Placed}
 use Rattle.rtps_evidence.specs.UnansweredLaw.{is_data_frag}
 use Rattle.rtps_fragments.specs.Announcements.{announcements_in, is_announcement}
+use Rattle.rtps_fragments.specs.FragmentWalk.{sending_of}
+use Rattle.rtps_fragments.specs.ReadDatagrams.{ReadDatagramValue, datagram_read, read_behind}
 use Rattle.rtps_known.specs.Places.{PlacedAct}
+use Rattle.rtps_known.specs.Tellings.{TimedAct}
 use Rattle.rtps_known.specs.declared.place.Place.{Place}
-use Rattle.rtps_report.specs.ActsRead.{acts_read_in}
-use Rattle.rtps_report.specs.MatchingActs.{act_placed, acts_placed, acts_placed_in, came_as, matching_acts, of_datagram, run_of, run_past, samples_at, samples_by, sent_as, stands_at, with_samples}
-use Rattle.rtps_report.specs.declared.naming_walk.Came.{Came}
-use Rattle.rtps_report.proofs.PresenceLemmas.{enumerate_more}
+use Rattle.rtps_report.specs.Acquaintance.{acts_heard, placed_heard, samples_at, timed_heard, with_samples_at}
+use Rattle.rtps_report.specs.ActsRead.{acts_read_in, acts_timed, datagrams_read}
+use Rattle.rtps_report.specs.MatchingActs.{act_placed, acts_placed, acts_placed_in, came_as, matching_acts, sent_as, stands_at, with_samples}
+use Rattle.rtps_report.specs.declared.acquaintance.Came.{Came}
+
+-- one element more
+pub flat_map_push : {X Y : Type 0} (f : X → List Y) (xs : List X) (x : X) → flat_map f (xs ++ x ∷ []) ≡ flat_map f xs ++ f x
+flat_map_push f xs x = flat_map-append f xs (x ∷ []) ∙ ap (λ rest. flat_map f xs ++ rest) (flat_map-cons f x [] ∙ append-nil (f x))
 
 -- ---- which announcements stand in which datagram
 
@@ -25,6 +32,10 @@ use Rattle.rtps_report.proofs.PresenceLemmas.{enumerate_more}
 abbrev pub Rising : ℕ → List PlacedValue → Type 0
 Rising n [] = Unit {0}
 Rising n (one ∷ placed) = (n ≤ one.datagram) × Rising one.datagram placed
+
+-- it stands in this datagram
+abbrev of_datagram : ℕ → PlacedValue → Bool
+of_datagram n placed = placed.datagram == n
 
 -- it stands behind this datagram
 abbrev pub is_past : ℕ → PlacedValue → Bool
@@ -73,57 +84,77 @@ none_here n m (one ∷ placed) lt is =
     ap (λ (b : Bool). cond b (one ∷ filter (of_datagram n) placed) (filter (of_datagram n) placed)) not_here
     ∙ none_here n one.datagram placed (omega (arith, lt, first)) is.1
 
--- behind a datagram stand those of the next one first
-pub run_is : (n m : ℕ) (placed : List PlacedValue) → Rising m placed → run_of (n + 1) (filter (is_past n) placed) ≡ filter (of_datagram (n + 1)) placed
-run_is n m [] is = refl
-run_is n m (one ∷ placed) is = by (run_is n one.datagram placed is.1) (is_past n one) (of_datagram (n + 1) one) refl refl
+-- what a test holds for stays among those for which a weaker one holds
+implied : (test weaker : PlacedValue → Bool) → ((one : PlacedValue) → test one ≡ true → weaker one ≡ true) → (placed : List PlacedValue) → filter test (filter weaker placed) ≡ filter test placed
+implied test weaker follows [] = refl
+implied test weaker follows (one ∷ placed) = by (implied test weaker follows placed) (weaker one) (test one) refl refl
   where
-    by : run_of (n + 1) (filter (is_past n) placed) ≡ filter (of_datagram (n + 1)) placed → (past here : Bool) → is_past n one ≡ past → of_datagram (n + 1) one ≡ here
-        → run_of (n + 1) (cond past (one ∷ filter (is_past n) placed) (filter (is_past n) placed)) ≡ cond here (one ∷ filter (of_datagram (n + 1)) placed) (filter (of_datagram (n + 1)) placed)
-    by rest false false p h = rest
-    by rest false true p h = absurd (grind (arith, nat_tests))
-    by rest true true p h = ap (λ (b : Bool). cond b (one ∷ run_of (n + 1) (filter (is_past n) placed)) []) h ∙ ap (λ (those : List PlacedValue). one ∷ those) rest
-    by rest true false p h =
-        let far : n + 1 < one.datagram = grind (arith, nat_tests) in
-        ap (λ (b : Bool). cond b (one ∷ run_of (n + 1) (filter (is_past n) placed)) []) h ∙ sym (none_here (n + 1) one.datagram placed far is.1)
+    kept : List PlacedValue
+    kept = filter weaker placed
 
--- and then those behind it
-pub past_is : (n m : ℕ) (placed : List PlacedValue) → Rising m placed → run_past (n + 1) (filter (is_past n) placed) ≡ filter (is_past (n + 1)) placed
-past_is n m [] is = refl
-past_is n m (one ∷ placed) is = by (past_is n one.datagram placed is.1) (is_past n one) (of_datagram (n + 1) one) (is_past (n + 1) one) refl refl refl
+    by : filter test kept ≡ filter test placed → (w t : Bool) → weaker one ≡ w → test one ≡ t
+        → filter test (cond w (one ∷ kept) kept) ≡ cond t (one ∷ filter test placed) (filter test placed)
+    by rest true t is holds = ap (λ (b : Bool). cond b (one ∷ filter test kept) (filter test kept)) holds ∙ ap (λ (those : List PlacedValue). cond t (one ∷ those) those) rest
+    by rest false true is holds = absurd (let clash : true ≡ false = sym (follows one holds) ∙ is in cc)
+    by rest false false is holds = rest
+
+-- what a datagram announces
+abbrev announced_at : ℕ → List ActValue → List PlacedValue
+announced_at n acts = filter is_announcement (placed_at n acts)
+
+kept_here : (n : ℕ) (acts : List ActValue) → filter (of_datagram n) (announced_at n acts) ≡ announced_at n acts
+kept_here n [] = refl
+kept_here n (act ∷ acts) = by (kept_here n acts) (is_announcement one)
   where
-    by : run_past (n + 1) (filter (is_past n) placed) ≡ filter (is_past (n + 1)) placed → (past here far : Bool) → is_past n one ≡ past → of_datagram (n + 1) one ≡ here → is_past (n + 1) one ≡ far
-        → run_past (n + 1) (cond past (one ∷ filter (is_past n) placed) (filter (is_past n) placed)) ≡ cond far (one ∷ filter (is_past (n + 1)) placed) (filter (is_past (n + 1)) placed)
-    by rest false here false p h f = rest
-    by rest false here true p h f = absurd (grind (arith, nat_tests))
-    by rest true true false p h f = ap (λ (b : Bool). cond b (run_past (n + 1) (filter (is_past n) placed)) (one ∷ filter (is_past n) placed)) h ∙ rest
-    by rest true true true p h f = absurd (grind (arith, nat_tests))
-    by rest true false false p h f = absurd (grind (arith, nat_tests))
-    by rest true false true p h f =
-        let behind : n + 1 < one.datagram = grind (arith, nat_tests) in
-        let before : n < one.datagram = omega (arith, behind) in
-        ap (λ (b : Bool). cond b (run_past (n + 1) (filter (is_past n) placed)) (one ∷ filter (is_past n) placed)) h
-        ∙ ap (λ (those : List PlacedValue). one ∷ those) (all_past n one.datagram placed before is.1 ∙ sym (all_past (n + 1) one.datagram placed behind is.1))
+    one : PlacedValue
+    one = record { datagram = n; act = act }
 
--- ---- one datagram more
+    here : of_datagram n one ≡ true
+    here = grind (arith, nat_tests)
 
-pub matching_more : (announcements : List PlacedValue) (recording : List (Bor (List ℕ))) (times : List (Option ℕ)) (place : ℕ) (default : Bor (List ℕ)) (came : Came) (acts : List ActValue)
-    → place < length recording → came ≡ came_as times (place + 1) → acts ≡ acts_read_in (get_or recording place default).now
-    → matching_acts announcements (map (λ one. one.now) (take place recording)) times ++ acts_placed announcements came acts
-    ≡ matching_acts announcements (map (λ one. one.now) (take (place + 1) recording)) times
-matching_more announcements recording times place default came acts within then are =
-    let so_far : List (List ℕ) = map (λ (one : Bor (List ℕ)). one.now) (take place recording) in
-    let datagram : List ℕ = (get_or recording place default).now in
-    let le : place ≤ length recording = omega arith in
-    let size : length so_far ≡ place = length-map (take place recording) (λ (one : Bor (List ℕ)). one.now) ∙ length-take-le place recording le in
-    let number : 1 + length so_far ≡ place + 1 = omega (arith, size) in
-    let last : List (ℕ × List ℕ) = (1 + length so_far, datagram) ∷ [] in
-    let same : acts_placed_in announcements times (1 + length so_far, datagram) ≡ acts_placed announcements came acts =
-    ap (λ (n : ℕ). acts_placed announcements (came_as times n) (acts_read_in datagram)) number ∙ (λ i. acts_placed announcements (sym then i) (sym are i)) in
-    sym (ap (λ (all : List (List ℕ)). matching_acts announcements all times) (map_more (λ (one : Bor (List ℕ)). one.now) recording place default within)
-    ∙ ap (flat_map (acts_placed_in announcements times)) (enumerate_more 1 so_far datagram) ∙ flat_map-append (acts_placed_in announcements times) (enumerate_from 1 so_far) last
-    ∙ ap (λ (rest : List PlacedAct). matching_acts announcements so_far times ++ rest)
-    (flat_map-cons (acts_placed_in announcements times) (1 + length so_far, datagram) [] ∙ append-nil (acts_placed_in announcements times (1 + length so_far, datagram)) ∙ same))
+    by : filter (of_datagram n) (announced_at n acts) ≡ announced_at n acts → (b : Bool)
+        → filter (of_datagram n) (cond b (one ∷ announced_at n acts) (announced_at n acts)) ≡ cond b (one ∷ announced_at n acts) (announced_at n acts)
+    by rest true =
+        ap (λ (b : Bool). cond b (one ∷ filter (of_datagram n) (announced_at n acts)) (filter (of_datagram n) (announced_at n acts))) here ∙ ap (λ (those : List PlacedValue). one ∷ those) rest
+    by rest false = rest
+
+none_past : (n : ℕ) (acts : List ActValue) → filter (is_past n) (announced_at n acts) ≡ []
+none_past n [] = refl
+none_past n (act ∷ acts) = by (none_past n acts) (is_announcement one)
+  where
+    one : PlacedValue
+    one = record { datagram = n; act = act }
+
+    here : is_past n one ≡ false
+    here = grind (arith, nat_tests)
+
+    by : filter (is_past n) (announced_at n acts) ≡ [] → (b : Bool) → filter (is_past n) (cond b (one ∷ announced_at n acts) (announced_at n acts)) ≡ []
+    by rest true = ap (λ (b : Bool). cond b (one ∷ filter (is_past n) (announced_at n acts)) (filter (is_past n) (announced_at n acts))) here ∙ rest
+    by rest false = rest
+
+-- what the datagrams behind so many announce
+abbrev announced_behind : ℕ → List (List ActValue) → List PlacedValue
+announced_behind before announcing = filter is_announcement (placed_behind before announcing)
+
+-- Of all that a recording announces, this is what the datagrams behind n announce, of which the first one announces by these acts.
+module _ (n : ℕ) (all : List PlacedValue) (acts : List ActValue) (others : List (List ActValue)) (left : filter (is_past n) all ≡ announced_behind n (acts ∷ others)) where
+  parts : filter (is_past n) all ≡ announced_at (n + 1) acts ++ announced_behind (n + 1) others
+  parts = left ∙ filter-append is_announcement (placed_at (n + 1) acts) (placed_behind (n + 1) others)
+
+  rising : Rising (n + 1 + 1) (announced_behind (n + 1) others)
+  rising = rising_kept is_announcement (n + 1 + 1) (placed_behind (n + 1) others) (rising_behind (n + 1) others)
+
+  here_are : filter (of_datagram (n + 1)) all ≡ announced_at (n + 1) acts
+  here_are =
+      sym (implied (of_datagram (n + 1)) (is_past n) (λ one here. grind (arith, nat_tests)) all) ∙ ap (filter (of_datagram (n + 1))) parts
+      ∙ filter-append (of_datagram (n + 1)) (announced_at (n + 1) acts) (announced_behind (n + 1) others)
+      ∙ ap₂ ◌++◌ (kept_here (n + 1) acts) (none_here (n + 1) (n + 1 + 1) (announced_behind (n + 1) others) (omega arith) rising) ∙ append-nil (announced_at (n + 1) acts)
+
+  past_are : filter (is_past (n + 1)) all ≡ announced_behind (n + 1) others
+  past_are =
+      sym (implied (is_past (n + 1)) (is_past n) (λ one past. grind (arith, nat_tests)) all) ∙ ap (filter (is_past (n + 1))) parts
+      ∙ filter-append (is_past (n + 1)) (announced_at (n + 1) acts) (announced_behind (n + 1) others)
+      ∙ ap₂ ◌++◌ (none_past (n + 1) acts) (all_past (n + 1) (n + 1 + 1) (announced_behind (n + 1) others) (omega arith) rising)
 
 -- ---- one act more
 
@@ -142,38 +173,39 @@ stands_here datagram at (one ∷ announcements) = by (stands_here datagram at an
     by rest true = ap (λ (those : List PlacedValue). cond (here one) (one ∷ those) those) rest
     by rest false = rest
 
+-- the samples that an act completes, of those of its datagram or of all
+samples_are : (all : List PlacedValue) (datagram : ℕ) (act : ActValue) → with_samples_at (filter (of_datagram datagram) all) act ≡ with_samples all datagram act
+samples_are all datagram act =
+    ap (λ (those : List PlacedValue). act ∷ cond (is_data_frag act.body) (map (λ (placed : PlacedValue). sent_as act placed.act) those) []) (stands_here datagram act.at all)
+
+acts_are : (all : List PlacedValue) (came : Came) (acts : List ActValue) → acts_heard came (filter (of_datagram came.datagram) all) acts ≡ acts_placed all came acts
+acts_are all came acts = λ i. map (act_placed came) (flat_map (λ act. samples_are all came.datagram act i) acts)
+
 -- a DATA_FRAG, and behind it the samples that it completes
-pub frag_more : (before : List PlacedAct) (came : Came) (act : ActValue) (announcements samples : List PlacedValue) (place : Place)
-    → samples ≡ filter (of_datagram came.datagram) announcements → place ≡ (act_placed came act).place → is_data_frag act.body ≡ true
-    → (before ++ (record { act = act; place = place }) ∷ []) ++ map (act_placed came) (samples_at act samples) ≡ before ++ map (act_placed came) (with_samples announcements came.datagram act)
-frag_more before came act announcements samples place are stands frag =
-    let behind : samples_at act samples ≡ samples_by announcements came.datagram act =
-    ap (samples_at act) are ∙ ap (map (λ (placed : PlacedValue). sent_as act placed.act)) (stands_here came.datagram act.at announcements)
-    ∙ ap (λ (b : Bool). cond b (map (λ (placed : PlacedValue). sent_as act placed.act) (filter (stands_at came.datagram act.at) announcements)) []) (sym frag) in
+pub frag_more : (before : List PlacedAct) (came : Came) (act : ActValue) (samples : List PlacedValue) (place : Place) → place ≡ (act_placed came act).place → is_data_frag act.body ≡ true
+    → (before ++ (record { act = act; place = place }) ∷ []) ++ map (act_placed came) (samples_at act samples) ≡ before ++ map (act_placed came) (with_samples_at samples act)
+frag_more before came act samples place stands frag =
     append_assoc before ((record { act = act; place = place }) ∷ []) (map (act_placed came) (samples_at act samples))
     ∙ ap (λ (there : Place). before ++ (record { act = act; place = there }) ∷ map (act_placed came) (samples_at act samples)) stands
-    ∙ ap (λ (those : List ActValue). before ++ act_placed came act ∷ map (act_placed came) those) behind
+    ∙ ap (λ (b : Bool). before ++ act_placed came act ∷ map (act_placed came) (cond b (samples_at act samples) [])) (sym frag)
 
 -- another act
-pub plain_more : (before : List PlacedAct) (came : Came) (act : ActValue) (announcements : List PlacedValue) (place : Place) → place ≡ (act_placed came act).place
-    → is_data_frag act.body ≡ false → before ++ (record { act = act; place = place }) ∷ [] ≡ before ++ map (act_placed came) (with_samples announcements came.datagram act)
-plain_more before came act announcements place stands plain =
+pub plain_more : (before : List PlacedAct) (came : Came) (act : ActValue) (samples : List PlacedValue) (place : Place) → place ≡ (act_placed came act).place
+    → is_data_frag act.body ≡ false → before ++ (record { act = act; place = place }) ∷ [] ≡ before ++ map (act_placed came) (with_samples_at samples act)
+plain_more before came act samples place stands plain =
     ap (λ (there : Place). before ++ (record { act = act; place = there }) ∷ []) stands
-    ∙ ap (λ (b : Bool). before ++ act_placed came act ∷ map (act_placed came) (cond b (map (λ (placed : PlacedValue). sent_as act placed.act) (filter (stands_at came.datagram act.at) announcements)) [])) (sym plain)
+    ∙ ap (λ (b : Bool). before ++ act_placed came act ∷ map (act_placed came) (cond b (samples_at act samples) [])) (sym plain)
 
 -- acts of a datagram, with one more
-pub acts_more : {X : Type 0} (value : X → ActValue) (before : List PlacedAct) (announcements : List PlacedValue) (came : Came) (acts : List X) (i : ℕ) (act : X) → i < length acts → act ≡ get_or acts i act
-    → (before ++ acts_placed announcements came (map value (take i acts))) ++ map (act_placed came) (with_samples announcements came.datagram (value act))
-    ≡ before ++ acts_placed announcements came (map value (take (i + 1) acts))
-acts_more {X} value before announcements came acts i act within is =
+pub acts_more : {X : Type 0} (value : X → ActValue) (before : List PlacedAct) (samples : List PlacedValue) (came : Came) (acts : List X) (i : ℕ) (act : X) → i < length acts → act ≡ get_or acts i act
+    → (before ++ acts_heard came samples (map value (take i acts))) ++ map (act_placed came) (with_samples_at samples (value act)) ≡ before ++ acts_heard came samples (map value (take (i + 1) acts))
+acts_more {X} value before samples came acts i act within is =
     let so_far = map value (take i acts) in
-    let behind = with_samples announcements came.datagram in
+    let behind = with_samples_at samples in
     let more : map value (take (i + 1) acts) ≡ so_far ++ value act ∷ [] = map_more value acts i act within ∙ ap (λ (one : X). so_far ++ value one ∷ []) (sym is) in
-    let step : acts_placed announcements came (map value (take (i + 1) acts)) ≡ acts_placed announcements came so_far ++ map (act_placed came) (behind (value act)) =
-    ap (acts_placed announcements came) more ∙ ap (map (act_placed came)) (flat_map-append behind so_far (value act ∷ [])
-    ∙ ap (λ (last : List ActValue). flat_map behind so_far ++ last) (flat_map-cons behind (value act) [] ∙ append-nil (behind (value act))))
-    ∙ map-append (act_placed came) (flat_map behind so_far) (behind (value act)) in
-    append_assoc before (acts_placed announcements came so_far) (map (act_placed came) (behind (value act))) ∙ ap (λ (rest : List PlacedAct). before ++ rest) (sym step)
+    let step : acts_heard came samples (map value (take (i + 1) acts)) ≡ acts_heard came samples so_far ++ map (act_placed came) (behind (value act)) =
+    ap (acts_heard came samples) more ∙ ap (map (act_placed came)) (flat_map_push behind so_far (value act)) ∙ map-append (act_placed came) (flat_map behind so_far) (behind (value act)) in
+    append_assoc before (acts_heard came samples so_far) (map (act_placed came) (behind (value act))) ∙ ap (λ (rest : List PlacedAct). before ++ rest) (sym step)
 
 -- ---- one sample more
 
@@ -215,3 +247,51 @@ sample_skip came act samples i sample before within is here =
     let so_far = filter (stands_with act) (map placed_value (take i samples)) in
     ap (λ (those : List PlacedValue). before ++ map (act_placed came) (map (λ (placed : PlacedValue). sent_as act placed.act) those))
     (sym (sample_step act samples i sample false within is here ∙ append-nil so_far))
+
+-- ---- a recording
+
+-- what is read of the datagrams of a recording behind so many, which announce by these
+abbrev read_from : ℕ → List (List ℕ) → List (List ActValue) → List ReadDatagramValue
+read_from before recording announcing = read_behind before (map (map (λ one. one.act)) (sending_of recording)) announcing
+
+pub acts_from : (n : ℕ) (recording : List (List ℕ)) (announcing : List (List ActValue)) → map (λ read. read.acts) (read_from n recording announcing) ≡ datagrams_read recording
+acts_from n [] announcing = refl
+acts_from n (octets ∷ recording) [] = ap (λ (rest : List (List ActValue)). acts_read_in octets ∷ rest) (acts_from (n + 1) recording [])
+acts_from n (octets ∷ recording) (acts ∷ announcing) = ap (λ (rest : List (List ActValue)). acts_read_in octets ∷ rest) (acts_from (n + 1) recording announcing)
+
+-- the acts of the first of these and those of the others
+first_timed : (times : List (Option ℕ)) (n : ℕ) (octets : List ℕ) (recording : List (List ℕ)) (announcing : List ActValue) (others : List ReadDatagramValue)
+    → flat_map (timed_heard times) others ≡ flat_map (acts_timed times) (enumerate_from (n + 1) recording)
+    → flat_map (timed_heard times) (datagram_read n (acts_read_in octets) announcing ∷ others) ≡ flat_map (acts_timed times) (enumerate_from n (octets ∷ recording))
+first_timed times n octets recording announcing others rest =
+    flat_map-cons (timed_heard times) (datagram_read n (acts_read_in octets) announcing) others ∙ ap (λ (those : List TimedAct). acts_timed times (n, octets) ++ those) rest
+    ∙ sym (flat_map-cons (acts_timed times) (n, octets) (enumerate_from (n + 1) recording))
+
+pub timed_from : (times : List (Option ℕ)) (n : ℕ) (recording : List (List ℕ)) (announcing : List (List ActValue))
+    → flat_map (timed_heard times) (read_from n recording announcing) ≡ flat_map (acts_timed times) (enumerate_from (n + 1) recording)
+timed_from times n [] announcing = refl
+timed_from times n (octets ∷ recording) [] = first_timed times (n + 1) octets recording [] (read_from (n + 1) recording []) (timed_from times (n + 1) recording [])
+timed_from times n (octets ∷ recording) (acts ∷ announcing) = first_timed times (n + 1) octets recording acts (read_from (n + 1) recording announcing) (timed_from times (n + 1) recording announcing)
+
+first_placed : (all : List PlacedValue) (times : List (Option ℕ)) (n : ℕ) (octets : List ℕ) (recording : List (List ℕ)) (announcing : List ActValue) (others : List ReadDatagramValue)
+    → filter (of_datagram n) all ≡ announced_at n announcing → flat_map (placed_heard times) others ≡ flat_map (acts_placed_in all times) (enumerate_from (n + 1) recording)
+    → flat_map (placed_heard times) (datagram_read n (acts_read_in octets) announcing ∷ others) ≡ flat_map (acts_placed_in all times) (enumerate_from n (octets ∷ recording))
+first_placed all times n octets recording announcing others here rest =
+    let first : placed_heard times (datagram_read n (acts_read_in octets) announcing) ≡ acts_placed_in all times (n, octets) =
+    ap (λ (samples : List PlacedValue). acts_heard (came_as times n) samples (acts_read_in octets)) (sym here) ∙ acts_are all (came_as times n) (acts_read_in octets) in
+    flat_map-cons (placed_heard times) (datagram_read n (acts_read_in octets) announcing) others ∙ ap₂ ◌++◌ first rest
+    ∙ sym (flat_map-cons (acts_placed_in all times) (n, octets) (enumerate_from (n + 1) recording))
+
+placed_from : (all : List PlacedValue) (times : List (Option ℕ)) (n : ℕ) (recording : List (List ℕ)) (announcing : List (List ActValue)) → filter (is_past n) all ≡ announced_behind n announcing
+    → flat_map (placed_heard times) (read_from n recording announcing) ≡ flat_map (acts_placed_in all times) (enumerate_from (n + 1) recording)
+placed_from all times n [] announcing left = refl
+placed_from all times n (octets ∷ recording) [] left =
+    first_placed all times (n + 1) octets recording [] (read_from (n + 1) recording []) (here_are n all [] [] left) (placed_from all times (n + 1) recording [] (past_are n all [] [] left))
+placed_from all times n (octets ∷ recording) (acts ∷ announcing) left =
+    first_placed all times (n + 1) octets recording acts (read_from (n + 1) recording announcing) (here_are n all acts announcing left) (placed_from all times (n + 1) recording announcing (past_are n all acts announcing left))
+
+-- what is read of a recording tells its acts of matching
+pub placed_all : (times : List (Option ℕ)) (recording : List (List ℕ)) (announcing : List (List ActValue))
+    → flat_map (placed_heard times) (read_from 0 recording announcing) ≡ matching_acts (announcements_in announcing) recording times
+placed_all times recording announcing =
+    placed_from (announcements_in announcing) times 0 recording announcing (all_past 0 1 (announcements_in announcing) (omega arith) (announced_rising announcing))

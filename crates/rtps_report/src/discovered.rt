@@ -4,17 +4,13 @@ ghost use Rattle.rtps_audit.specs.Intake.{Intake, acts_together};
 ghost use Rattle.rtps_audit.specs.Placed.{placed_value};
 ghost use Rattle.rtps_fragments.specs.Announcements.{announcements_in};
 ghost use Rattle.rtps_policies.specs.Announcing.{IsAnnouncedBy};
-ghost use Rattle.rtps_policies.specs.Namings.{AreNamingsOf};
-ghost use Rattle.rtps_known.specs.Matched.{AreMatchesOf};
 ghost use Rattle.rtps_known.specs.Recorded.{IsKnownOf};
-ghost use Rattle.rtps_report.specs.ActsRead.{datagrams_read, timed_acts};
+ghost use Rattle.rtps_report.specs.ActsRead.{timed_acts};
 ghost use Rattle.rtps_report.specs.NotTold.{AreNotToldIn, not_told_value};
 ghost use Rattle.rtps_report.specs.Participants.{participant_told};
-ghost use Rattle.rtps_report.specs.Talk.{acts_of_matching};
 ghost use Rattle.rtps_report.specs.TwoLives.{AreTwoLivesIn};
 ghost use Rattle.rtps_report.specs.Visits.{AreVisitsIn};
 
-use crate::naming_walk::{Walked, walk_all};
 use crate::not_told::{NotTold, all_not_told};
 use crate::participant::{Participant, joined_of};
 use crate::presence::Presences;
@@ -23,20 +19,17 @@ use crate::two_lives::{TwoLives, first_lives};
 use crate::visits::{Seen, visits_of};
 use rtps_evidence::Times;
 use rtps_ids::{GuidPrefix, Memory};
-use rtps_known::{Known, Matches, Visit};
-use rtps_policies::{Announced, Namings};
+use rtps_known::{Known, Visit};
+use rtps_policies::Announced;
 use std::alloc::{AllocError, Global};
 use std::collections::BTreeMap;
 
-/// Who is there, who names whom, and what discovery has told whom.
+/// Who is there, and what discovery has told whom.
 #[derive(Drop)]
 pub(crate) struct Discovered<'a> {
     pub(crate) participants: Vec<Participant>,
-    pub(crate) namings: Namings,
     pub(crate) not_told: Vec<NotTold<'a>>,
     pub(crate) lives: Vec<TwoLives>,
-    /// When writers and readers matched.
-    pub(crate) matches: Matches,
 }
 
 /// Who is there, and when.
@@ -90,13 +83,14 @@ fn lives_of(alloc: Global, known: &Known, times: &Times) -> Result<Vec<TwoLives>
     Ok(found)
 }
 
-/// Who is there, who names whom, and what discovery has told whom.
+/// Who is there, and what discovery has told whom, by what is known of that.
 pub(crate) fn discovered_in<'a>(
     alloc: Global,
     announced: &Announced<'_>,
     heard: &Heard<'_, 'a, '_, '_>,
+    known: &Known,
 ) -> Result<Discovered<'a>, Memory>
-    ensures namings { IfOk result (λ found. AreNamingsOf (datagrams_read (map (λ datagram. datagram.now) heard.now.datagrams.now)) found.namings) }
+    requires { IsKnownOf (timed_acts (map (λ datagram. datagram.now) heard.now.datagrams.now) heard.now.times.now.of_datagrams) known.now }
     ensures participants { IfOk result (λ found. (intake : Intake) → IsIndexBy intake heard.now.index.now
         → map placed_value heard.now.announcements.now ≡ announcements_in intake.announcing
         → IsAnnouncedBy (acts_together intake.announcing) announced.now
@@ -108,26 +102,17 @@ pub(crate) fn discovered_in<'a>(
         → AreNotToldIn intake (map (λ datagram. datagram.now) heard.now.datagrams.now) heard.now.times.now.of_datagrams heard.now.directory.now
         (map not_told_value found.not_told.items)) }
     ensures lives { IfOk result (λ found. AreTwoLivesIn (map (λ datagram. datagram.now) heard.now.datagrams.now) heard.now.times.now.of_datagrams found.lives.items) }
-    ensures matches { IfOk result (λ found. (intake : Intake) → map placed_value heard.now.announcements.now ≡ announcements_in intake.announcing
-        → AreMatchesOf (acts_of_matching intake (map (λ datagram. datagram.now) heard.now.datagrams.now) heard.now.times.now.of_datagrams) found.matches) }
 {
-    let Walked {
-        namings,
-        known,
-        matches,
-    } = walk_all(alloc, heard.datagrams, heard.announcements, heard.times)?;
     let Attending {
         participants,
         visits,
     } = attend(alloc, announced, heard)?;
     let untold = known.untold(&visits, announced)?;
     let not_told = all_not_told(alloc, heard.directory, &untold)?;
-    let lives = lives_of(alloc, &known, heard.times)?;
+    let lives = lives_of(alloc, known, heard.times)?;
     Ok(Discovered {
         participants,
-        namings,
         not_told,
         lives,
-        matches,
     })
 }

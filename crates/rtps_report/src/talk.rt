@@ -14,6 +14,7 @@ ghost use Rattle.rtps_policies.specs.Silence.{Traffic as TrafficOf, silence_by};
 ghost use Rattle.rtps_policies.specs.Unmatched.{unmatched_value};
 ghost use Rattle.rtps_policies.specs.Unmatched as unmatched_spec;
 ghost use Rattle.rtps_receiver.specs.Values.{ActValue};
+ghost use Rattle.rtps_report.specs.Acquaintance.{IsAcquaintanceOf};
 ghost use Rattle.rtps_report.specs.Asked.{asked_value};
 ghost use Rattle.rtps_report.specs.BestEfforts.{counted_value};
 ghost use Rattle.rtps_report.specs.Ends.{end_value};
@@ -26,6 +27,7 @@ ghost use Rattle.std.specs.Option.{option_map};
 ghost use Rattle.rtps_report.specs.Talk.{AreCounted, AreUnfit, IsHeardIn, IsKeptOf, IsTalkOf, is_counted_by, is_counted_of, is_left_out_by, is_left_out_of, left_out_value, talk_value, traffic_of};
 ghost use Rattle.rtps_report.specs.Talk as talk_spec;
 
+use crate::acquaintance::Acquaintance;
 use crate::asked::Asked;
 use crate::best_effort::{
     BestEffort, Counted, HeldPair, arrived_among, held_among, sums_of, total_of,
@@ -370,8 +372,13 @@ fn unfit_in<'a>(
     Ok(unfit)
 }
 
-/// Who does not talk in a recording, of the topics that are asked for. `Memory` is answered where what is kept cannot grow.
-pub(crate) fn talk_in<'a>(alloc: Global, heard: &Heard<'_, 'a, '_, '_>) -> Result<Talk<'a>, Memory>
+/// Who does not talk in a recording, of the topics that are asked for, by who knows whom. `Memory` is answered where what is kept cannot grow.
+pub(crate) fn talk_in<'a>(
+    alloc: Global,
+    heard: &Heard<'_, 'a, '_, '_>,
+    acquaintance: Acquaintance<'_>,
+) -> Result<Talk<'a>, Memory>
+    requires { IsAcquaintanceOf (map (λ datagram. datagram.now) heard.now.datagrams.now) heard.now.times.now.of_datagrams acquaintance }
     ensures talks { IfOk result (λ talk. (other : Option OtherRecording)
         → IsHeardIn (intake_as Read (map (λ datagram. datagram.now) heard.now.datagrams.now)) other heard.now
         → IsTalkOf (asked_value heard.now.asked.now) other (map (λ datagram. datagram.now) heard.now.datagrams.now)
@@ -384,11 +391,15 @@ pub(crate) fn talk_in<'a>(alloc: Global, heard: &Heard<'_, 'a, '_, '_>) -> Resul
     let announced = announced_in(alloc, heard.announcements)?;
     let Discovered {
         participants,
-        namings,
         not_told,
         lives,
+    } = discovered_in(alloc, &announced, heard, &acquaintance.known)?;
+    let Acquaintance {
+        namings,
+        known: _,
         matches,
-    } = discovered_in(alloc, &announced, heard)?;
+        times: _,
+    } = acquaintance;
     let who = who_of(alloc, heard.announcements, heard.index, heard.directory)?;
     let unfit = unfit_in(&announced, &who, heard)?;
     let mut talk = Talk {

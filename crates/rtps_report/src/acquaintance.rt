@@ -1,37 +1,37 @@
-ghost use Rattle.std.specs.Prelude.{◌≡◌, ◌≤◌, ◌++◌, drop, filter, IfOk, length, List, OnOk, map, take};
-ghost use Rattle.rtps_audit.specs.Intake.{Intake};
-ghost use Rattle.rtps_audit.specs.Placed.{PlacedValue, placed_value};
+ghost use Rattle.std.specs.Prelude.{◌≡◌, ◌++◌, [], IfOk, List, OnOk, map};
+ghost use Rattle.rtps_audit.specs.Placed.{placed_value};
 ghost use Rattle.rtps_evidence.specs.UnansweredLaw as unanswered_law;
-ghost use Rattle.rtps_fragments.specs.Announcements.{announcements_in};
 ghost use Rattle.rtps_known.specs.Matched.{AreMatchesOf};
 ghost use Rattle.rtps_known.specs.Places.{PlacedAct};
 ghost use Rattle.rtps_known.specs.Recorded.{IsKnownOf};
 ghost use Rattle.rtps_known.specs.Tellings.{TimedAct};
 ghost use Rattle.rtps_policies.specs.Namings.{AreNamingsOf};
 ghost use Rattle.rtps_receiver.specs.Values.{spoken_value};
-ghost use Rattle.rtps_report.specs.ActsRead.{acts_at, datagrams_read, timed_acts};
-ghost use Rattle.rtps_report.specs.MatchingActs.{act_placed, acts_placed, of_datagram, run_of, run_past, samples_at, with_samples};
+ghost use Rattle.rtps_report.specs.Acquaintance.{HasHeard, acts_heard, samples_at, with_samples_at};
+ghost use Rattle.rtps_report.specs.ActsRead.{acts_at, datagrams_read};
+ghost use Rattle.rtps_report.specs.MatchingActs.{act_placed};
 ghost use Rattle.rtps_report.specs.MatchingActs as matching_acts;
-ghost use Rattle.rtps_report.specs.Talk.{acts_of_matching};
 
 use rtps_audit::{Placed, place};
 use rtps_evidence::Times;
-use rtps_fragments::FragmentWalk;
+use rtps_fragments::{FragmentWalk, Listen, ReadDatagram};
 use rtps_ids::Memory;
 use rtps_known::{Known, Matches, Place};
 use rtps_policies::Namings;
 use rtps_receiver::{Spoken, SpokenBody};
 use std::alloc::Global;
 
-/// What all acts of a recording say that are read, fragments among them.
+/// Who knows whom in a recording, by what the datagrams say that were heard, fragments among them.
 #[derive(Drop)]
-pub(crate) struct Walked {
+pub(crate) struct Acquaintance<'t> {
     /// Which participants name which.
     pub(crate) namings: Namings,
     /// What discovery has told whom.
     pub(crate) known: Known,
     /// When writers and readers matched.
     pub(crate) matches: Matches,
+    /// When the datagrams of the recording came.
+    pub(crate) times: &'t Times,
 }
 
 /// The number of a datagram, counted from 1, and when it came.
@@ -118,8 +118,8 @@ fn note_act(
     samples: &[Placed<'_>],
     came: Came,
 ) -> Result<(), Memory>
-    ensures { OnOk result ((before : List PlacedAct) (announcements : List PlacedValue) → map placed_value samples.now ≡ filter (of_datagram came.datagram) announcements
-        → AreMatchesOf before matches.old → AreMatchesOf (before ++ map (act_placed came) (with_samples announcements came.datagram (spoken_value act.now))) matches.new) }
+    ensures { OnOk result ((before : List PlacedAct) → AreMatchesOf before matches.old
+        → AreMatchesOf (before ++ map (act_placed came) (with_samples_at (map placed_value samples.now) (spoken_value act.now))) matches.new) }
 {
     matches.note(act, place_in(came, act))?;
     if is_data_frag(act) {
@@ -135,27 +135,13 @@ fn note_matches(
     samples: &[Placed<'_>],
     came: Came,
 ) -> Result<(), Memory>
-    ensures { OnOk result ((before : List PlacedAct) (announcements : List PlacedValue) → map placed_value samples.now ≡ filter (of_datagram came.datagram) announcements
-        → AreMatchesOf before matches.old → AreMatchesOf (before ++ acts_placed announcements came (map spoken_value acts.now)) matches.new) }
+    ensures { OnOk result ((before : List PlacedAct) → AreMatchesOf before matches.old
+        → AreMatchesOf (before ++ acts_heard came (map placed_value samples.now) (map spoken_value acts.now)) matches.new) }
 {
     for act in acts {
         note_act(matches, act, samples, came)?;
     }
     Ok(())
-}
-
-/// How many of these, from the first on, are of this datagram.
-fn run_length(placed: &[Placed<'_>], datagram: usize) -> usize
-    ensures within { result ≤ length placed.now }
-    ensures run { run_of datagram (map placed_value placed.now) ≡ map placed_value (take result placed.now) }
-    ensures past { run_past datagram (map placed_value placed.now) ≡ map placed_value (drop result placed.now) }
-{
-    for at in 0..placed.len() {
-        if placed[at].datagram != datagram {
-            return at;
-        }
-    }
-    placed.len()
 }
 
 /// Which participants of a recording, any datagrams, name which, by all acts that are read. `Memory` is answered where they
@@ -172,36 +158,31 @@ pub(crate) fn namings_of(alloc: Global, recording: &[&[u8]]) -> Result<Namings, 
     Ok(namings)
 }
 
-/// What a recording says, any datagrams, which came then. These are the DATA of its built-in writers. `Memory` is answered where what is kept
-/// cannot grow.
-pub(crate) fn walk_all(
-    alloc: Global,
-    recording: &[&[u8]],
-    announcements: &[Placed<'_>],
-    times: &Times,
-) -> Result<Walked, Memory>
-    ensures namings { IfOk result (λ walked. AreNamingsOf (datagrams_read (map (λ datagram. datagram.now) recording.now)) walked.namings) }
-    ensures known { IfOk result (λ walked. IsKnownOf (timed_acts (map (λ datagram. datagram.now) recording.now) times.now.of_datagrams) walked.known) }
-    ensures matches { IfOk result (λ walked. (intake : Intake) → map placed_value announcements.now ≡ announcements_in intake.announcing
-        → AreMatchesOf (acts_of_matching intake (map (λ datagram. datagram.now) recording.now) times.now.of_datagrams) walked.matches) }
-{
-    let mut namings = Namings::new(alloc);
-    let mut known = Known::new(alloc);
-    let mut matches = Matches::new(alloc);
-    let mut walk = FragmentWalk::new(alloc);
-    let mut first = 0;
-    for place in 0..recording.len() {
-        walk.read(recording[place])?;
-        let came = came_as(times, place as u64 + 1);
-        let last = first + run_length(&announcements[first..], place + 1);
-        namings.note(walk.acts())?;
-        note_known(&mut known, walk.acts(), came.time)?;
-        note_matches(&mut matches, walk.acts(), &announcements[first..last], came)?;
-        first = last;
+impl<'t> Acquaintance<'t> {
+    /// That of no datagrams, of a recording whose datagrams came then. It takes no memory.
+    pub(crate) fn new(alloc: Global, times: &'t Times) -> Acquaintance<'t>
+        ensures heard { HasHeard result [] result }
+        ensures times { result.times.now ≡ times.now }
+    {
+        Acquaintance {
+            namings: Namings::new(alloc),
+            known: Known::new(alloc),
+            matches: Matches::new(alloc),
+            times,
+        }
     }
-    Ok(Walked {
-        namings,
-        known,
-        matches,
-    })
+}
+
+impl Listen for Acquaintance<'_> {
+    ghost use Rattle.rtps_report.specs.Acquaintance.{HasHeard};
+
+    ghost has_heard = { HasHeard };
+
+    fn hear(&mut self, read: &ReadDatagram<'_, '_>) -> Result<(), Memory> {
+        let came = came_as(self.times, read.datagram as u64);
+        self.namings.note(read.acts)?;
+        note_known(&mut self.known, read.acts, came.time)?;
+        note_matches(&mut self.matches, read.acts, read.announcements, came)?;
+        Ok(())
+    }
 }

@@ -6,10 +6,11 @@ use Rattle.rtps_audit.specs.declared.placed.Placed.{Placed}
 use Rattle.rtps_known.specs.Matched.{AreMatchesOf}
 use Rattle.rtps_known.specs.Places.{PlacedAct}
 use Rattle.rtps_receiver.specs.Values.{spoken_value}
-use Rattle.rtps_report.specs.MatchingActs.{act_placed, samples_at}
+use Rattle.rtps_report.specs.Acquaintance.{samples_at}
+use Rattle.rtps_report.specs.MatchingActs.{act_placed}
 use Rattle.rtps_report.proofs.MatchingLemmas.{sample_more, sample_skip}
-use Rattle.rtps_report.proofs.naming_walk.note_samples.Goals as goal
-use Rattle.rtps_report.proofs.naming_walk.note_samples.Goals.{then-sample-act+in_ok-note, else-sample-act}
+use Rattle.rtps_report.proofs.acquaintance.note_samples.Goals as goal
+use Rattle.rtps_report.proofs.acquaintance.note_samples.Goals.{then-sample-act+in_ok-note, else-sample-act}
 
 pub loop-sample-preserved : goal.loop-sample-preserved
 loop-sample-preserved c =

@@ -3,7 +3,7 @@ use Rattle.rtps_known.specs.Recorded.{IsKnownOf}
 use Rattle.rtps_known.specs.Tellings.{TimedAct}
 use Rattle.rtps_receiver.specs.Values.{spoken_value}
 use Rattle.rtps_report.specs.ActsRead.{acts_at}
-use Rattle.rtps_report.proofs.naming_walk.note_known.Given as goal
+use Rattle.rtps_report.proofs.acquaintance.note_known.Given as goal
 
 -- that of the acts so far
 abbrev pub invariant-loop-act : goal.invariant-loop-act
