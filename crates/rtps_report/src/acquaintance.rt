@@ -1,15 +1,14 @@
 ghost use Rattle.std.specs.Prelude.{◌≡◌, ◌++◌, [], IfOk, List, OnOk, map};
-ghost use Rattle.rtps_audit.specs.Placed.{placed_value};
+ghost use Rattle.rtps_audit.specs.Placed as placed;
 ghost use Rattle.rtps_evidence.specs.UnansweredLaw as unanswered_law;
-ghost use Rattle.rtps_known.specs.Matched.{AreMatchesOf};
-ghost use Rattle.rtps_known.specs.Places.{PlacedAct};
-ghost use Rattle.rtps_known.specs.Recorded.{IsKnownOf};
-ghost use Rattle.rtps_known.specs.Tellings.{TimedAct};
-ghost use Rattle.rtps_policies.specs.Namings.{AreNamingsOf};
-ghost use Rattle.rtps_receiver.specs.Values.{spoken_value};
-ghost use Rattle.rtps_report.specs.Acquaintance.{HasHeard, acts_heard, samples_at, with_samples_at};
-ghost use Rattle.rtps_report.specs.ActsRead.{acts_at, datagrams_read};
-ghost use Rattle.rtps_report.specs.MatchingActs.{act_placed};
+ghost use Rattle.rtps_known.specs.Matched as matched;
+ghost use Rattle.rtps_known.specs.Places as places;
+ghost use Rattle.rtps_known.specs.Recorded as recorded;
+ghost use Rattle.rtps_known.specs.Tellings as tellings;
+ghost use Rattle.rtps_policies.specs.Namings as namings_spec;
+ghost use Rattle.rtps_receiver.specs.Values as values;
+ghost use Rattle.rtps_report.specs.Acquaintance as acquaintance;
+ghost use Rattle.rtps_report.specs.ActsRead as acts_read;
 ghost use Rattle.rtps_report.specs.MatchingActs as matching_acts;
 
 use rtps_audit::{Placed, place};
@@ -53,8 +52,8 @@ fn came_as(times: &Times, datagram: u64) -> Came
 
 /// Keeps what the acts of a datagram say of discovery, which came then. After `Memory` it is of no use.
 fn note_known(known: &mut Known, acts: &[Spoken<'_>], time: Option<u64>) -> Result<(), Memory>
-    ensures { OnOk result ((before : List TimedAct) → IsKnownOf before known.old
-        → IsKnownOf (before ++ acts_at time (map spoken_value acts.now)) known.new) }
+    ensures { OnOk result ((before : List tellings.TimedAct) → recorded.IsKnownOf before known.old
+        → recorded.IsKnownOf (before ++ acts_read.acts_at time (map values.spoken_value acts.now)) known.new) }
 {
     for act in acts {
         known.note(act, time)?;
@@ -64,7 +63,7 @@ fn note_known(known: &mut Known, acts: &[Spoken<'_>], time: Option<u64>) -> Resu
 
 /// Where an act stands.
 fn place_in(came: Came, act: &Spoken<'_>) -> Place
-    ensures { result ≡ (act_placed came (spoken_value act.now)).place }
+    ensures { result ≡ (matching_acts.act_placed came (values.spoken_value act.now)).place }
 {
     Place {
         datagram: came.datagram,
@@ -74,7 +73,7 @@ fn place_in(came: Came, act: &Spoken<'_>) -> Place
 }
 
 fn is_data_frag(act: &Spoken<'_>) -> bool
-    ensures { result ≡ unanswered_law.is_data_frag (spoken_value act.now).body }
+    ensures { result ≡ unanswered_law.is_data_frag (values.spoken_value act.now).body }
 {
     match &act.body {
         SpokenBody::Act(_) | SpokenBody::NackFrag(_) => false,
@@ -84,7 +83,7 @@ fn is_data_frag(act: &Spoken<'_>) -> bool
 
 /// A sample, for those to whom the act is sent that completes it.
 fn sent_as<'a>(act: &Spoken<'_>, sample: &Placed<'a>) -> Spoken<'a>
-    ensures { spoken_value result ≡ matching_acts.sent_as (spoken_value act.now) (placed_value sample.now).act }
+    ensures { values.spoken_value result ≡ matching_acts.sent_as (values.spoken_value act.now) (placed.placed_value sample.now).act }
 {
     let copy = place(sample.datagram, &sample.act);
     Spoken {
@@ -100,8 +99,8 @@ fn note_samples(
     samples: &[Placed<'_>],
     came: Came,
 ) -> Result<(), Memory>
-    ensures { OnOk result ((before : List PlacedAct) → AreMatchesOf before matches.old
-        → AreMatchesOf (before ++ map (act_placed came) (samples_at (spoken_value act.now) (map placed_value samples.now))) matches.new) }
+    ensures { OnOk result ((before : List places.PlacedAct) → matched.AreMatchesOf before matches.old
+        → matched.AreMatchesOf (before ++ map (matching_acts.act_placed came) (acquaintance.samples_at (values.spoken_value act.now) (map placed.placed_value samples.now))) matches.new) }
 {
     for sample in samples {
         if sample.act.at == act.at {
@@ -118,8 +117,8 @@ fn note_act(
     samples: &[Placed<'_>],
     came: Came,
 ) -> Result<(), Memory>
-    ensures { OnOk result ((before : List PlacedAct) → AreMatchesOf before matches.old
-        → AreMatchesOf (before ++ map (act_placed came) (with_samples_at (map placed_value samples.now) (spoken_value act.now))) matches.new) }
+    ensures { OnOk result ((before : List places.PlacedAct) → matched.AreMatchesOf before matches.old
+        → matched.AreMatchesOf (before ++ map (matching_acts.act_placed came) (acquaintance.with_samples_at (map placed.placed_value samples.now) (values.spoken_value act.now))) matches.new) }
 {
     matches.note(act, place_in(came, act))?;
     if is_data_frag(act) {
@@ -135,8 +134,8 @@ fn note_matches(
     samples: &[Placed<'_>],
     came: Came,
 ) -> Result<(), Memory>
-    ensures { OnOk result ((before : List PlacedAct) → AreMatchesOf before matches.old
-        → AreMatchesOf (before ++ acts_heard came (map placed_value samples.now) (map spoken_value acts.now)) matches.new) }
+    ensures { OnOk result ((before : List places.PlacedAct) → matched.AreMatchesOf before matches.old
+        → matched.AreMatchesOf (before ++ acquaintance.acts_heard came (map placed.placed_value samples.now) (map values.spoken_value acts.now)) matches.new) }
 {
     for act in acts {
         note_act(matches, act, samples, came)?;
@@ -147,7 +146,7 @@ fn note_matches(
 /// Which participants of a recording, any datagrams, name which, by all acts that are read. `Memory` is answered where they
 /// cannot grow.
 pub(crate) fn namings_of(alloc: Global, recording: &[&[u8]]) -> Result<Namings, Memory>
-    ensures { IfOk result (AreNamingsOf (datagrams_read (map (λ datagram. datagram.now) recording.now))) }
+    ensures { IfOk result (namings_spec.AreNamingsOf (acts_read.datagrams_read (map (λ datagram. datagram.now) recording.now))) }
 {
     let mut namings = Namings::new(alloc);
     let mut walk = FragmentWalk::new(alloc);
@@ -161,7 +160,7 @@ pub(crate) fn namings_of(alloc: Global, recording: &[&[u8]]) -> Result<Namings, 
 impl<'t> Acquaintance<'t> {
     /// That of no datagrams, of a recording whose datagrams came then. It takes no memory.
     pub(crate) fn new(alloc: Global, times: &'t Times) -> Acquaintance<'t>
-        ensures heard { HasHeard result [] result }
+        ensures heard { acquaintance.HasHeard result [] result }
         ensures times { result.times.now ≡ times.now }
     {
         Acquaintance {
@@ -174,9 +173,7 @@ impl<'t> Acquaintance<'t> {
 }
 
 impl Listen for Acquaintance<'_> {
-    ghost use Rattle.rtps_report.specs.Acquaintance.{HasHeard};
-
-    ghost has_heard = { HasHeard };
+    ghost has_heard = { acquaintance.HasHeard };
 
     fn hear(&mut self, read: &ReadDatagram<'_, '_>) -> Result<(), Memory> {
         let came = came_as(self.times, read.datagram as u64);
