@@ -2,7 +2,7 @@
 
 use crate::fault::Fault;
 use crate::recording::{datagrams, read};
-use rtps_audit::{Row, Unwatched, Verdict};
+use rtps_audit::{Index, Unwatched, Verdict};
 use rtps_discovery::Pair;
 use rtps_evidence::{
     ExplainedRows, Extent, InSpan, KindNumbers, LostNumbers, Sides, Times, explain_pairs,
@@ -16,10 +16,9 @@ use std::fmt::Write;
 pub(crate) fn tell(alloc: Global, name: &str, input: &str, text: &mut String) -> Result<(), Fault> {
     let pair = pair_named(alloc, name)?;
     let octets = read(alloc, input)?;
-    let recording = datagrams(alloc, &octets)?;
     let mut last = String::new(alloc);
-    for count in 1..=recording.len() {
-        let line = state_of(alloc, &recording[..count], pair)?;
+    for count in 1..=octets.len() {
+        let line = state_of(alloc, &octets[..count], pair)?;
         if line != last {
             writeln!(text, "{count}: {line}")?;
             last = line;
@@ -50,13 +49,19 @@ fn guid_named(alloc: Global, digits: &str) -> Result<Guid, Fault> {
     })
 }
 
-/// What a recording says of a pair, in a line.
-fn state_of(alloc: Global, recording: &[&[u8]], pair: Pair) -> Result<String, Fault> {
+/// What the recording of these datagrams says of a pair, in a line.
+fn state_of(alloc: Global, octets: &[Vec<u8>], pair: Pair) -> Result<String, Fault> {
+    let recording = datagrams(alloc, octets)?;
     let mut samples = Samples::none(alloc);
-    let indexed = index_as(alloc, recording, Fragments::Read, &mut samples)?;
+    let indexed = index_as(alloc, &recording, Fragments::Read, &mut samples)?;
+    line_of(alloc, &indexed.index, pair)
+}
+
+/// What an index says of a pair, in a line.
+fn line_of(alloc: Global, index: &Index<'_>, pair: Pair) -> Result<String, Fault> {
     let times = Times::none(alloc);
     let sides = Sides {
-        index: &indexed.index,
+        index,
         other: None,
         times: &times,
     };
@@ -64,8 +69,7 @@ fn state_of(alloc: Global, recording: &[&[u8]], pair: Pair) -> Result<String, Fa
         from: SeqNum::first(),
         in_spans: true,
     };
-    let known: [Row; 0] = [];
-    let found = explain_pairs(alloc, &sides, &[pair], &known, extent, &mut Unwatched)?;
+    let found = explain_pairs(alloc, &sides, &[pair], &[], extent, &mut Unwatched)?;
     let mut line = String::new(alloc);
     push_state(&found, &mut line)?;
     Ok(line)
