@@ -130,36 +130,6 @@ impl<'a> Heard<'a> {
         self.advance(last)
     }
 
-    /// Whether these octets came first for a fragment.
-    fn has_first(&self, index: u64, octets: &[u8]) -> bool
-        requires { 0 < index }
-        ensures { result ≡ is_octets (kept_first self.now index) octets.now }
-    {
-        match self.first(index) {
-            Some(first) => first == octets,
-            None => false,
-        }
-    }
-
-    /// Whether these came first for each of consecutive fragments of a sample of this shape.
-    pub(crate) fn knows(&self, shape: Shape, fragments: &FragmentRun<'_>) -> bool
-        requires size { 0 < shape.fragment }
-        requires first { 0 < fragments.now.first }
-        ensures { (last : ℕ) (came : List (ℕ × List ℕ)) → IsHeard last came self.now
-            → result ≡ list_all (came_first came) (came_from fragments.now.first (parts_in shape.fragment fragments.now.count fragments.now.octets.now)) }
-    {
-        let size = usize::from(shape.fragment);
-        let mut rest = fragments.octets;
-        for place in 0..fragments.count {
-            let (octets, behind) = rest.split_at(size.min(rest.len()));
-            if !self.has_first(u64::from(fragments.first) + u64::from(place), octets) {
-                return false;
-            }
-            rest = behind;
-        }
-        true
-    }
-
     /// How many samples can be put together: none where some fragment did not come, two where one came with other octets.
     pub(crate) fn count(&self, last: u64) -> usize
         requires { 0 < last }
@@ -244,19 +214,33 @@ impl<'a> Heard<'a> {
         self.count(last) > 0
     }
 
-    /// Whether the octets are those of a sample of this shape that can be put together.
-    pub(crate) fn has(&self, shape: Shape, octets: &[u8]) -> Result<bool, Memory>
-        requires size { 0 < shape.fragment }
-        requires some { 0 < last_fragment shape }
-        ensures { IfOk result (λ has. (came : List (ℕ × List ℕ)) → IsHeard (last_fragment shape) came self.now → has ≡ list_any (bytes_eq octets.now) (samples_of (last_fragment shape) came)) }
-    {
-        for place in 0..self.count(shape.last_fragment()) {
-            let sample = self.sample(shape, place)?;
-            if octets == sample.as_slice() {
-                return Ok(true);
-            }
+    /// Whether the same samples of so many fragments can be put together of what another reader heard.
+    pub(crate) fn is_alike(&self, other: &Heard<'a>, last: u64) -> bool {
+        self.count(last) == other.count(last)
+            && self.front == other.front
+            && self.other == other.other
+            && self.octets == other.octets
+    }
+
+    /// Appends the samples that can be put together, but for so many, as told to an audience.
+    pub(crate) fn push_told(
+        &self,
+        sent: &SentFragments<'_>,
+        before: usize,
+        audience: Audience,
+        told: &mut Vec<ToldSample>,
+    ) -> Result<(), Memory> {
+        let shape = sent.key.shape();
+        for place in before..self.count(shape.last_fragment()) {
+            let octets = self.sample(shape, place)?;
+            told.push(ToldSample {
+                act: sent.act,
+                audience,
+                is_key: sent.key.is_key,
+                octets,
+            })?;
         }
-        Ok(false)
+        Ok(())
     }
 
     /// Takes fragments that are sent to this audience, and appends the samples that they tell: those that could not be put
@@ -273,20 +257,8 @@ impl<'a> Heard<'a> {
         ensures told { OnOk result ((came : List (ℕ × List ℕ)) → IsHeard (last_fragment (shape_of sent.now.key)) came self.old
             → map told_value told.new.items ≡ map told_value told.old.items ++ told_by_sent (sent_value sent.now) audience came) }
     {
-        let shape = sent.key.shape();
-        let last = shape.last_fragment();
-        let before = self.count(last);
-        self.take_all(shape, &sent.fragments)?;
-        let after = self.count(last);
-        for place in before..after {
-            let octets = self.sample(shape, place)?;
-            told.push(ToldSample {
-                act: sent.act,
-                audience,
-                is_key: sent.key.is_key,
-                octets,
-            })?;
-        }
-        Ok(())
+        let before = self.count(sent.key.shape().last_fragment());
+        self.take_sent(sent)?;
+        self.push_told(sent, before, audience, told)
     }
 }

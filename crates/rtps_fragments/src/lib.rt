@@ -5,13 +5,15 @@ mod announcements;
 mod fragment_walk;
 mod fragments;
 mod heard;
+mod hearers;
 pub mod laws;
-mod listeners;
 mod making;
 mod merging;
 mod piece;
+mod readers;
 mod sample_index;
 mod samples;
+mod telling;
 mod told_sample;
 mod whole;
 

@@ -174,7 +174,11 @@ pub fn index_as<'s>(
     if start.datagrams == recording.len() {
         return Ok(start.indexed);
     }
-    *samples = Samples::of(alloc, &recording[start.datagrams..])?;
+    *samples = Samples::of(
+        alloc,
+        &recording[start.datagrams..],
+        &start.indexed.announcements,
+    )?;
     index_behind(alloc, start, recording, samples)
 }
 

@@ -3,10 +3,14 @@ ghost use Rattle.rtps_fragments.specs.RecordedSamples.{AreSamplesOf};
 ghost use Rattle.rtps_fragments.specs.ToldSamples.{told_value};
 
 use crate::fragment_walk::FragmentWalk;
-use crate::making::{Makings, Told};
+use crate::making::Makings;
+use crate::merging::{SampleForm, merge};
+use crate::readers::Readers;
+use crate::telling::Tellings;
 use crate::told_sample::ToldSample;
 use crate::whole::WholeNumbers;
-use rtps_ids::Memory;
+use rtps_audit::Placed;
+use rtps_ids::{Guid, Memory};
 use std::alloc::Global;
 
 /// The samples that the DATA_FRAG of a recording tell, put together, for each datagram those that its acts tell.
@@ -17,6 +21,18 @@ pub struct Samples {
     pub(crate) overheard: Vec<Vec<ToldSample>>,
     /// The numbers of which some sample is ever whole.
     pub(crate) whole: WholeNumbers,
+}
+
+/// Notes the readers that a datagram announces, by its acts and the samples of built-in writers.
+fn note_readers(
+    alloc: Global,
+    readers: &mut Readers,
+    walk: &FragmentWalk<'_>,
+    told: &[ToldSample],
+) -> Result<(), Memory> {
+    let mut announcing = Vec::new(alloc);
+    merge(&mut announcing, SampleForm::ForEveryone, &walk.acts, told)?;
+    readers.note_all(&announcing)
 }
 
 impl Samples {
@@ -31,32 +47,54 @@ impl Samples {
         }
     }
 
-    /// Adds those of one datagram more. After `Memory` it is of no use.
-    fn add(&mut self, told: Told) -> Result<(), Memory>
-        ensures told { OnOk result (map (λ told. map told_value told.items) self.new.told.items
-            ≡ map (λ told. map told_value told.items) self.old.told.items ++ map told_value told.heard.items ∷ []) }
-        ensures overheard { OnOk result (map (λ told. map told_value told.items) self.new.overheard.items
-            ≡ map (λ told. map told_value told.items) self.old.overheard.items ++ map told_value told.overheard.items ∷ []) }
-    {
-        let Told { heard, overheard } = told;
-        self.told.push(heard)?;
-        self.overheard.push(overheard)?;
-        Ok(())
-    }
-
-    /// Puts the samples of a recording together, any datagrams in the order of sending. The octets of each are read once.
-    /// `Memory` is answered where there is none for them.
-    pub fn of(alloc: Global, recording: &[&[u8]]) -> Result<Samples, Memory>
-        ensures { IfOk result (AreSamplesOf (map (λ datagram. datagram.now) recording.now)) }
-    {
-        let mut samples = Samples::none(alloc);
+    /// Adds what is put together of all that datagrams send, whoever hears it, and says which readers there are, with those that these acts
+    /// announce. After `Memory` it is of no use.
+    fn overhear(
+        &mut self,
+        alloc: Global,
+        recording: &[&[u8]],
+        announcements: &[Placed<'_>],
+    ) -> Result<Vec<Guid>, Memory> {
+        let mut readers = Readers::new(alloc);
+        readers.note_placed(announcements)?;
         let mut makings = Makings::new(alloc);
         let mut walk = FragmentWalk::new(alloc);
         for datagram in recording {
             walk.read(datagram)?;
-            samples.add(makings.take_all(&walk.sents)?)?;
+            let told = makings.take_all(&walk.sents)?;
+            note_readers(alloc, &mut readers, &walk, &told)?;
+            self.overheard.push(told)?;
         }
-        samples.whole = makings.take_whole();
+        self.whole = makings.take_whole();
+        readers.list()
+    }
+
+    /// Adds the samples that datagrams tell these readers. After `Memory` it is of no use.
+    fn tell(
+        &mut self,
+        alloc: Global,
+        recording: &[&[u8]],
+        readers: &[Guid],
+    ) -> Result<(), Memory> {
+        let mut tellings = Tellings::new(alloc, readers);
+        let mut walk = FragmentWalk::new(alloc);
+        for datagram in recording {
+            walk.read(datagram)?;
+            self.told.push(tellings.take_all(&walk.sents)?)?;
+        }
+        Ok(())
+    }
+
+    /// Puts the samples of a recording together, any datagrams in the order of sending. The octets of each are read twice.
+    /// `Memory` is answered where there is none for them.
+    pub(crate) fn of(
+        alloc: Global,
+        recording: &[&[u8]],
+        announcements: &[Placed<'_>],
+    ) -> Result<Samples, Memory> {
+        let mut samples = Samples::none(alloc);
+        let readers = samples.overhear(alloc, recording, announcements)?;
+        samples.tell(alloc, recording, &readers)?;
         Ok(samples)
     }
 }
