@@ -25,7 +25,7 @@ use Rattle.rtps_fragments.specs.Announcing.{announcing_with, notes_told}
 use Rattle.rtps_fragments.specs.FragmentDelivery.{Piece}
 use Rattle.rtps_fragments.specs.Laws.{ArePieceActs, IsPieceAct}
 use Rattle.rtps_fragments.specs.Merging.{IsFragmentAct, merged_from, sents_from, sents_in}
-use Rattle.rtps_fragments.specs.RecordedSamples.{by_datagram, tally_with}
+use Rattle.rtps_fragments.specs.RecordedSamples.{by_datagram, tally_with, readers_of}
 use Rattle.rtps_fragments.specs.SampleActs.{PieceAct, acts_and, acts_with_samples, piece_acts_in, samples_told}
 use Rattle.rtps_wire.specs.FragmentItem.{asks_at, fragments_at}
 use Rattle.rtps_fragments.specs.FragmentWalk.{piece_acts_of, piece_acts_of_item, piece_acts_with, piece_of, sending_of, skipped_acts, unusable_in}
@@ -127,7 +127,7 @@ abbrev pub taken : List (Bor (List ℕ)) → ℕ → Intake
 taken xs i =
     record {
       tallies = map (tally_with (piece_acts_in (sending_of (octets_of xs)))) (octets_of (take i xs));
-      acts = acts_with_samples (sending_of (octets_of (take i xs)));
+      acts = acts_with_samples (readers_of (octets_of xs)) (sending_of (octets_of (take i xs)));
       announcing = announcing_with (sending_of (octets_of (take i xs)));
     }
 
@@ -175,14 +175,15 @@ module _ (xs : List (Bor (List ℕ))) (i : ℕ) (d : Bor (List ℕ)) (lt : i < l
       ap (λ ys. map f (octets_of ys)) (take_more xs i d lt) ∙ ap (map f) (map-append (λ (datagram : Bor (List ℕ)). datagram.now) (take i xs) (get_or xs i d ∷ [])) ∙ map-append f (octets_of (take i xs)) (octets ∷ [])
 
   -- what is taken in, with one datagram more
-  pub taken_more : (told noted : List ToldValue) → slice_get (by_datagram told_behind [] (sending_of (octets_of xs))) i ≡ Some told
+  pub taken_more : (told noted : List ToldValue) → slice_get (by_datagram (told_behind (readers_of (octets_of xs))) [] (sending_of (octets_of xs))) i ≡ Some told
       → slice_get (by_datagram overheard_behind [] (sending_of (octets_of xs))) i ≡ Some noted
       → intake_more (taken xs i) (tally_left (sents_in (sending_of (octets_of xs))) (get_or xs i d).now) (merged_from ForAudience 0 (map (λ one. one.act) (piece_acts_of (get_or xs i d).now)) told) (merged_from ForEveryone 0 (map (λ one. one.act) (piece_acts_of (get_or xs i d).now)) noted) ≡ taken xs (i + 1)
   taken_more told noted at also =
+      let readers = readers_of (octets_of xs) in
       let announced = merged_from ForEveryone 0 (map (λ (one : PieceAct). one.act) (piece_acts_of octets)) noted in
       let one : List Tally → Intake = λ t. record { tallies = t; acts = (taken xs i).acts ++ merged_from ForAudience 0 (map (λ (one : PieceAct). one.act) (piece_acts_of octets)) told ∷ []; announcing = (taken xs i).announcing ++ announced ∷ [] } in
       let two : List (List ActValue) → Intake = λ a. record { tallies = (taken xs (i + 1)).tallies; acts = a; announcing = (taken xs i).announcing ++ announced ∷ [] } in
       let three : List (List ActValue) → Intake = λ a. record { tallies = (taken xs (i + 1)).tallies; acts = (taken xs (i + 1)).acts; announcing = a } in
       ap one (ap (λ t. (taken xs i).tallies ++ t ∷ []) tallied_here ∙ sym (read_next (tally_with (piece_acts_in sending))))
-      ∙ ap two (ap (λ a. (taken xs i).acts ++ a ∷ []) (merged_here ForAudience told_behind samples_told told_as_samples told at) ∙ sym (ap acts_with_samples (sending_next xs i d lt) ∙ next_acts samples_told [] (sending_of (octets_of (take i xs))) (piece_acts_of octets)))
+      ∙ ap two (ap (λ a. (taken xs i).acts ++ a ∷ []) (merged_here ForAudience (told_behind readers) (samples_told readers) (told_as_samples readers) told at) ∙ sym (ap (acts_with_samples readers) (sending_next xs i d lt) ∙ next_acts (samples_told readers) [] (sending_of (octets_of (take i xs))) (piece_acts_of octets)))
       ∙ ap three (ap (λ a. (taken xs i).announcing ++ a ∷ []) (merged_here ForEveryone overheard_behind notes_told noted_as_samples noted also) ∙ sym (ap announcing_with (sending_next xs i d lt) ∙ next_acts notes_told [] (sending_of (octets_of (take i xs))) (piece_acts_of octets)))

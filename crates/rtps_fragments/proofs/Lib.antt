@@ -11,7 +11,7 @@ pub mod AlikeBySamples
 pub mod SamplesTell
 pub mod Audiences
 pub mod HeardLemmas
-pub mod AudienceNewsLemmas
+pub mod HearingLemmas
 pub mod SampleActLemmas
 pub mod ActsAnd
 pub mod ActsTell
@@ -20,7 +20,6 @@ pub mod Noted
 pub mod FewFragments
 pub mod SamplesAlone
 pub mod KeptLemmas
-pub mod ListenerLemmas
 pub mod OkLemmas
 pub mod ToldSampleLemmas
 pub mod OverheardLemmas

@@ -14,7 +14,7 @@ use Rattle.rtps_audit.specs.Speech.{announced_of_body}
 use Rattle.rtps_audit.proofs.Offered.{contains_head, contains_mapped, contains_none, contains_tail}
 use Rattle.rtps_fragments.specs.Heard.{came_from}
 use Rattle.rtps_fragments.specs.FragmentDelivery.{Piece, Shape, last_fragment, payload_by}
-use Rattle.rtps_fragments.specs.Listeners.{Offer, hearing_of, tells}
+use Rattle.rtps_fragments.specs.Hearing.{Offer, tells}
 use Rattle.rtps_fragments.specs.Merging.{IsFragmentAct, act_as, acts_told, key_of, merged_from, run_of, run_past, sent_in, sents_from, sents_in}
 use Rattle.rtps_fragments.specs.Samples.{is_of}
 use Rattle.rtps_fragments.specs.SampleActs.{PieceAct, act_of_told, acts_and, offered, offers_of, piece_acts_in, samples_told, sent_to_whom}
@@ -195,18 +195,18 @@ module _ (form : SampleForm) (tell : List SentValue → SentValue → List ToldV
       rest_at : (told : ToldValue) → Contains (in_turn tell (sents ++ sent_in i one.act one.piece) (sents_from (suc i) acts)) told → i < told.act
       rest_at told among = let (from, there, is) = told_from_sent (sents ++ sent_in i one.act one.piece) (sents_from (suc i) acts) told among in let le = sent_behind (suc i) acts from there in omega arith
 
--- listeners are told so
-pub told_as_samples : TellsAs ForAudience told_behind samples_told
-told_as_samples = record {
+-- readers are told so
+pub told_as_samples : (readers : List Guid) → TellsAs ForAudience (told_behind readers) (samples_told readers)
+told_as_samples readers = record {
   own = λ before sents so_far i one piece frag.
       let last = last_fragment piece.shape in
       let told : Offer → Type 0 = λ o. Unit {0} in
-      let each = tells last (hearing_of (offers (key_of one.act piece) sents)) (offered one.act piece) in
+      let each = tells readers last (offers (key_of one.act piece) sents) (offered one.act piece) in
       map_map (act_told ForAudience one.act) (λ p. let t : ToldValue = record { act = i; audience = p.0; payload = payload_by piece.shape p.1 } in t) each
       ∙ ap (λ n. map (λ p. act_as ForAudience one.act n (record { act = i; audience = p.0; payload = payload_by piece.shape p.1 })) each) (number_is one piece frag)
-      ∙ ap (λ (os : List Offer). map (act_of_told one.act piece) (tells last (hearing_of os) (offered one.act piece))) (so_far (key_of one.act piece));
+      ∙ ap (λ (os : List Offer). map (act_of_told one.act piece) (tells readers last os (offered one.act piece))) (so_far (key_of one.act piece));
   none = λ before act. refl;
   place = λ sents sent told among.
-      let (one, there, is) = contains_mapped (λ p. let t : ToldValue = record { act = sent.act; audience = p.0; payload = payload_by (shape_of sent.key) p.1 } in t) (tells (last_fragment (shape_of sent.key)) (hearing_of (offers sent.key sents)) (offer_of sent)) told among in
+      let (one, there, is) = contains_mapped (λ p. let t : ToldValue = record { act = sent.act; audience = p.0; payload = payload_by (shape_of sent.key) p.1 } in t) (tells readers (last_fragment (shape_of sent.key)) (offers sent.key sents) (offer_of sent)) told among in
       ap (λ (t : ToldValue). t.act) (sym is);
 }

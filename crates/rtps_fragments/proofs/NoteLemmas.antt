@@ -12,7 +12,7 @@ use Rattle.rtps_fragments.specs.Announcing.{announcing_with, is_built_in, notes_
 use Rattle.rtps_fragments.specs.Heard.{came_from}
 use Rattle.rtps_fragments.specs.FragmentDelivery.{Fragment, Piece, last_fragment, payload_by}
 use Rattle.rtps_fragments.specs.Laws.{HasNoPieces}
-use Rattle.rtps_fragments.specs.Listeners.{Offer, everyone}
+use Rattle.rtps_fragments.specs.Hearing.{Offer, everyone}
 use Rattle.rtps_fragments.specs.Merging.{key_of}
 use Rattle.rtps_fragments.specs.Samples.{came_of, told_by}
 use Rattle.rtps_fragments.specs.SampleActs.{PieceAct, offers_of}

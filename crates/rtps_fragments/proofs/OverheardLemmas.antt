@@ -3,7 +3,7 @@ use Rattle.std.proofs.lemmas.Grind.{common_steps}
 use Rattle.std.proofs.lemmas.Bool.Decides.{nat_tests}
 use Rattle.std.proofs.Common.{◌≡◌, false, cond, List, [], ◌∷◌, ◌++◌, map, refl, ◌∙◌, ap, append-nil, arith}
 use Rattle.std.specs.List.{flat_map}
-use Rattle.rtps_fragments.specs.Listeners.{Offer}
+use Rattle.rtps_fragments.specs.Hearing.{Offer}
 use Rattle.rtps_fragments.specs.ToldSamples.{SentValue, is_sample, offer_of, offers, overheard, sent_of}
 use Rattle.rtps_fragments.specs.declared.piece.SampleKey.{SampleKey}
 

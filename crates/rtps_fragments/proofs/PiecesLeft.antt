@@ -33,8 +33,8 @@ pub verdict_stays : FragmentVerdictOfActs → ActsStayWithoutPieces → VerdictS
 verdict_stays of_acts stay from writer reader recording verdict none =
     subst (λ acts. (IsFragmentVerdictFrom from (fragment_speech_of writer reader recording) verdict → IsVerdictFrom from (speech_by writer reader acts) verdict)
     × (IsVerdictFrom from (speech_by writer reader acts) verdict → IsFragmentVerdictFrom from (fragment_speech_of writer reader recording) verdict))
-    (stay recording none)
-    (of_acts from writer reader recording verdict (no_parts recording none))
+    (stay (reader ∷ []) recording none)
+    (of_acts from writer reader (reader ∷ []) recording verdict (contains_head reader []) (no_parts recording none))
 
 -- ---- pieces of no sample
 

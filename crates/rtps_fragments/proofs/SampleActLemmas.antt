@@ -19,12 +19,12 @@ use Rattle.rtps_audit.specs.Speech.{word_for, word_of}
 use Rattle.rtps_audit.proofs.Offered.{contains_cases, contains_head, contains_mapped, contains_none, contains_tail, if_some, kept_is_there, mapped_contains}
 use Rattle.rtps_fragments.specs.Heard.{came_from}
 use Rattle.rtps_fragments.specs.FragmentDelivery.{Fragment, Piece, Shape, fragments_from, fragments_of, last_fragment, payload_by}
-use Rattle.rtps_fragments.specs.Listeners.{Offer, came_to, hearing_of, hears, is_for_audience, silence, tells}
+use Rattle.rtps_fragments.specs.Hearing.{Offer, came_to, has_reader, tells}
 use Rattle.rtps_fragments.specs.Samples.{came_of, is_of, samples_of}
 use Rattle.rtps_fragments.specs.SampleActs.{PieceAct, act_of_told, acts_and_samples, acts_of_sample, fragments_in, is_piece_of, offered, offered_by, offers_of, sample_act, samples_told, sent_to_whom}
-use Rattle.rtps_fragments.proofs.Audiences.{flat_from, hears-more, sound_of}
+use Rattle.rtps_fragments.proofs.Audiences.{flat_from}
 use Rattle.rtps_fragments.proofs.HeardLemmas.{heard-cons, heard_of, heard_one}
-use Rattle.rtps_fragments.proofs.AudienceNewsLemmas.{AllTold, ToldNow, all_told, has_reader, heard_by, kept_passes, news_sent, told_is_put, wide_has}
+use Rattle.rtps_fragments.proofs.HearingLemmas.{AllTold, ToldNow, all_told, kept_passes, told_is_made}
 use Rattle.rtps_fragments.proofs.ToldLemmas.{IsPut, fragment_of, if_then, none_came, own_shape, same_sample}
 
 -- ---- who speaks
@@ -158,11 +158,11 @@ module _ (writer reader : Guid) where
   hears_part part = is_spoken_by part.act writer && is_heard_by part.act reader
 
   -- the fragments of a sample that the reader hears are those that are offered to it
-  pub heard_is : (n : ℕ) (shape : Shape) (parts : List PieceAct) → NamesAll parts → filter_map (came_of n shape) (heard_of hears_part parts) ≡ heard_by reader (offers_of writer n shape parts)
+  pub heard_is : (n : ℕ) (shape : Shape) (parts : List PieceAct) → NamesAll parts → filter_map (came_of n shape) (heard_of hears_part parts) ≡ came_to reader (offers_of writer n shape parts)
   heard_is n shape parts names_all =
       came_is_offered writer n shape hears_part (λ audience. has_reader audience reader) parts (λ part piece among is. ap (λ b. is_spoken_by part.act writer && b) (sym (heard_alike part.act reader (names_all part piece among is).1)))
 
-  -- ---- what the reader can put together is told to it
+  -- ---- what the reader can put together is told to it, where it is one of these
 
   sample_word : (act : ActValue) (number : ℕ) (audience : Audience) (payload : PayloadValue) (n : ℕ) → is_spoken_by (sample_act act number audience payload) writer ≡ true
       → is_among audience.dest (Some audience.reader) reader ≡ true → number ≡ n → word_for writer reader (sample_act act number audience payload) n ≡ Some (Told payload)
@@ -172,82 +172,79 @@ module _ (writer reader : Guid) where
   abbrev pub TellsReader : List ActValue → ℕ → PayloadValue → Type 0
   TellsReader acts n payload = (act : ActValue) × Contains acts act × (word_for writer reader act n ≡ Some (Told payload))
 
+module _ (writer reader : Guid) (readers : List Guid) (known : Contains readers reader) where
   -- what an act tells, as an act
   own_told : (before : List PieceAct) (part : PieceAct) (piece : Piece) → NamesItsWriter part.act → is_spoken_by part.act writer ≡ true → (octets : List ℕ)
-      → ToldNow (last_fragment piece.shape) reader (hearing_of (offers_of writer piece.number piece.shape before)) (offered part.act piece) octets → TellsReader (samples_told before part.act (Some piece)) piece.number (payload_by piece.shape octets)
+      → ToldNow readers (last_fragment piece.shape) reader known (offers_of writer piece.number piece.shape before) (offered part.act piece) octets → TellsReader writer reader (samples_told readers before part.act (Some piece)) piece.number (payload_by piece.shape octets)
   own_told before part piece named spoken octets (audience, has, among) =
       let origin = spoken_is_origin part.act writer named spoken in
-      let made = mapped_contains (act_of_told part.act piece) (tells (last_fragment piece.shape) (hearing_of (offers_of writer piece.number piece.shape before)) (offered part.act piece)) (audience, octets) among in (
+      let made = mapped_contains (act_of_told part.act piece) (tells readers (last_fragment piece.shape) (offers_of writer piece.number piece.shape before) (offered part.act piece)) (audience, octets) among in (
         act_of_told part.act piece (audience, octets),
-        subst (λ g. Contains (map (act_of_told part.act piece) (tells (last_fragment piece.shape) (hearing_of (offers_of g piece.number piece.shape before)) (offered part.act piece))) (act_of_told part.act piece (audience, octets))) (sym origin) made,
-        sample_word part.act piece.number audience (payload_by piece.shape octets) piece.number (sample_spoken part.act piece.number audience (payload_by piece.shape octets) writer named ∙ spoken) has refl,
+        subst (λ g. Contains (map (act_of_told part.act piece) (tells readers (last_fragment piece.shape) (offers_of g piece.number piece.shape before) (offered part.act piece))) (act_of_told part.act piece (audience, octets))) (sym origin) made,
+        sample_word writer reader part.act piece.number audience (payload_by piece.shape octets) piece.number (sample_spoken part.act piece.number audience (payload_by piece.shape octets) writer named ∙ spoken) has refl,
       )
 
   here_told : (n : ℕ) (shape : Shape) (before : List PieceAct) (part : PieceAct) (piece : Piece) → part.piece ≡ Some piece → NamesItsWriter part.act → is_spoken_by part.act writer ≡ true → is_of n shape piece.number piece.shape ≡ true → (octets : List ℕ)
-      → ToldNow (last_fragment shape) reader (hearing_of (offers_of writer n shape before)) (offered part.act piece) octets → TellsReader (samples_told before part.act part.piece) n (payload_by shape octets)
+      → ToldNow readers (last_fragment shape) reader known (offers_of writer n shape before) (offered part.act piece) octets → TellsReader writer reader (samples_told readers before part.act part.piece) n (payload_by shape octets)
   here_told n shape before part piece is named spoken its octets now =
       let (number, same) = same_sample n shape piece.number piece.shape its in
-      let P : ℕ → Shape → Type 0 = λ m s. ToldNow (last_fragment s) reader (hearing_of (offers_of writer m s before)) (offered part.act piece) octets → TellsReader (samples_told before part.act (Some piece)) m (payload_by s octets) in
+      let P : ℕ → Shape → Type 0 = λ m s. ToldNow readers (last_fragment s) reader known (offers_of writer m s before) (offered part.act piece) octets → TellsReader writer reader (samples_told readers before part.act (Some piece)) m (payload_by s octets) in
       let told : P n shape = subst (P n) same (subst (λ m. P m piece.shape) number (own_told before part piece named spoken octets)) in
-      subst (λ o. TellsReader (samples_told before part.act o) n (payload_by shape octets)) (sym is) (told now)
+      subst (λ o. TellsReader writer reader (samples_told readers before part.act o) n (payload_by shape octets)) (sym is) (told now)
 
   -- what is told of a sample to the reader
   abbrev pub IsAllTold : ℕ → Shape → List PieceAct → (List ℕ → Type 0) → Type 0
-  IsAllTold n shape before So = AllTold (last_fragment shape) reader (hearing_of (offers_of writer n shape before)) So
+  IsAllTold n shape before So = AllTold readers (last_fragment shape) reader known (offers_of writer n shape before) So
 
   part_told : (n : ℕ) (shape : Shape) (before : List PieceAct) (part : PieceAct) → NamesAll (part ∷ []) → (So : List ℕ → Type 0) → IsAllTold n shape before So
-      → IsAllTold n shape (before ++ part ∷ []) (λ octets. So octets ⊎ TellsReader (samples_told before part.act part.piece) n (payload_by shape octets))
+      → IsAllTold n shape (before ++ part ∷ []) (λ octets. So octets ⊎ TellsReader writer reader (samples_told readers before part.act part.piece) n (payload_by shape octets))
   part_told n shape before part named So told = by part.piece refl
     where
-      Next : List Offer → Type 0
-      Next offers = AllTold (last_fragment shape) reader (hearing_of offers) (λ octets. So octets ⊎ TellsReader (samples_told before part.act part.piece) n (payload_by shape octets))
-
-      stays : offers_of writer n shape (part ∷ []) ≡ [] → AllTold (last_fragment shape) reader (hearing_of (offers_of writer n shape (before ++ part ∷ []))) (λ octets. So octets ⊎ TellsReader (samples_told before part.act part.piece) n (payload_by shape octets))
+      stays : offers_of writer n shape (part ∷ []) ≡ [] → AllTold readers (last_fragment shape) reader known (offers_of writer n shape (before ++ part ∷ [])) (λ octets. So octets ⊎ TellsReader writer reader (samples_told readers before part.act part.piece) n (payload_by shape octets))
       stays none =
-          subst (λ (os : List Offer). AllTold (last_fragment shape) reader (hearing_of os) (λ octets. So octets ⊎ TellsReader (samples_told before part.act part.piece) n (payload_by shape octets)))
+          subst (λ (os : List Offer). AllTold readers (last_fragment shape) reader known os (λ octets. So octets ⊎ TellsReader writer reader (samples_told readers before part.act part.piece) n (payload_by shape octets)))
           (sym (offers-append writer n shape before (part ∷ []) ∙ ap (λ os. offers_of writer n shape before ++ os) none ∙ append-nil (offers_of writer n shape before)))
-          (λ audience among has octets there. inl (told audience among has octets there))
+          (λ octets there. inl (told octets there))
 
-      by : (o : Option Piece) → part.piece ≡ o → AllTold (last_fragment shape) reader (hearing_of (offers_of writer n shape (before ++ part ∷ []))) (λ octets. So octets ⊎ TellsReader (samples_told before part.act part.piece) n (payload_by shape octets))
+      by : (o : Option Piece) → part.piece ≡ o → AllTold readers (last_fragment shape) reader known (offers_of writer n shape (before ++ part ∷ [])) (λ octets. So octets ⊎ TellsReader writer reader (samples_told readers before part.act part.piece) n (payload_by shape octets))
       by None is = stays (offers_none writer n shape part is)
       by (Some piece) is = test (is_spoken_by part.act writer) (is_of n shape piece.number piece.shape) refl refl
         where
           test : (spoken its : Bool) → is_spoken_by part.act writer ≡ spoken → is_of n shape piece.number piece.shape ≡ its
-              → AllTold (last_fragment shape) reader (hearing_of (offers_of writer n shape (before ++ part ∷ []))) (λ octets. So octets ⊎ TellsReader (samples_told before part.act part.piece) n (payload_by shape octets))
+              → AllTold readers (last_fragment shape) reader known (offers_of writer n shape (before ++ part ∷ [])) (λ octets. So octets ⊎ TellsReader writer reader (samples_told readers before part.act part.piece) n (payload_by shape octets))
           test false its a b = stays (offers_one writer n shape part piece is ∙ ap (λ c. cond (c && is_of n shape piece.number piece.shape) (offered part.act piece ∷ []) []) a)
           test true false a b = stays (offers_one writer n shape part piece is ∙ ap (λ c. cond (c && is_of n shape piece.number piece.shape) (offered part.act piece ∷ []) []) a ∙ ap (λ c. cond c (offered part.act piece ∷ []) []) b)
           test true true a b =
               let old = offers_of writer n shape before in
               let sent : offers_of writer n shape (part ∷ []) ≡ offered part.act piece ∷ [] = offers_one writer n shape part piece is ∙ ap (λ c. cond (c && is_of n shape piece.number piece.shape) (offered part.act piece ∷ []) []) a ∙ ap (λ c. cond c (offered part.act piece ∷ []) []) b in
               let next = offers-append writer n shape before (part ∷ []) ∙ ap (λ os. old ++ os) sent in
-              let more = all_told (last_fragment shape) reader (hearing_of old) (offered part.act piece) (sound_of old) So told in
-              subst (λ (os : List Offer). AllTold (last_fragment shape) reader (hearing_of os) (λ octets. So octets ⊎ TellsReader (samples_told before part.act part.piece) n (payload_by shape octets))) (sym next)
-              (subst (λ h. AllTold (last_fragment shape) reader h (λ octets. So octets ⊎ TellsReader (samples_told before part.act part.piece) n (payload_by shape octets))) (sym (hears-more silence old (offered part.act piece)))
-              (λ audience among has octets there. elim (more audience among has octets there) [
+              let more = all_told readers (last_fragment shape) reader known old (offered part.act piece) So told in
+              subst (λ (os : List Offer). AllTold readers (last_fragment shape) reader known os (λ octets. So octets ⊎ TellsReader writer reader (samples_told readers before part.act part.piece) n (payload_by shape octets))) (sym next)
+              (λ octets there. elim (more octets there) [
                 | inl so ↦ inl so
                 | inr now ↦ inr (here_told n shape before part piece is (named part piece (contains_head part []) is).0 a b octets now)
-              ]))
+              ])
 
   pub parts_told : (n : ℕ) (shape : Shape) (before parts : List PieceAct) → NamesAll parts → (So : List ℕ → Type 0) → IsAllTold n shape before So
-      → IsAllTold n shape (before ++ parts) (λ octets. So octets ⊎ TellsReader (acts_and_samples before parts) n (payload_by shape octets))
+      → IsAllTold n shape (before ++ parts) (λ octets. So octets ⊎ TellsReader writer reader (acts_and_samples readers before parts) n (payload_by shape octets))
   parts_told n shape before [] named So told =
-      subst (λ ps. IsAllTold n shape ps (λ octets. So octets ⊎ TellsReader [] n (payload_by shape octets))) (sym (append-nil before)) (λ audience among has octets there. inl (told audience among has octets there))
+      subst (λ ps. IsAllTold n shape ps (λ octets. So octets ⊎ TellsReader writer reader [] n (payload_by shape octets))) (sym (append-nil before)) (λ octets there. inl (told octets there))
   parts_told n shape before (part ∷ parts) named So told =
       let first = part_told n shape before part (λ other piece among is. named other piece (only_here part parts other among) is) So told in
-      let rest = parts_told n shape (before ++ part ∷ []) parts (λ other piece among is. named other piece (contains_tail part parts other among) is) (λ octets. So octets ⊎ TellsReader (samples_told before part.act part.piece) n (payload_by shape octets)) first in
-      subst (λ ps. IsAllTold n shape ps (λ octets. So octets ⊎ TellsReader (acts_and_samples before (part ∷ parts)) n (payload_by shape octets))) (append_assoc before (part ∷ []) parts)
-      (λ audience among has octets there. join octets (rest audience among has octets there))
+      let rest = parts_told n shape (before ++ part ∷ []) parts (λ other piece among is. named other piece (contains_tail part parts other among) is) (λ octets. So octets ⊎ TellsReader writer reader (samples_told readers before part.act part.piece) n (payload_by shape octets)) first in
+      subst (λ ps. IsAllTold n shape ps (λ octets. So octets ⊎ TellsReader writer reader (acts_and_samples readers before (part ∷ parts)) n (payload_by shape octets))) (append_assoc before (part ∷ []) parts)
+      (λ octets there. join octets (rest octets there))
     where
-      join : (octets : List ℕ) → (So octets ⊎ TellsReader (samples_told before part.act part.piece) n (payload_by shape octets)) ⊎ TellsReader (acts_and_samples (before ++ part ∷ []) parts) n (payload_by shape octets)
-          → So octets ⊎ TellsReader (acts_and_samples before (part ∷ parts)) n (payload_by shape octets)
+      join : (octets : List ℕ) → (So octets ⊎ TellsReader writer reader (samples_told readers before part.act part.piece) n (payload_by shape octets)) ⊎ TellsReader writer reader (acts_and_samples readers (before ++ part ∷ []) parts) n (payload_by shape octets)
+          → So octets ⊎ TellsReader writer reader (acts_and_samples readers before (part ∷ parts)) n (payload_by shape octets)
       join octets (inl (inl so)) = inl so
-      join octets (inl (inr (act, there, says))) = inr (act, contains_tail part.act _ act (Contains-append_left (samples_told before part.act part.piece) (acts_and_samples (before ++ part ∷ []) parts) act there), says)
-      join octets (inr (act, there, says)) = inr (act, contains_tail part.act _ act (Contains-append_right (samples_told before part.act part.piece) (acts_and_samples (before ++ part ∷ []) parts) act there), says)
+      join octets (inl (inr (act, there, says))) = inr (act, contains_tail part.act _ act (Contains-append_left (samples_told readers before part.act part.piece) (acts_and_samples readers (before ++ part ∷ []) parts) act there), says)
+      join octets (inr (act, there, says)) = inr (act, contains_tail part.act _ act (Contains-append_right (samples_told readers before part.act part.piece) (acts_and_samples readers (before ++ part ∷ []) parts) act there), says)
 
 -- ---- where an act is from
 
 -- The act is a sample that one of these parts tells an audience, behind earlier ones.
-pub record IsSampleOf (before parts : List PieceAct) (act : ActValue) : Type 0 where
+pub record IsSampleOf (readers : List Guid) (before parts : List PieceAct) (act : ActValue) : Type 0 where
   pub part : PieceAct
   pub piece : Piece
   pub audience : Audience
@@ -255,14 +252,14 @@ pub record IsSampleOf (before parts : List PieceAct) (act : ActValue) : Type 0 w
   pub earlier : List PieceAct
   pub among : Contains parts part
   pub has : part.piece ≡ Some piece
-  pub told : Contains (tells (last_fragment piece.shape) (hearing_of (offers_of (origin_of part.act) piece.number piece.shape earlier)) (offered part.act piece)) (audience, octets)
+  pub told : Contains (tells readers (last_fragment piece.shape) (offers_of (origin_of part.act) piece.number piece.shape earlier) (offered part.act piece)) (audience, octets)
   pub is : act_of_told part.act piece (audience, octets) ≡ act
   pub known : (other : PieceAct) → Contains earlier other → Contains (before ++ parts) other
 
-sample_from : (before : List PieceAct) (part : PieceAct) (parts : List PieceAct) (o : Option Piece) (act : ActValue) → part.piece ≡ o → Contains (samples_told before part.act o) act → IsSampleOf before (part ∷ parts) act
-sample_from before part parts None act is among = absurd (contains_none act among)
-sample_from before part parts (Some piece) act is among =
-    let (one, told, same) = contains_mapped (act_of_told part.act piece) (tells (last_fragment piece.shape) (hearing_of (offers_of (origin_of part.act) piece.number piece.shape before)) (offered part.act piece)) act among in
+sample_from : (readers : List Guid) (before : List PieceAct) (part : PieceAct) (parts : List PieceAct) (o : Option Piece) (act : ActValue) → part.piece ≡ o → Contains (samples_told readers before part.act o) act → IsSampleOf readers before (part ∷ parts) act
+sample_from readers before part parts None act is among = absurd (contains_none act among)
+sample_from readers before part parts (Some piece) act is among =
+    let (one, told, same) = contains_mapped (act_of_told part.act piece) (tells readers (last_fragment piece.shape) (offers_of (origin_of part.act) piece.number piece.shape before) (offered part.act piece)) act among in
     record {
       part = part;
       piece = piece;
@@ -277,23 +274,23 @@ sample_from before part parts (Some piece) act is among =
     }
 
 -- it is one of the acts, or a sample
-abbrev pub IsActOf : List PieceAct → List PieceAct → ActValue → Type 0
-IsActOf before parts act = ((part : PieceAct) × Contains parts part × (part.act ≡ act)) ⊎ IsSampleOf before parts act
+abbrev pub IsActOf : List Guid → List PieceAct → List PieceAct → ActValue → Type 0
+IsActOf readers before parts act = ((part : PieceAct) × Contains parts part × (part.act ≡ act)) ⊎ IsSampleOf readers before parts act
 
-pub act_or_sample : (before parts : List PieceAct) (act : ActValue) → Contains (acts_and_samples before parts) act → IsActOf before parts act
-act_or_sample before [] act among = absurd (contains_none act among)
-act_or_sample before (part ∷ parts) act among =
-    let samples = samples_told before part.act part.piece in
-    let rest = acts_and_samples (before ++ part ∷ []) parts in
+pub act_or_sample : (readers : List Guid) (before parts : List PieceAct) (act : ActValue) → Contains (acts_and_samples readers before parts) act → IsActOf readers before parts act
+act_or_sample readers before [] act among = absurd (contains_none act among)
+act_or_sample readers before (part ∷ parts) act among =
+    let samples = samples_told readers before part.act part.piece in
+    let rest = acts_and_samples readers (before ++ part ∷ []) parts in
     elim (contains_cases part.act (samples ++ rest) act among) [
       | inl here ↦ inl (part, contains_head part parts, here)
       | inr behind ↦ elim (Contains-append_cases samples rest act behind) [
-        | inl sample ↦ inr (sample_from before part parts part.piece act refl sample)
-        | inr later ↦ further (act_or_sample (before ++ part ∷ []) parts act later)
+        | inl sample ↦ inr (sample_from readers before part parts part.piece act refl sample)
+        | inr later ↦ further (act_or_sample readers (before ++ part ∷ []) parts act later)
       ]
     ]
   where
-    further : IsActOf (before ++ part ∷ []) parts act → IsActOf before (part ∷ parts) act
+    further : IsActOf readers (before ++ part ∷ []) parts act → IsActOf readers before (part ∷ parts) act
     further (inl (other, there, is)) = inl (other, contains_tail part parts other there, is)
     further (inr sample) = inr (record {
       part = sample.part;
@@ -309,17 +306,17 @@ act_or_sample before (part ∷ parts) act among =
     })
 
 -- the acts themselves are among them
-pub act_there : (before parts : List PieceAct) (part : PieceAct) → Contains parts part → Contains (acts_and_samples before parts) part.act
-act_there before [] part among = absurd (contains_none part among)
-act_there before (first ∷ parts) part among =
-    let samples = samples_told before first.act first.piece in
-    let rest = acts_and_samples (before ++ first ∷ []) parts in
+pub act_there : (readers : List Guid) (before parts : List PieceAct) (part : PieceAct) → Contains parts part → Contains (acts_and_samples readers before parts) part.act
+act_there readers before [] part among = absurd (contains_none part among)
+act_there readers before (first ∷ parts) part among =
+    let samples = samples_told readers before first.act first.piece in
+    let rest = acts_and_samples readers (before ++ first ∷ []) parts in
     elim (contains_cases first parts part among) [
       | inl here ↦ subst (λ (p : PieceAct). Contains (first.act ∷ (samples ++ rest)) p.act) here (contains_head first.act (samples ++ rest))
-      | inr there ↦ contains_tail first.act (samples ++ rest) part.act (Contains-append_right samples rest part.act (act_there (before ++ first ∷ []) parts part there))
+      | inr there ↦ contains_tail first.act (samples ++ rest) part.act (Contains-append_right samples rest part.act (act_there readers (before ++ first ∷ []) parts part there))
     ]
 
-module _ (writer reader : Guid) where
+module _ (writer reader : Guid) (readers : List Guid) (known : Contains readers reader) where
   -- the payload of n is put together of fragments that all have this
   abbrev pub IsPutOf : (Fragment → Type 0) → ℕ → Word → Type 0
   IsPutOf there n word = (payload : PayloadValue) × (word ≡ Told payload) × ((fragments : List Fragment) × IsPut n fragments payload × ((f : Fragment) → Contains fragments f → there f))
@@ -327,7 +324,7 @@ module _ (writer reader : Guid) where
   -- what a sample tells the reader is put together of fragments that the reader hears
   pub sample_is_put : (before parts : List PieceAct) → NamesAll (before ++ parts) → (there : Fragment → Type 0)
       → ((part : PieceAct) → Contains (before ++ parts) part → hears_part writer reader part ≡ true → (f : Fragment) → Contains (fragments_in part.piece) f → there f)
-      → (act : ActValue) (n : ℕ) (word : Word) → IsSampleOf before parts act → word_for writer reader act n ≡ Some word → IsPutOf there n word
+      → (act : ActValue) (n : ℕ) (word : Word) → IsSampleOf readers before parts act → word_for writer reader act n ≡ Some word → IsPutOf there n word
   sample_is_put before parts named there sent act n word sample says =
       let piece = sample.piece in
       let shape = piece.shape in
@@ -343,8 +340,8 @@ module _ (writer reader : Guid) where
       let origin = spoken_is_origin sample.part.act writer own speaks in
       let (number, is) = if_then (piece.number == n) (Told payload) word value in
       let same = (Decides-eqb piece.number n).0 number in
-      let came = came_to sample.audience (hears (hearing_of offers) offer).news in
-      let put = mapped_contains (payload_by shape) (samples_of (last_fragment shape) came) sample.octets (told_is_put (last_fragment shape) (hearing_of offers) offer sample.audience sample.octets sample.told) in
+      let (came, made_of, all_came) = told_is_made readers (last_fragment shape) offers offer reader sample.audience sample.octets known has sample.told in
+      let put = mapped_contains (payload_by shape) (samples_of (last_fragment shape) came) sample.octets made_of in
       let put_there = subst (λ cs. Contains (map (payload_by shape) (samples_of (last_fragment shape) cs)) payload) (sym (came_back piece.number shape came)) put in
       let is_put : IsPut piece.number (map (fragment_of piece.number shape) came) payload = (shape, put_there) in (
         payload,
@@ -354,12 +351,8 @@ module _ (writer reader : Guid) where
           subst (λ m. IsPut m (map (fragment_of piece.number shape) came) payload) same is_put,
           λ f among.
               let (one, in_came, equal) = contains_mapped (fragment_of piece.number shape) came f among in
-              let (other, kept, its) = flat_from (λ (o : Offer). o.came) (filter (λ (o : Offer). is_for_audience o.audience sample.audience) (hears (hearing_of offers) offer).news) one in_came in
-              let reached = kept_passes (λ (o : Offer). is_for_audience o.audience sample.audience) (hears (hearing_of offers) offer).news other kept in
-              let news = kept_is_there (λ (o : Offer). is_for_audience o.audience sample.audience) (hears (hearing_of offers) offer).news other kept in
-              let heard = wide_has other.audience sample.audience reader reached has in
-              let all_offers = news_sent silence (offers ++ offer ∷ []) other (subst (λ h. Contains h.news other) (sym (hears-more silence offers offer)) news) in
-              subst there equal (fragment_sent origin speaks has other one its heard all_offers),
+              let (other, sent_so, heard, its) = all_came one in_came in
+              subst there equal (fragment_sent origin speaks has other one its heard sent_so),
         ),
       )
     where
@@ -373,9 +366,8 @@ module _ (writer reader : Guid) where
           subst (λ s. there (fragment_of sample.piece.number s one)) shape (subst (λ m. there (fragment_of m piece.shape one)) number made)
 
       fragment_sent : origin_of sample.part.act ≡ writer → is_spoken_by sample.part.act writer ≡ true → has_reader sample.audience reader ≡ true → (other : Offer) (one : ℕ × List ℕ) → Contains other.came one → has_reader other.audience reader ≡ true
-          → Contains [] other ⊎ Contains (offers_of (origin_of sample.part.act) sample.piece.number sample.piece.shape sample.earlier ++ offered sample.part.act sample.piece ∷ []) other → there (fragment_of sample.piece.number sample.piece.shape one)
-      fragment_sent origin speaks has other one among heard (inl nothing) = absurd (contains_none other nothing)
-      fragment_sent origin speaks has other one among heard (inr all) = elim (Contains-append_cases (offers_of (origin_of sample.part.act) sample.piece.number sample.piece.shape sample.earlier) (offered sample.part.act sample.piece ∷ []) other all) [
+          → Contains (offers_of (origin_of sample.part.act) sample.piece.number sample.piece.shape sample.earlier ++ offered sample.part.act sample.piece ∷ []) other → there (fragment_of sample.piece.number sample.piece.shape one)
+      fragment_sent origin speaks has other one among heard all = elim (Contains-append_cases (offers_of (origin_of sample.part.act) sample.piece.number sample.piece.shape sample.earlier) (offered sample.part.act sample.piece ∷ []) other all) [
         | inl early ↦
             let (part, piece, in_earlier, is, spoken, its, same) = offers_from (origin_of sample.part.act) sample.piece.number sample.piece.shape sample.earlier other early in
             of_part part piece (sample.known part in_earlier) is (subst (λ g. is_spoken_by part.act g ≡ true) origin spoken) its other same one among heard

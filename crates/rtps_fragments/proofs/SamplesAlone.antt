@@ -4,7 +4,7 @@ use Rattle.std.specs.List.{flat_map}
 use Rattle.rtps_receiver.specs.Speech.{is_spoken_by, origin_of}
 use Rattle.rtps_fragments.specs.FragmentDelivery.{last_fragment}
 use Rattle.rtps_fragments.specs.Laws.{SamplesStandAlone}
-use Rattle.rtps_fragments.specs.Listeners.{hearing_of, tells}
+use Rattle.rtps_fragments.specs.Hearing.{tells}
 use Rattle.rtps_fragments.specs.SampleActs.{PieceAct, act_of_told, is_piece_of, offered, offered_by}
 
 -- a test passes again what it passed
@@ -17,6 +17,6 @@ filter_again {X} test (x ∷ xs) = by (test x) refl (filter_again test xs)
     by false e rest = rest
 
 pub samples_stand_alone : SamplesStandAlone
-samples_stand_alone before act piece =
-    sym (ap (λ ps. map (act_of_told act piece) (tells (last_fragment piece.shape) (hearing_of (flat_map (λ (one : PieceAct). offered_by one.act one.piece) ps)) (offered act piece)))
+samples_stand_alone readers before act piece =
+    sym (ap (λ ps. map (act_of_told act piece) (tells readers (last_fragment piece.shape) (flat_map (λ (one : PieceAct). offered_by one.act one.piece) ps) (offered act piece)))
     (filter_again (λ (part : PieceAct). is_spoken_by part.act (origin_of act) && is_piece_of piece.number piece.shape part.piece) before))

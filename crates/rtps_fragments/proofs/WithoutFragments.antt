@@ -19,7 +19,8 @@ use Rattle.rtps_audit.specs.Speech.{acts_by_datagram}
 use Rattle.rtps_audit.proofs.Offered.{contains_cases, contains_head, contains_mapped, contains_none, contains_tail}
 use Rattle.rtps_fragments.specs.Announcing.{announcing_with}
 use Rattle.rtps_fragments.specs.Laws.{ActsStayWithoutFragments, HasNoPieces, IntakeStaysWithoutFragments}
-use Rattle.rtps_fragments.specs.RecordedSamples.{IsWithoutFragments, fragments_left, tally_with}
+use Rattle.rtps_ids.specs.declared.identity.Guid.{Guid}
+use Rattle.rtps_fragments.specs.RecordedSamples.{IsWithoutFragments, fragments_left, tally_with, readers_of}
 use Rattle.rtps_fragments.specs.SampleActs.{PieceAct, acts_with_samples, piece_acts_in}
 use Rattle.rtps_fragments.specs.FragmentWalk.{all_acts_in, piece_acts_of, piece_acts_of_item, piece_acts_with, sending_of}
 use Rattle.rtps_fragments.specs.Whole.{tally_with_fragments}
@@ -109,19 +110,19 @@ pub all_acts_stay : ActsStayWithoutFragments
 all_acts_stay recording all = acts_in_plain recording (λ octets among. All-contains (λ datagram. (tally_of (reading_of datagram)).fragments ≡ 0) recording octets all among)
 
 -- what an index with samples takes in of them, whatever all acts of their recording are
-pub taken_plain : (all : List PieceAct) (recording : List (List ℕ)) → EachWithout recording
-    → record { tallies = map (tally_with all) recording; acts = acts_with_samples (sending_of recording); announcing = announcing_with (sending_of recording) } ≡ intake_of recording
-taken_plain all recording none =
+pub taken_plain : (readers : List Guid) (all : List PieceAct) (recording : List (List ℕ)) → EachWithout recording
+    → record { tallies = map (tally_with all) recording; acts = acts_with_samples readers (sending_of recording); announcing = announcing_with (sending_of recording) } ≡ intake_of recording
+taken_plain readers all recording none =
     let plain_acts = acts_plain recording none in
     let tallies : List Tally = map (λ datagram. tally_of (reading_of datagram)) recording in
     let said : List (List ActValue) → Intake = λ acts. record { tallies = tallies; acts = acts; announcing = announcing_with (sending_of recording) } in
     let noted : List (List ActValue) → Intake = λ acts. record { tallies = tallies; acts = acts_by_datagram recording; announcing = acts } in
     let sending = sending_of recording in
-    let counted : List Tally → Intake = λ t. record { tallies = t; acts = acts_with_samples sending; announcing = announcing_with sending } in
-    ap counted (tallies_stay all recording none) ∙ ap said (acts_stay_without_pieces (sending_of recording) (no_pieces recording none) ∙ plain_acts) ∙ ap noted (announcing_stays (sending_of recording) (no_pieces recording none) ∙ plain_acts)
+    let counted : List Tally → Intake = λ t. record { tallies = t; acts = acts_with_samples readers sending; announcing = announcing_with sending } in
+    ap counted (tallies_stay all recording none) ∙ ap said (acts_stay_without_pieces readers (sending_of recording) (no_pieces recording none) ∙ plain_acts) ∙ ap noted (announcing_stays (sending_of recording) (no_pieces recording none) ∙ plain_acts)
 
 pub intake_stays : IntakeStaysWithoutFragments
-intake_stays recording all = taken_plain (piece_acts_in (sending_of recording)) recording (λ octets among. All-contains (λ datagram. (tally_of (reading_of datagram)).fragments ≡ 0) recording octets all among)
+intake_stays recording all = taken_plain (readers_of recording) (piece_acts_in (sending_of recording)) recording (λ octets among. All-contains (λ datagram. (tally_of (reading_of datagram)).fragments ≡ 0) recording octets all among)
 
 -- ---- one datagram more
 

@@ -23,8 +23,8 @@ use Rattle.rtps_audit.specs.declared.verdict.Verdict.{Verdict}
 use Rattle.rtps_fragments.specs.Announcing.{announcing_with, is_built_in}
 use Rattle.rtps_fragments.specs.FragmentDelivery.{Fragment, FragmentSpeech, GivesFragment, IsPutTogether, Piece, Shape, last_fragment, said_in}
 use Rattle.rtps_fragments.specs.FragmentVerdict.{IsPayloadBefore, IsWordBefore, IsFragmentVerdictFrom}
-use Rattle.rtps_fragments.specs.Listeners.{AudienceNews, Offer, hears, is_had, tells}
-use Rattle.rtps_fragments.specs.RecordedSamples.{IsWithoutFragments, fragments_left, intake_with}
+use Rattle.rtps_fragments.specs.Hearing.{Offer, has_reader, news_of, tells}
+use Rattle.rtps_fragments.specs.RecordedSamples.{IsWithoutFragments, fragments_left, intake_with, readers_of}
 use Rattle.rtps_fragments.specs.Samples.{payloads_of, told_in}
 use Rattle.rtps_wire.specs.FragmentItem.{is_skipped_data_frag}
 use Rattle.rtps_fragments.specs.FragmentWalk.{all_acts_in, sending_of, unusable_in}
@@ -74,34 +74,37 @@ pub record IsPieceAct (one : PieceAct) (piece : Piece) : Type 0 where
 abbrev pub ArePieceActs : List (List PieceAct) → Type 0
 ArePieceActs recording = (datagram : List PieceAct) (one : PieceAct) (piece : Piece) → Contains recording datagram → Contains datagram one → one.piece ≡ Some piece → IsPieceAct one piece
 
--- of any writer and reader, a recording with pieces and its acts with the samples among them tell alike
+-- of any writer and any reader among some, a recording with pieces and its acts with the samples among them that these readers are told tell
+-- alike
 abbrev pub ActsTellAlike : Type 0
 ActsTellAlike =
-    (from : ℕ) (writer reader : Guid) (recording : List (List PieceAct)) → ArePieceActs recording
-    → TellsAlike from (fragment_speech_of writer reader recording) (speech_by writer reader (acts_with_samples recording))
+    (from : ℕ) (writer reader : Guid) (readers : List Guid) (recording : List (List PieceAct)) → Contains readers reader → ArePieceActs recording
+    → TellsAlike from (fragment_speech_of writer reader recording) (speech_by writer reader (acts_with_samples readers recording))
 
--- of any writer and reader, the verdict by runs that take fragments one by one is the verdict of the acts with the samples among them
+-- of any writer and any reader among some, the verdict by runs that take fragments one by one is the verdict of the acts with the samples
+-- among them that these readers are told
 abbrev pub FragmentVerdictOfActs : Type 0
 FragmentVerdictOfActs =
-    (from : ℕ) (writer reader : Guid) (recording : List (List PieceAct)) (verdict : Verdict) → ArePieceActs recording
-    → IsFragmentVerdictFrom from (fragment_speech_of writer reader recording) verdict ↔ IsVerdictFrom from (speech_by writer reader (acts_with_samples recording)) verdict
+    (from : ℕ) (writer reader : Guid) (readers : List Guid) (recording : List (List PieceAct)) (verdict : Verdict) → Contains readers reader → ArePieceActs recording
+    → IsFragmentVerdictFrom from (fragment_speech_of writer reader recording) verdict ↔ IsVerdictFrom from (speech_by writer reader (acts_with_samples readers recording)) verdict
 
 -- the same of the first datagrams, with the samples of the whole recording
 abbrev pub FirstDatagramsTellAlike : Type 0
 FirstDatagramsTellAlike =
-    (from : ℕ) (writer reader : Guid) (until : Option ℕ) (recording : List (List PieceAct)) → ArePieceActs recording
-    → TellsAlike from (fragment_speech_of writer reader (datagrams_until until recording)) (speech_by writer reader (datagrams_until until (acts_with_samples recording)))
+    (from : ℕ) (writer reader : Guid) (readers : List Guid) (until : Option ℕ) (recording : List (List PieceAct)) → Contains readers reader → ArePieceActs recording
+    → TellsAlike from (fragment_speech_of writer reader (datagrams_until until recording)) (speech_by writer reader (datagrams_until until (acts_with_samples readers recording)))
 
--- so the verdict by the first datagrams of what is taken in with samples is that by runs on the recording that ends there
+-- so, of a reader that the recording announces, the verdict by the first datagrams of what is taken in with samples is that by runs on the
+-- recording that ends there
 abbrev pub FirstDatagramsDecideSamples : Type 0
 FirstDatagramsDecideSamples =
-    (from : ℕ) (writer reader : Guid) (until : Option ℕ) (recording : List (List ℕ)) (verdict : Verdict)
+    (from : ℕ) (writer reader : Guid) (until : Option ℕ) (recording : List (List ℕ)) (verdict : Verdict) → Contains (readers_of recording) reader
     → IsFragmentVerdictFrom from (fragment_speech_of writer reader (sending_of (datagrams_until until recording))) verdict
     ↔ IsVerdictFrom from (speech_by writer reader (datagrams_until until (intake_with recording).acts)) verdict
 
--- the acts of the first datagrams, each with the samples that it tells by what was sent before it
+-- the acts of the first datagrams, each with the samples that it tells the readers of the recording by what was sent before it
 abbrev pub first_acts_with_samples : Option ℕ → List (List ℕ) → List (List ActValue)
-first_acts_with_samples until recording = acts_with_samples (sending_of (datagrams_until until recording))
+first_acts_with_samples until recording = acts_with_samples (readers_of recording) (sending_of (datagrams_until until recording))
 
 -- the first datagrams of what is taken in with samples have these acts
 abbrev pub FirstDatagramsTellTheSame : Type 0
@@ -113,7 +116,7 @@ HasNoPieces recording = (datagram : List PieceAct) (one : PieceAct) → Contains
 
 -- where no act has a piece, the acts are as they are
 abbrev pub ActsStayWithoutPieces : Type 0
-ActsStayWithoutPieces = (recording : List (List PieceAct)) → HasNoPieces recording → acts_with_samples recording ≡ map (map (λ one. one.act)) recording
+ActsStayWithoutPieces = (readers : List Guid) (recording : List (List PieceAct)) → HasNoPieces recording → acts_with_samples readers recording ≡ map (map (λ one. one.act)) recording
 
 -- where no act has a piece, the verdict by runs that take fragments is that of the acts as they are
 abbrev pub VerdictStaysWithoutPieces : Type 0
@@ -174,20 +177,21 @@ FewFragmentsMakeNoSample = (n : ℕ) (shape : Shape) (fragments : List Fragment)
 -- what an act tells of a sample depends on the acts with its pieces alone
 abbrev pub SamplesStandAlone : Type 0
 SamplesStandAlone =
-    (before : List PieceAct) (act : ActValue) (piece : Piece)
-    → samples_told before act (Some piece) ≡ samples_told (acts_of_sample (origin_of act) piece.number piece.shape before) act (Some piece)
+    (readers : List Guid) (before : List PieceAct) (act : ActValue) (piece : Piece)
+    → samples_told readers before act (Some piece) ≡ samples_told readers (acts_of_sample (origin_of act) piece.number piece.shape before) act (Some piece)
 
--- what fragments tell an audience, no wider one can put together
-abbrev pub NoneIsToldAgain : Type 0
-NoneIsToldAgain =
-    (last : ℕ) (hearing : AudienceNews) (offer : Offer) (audience : Audience) (octets : List ℕ) → Contains (tells last hearing offer) (audience, octets) → is_had last (hears hearing offer) audience octets ≡ false
+-- what an offer lets one of these readers put together that it could not before, the reader is told
+abbrev pub NewsIsTold : Type 0
+NewsIsTold =
+    (readers : List Guid) (last : ℕ) (before : List Offer) (offer : Offer) (reader : Guid) (octets : List ℕ) → Contains readers reader → has_reader offer.audience reader ≡ true
+    → Contains (news_of last before offer reader) octets → (audience : Audience) × (has_reader audience reader ≡ true) × Contains (tells readers last before offer) (audience, octets)
 
 -- of any writer and reader of a recording, the verdict by runs that take fragments one by one is that of the acts with the samples among
 -- them
 abbrev pub RecordedVerdictIsOfRuns : Type 0
 RecordedVerdictIsOfRuns =
-    (from : ℕ) (writer reader : Guid) (recording : List (List ℕ)) (verdict : Verdict)
-    → IsFragmentVerdictFrom from (fragment_speech_of writer reader (sending_of recording)) verdict ↔ IsVerdictFrom from (speech_by writer reader (acts_with_samples (sending_of recording))) verdict
+    (from : ℕ) (writer reader : Guid) (readers : List Guid) (recording : List (List ℕ)) (verdict : Verdict) → Contains readers reader
+    → IsFragmentVerdictFrom from (fragment_speech_of writer reader (sending_of recording)) verdict ↔ IsVerdictFrom from (speech_by writer reader (acts_with_samples readers (sending_of recording))) verdict
 
 -- where no submessage belongs to fragments, an index with samples takes in what a plain one does
 abbrev pub IntakeStaysWithoutFragments : Type 0

@@ -11,6 +11,8 @@ pub mod ToldSamples
 pub mod Merging
 pub mod FragmentWalk
 pub mod RecordedSamples
-pub mod Listeners
+pub mod Hearing
+pub mod Readers
+pub mod Tellings
 pub mod Whole
 pub mod Making

@@ -4,10 +4,12 @@ use Rattle.std.specs.Prelude.{ℕ, ◌≡◌, ◌+◌, ◌<◌, ◌≤◌, All, 
 use Rattle.rtps_wire.specs.Reading.{reading_of}
 use Rattle.rtps_wire.specs.Tally.{tally_of}
 use Rattle.rtps_wire.specs.declared.counts.Tally.{Tally}
-use Rattle.rtps_audit.specs.Intake.{Intake, intake_of}
+use Rattle.rtps_ids.specs.declared.identity.Guid.{Guid}
+use Rattle.rtps_audit.specs.Intake.{Intake, acts_together, intake_of}
 use Rattle.rtps_fragments.specs.Announcements.{IsIndexedBy}
 use Rattle.rtps_fragments.specs.Announcing.{announcing_with}
 use Rattle.rtps_fragments.specs.Merging.{sents_from}
+use Rattle.rtps_fragments.specs.Readers.{readers_in}
 use Rattle.rtps_fragments.specs.SampleActs.{PieceAct, acts_with_samples, piece_acts_in}
 use Rattle.rtps_fragments.specs.SamplesSent.{pieces_left}
 use Rattle.rtps_fragments.specs.FragmentWalk.{piece_acts_of, sending_of, unusable_in}
@@ -23,9 +25,10 @@ abbrev pub by_datagram : (List SentValue → SentValue → List ToldValue) → L
 by_datagram tell before [] = []
 by_datagram tell before (acts ∷ recording) = in_turn tell before (sents_from 0 acts) ∷ by_datagram tell (before ++ sents_from 0 acts) recording
 
--- These are the samples of a recording, which is the octets of its datagrams in the order of sending.
-pub record AreSamplesOf (recording : List (List ℕ)) (samples : Samples) : Type 0 where
-  pub told : map (λ told. map told_value told.items) samples.told.items ≡ by_datagram told_behind [] (sending_of recording)
+-- These are the samples of a recording that these readers are told, and those of built-in writers. The recording is the octets of its
+-- datagrams in the order of sending.
+pub record AreSamplesOf (readers : List Guid) (recording : List (List ℕ)) (samples : Samples) : Type 0 where
+  pub told : map (λ told. map told_value told.items) samples.told.items ≡ by_datagram (told_behind readers) [] (sending_of recording)
   pub overheard : map (λ told. map told_value told.items) samples.overheard.items ≡ by_datagram overheard_behind [] (sending_of recording)
   pub whole : AreWholeOf recording samples.whole
 
@@ -38,13 +41,17 @@ fragments_left all octets = unusable_in octets + pieces_left all (piece_acts_of 
 abbrev pub tally_with : List PieceAct → List ℕ → Tally
 tally_with all octets = tally_with_fragments (tally_of (reading_of octets)) (fragments_left all octets)
 
--- what an index takes in of a recording with its samples: the acts with the samples among them, and those that announce with the samples of
--- built-in writers. The DATA_FRAG of no sample are counted
+-- the readers that a recording announces
+abbrev pub readers_of : List (List ℕ) → List Guid
+readers_of recording = readers_in (acts_together (announcing_with (sending_of recording)))
+
+-- what an index takes in of a recording with its samples: the acts with the samples among them that its readers are told, and those that
+-- announce with the samples of built-in writers. The DATA_FRAG of no sample are counted
 abbrev pub intake_with : List (List ℕ) → Intake
 intake_with recording =
     record {
       tallies = map (tally_with (piece_acts_in (sending_of recording))) recording;
-      acts = acts_with_samples (sending_of recording);
+      acts = acts_with_samples (readers_of recording) (sending_of recording);
       announcing = announcing_with (sending_of recording);
     }
 

@@ -1,6 +1,6 @@
 -- The samples of a recording, told as acts. DDSI-RTPS 2.5, 8.3.4 "The RTPS Message Receiver" and 8.3.8.3 "DataFrag". own: the
--- fragments of one sample may be for several audiences, and a reader hears those that are for it; a sample is told to audiences, so that
--- the same acts serve every reader.
+-- fragments of one sample may be for several audiences, and a reader hears those that are for it; a sample is told to the readers of a
+-- list, so that the same acts serve all of these.
 use Rattle.std.specs.Prelude.{ℕ, Bool, false, ◌&&◌, if◌then◌else◌, List, [], ◌∷◌, ◌++◌, filter, map, Option, Some, None, unwrap_or}
 use Rattle.std.specs.List.{filter_map, flat_map}
 use Rattle.rtps_ids.specs.declared.identity.Guid.{Guid}
@@ -11,7 +11,7 @@ use Rattle.rtps_receiver.specs.Values.ActBodyValue.{DataFrag}
 use Rattle.rtps_receiver.specs.declared.speech.Audience.{Audience}
 use Rattle.rtps_audit.specs.Speech.{said_by}
 use Rattle.rtps_fragments.specs.FragmentDelivery.{Fragment, FragmentSpeech, Piece, Shape, fragments_of, last_fragment, payload_by}
-use Rattle.rtps_fragments.specs.Listeners.{Offer, hearing_of, tells}
+use Rattle.rtps_fragments.specs.Hearing.{Offer, tells}
 use Rattle.rtps_fragments.specs.Samples.{is_of}
 use Rattle.rtps_fragments.specs.Heard.{came_from}
 
@@ -77,11 +77,11 @@ sample_act act n audience payload =
 abbrev pub act_of_told : ActValue → Piece → Audience × List ℕ → ActValue
 act_of_told act piece one = sample_act act piece.number one.0 (payload_by piece.shape one.1)
 
--- the samples that an act tells behind these, each to an audience
-abbrev pub samples_told : List PieceAct → ActValue → Option Piece → List ActValue
-samples_told before act (Some piece) =
-    map (act_of_told act piece) (tells (last_fragment piece.shape) (hearing_of (offers_of (origin_of act) piece.number piece.shape before)) (offered act piece))
-samples_told before act None = []
+-- the samples that an act tells these readers behind these, each to an audience
+abbrev pub samples_told : List Guid → List PieceAct → ActValue → Option Piece → List ActValue
+samples_told readers before act (Some piece) =
+    map (act_of_told act piece) (tells readers (last_fragment piece.shape) (offers_of (origin_of act) piece.number piece.shape before) (offered act piece))
+samples_told readers before act None = []
 
 -- acts, each with others behind it that it stands for, by those before it
 abbrev pub acts_and : (List PieceAct → ActValue → Option Piece → List ActValue) → List PieceAct → List PieceAct → List ActValue
@@ -93,14 +93,14 @@ abbrev pub datagrams_and : (List PieceAct → ActValue → Option Piece → List
 datagrams_and others before [] = []
 datagrams_and others before (datagram ∷ recording) = acts_and others before datagram ∷ datagrams_and others (before ++ datagram) recording
 
--- acts, each with the samples that it tells behind it
-abbrev pub acts_and_samples : List PieceAct → List PieceAct → List ActValue
-acts_and_samples before acts = acts_and samples_told before acts
+-- acts, each with the samples that it tells these readers behind it
+abbrev pub acts_and_samples : List Guid → List PieceAct → List PieceAct → List ActValue
+acts_and_samples readers before acts = acts_and (samples_told readers) before acts
 
 -- those of each datagram
-abbrev pub datagrams_and_samples : List PieceAct → List (List PieceAct) → List (List ActValue)
-datagrams_and_samples before recording = datagrams_and samples_told before recording
+abbrev pub datagrams_and_samples : List Guid → List PieceAct → List (List PieceAct) → List (List ActValue)
+datagrams_and_samples readers before recording = datagrams_and (samples_told readers) before recording
 
--- the acts of a recording with its samples among them
-abbrev pub acts_with_samples : List (List PieceAct) → List (List ActValue)
-acts_with_samples recording = datagrams_and_samples [] recording
+-- the acts of a recording with the samples among them that these readers are told
+abbrev pub acts_with_samples : List Guid → List (List PieceAct) → List (List ActValue)
+acts_with_samples readers recording = datagrams_and_samples readers [] recording

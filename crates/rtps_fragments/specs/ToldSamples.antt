@@ -1,4 +1,4 @@
--- What fragments tell, one act after another, to the listeners of their samples. DDSI-RTPS 2.5, 8.3.8.3 "DataFrag". own: it is worked out
+-- What fragments tell, one act after another, to readers. DDSI-RTPS 2.5, 8.3.8.3 "DataFrag". own: it is worked out
 -- of what is known of the fragments alone: their sample, whom they are for, and their octets.
 use Rattle.std.specs.Prelude.{ℕ, Bool, ◌<◌, if◌then◌else◌, List, [], ◌∷◌, ◌++◌, drop, filter, length, map}
 use Rattle.std.specs.List.{flat_map}
@@ -12,7 +12,8 @@ use Rattle.rtps_wire.specs.Values.PayloadValue.{Whole, Key}
 use Rattle.rtps_fragments.specs.Announcing.{is_built_in}
 use Rattle.rtps_fragments.specs.Heard.{came_from}
 use Rattle.rtps_fragments.specs.FragmentDelivery.{Shape, last_fragment, payload_by}
-use Rattle.rtps_fragments.specs.Listeners.{Offer, everyone, hearing_of, tells}
+use Rattle.rtps_ids.specs.declared.identity.Guid.{Guid}
+use Rattle.rtps_fragments.specs.Hearing.{Offer, everyone, tells}
 use Rattle.rtps_fragments.specs.Samples.{samples_of}
 use Rattle.rtps_fragments.specs.declared.piece.SampleKey.{SampleKey}
 use Rattle.rtps_fragments.specs.declared.piece.SentFragments.{SentFragments}
@@ -103,19 +104,15 @@ told_by_sent sent audience before = told_as sent.act audience (shape_of sent.key
 abbrev pub told_each : ℕ → Shape → List (Audience × List ℕ) → List ToldValue
 told_each act shape samples = map (λ one. record { act = act; audience = one.0; payload = payload_by shape one.1 }) samples
 
--- to the listeners of their sample, by these fragments, behind what was sent of it before
-abbrev pub told_by_offers : List Offer → SentValue → List ToldValue
-told_by_offers before sent = told_each sent.act (shape_of sent.key) (tells (last_fragment (shape_of sent.key)) (hearing_of before) (offer_of sent))
+-- to these readers, by these fragments, behind what was sent of their sample before
+abbrev pub told_by_offers : List Guid → List Offer → SentValue → List ToldValue
+told_by_offers readers before sent = told_each sent.act (shape_of sent.key) (tells readers (last_fragment (shape_of sent.key)) before (offer_of sent))
 
 -- behind all that was sent before
-abbrev pub told_behind : List SentValue → SentValue → List ToldValue
-told_behind before sent = told_by_offers (offers sent.key before) sent
+abbrev pub told_behind : List Guid → List SentValue → SentValue → List ToldValue
+told_behind readers before sent = told_by_offers readers (offers sent.key before) sent
 
--- to a listener that hears everything, of a built-in writer, behind what was sent of the sample before
-abbrev pub overheard_by_offers : List Offer → SentValue → List ToldValue
-overheard_by_offers before sent = if is_built_in sent.key.writer.entity then told_by_sent sent everyone (flat_map (λ offer. offer.came) before) else []
-
--- behind all that was sent before
+-- to one that hears everything, of a built-in writer, behind all that was sent before
 abbrev pub overheard_behind : List SentValue → SentValue → List ToldValue
 overheard_behind before sent = if is_built_in sent.key.writer.entity then told_by_sent sent everyone (overheard sent.key before) else []
 
@@ -124,9 +121,9 @@ abbrev pub in_turn : (List SentValue → SentValue → List ToldValue) → List 
 in_turn tell before [] = []
 in_turn tell before (sent ∷ sents) = tell before sent ++ in_turn tell (before ++ sent ∷ []) sents
 
--- to listeners
-abbrev pub told_in_turn : List SentValue → List SentValue → List ToldValue
-told_in_turn before sents = in_turn told_behind before sents
+-- to readers
+abbrev pub told_in_turn : List Guid → List SentValue → List SentValue → List ToldValue
+told_in_turn readers before sents = in_turn (told_behind readers) before sents
 
 -- to one that hears everything
 abbrev pub overheard_in_turn : List SentValue → List SentValue → List ToldValue

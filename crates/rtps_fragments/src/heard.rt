@@ -1,12 +1,12 @@
-ghost use Rattle.std.specs.Prelude.{ℕ, ◌≡◌, ◌==◌, ◌<◌, ◌≤◌, ◌++◌, ◌∷◌, [], if◌then◌else◌, length, map, option_copied, slice_get, suc, List, IfOk, OnOk, Some, None};
+ghost use Rattle.std.specs.Prelude.{ℕ, ◌≡◌, ◌==◌, ◌<◌, ◌≤◌, ◌++◌, ◌∷◌, [], drop, if◌then◌else◌, length, map, option_copied, slice_get, suc, List, IfOk, OnOk, Some, None};
 ghost use Rattle.std.specs.List.{concat, list_all, list_any};
 ghost use Rattle.std.specs.Str.{bytes_eq};
 ghost use Rattle.rtps_fragments.specs.Heard.{IsHeard, came_from, kept_first, kept_front, kept_other, with_part};
 ghost use Rattle.rtps_fragments.specs.FragmentDelivery.{last_fragment};
-ghost use Rattle.rtps_fragments.specs.Listeners.{came_first, is_octets};
+ghost use Rattle.rtps_fragments.specs.Hearing as hearing_spec;
 ghost use Rattle.rtps_wire.specs.DataFrag.{parts_in};
 ghost use Rattle.rtps_fragments.specs.Samples.{firsts_of, has_sample, samples_of};
-ghost use Rattle.rtps_fragments.specs.ToldSamples.{IsSent, sent_value, shape_of, told_by_sent, told_value};
+ghost use Rattle.rtps_fragments.specs.ToldSamples.{IsSent, sent_value, shape_of, told_as, told_by_sent, told_value};
 
 use crate::piece::{FragmentRun, SentFragments};
 use crate::told_sample::ToldSample;
@@ -215,11 +215,18 @@ impl<'a> Heard<'a> {
     }
 
     /// Whether the same samples of so many fragments can be put together of what another reader heard.
-    pub(crate) fn is_alike(&self, other: &Heard<'a>, last: u64) -> bool {
-        self.count(last) == other.count(last)
-            && self.front == other.front
-            && self.other == other.other
-            && self.octets == other.octets
+    pub(crate) fn is_alike(&self, other: &Heard<'a>, last: u64) -> bool
+        requires { 0 < last }
+        ensures { (one two : List (ℕ × List ℕ)) → IsHeard last one self.now → IsHeard last two other.now → result ≡ hearing_spec.is_same last one two }
+    {
+        let count = self.count(last);
+        if count != other.count(last) {
+            return false;
+        }
+        count == 0
+            || (self.front == other.front
+                && self.other == other.other
+                && (self.other == 0 || self.octets == other.octets))
     }
 
     /// Appends the samples that can be put together, but for so many, as told to an audience.
@@ -229,7 +236,12 @@ impl<'a> Heard<'a> {
         before: usize,
         audience: Audience,
         told: &mut Vec<ToldSample>,
-    ) -> Result<(), Memory> {
+    ) -> Result<(), Memory>
+        requires { IsSent sent.now }
+        ensures { OnOk result ((came : List (ℕ × List ℕ)) → IsHeard (last_fragment (shape_of sent.now.key)) came self.now
+            → map told_value told.new.items ≡ map told_value told.old.items
+            ++ told_as sent.now.act audience (shape_of sent.now.key) (drop before (samples_of (last_fragment (shape_of sent.now.key)) came))) }
+    {
         let shape = sent.key.shape();
         for place in before..self.count(shape.last_fragment()) {
             let octets = self.sample(shape, place)?;

@@ -1,136 +1,117 @@
+ghost use Rattle.std.specs.Prelude.{ℕ, ◌≡◌, ◌++◌, ◌∷◌, [], map, List, IfOk, OnOk, Some};
+ghost use Rattle.rtps_ids.specs.declared.identity.Guid.{Guid as GuidValue};
+ghost use Rattle.rtps_fragments.specs.FragmentDelivery.{last_fragment};
+ghost use Rattle.rtps_fragments.specs.Hearing.{Offer, tells};
+ghost use Rattle.rtps_fragments.specs.Hearing as hearing_spec;
+ghost use Rattle.rtps_fragments.specs.Tellings.{AreHearers};
+ghost use Rattle.rtps_fragments.specs.ToldSamples.{IsSent, offer_of, sent_value, shape_of, told_each, told_value};
+
 use crate::heard::Heard;
 use crate::piece::SentFragments;
 use crate::told_sample::ToldSample;
 use rtps_ids::{Guid, Memory};
 use rtps_receiver::Audience;
-use rtps_wire::Shape;
 use std::alloc::Global;
-
-/// Readers that heard the same of a sample.
-#[derive(Drop)]
-pub(crate) struct Group<'a> {
-    /// Their places in the list of readers.
-    pub(crate) members: Vec<usize>,
-    pub(crate) heard: Heard<'a>,
-}
 
 /// What readers heard of a sample.
 #[derive(Drop)]
 pub(crate) struct Hearers<'a> {
     /// To whom all of it was sent; None where it was sent to several audiences.
     pub(crate) alike: Option<Audience>,
-    /// Of one audience there is one group, of whoever is in it, without a list of members. Of several, each reader is in one group.
-    pub(crate) groups: Vec<Group<'a>>,
+    /// Of several audiences, the group of each reader.
+    pub(crate) group_of: Vec<usize>,
+    /// What the readers of a group heard. Of one audience there is one, of whoever is in it.
+    pub(crate) groups: Vec<Heard<'a>>,
     alloc: Global,
 }
 
 /// The audience of one reader alone.
-fn audience_of(reader: Guid) -> Audience {
+fn audience_of(reader: Guid) -> Audience
+    ensures { result ≡ hearing_spec.audience_of reader }
+{
     Audience {
         dest: Some(reader.prefix),
         reader: reader.entity,
     }
 }
 
-/// Which of these readers are in an audience, or which are not.
-fn members_of(
-    alloc: Global,
-    members: &[usize],
-    readers: &[Guid],
-    audience: &Audience,
-    inside: bool,
-) -> Result<Vec<usize>, Memory> {
-    let mut found = Vec::new(alloc);
-    for member in members {
-        if audience.has(readers[*member]) == inside {
-            found.push(*member)?;
-        }
-    }
-    Ok(found)
-}
-
-impl<'a> Group<'a> {
-    /// Whether its readers hear what is sent to an audience: all of them do, or none.
-    fn hears(&self, readers: &[Guid], audience: &Audience) -> bool {
-        match self.members.first() {
-            Some(member) => audience.has(readers[*member]),
-            None => false,
-        }
-    }
-
-    /// Appends the samples behind these to each of its readers.
-    fn push_told(
-        &self,
-        sent: &SentFragments<'_>,
-        before: usize,
-        readers: &[Guid],
-        told: &mut Vec<ToldSample>,
-    ) -> Result<(), Memory> {
-        for member in &self.members {
-            self.heard
-                .push_told(sent, before, audience_of(readers[*member]), told)?;
-        }
-        Ok(())
-    }
-}
-
 impl<'a> Hearers<'a> {
-    /// Nothing was sent yet; what comes first is for this audience.
-    pub(crate) fn new(alloc: Global, audience: Audience) -> Result<Hearers<'a>, Memory> {
+    /// The first fragments are sent, and the samples that they tell are appended.
+    pub(crate) fn begin(
+        alloc: Global,
+        sent: &SentFragments<'a>,
+        told: &mut Vec<ToldSample>,
+    ) -> Result<Hearers<'a>, Memory>
+        requires { IsSent sent.now }
+        ensures hearers { IfOk result (λ hearers. (readers : List GuidValue) → AreHearers readers (last_fragment (shape_of sent.now.key)) (offer_of (sent_value sent.now) ∷ []) hearers) }
+        ensures told { OnOk result ((readers : List GuidValue) → map told_value told.new.items ≡ map told_value told.old.items
+            ++ told_each sent.now.act (shape_of sent.now.key) (tells readers (last_fragment (shape_of sent.now.key)) [] (offer_of (sent_value sent.now)))) }
+    {
+        let mut heard = Heard::new(alloc);
+        heard.tell(sent, sent.audience, told)?;
         let mut groups = Vec::with_capacity(alloc, 1)?;
-        groups.push(Group {
-            members: Vec::new(alloc),
-            heard: Heard::new(alloc),
-        })?;
+        groups.push(heard)?;
         Ok(Hearers {
-            alike: Some(audience),
+            alike: Some(sent.audience),
+            group_of: Vec::new(alloc),
             groups,
             alloc,
         })
     }
 
-    /// From now on each reader is in a group.
+    /// From now on each reader is in a group: those of the audience in the first, the others in a second.
     fn part(&mut self, audience: &Audience, readers: &[Guid]) -> Result<(), Memory> {
-        let mut all = Vec::with_capacity(self.alloc, readers.len())?;
-        for place in 0..readers.len() {
-            all.push(place)?;
+        self.groups.push(Heard::new(self.alloc))?;
+        for reader in readers {
+            let group = if audience.has(*reader) { 0 } else { 1 };
+            self.group_of.push(group)?;
         }
-        let others = members_of(self.alloc, &all, readers, audience, false)?;
-        self.groups[0].members = members_of(self.alloc, &all, readers, audience, true)?;
-        self.groups.push(Group {
-            members: others,
-            heard: Heard::new(self.alloc),
-        })?;
         self.alike = None;
         Ok(())
+    }
+
+    /// Whether some reader of a group is in an audience, or whether some is not.
+    fn has_some(&self, group: usize, audience: &Audience, readers: &[Guid], inside: bool) -> bool {
+        for place in 0..readers.len() {
+            if self.group_of[place] == group && audience.has(readers[place]) == inside {
+                return true;
+            }
+        }
+        false
+    }
+
+    /// The readers of a group that are in an audience are of another group from now on.
+    fn regroup(&mut self, group: usize, audience: &Audience, readers: &[Guid], other: usize) {
+        for place in 0..readers.len() {
+            if self.group_of[place] == group && audience.has(readers[place]) {
+                self.group_of[place] = other;
+            }
+        }
     }
 
     /// Parts a group of which some are in an audience and some are not.
     fn split(
         &mut self,
-        place: usize,
+        group: usize,
         audience: &Audience,
         readers: &[Guid],
     ) -> Result<(), Memory> {
-        let members = &self.groups[place].members;
-        let inside = members_of(self.alloc, members, readers, audience, true)?;
-        if inside.is_empty() || inside.len() == members.len() {
+        if !self.has_some(group, audience, readers, true)
+            || !self.has_some(group, audience, readers, false)
+        {
             return Ok(());
         }
-        let outside = members_of(self.alloc, members, readers, audience, false)?;
-        let heard = self.groups[place].heard.copy()?;
-        self.groups[place].members = outside;
-        self.groups.push(Group {
-            members: inside,
-            heard,
-        })?;
+        let other = self.groups.len();
+        let heard = self.groups[group].copy()?;
+        self.groups.push(heard)?;
+        self.regroup(group, audience, readers, other);
         Ok(())
     }
 
     /// Parts each group of which some are in an audience and some are not.
     fn split_all(&mut self, audience: &Audience, readers: &[Guid]) -> Result<(), Memory> {
-        for place in 0..self.groups.len() {
-            self.split(place, audience, readers)?;
+        for group in 0..self.groups.len() {
+            self.split(group, audience, readers)?;
         }
         Ok(())
     }
@@ -138,54 +119,67 @@ impl<'a> Hearers<'a> {
     /// How many samples each group has.
     fn counts(&self, last: u64) -> Result<Vec<usize>, Memory> {
         let mut counts = Vec::with_capacity(self.alloc, self.groups.len())?;
-        for group in &self.groups {
-            counts.push(group.heard.count(last))?;
+        for heard in &self.groups {
+            counts.push(heard.count(last))?;
         }
         Ok(counts)
     }
 
     /// Each group that is in the audience hears fragments.
     fn take(&mut self, sent: &SentFragments<'a>, readers: &[Guid]) -> Result<(), Memory> {
-        for place in 0..self.groups.len() {
-            if self.groups[place].hears(readers, &sent.audience) {
-                self.groups[place].heard.take_sent(sent)?;
+        for group in 0..self.groups.len() {
+            if self.has_some(group, &sent.audience, readers, true) {
+                self.groups[group].take_sent(sent)?;
             }
         }
         Ok(())
     }
 
-    /// The group that hears what is sent to an audience and had the fewest samples before, where all that hear it have the same samples
-    /// now.
-    fn alike_now(&self, shape: Shape, hearing: &[usize], before: &[usize]) -> Option<usize> {
-        let mut least = *hearing.first()?;
-        for place in hearing {
-            let place = *place;
-            if !self.groups[place]
-                .heard
-                .is_alike(&self.groups[least].heard, shape.last_fragment())
-            {
-                return None;
-            }
-            if before[place] < before[least] {
-                least = place;
-            }
-        }
-        Some(least)
-    }
-
-    /// The groups that hear what is sent to an audience.
-    fn hearing(&self, audience: &Audience, readers: &[Guid]) -> Result<Vec<usize>, Memory> {
-        let mut hearing = Vec::new(self.alloc);
-        for place in 0..self.groups.len() {
-            if self.groups[place].hears(readers, audience) {
-                hearing.push(place)?;
+    /// The fewest samples that one of those who hear fragments had before, and a group of them, where all have the same samples now.
+    fn alike_now(
+        &self,
+        sent: &SentFragments<'_>,
+        before: &[usize],
+        readers: &[Guid],
+    ) -> Option<(usize, usize)> {
+        let last = sent.key.shape().last_fragment();
+        let mut found: Option<(usize, usize)> = None;
+        for place in 0..readers.len() {
+            if sent.audience.has(readers[place]) {
+                let group = self.group_of[place];
+                let (first, fewest) = found.unwrap_or((group, before[group]));
+                if !self.groups[group].is_alike(&self.groups[first], last) {
+                    return None;
+                }
+                found = Some((first, fewest.min(before[group])));
             }
         }
-        Ok(hearing)
+        found
     }
 
-    /// Appends the samples that fragments tell: to their audience where all who hear them have the same samples now, else to each reader
-    /// those that it could not put together before.
+    /// Appends to each reader that hears fragments the samples that it could not put together before.
+    fn tell_apart(
+        &self,
+        sent: &SentFragments<'_>,
+        before: &[usize],
+        readers: &[Guid],
+        told: &mut Vec<ToldSample>,
+    ) -> Result<(), Memory> {
+        for place in 0..readers.len() {
+            if sent.audience.has(readers[place]) {
+                let group = self.group_of[place];
+                self.groups[group].push_told(
+                    sent,
+                    before[group],
+                    audience_of(readers[place]),
+                    told,
+                )?;
+            }
+        }
+        Ok(())
+    }
+
+    /// Appends the samples that fragments tell those who hear them: to all at once where they have the same samples now.
     fn tell(
         &self,
         sent: &SentFragments<'_>,
@@ -193,19 +187,12 @@ impl<'a> Hearers<'a> {
         readers: &[Guid],
         told: &mut Vec<ToldSample>,
     ) -> Result<(), Memory> {
-        let hearing = self.hearing(&sent.audience, readers)?;
-        if let Some(least) = self.alike_now(sent.key.shape(), &hearing, before) {
-            return self.groups[least].heard.push_told(
-                sent,
-                before[least],
-                sent.audience,
-                told,
-            );
+        match self.alike_now(sent, before, readers) {
+            Some((group, fewest)) => {
+                self.groups[group].push_told(sent, fewest, sent.audience, told)
+            }
+            None => self.tell_apart(sent, before, readers, told),
         }
-        for place in &hearing {
-            self.groups[*place].push_told(sent, before[*place], readers, told)?;
-        }
-        Ok(())
     }
 
     /// Fragments are sent, and the samples that they tell are appended. After `Memory` it is of no use.
@@ -214,10 +201,16 @@ impl<'a> Hearers<'a> {
         sent: &SentFragments<'a>,
         readers: &[Guid],
         told: &mut Vec<ToldSample>,
-    ) -> Result<(), Memory> {
+    ) -> Result<(), Memory>
+        requires { IsSent sent.now }
+        ensures { OnOk result ((offers : List Offer) → AreHearers readers.now (last_fragment (shape_of sent.now.key)) offers self.old
+            → AreHearers readers.now (last_fragment (shape_of sent.now.key)) (offers ++ offer_of (sent_value sent.now) ∷ []) self.new
+            × (map told_value told.new.items ≡ map told_value told.old.items
+            ++ told_each sent.now.act (shape_of sent.now.key) (tells readers.now (last_fragment (shape_of sent.now.key)) offers (offer_of (sent_value sent.now))))) }
+    {
         if let Some(audience) = self.alike {
             if audience == sent.audience {
-                return self.groups[0].heard.tell(sent, sent.audience, told);
+                return self.groups[0].tell(sent, sent.audience, told);
             }
             self.part(&audience, readers)?;
         }

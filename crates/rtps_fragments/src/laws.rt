@@ -1,6 +1,6 @@
 //! Laws over definitions alone. Each function does nothing: its clause is the law, and its proof the law's proof.
 
-ghost use Rattle.rtps_fragments.specs.Laws.{FragmentsTellAlike, SamplesTellAlike, FragmentVerdictIsTold, ActsTellAlike, FragmentVerdictOfActs, FirstDatagramsTellAlike, FirstDatagramsDecideSamples, FirstDatagramsTellTheSame, ActsStayWithoutFragments, ActsStayWithoutPieces, VerdictStaysWithoutPieces, PiecesLeftAreOfNoSample, NotedSamplesAreSent, BuiltInSamplesAnnounce, AnnouncersAreBuiltIn, FewFragmentsMakeNoSample, NoneIsToldAgain, SamplesStandAlone, RecordedVerdictIsOfRuns, IntakeStaysWithoutFragments, FragmentsAreCounted, NoMoreFragmentsAreCounted, OnlyDataFragsHaveFragments};
+ghost use Rattle.rtps_fragments.specs.Laws.{FragmentsTellAlike, SamplesTellAlike, FragmentVerdictIsTold, ActsTellAlike, FragmentVerdictOfActs, FirstDatagramsTellAlike, FirstDatagramsDecideSamples, FirstDatagramsTellTheSame, ActsStayWithoutFragments, ActsStayWithoutPieces, VerdictStaysWithoutPieces, PiecesLeftAreOfNoSample, NotedSamplesAreSent, BuiltInSamplesAnnounce, AnnouncersAreBuiltIn, FewFragmentsMakeNoSample, NewsIsTold, SamplesStandAlone, RecordedVerdictIsOfRuns, IntakeStaysWithoutFragments, FragmentsAreCounted, NoMoreFragmentsAreCounted, OnlyDataFragsHaveFragments};
 
 use rtps_audit::laws::{runs_exist_where_founded, verdicts_agree};
 
@@ -28,14 +28,14 @@ pub fn fragment_verdict_is_told()
     samples_tell_alike();
 }
 
-/// Of any writer and reader, a recording with pieces and its acts with the samples among them tell alike, whoever hears which pieces of
-/// a sample.
+/// Of any writer, and of any reader among some, a recording with pieces and its acts with the samples among them that these readers are told
+/// tell alike, whoever hears which pieces of a sample.
 pub fn acts_tell_alike()
     ensures { ActsTellAlike }
 {}
 
-/// Of any writer and reader, the verdict by all runs in which the reader takes fragments one by one is the verdict of the acts of the
-/// recording with the samples among them, with its numbers, from any number on.
+/// Of any writer, and of any reader among some, the verdict by all runs in which the reader takes fragments one by one is the verdict of the
+/// acts of the recording with the samples among them that these readers are told, with its numbers, from any number on.
 pub fn fragment_verdict_of_acts()
     ensures { FragmentVerdictOfActs }
 {
@@ -49,7 +49,7 @@ pub fn first_datagrams_tell_alike()
     ensures { FirstDatagramsTellAlike }
 {}
 
-/// The verdict by the first datagrams of a recording with its samples is that by all runs, in which the reader takes fragments one by
+/// Of a reader that a recording announces, the verdict by its first datagrams with their samples is that by all runs, in which the reader takes fragments one by
 /// one, on the recording that ends there.
 pub fn first_datagrams_decide()
     ensures { FirstDatagramsDecideSamples }
@@ -105,9 +105,9 @@ pub fn few_fragments_make_no_sample()
     ensures { FewFragmentsMakeNoSample }
 {}
 
-/// What fragments tell an audience, no wider one can put together.
-pub fn none_is_told_again()
-    ensures { NoneIsToldAgain }
+/// What an offer lets a reader put together that it could not before, the reader is told.
+pub fn news_is_told()
+    ensures { NewsIsTold }
 {}
 
 /// What an act tells of a sample depends on the acts with its pieces alone: those of its writer, its number and its shape.
@@ -115,8 +115,8 @@ pub fn samples_stand_alone()
     ensures { SamplesStandAlone }
 {}
 
-/// Of any writer and reader of a recording, whatever its octets are, the verdict by all runs in which the reader takes fragments one by
-/// one is that of the acts of the recording with the samples among them, with its numbers, from any number on.
+/// Of any writer, and of any reader among some, whatever the octets of a recording are, the verdict by all runs in which the reader takes
+/// fragments one by one is that of its acts with the samples among them that these readers are told, with its numbers, from any number on.
 pub fn recorded_verdict_is_of_runs()
     ensures { RecordedVerdictIsOfRuns }
 {

@@ -1,3 +1,8 @@
+ghost use Rattle.std.specs.Prelude.{◌≡◌, ◌++◌, ◌∷◌, [], map, IfOk, List, OnOk};
+ghost use Rattle.rtps_receiver.specs.Values.{ActValue, spoken_value};
+ghost use Rattle.rtps_audit.specs.Placed.{placed_value};
+ghost use Rattle.rtps_fragments.specs.Readers.{AreReadersOf, readers_in};
+
 use rtps_audit::Placed;
 use rtps_discovery::{Side, announced_endpoint};
 use rtps_ids::{Guid, Memory};
@@ -8,13 +13,15 @@ use std::collections::BTreeSet;
 /// The readers that a recording announces, in the order of their GUIDs.
 #[derive(Drop)]
 pub(crate) struct Readers {
-    guids: BTreeSet<Guid>,
+    pub(crate) guids: BTreeSet<Guid>,
     alloc: Global,
 }
 
 impl Readers {
     /// None. It takes no memory.
-    pub(crate) fn new(alloc: Global) -> Readers {
+    pub(crate) fn new(alloc: Global) -> Readers
+        ensures { AreReadersOf [] result }
+    {
         Readers {
             guids: BTreeSet::new(alloc),
             alloc,
@@ -22,7 +29,9 @@ impl Readers {
     }
 
     /// Notes the reader that an act announces, if it does.
-    fn note(&mut self, act: &Spoken<'_>) -> Result<(), Memory> {
+    fn note(&mut self, act: &Spoken<'_>) -> Result<(), Memory>
+        ensures { OnOk result ((acts : List ActValue) → AreReadersOf acts self.old → AreReadersOf (acts ++ spoken_value act.now ∷ []) self.new) }
+    {
         if let Some(endpoint) = announced_endpoint(act) && endpoint.side == Side::Reader {
             self.guids.insert(endpoint.guid)?;
         }
@@ -30,7 +39,9 @@ impl Readers {
     }
 
     /// Notes the readers that acts announce.
-    pub(crate) fn note_all(&mut self, acts: &[Spoken<'_>]) -> Result<(), Memory> {
+    pub(crate) fn note_all(&mut self, acts: &[Spoken<'_>]) -> Result<(), Memory>
+        ensures { OnOk result ((before : List ActValue) → AreReadersOf before self.old → AreReadersOf (before ++ map spoken_value acts.now) self.new) }
+    {
         for act in acts {
             self.note(act)?;
         }
@@ -38,7 +49,9 @@ impl Readers {
     }
 
     /// The same of acts in their places.
-    pub(crate) fn note_placed(&mut self, acts: &[Placed<'_>]) -> Result<(), Memory> {
+    pub(crate) fn note_placed(&mut self, acts: &[Placed<'_>]) -> Result<(), Memory>
+        ensures { OnOk result ((before : List ActValue) → AreReadersOf before self.old → AreReadersOf (before ++ map (λ placed. placed.act) (map placed_value acts.now)) self.new) }
+    {
         for placed in acts {
             self.note(&placed.act)?;
         }
@@ -46,7 +59,9 @@ impl Readers {
     }
 
     /// All of them.
-    pub(crate) fn list(&self) -> Result<Vec<Guid>, Memory> {
+    pub(crate) fn list(&self) -> Result<Vec<Guid>, Memory>
+        ensures { (acts : List ActValue) → AreReadersOf acts self.now → IfOk result (λ readers. readers.items ≡ readers_in acts) }
+    {
         let mut guids = Vec::with_capacity(self.alloc, self.guids.len())?;
         guids.extend(self.guids.iter().copied())?;
         Ok(guids)

@@ -1,9 +1,9 @@
-ghost use Rattle.std.specs.Prelude.{ℕ, ◌≡◌, ◌+◌, ◌<◌, ◌^◌, drop, length, map, IfOk, List, OnOk};
+ghost use Rattle.std.specs.Prelude.{ℕ, ◌≡◌, ◌+◌, ◌<◌, ◌^◌, drop, length, map, Contains, IfOk, List, OnOk};
 ghost use Rattle.rtps_audit.specs.Index.{IsIndexBy};
 ghost use Rattle.rtps_audit.specs.Intake.{Intake, intake_more};
 ghost use Rattle.rtps_fragments.specs.Announcements.{IsIndexedBy};
 ghost use Rattle.rtps_fragments.specs.Merging.{merged_from};
-ghost use Rattle.rtps_fragments.specs.RecordedSamples.{AreSamplesOf, IsPlainStart, intake_as, intake_with};
+ghost use Rattle.rtps_fragments.specs.RecordedSamples.{AreSamplesOf, IsPlainStart, intake_as, intake_with, readers_of};
 ghost use Rattle.rtps_fragments.specs.FragmentVerdict.{IsFragmentVerdictFrom};
 ghost use Rattle.rtps_fragments.specs.SampleActs.{fragment_speech_of};
 ghost use Rattle.rtps_fragments.specs.FragmentWalk.{piece_acts_of, sending_of};
@@ -31,7 +31,7 @@ use std::alloc::Global;
 struct DatagramSamples<'s> {
     /// The number of the datagram, counted from 1.
     datagram: usize,
-    /// Each audience.
+    /// Readers.
     told: &'s [ToldSample],
     /// A reader that hears everything, of built-in writers.
     overheard: &'s [ToldSample],
@@ -134,7 +134,7 @@ fn index_behind<'s>(
     samples: &'s Samples,
 ) -> Result<Indexed<'s>, Memory>
     requires start { IsPlainStart Read (map (λ datagram. datagram.now) recording.now) start }
-    requires samples { AreSamplesOf (drop start.datagrams (map (λ datagram. datagram.now) recording.now)) samples.now }
+    requires samples { AreSamplesOf (readers_of (map (λ datagram. datagram.now) recording.now)) (drop start.datagrams (map (λ datagram. datagram.now) recording.now)) samples.now }
     ensures { IfOk result (IsIndexedBy (intake_with (map (λ datagram. datagram.now) recording.now))) }
 {
     let PlainStart {
@@ -160,8 +160,8 @@ fn index_behind<'s>(
 
 /// The index of a recording, with its samples where fragments are read, and its announcements. The samples are put where the index may
 /// borrow them. The octets of each datagram are read once up to the first one with a submessage of fragments, where these are read.
-/// Those behind it are read twice, for the samples and for the index, and that one three times. `Memory` is answered where there is
-/// none for it, and then `samples` is of no use.
+/// Those behind it are read three times, for all that is sent, for the samples that readers are told, and for the index, and that one four
+/// times. `Memory` is answered where there is none for it, and then `samples` is of no use.
 pub fn index_as<'s>(
     alloc: Global,
     recording: &[&'s [u8]],
@@ -182,11 +182,11 @@ pub fn index_as<'s>(
     index_behind(alloc, start, recording, samples)
 }
 
-/// Judges by the index of a recording with its samples what the recording says of a writer and a reader, of the writer's numbers from
-/// `from` on. The verdict is that by all runs in which the reader takes fragments one by one. `Memory` is answered where what is
+/// Judges by the index of a recording with its samples what the recording says of a writer and a reader that it announces, of the writer's
+/// numbers from `from` on. The verdict is that by all runs in which the reader takes fragments one by one. `Memory` is answered where what is
 /// kept of that cannot grow.
 pub fn judge_with_samples(index: &Index<'_>, pair: Pair, from: SeqNum) -> Result<Verdict, Memory>
-    ensures { (recording : List (List ℕ)) → IsIndexBy (intake_with recording) index.now
+    ensures { (recording : List (List ℕ)) → IsIndexBy (intake_with recording) index.now → Contains (readers_of recording) pair.reader
         → IfOk result (IsFragmentVerdictFrom from (fragment_speech_of pair.writer pair.reader (sending_of recording))) }
 {
     recorded_verdict_is_of_runs();

@@ -1,6 +1,17 @@
-ghost use Rattle.std.specs.Prelude.{◌≡◌, ◌++◌, ◌∷◌, [], map, IfOk, OnOk};
-ghost use Rattle.rtps_fragments.specs.RecordedSamples.{AreSamplesOf};
-ghost use Rattle.rtps_fragments.specs.ToldSamples.{told_value};
+ghost use Rattle.std.specs.Prelude.{ℕ, ◌≡◌, ◌++◌, [], map, IfOk, List, OnOk};
+ghost use Rattle.rtps_ids.specs.declared.identity.Guid.{Guid as GuidValue};
+ghost use Rattle.rtps_receiver.specs.Values.{ActValue};
+ghost use Rattle.rtps_audit.specs.Intake.{acts_together};
+ghost use Rattle.rtps_audit.specs.Placed.{placed_value};
+ghost use Rattle.rtps_fragments.specs.Announcing.{announcing_with};
+ghost use Rattle.rtps_fragments.specs.FragmentWalk.{IsFragmentWalk, piece_acts_of, sending_of};
+ghost use Rattle.rtps_fragments.specs.Merging.{merged_from};
+ghost use Rattle.rtps_fragments.specs.Readers.{AreReadersOf, readers_in};
+ghost use Rattle.rtps_fragments.specs.RecordedSamples.{AreSamplesOf, by_datagram};
+ghost use Rattle.rtps_fragments.specs.SampleActs.{PieceAct};
+ghost use Rattle.rtps_fragments.specs.ToldSamples.{overheard_behind, told_behind, told_value};
+ghost use Rattle.rtps_fragments.specs.Whole.{AreWholeOf};
+ghost use Rattle.rtps_fragments.specs.declared.merging.SampleForm.TheVariants.{ForEveryone};
 
 use crate::fragment_walk::FragmentWalk;
 use crate::making::Makings;
@@ -29,7 +40,10 @@ fn note_readers(
     readers: &mut Readers,
     walk: &FragmentWalk<'_>,
     told: &[ToldSample],
-) -> Result<(), Memory> {
+) -> Result<(), Memory>
+    ensures { OnOk result ((before : List ActValue) (ones : List PieceAct) (count : ℕ) → IsFragmentWalk ones count walk.now → AreReadersOf before readers.old
+        → AreReadersOf (before ++ merged_from ForEveryone 0 (map (λ one. one.act) ones) (map told_value told.now)) readers.new) }
+{
     let mut announcing = Vec::new(alloc);
     merge(&mut announcing, SampleForm::ForEveryone, &walk.acts, told)?;
     readers.note_all(&announcing)
@@ -38,7 +52,7 @@ fn note_readers(
 impl Samples {
     /// No samples. It takes no memory.
     pub fn none(alloc: Global) -> Samples
-        ensures { AreSamplesOf [] result }
+        ensures { (readers : List GuidValue) → AreSamplesOf readers [] result }
     {
         Samples {
             told: Vec::new(alloc),
@@ -54,7 +68,15 @@ impl Samples {
         alloc: Global,
         recording: &[&[u8]],
         announcements: &[Placed<'_>],
-    ) -> Result<Vec<Guid>, Memory> {
+    ) -> Result<Vec<Guid>, Memory>
+        requires { self.old.overheard.items ≡ [] }
+        ensures readers { IfOk result (λ readers. readers.items
+            ≡ readers_in (map (λ placed. placed.act) (map placed_value announcements.now) ++ acts_together (announcing_with (sending_of (map (λ datagram. datagram.now) recording.now))))) }
+        ensures told { self.new.told ≡ self.old.told }
+        ensures overheard { OnOk result (map (λ told. map told_value told.items) self.new.overheard.items
+            ≡ by_datagram overheard_behind [] (sending_of (map (λ datagram. datagram.now) recording.now))) }
+        ensures whole { OnOk result (AreWholeOf (map (λ datagram. datagram.now) recording.now) self.new.whole) }
+    {
         let mut readers = Readers::new(alloc);
         readers.note_placed(announcements)?;
         let mut makings = Makings::new(alloc);
@@ -75,7 +97,13 @@ impl Samples {
         alloc: Global,
         recording: &[&[u8]],
         readers: &[Guid],
-    ) -> Result<(), Memory> {
+    ) -> Result<(), Memory>
+        requires { self.old.told.items ≡ [] }
+        ensures told { OnOk result (map (λ told. map told_value told.items) self.new.told.items
+            ≡ by_datagram (told_behind readers.now) [] (sending_of (map (λ datagram. datagram.now) recording.now))) }
+        ensures overheard { self.new.overheard ≡ self.old.overheard }
+        ensures whole { self.new.whole ≡ self.old.whole }
+    {
         let mut tellings = Tellings::new(alloc, readers);
         let mut walk = FragmentWalk::new(alloc);
         for datagram in recording {
@@ -91,7 +119,10 @@ impl Samples {
         alloc: Global,
         recording: &[&[u8]],
         announcements: &[Placed<'_>],
-    ) -> Result<Samples, Memory> {
+    ) -> Result<Samples, Memory>
+        ensures { IfOk result (AreSamplesOf (readers_in (map (λ placed. placed.act) (map placed_value announcements.now) ++ acts_together (announcing_with (sending_of (map (λ datagram. datagram.now) recording.now)))))
+            (map (λ datagram. datagram.now) recording.now)) }
+    {
         let mut samples = Samples::none(alloc);
         let readers = samples.overhear(alloc, recording, announcements)?;
         samples.tell(alloc, recording, &readers)?;
