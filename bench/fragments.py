@@ -57,64 +57,57 @@ class Sample:
 
 
 ALL_READERS = bytes(4)
-ALL = None, ALL_READERS
 
 
-def is_for(audience, listener):
-    """what is for this audience comes to this listener, and to each within it"""
-    return audience[0] in (None, listener[0]) and audience[1] in (ALL_READERS, listener[1])
+def is_for(audience, reader):
+    """what is for this audience comes to this reader"""
+    return audience[0] in (None, reader[0]) and audience[1] in (ALL_READERS, reader[1])
 
 
-class Listeners:
-    """what came of one sample in one shape to each of its listeners"""
+class Hearers:
+    """what came of one sample in one shape, and to whom"""
 
-    def __init__(self, shape):
-        self.shape, self.came = shape, []
-        self.each = {ALL: Sample(shape)}
+    def __init__(self, shape, readers):
+        self.shape, self.readers, self.sent = shape, readers, []
 
-    def is_news(self, audience, piece):
-        """of none that it is for it is known that all had its fragments"""
-        return not any(is_for(listener, audience) and all(heard.first.get(number) == octets for number, octets in fragments_of(piece))
-                       for listener, heard in self.each.items())
+    def told(self, pieces):
+        """the payloads that can be put together of these"""
+        sample = Sample(self.shape)
+        return [payload for piece in pieces for payload in sample.add(piece)]
 
-    def name(self, listener):
-        """one more, which heard what came before and was for it"""
-        if listener not in self.each:
-            self.each[listener] = Sample(self.shape)
-            for audience, piece in self.came:
-                if is_for(audience, listener):
-                    self.each[listener].add(piece)
-
-    def has_wider(self, listener, payload):
-        return any(other != listener and is_for(other, listener) and payload in heard.payloads()
-                   for other, heard in self.each.items() if heard.told())
+    def heard(self, reader):
+        return [piece for audience, piece in self.sent if is_for(audience, reader)]
 
     def add(self, piece):
-        """takes a piece of this shape, and answers what it tells: each listener and a payload, one listener after another"""
+        """takes a piece of this shape, and answers what it tells: each an audience and a payload. Where all before went to the audience of
+        the piece, that is told. Else all of the readers that hear it are, where they have the same payloads now, or each of them"""
         audience = piece['dest'], piece['reader']
-        if not self.is_news(audience, piece):
-            return []
-        for reader in [one for dest, one in self.each if dest is None]:
-            self.name((audience[0], reader))
-        for dest in [one for one, reader in self.each if reader == ALL_READERS]:
-            self.name((dest, audience[1]))
-        self.came.append((audience, piece))
-        told = [(listener, payload) for listener, heard in self.each.items() if is_for(audience, listener) for payload in heard.add(piece)]
-        return [(listener, payload) for listener, payload in told if not self.has_wider(listener, payload)]
+        if all(other == audience for other, _ in self.sent):
+            before = len(self.told([piece for _, piece in self.sent]))
+            self.sent.append((audience, piece))
+            return [(audience, payload) for payload in self.told([piece for _, piece in self.sent])[before:]]
+        hearers = [reader for reader in self.readers if is_for(audience, reader)]
+        before = [len(self.told(self.heard(reader))) for reader in hearers]
+        self.sent.append((audience, piece))
+        now = [self.told(self.heard(reader)) for reader in hearers]
+        if hearers and all(payloads == now[0] for payloads in now):
+            return [(audience, payload) for payload in now[0][min(before):]]
+        return [(reader, payload) for reader, count, payloads in zip(hearers, before, now) for payload in payloads[count:]]
 
 
-def told_to_each(pieces):
-    """for each of these pieces, which one writer sent in this order: what it tells, each a listener and a payload"""
+def told_to_each(pieces, readers):
+    """for each of these pieces, which one writer sent in this order: what it tells these readers, each an audience and a payload. A reader is its
+    prefix and its entity id"""
     samples, told = {}, []
     for piece in pieces:
         shape = shape_of(piece)
-        told.append(samples.setdefault((piece['number'], shape), Listeners(shape)).add(piece))
+        told.append(samples.setdefault((piece['number'], shape), Hearers(shape, readers)).add(piece))
     return told
 
 
-def told_to_listeners(pieces):
-    """the payloads that each of these pieces tells, each to some listener"""
-    return [[payload for _, payload in told] for told in told_to_each(pieces)]
+def told_to_readers(pieces, readers):
+    """the payloads that each of these pieces tells some of these readers"""
+    return [[payload for _, payload in told] for told in told_to_each(pieces, readers)]
 
 
 def payloads_told(pieces):

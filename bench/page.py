@@ -68,7 +68,8 @@ class Traffic:
     def __init__(self, recording, rows):
         self.acts = {octets_of(row['writer']): [] for row in rows}
         self.bases = {(octets_of(row['writer']), octets_of(row['reader'])): [] for row in rows}
-        self.told = {id(piece): told for pieces in by_writer(recording).values() for piece, told in zip(pieces, told_to_each(pieces))}
+        readers = reference.readers_announced(recording)
+        self.told = {id(piece): told for pieces in by_writer(recording).values() for piece, told in zip(pieces, told_to_each(pieces, readers))}
         for datagram, acts in enumerate(recording, 1):
             for act in acts:
                 self.take(datagram, act)

@@ -505,6 +505,12 @@ def payloads_sent(recording):
                 yield writer, payload
 
 
+def readers_announced(recording):
+    """the readers that a recording announces, in the order of their GUIDs, each its prefix and its entity id"""
+    said = [announcement(octets, 'reader') for writer, (form, octets) in payloads_sent(recording) if form == 'whole' and BUILTIN.get(writer) == 'reader']
+    return [(guid[:12], guid[12:]) for guid in sorted({one[0] for one in said if not isinstance(one, str)})]
+
+
 def discovery(datagrams, fragments=False):
     participants, endpoints, faults = set(), {}, 0
     for writer, (form, octets) in payloads_sent([acts_of(d, fragments) for d in datagrams]):

@@ -15,9 +15,9 @@ import subprocess
 import sys
 
 sys.dont_write_bytecode = True
-from fragments import payloads_told, told_to_listeners
+from fragments import payloads_told, told_to_readers
 from policies import fields_of
-from reference import BUILTIN, acts_of, announcement, input_of, number, text_of
+from reference import BUILTIN, acts_of, announcement, input_of, number, readers_announced, text_of
 
 TOPIC, TYPE = b'ros_discovery_info', b'rmw_dds_common::msg::dds_::ParticipantEntitiesInfo_'
 PARTICIPANT = b'\0\0\1\xc1'
@@ -159,14 +159,14 @@ def service_of(side, topic):
 
 def samples_in(recording):
     """each sample of a recording in order: the prefix that sends it, the entity of its writer, and its octets. One in pieces stands where it
-    is whole: one of a built-in writer whoever hears the pieces, another one where a listener hears all of them"""
-    pieces, places = {}, {}
+    is whole: one of a built-in writer whoever hears the pieces, another one where it is told to readers"""
+    pieces, places, readers = {}, {}, readers_announced(recording)
     for acts in recording:
         for act in acts:
             if act['kind'] == 'data_frag':
                 pieces.setdefault((act['source'], act['writer']), []).append(act)
     for (_, writer), sent in pieces.items():
-        for piece, told in zip(sent, (payloads_told if writer in BUILTIN else told_to_listeners)(sent)):
+        for piece, told in zip(sent, payloads_told(sent) if writer in BUILTIN else told_to_readers(sent, readers)):
             places[id(piece)] = told
     for acts in recording:
         for act in acts:

@@ -12,6 +12,8 @@ pub mod SamplesTell
 pub mod Audiences
 pub mod HeardLemmas
 pub mod HearingLemmas
+pub mod AlikeLemmas
+pub mod ReaderLemmas
 pub mod SampleActLemmas
 pub mod ActsAnd
 pub mod ActsTell

@@ -8,6 +8,7 @@ use Rattle.rtps_wire.specs.Reading.{reading_of}
 use Rattle.rtps_wire.specs.Tally.{tally_of}
 use Rattle.rtps_receiver.specs.Acts.{acts_of}
 use Rattle.rtps_receiver.specs.Values.{ActValue}
+use Rattle.rtps_ids.specs.declared.identity.Guid.{Guid}
 use Rattle.rtps_audit.proofs.Offered.{contains_head, contains_tail}
 use Rattle.rtps_fragments.specs.Merging.{sents_from, sents_in}
 use Rattle.rtps_fragments.specs.RecordedSamples.{AreSamplesOf, IsWithoutFragments, by_datagram}
@@ -47,7 +48,7 @@ sent_behind (octets ∷ recording) (suc n) none =
 pub each_of : (recording : List (List ℕ)) → IsWithoutFragments recording → EachWithout recording
 each_of recording all octets among = All-contains (λ datagram. (tally_of (reading_of datagram)).fragments ≡ 0) recording octets all among
 
-module _ (recording : List (List ℕ)) (n : ℕ) (samples : Samples) (without : IsWithoutFragments (take n recording)) (are : AreSamplesOf (drop n recording) samples) where
+module _ (recording : List (List ℕ)) (n : ℕ) (samples : Samples) (readers : List Guid) (without : IsWithoutFragments (take n recording)) (are : AreSamplesOf readers (drop n recording) samples) where
   pub whole_behind : AreWholeIn (sents_in (sending_of recording)) samples.whole
   whole_behind = subst (λ (ss : List SentValue). AreWholeIn ss samples.whole) (sym (sent_behind recording n (each_of (take n recording) without))) are.whole
 

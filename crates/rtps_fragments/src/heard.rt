@@ -1,5 +1,6 @@
 ghost use Rattle.std.specs.Prelude.{ℕ, ◌≡◌, ◌==◌, ◌<◌, ◌≤◌, ◌++◌, ◌∷◌, [], drop, if◌then◌else◌, length, map, option_copied, slice_get, suc, List, IfOk, OnOk, Some, None};
-ghost use Rattle.std.specs.List.{concat, list_all, list_any};
+ghost use Rattle.std.specs.Cmp.Lexicographic.{pointwise};
+ghost use Rattle.std.specs.List.{concat};
 ghost use Rattle.std.specs.Str.{bytes_eq};
 ghost use Rattle.rtps_fragments.specs.Heard.{IsHeard, came_from, kept_first, kept_front, kept_other, with_part};
 ghost use Rattle.rtps_fragments.specs.FragmentDelivery.{last_fragment};
@@ -214,19 +215,35 @@ impl<'a> Heard<'a> {
         self.count(last) > 0
     }
 
+    /// Whether the same fragments are kept from the first one on.
+    fn has_same_front(&self, other: &Heard<'a>) -> bool
+        ensures { result ≡ pointwise bytes_eq (map (λ octets. octets.now) self.now.front.items) (map (λ octets. octets.now) other.now.front.items) }
+    {
+        self.front == other.front
+    }
+
+    /// Whether the same fragment is kept with the same other octets, or none is.
+    fn has_same_other(&self, other: &Heard<'a>) -> bool
+        ensures { result ≡ hearing_spec.is_same_other (kept_other self.now) (kept_other other.now) }
+    {
+        if self.other == 0 || other.other == 0 {
+            return self.other == other.other;
+        }
+        self.other == other.other && self.octets == other.octets
+    }
+
     /// Whether the same samples of so many fragments can be put together of what another reader heard.
     pub(crate) fn is_alike(&self, other: &Heard<'a>, last: u64) -> bool
         requires { 0 < last }
         ensures { (one two : List (ℕ × List ℕ)) → IsHeard last one self.now → IsHeard last two other.now → result ≡ hearing_spec.is_same last one two }
     {
-        let count = self.count(last);
-        if count != other.count(last) {
+        if self.front() < last {
+            return other.front() < last;
+        }
+        if other.front() < last {
             return false;
         }
-        count == 0
-            || (self.front == other.front
-                && self.other == other.other
-                && (self.other == 0 || self.octets == other.octets))
+        self.has_same_front(other) && self.has_same_other(other)
     }
 
     /// Appends the samples that can be put together, but for so many, as told to an audience.

@@ -1,9 +1,12 @@
-ghost use Rattle.std.specs.Prelude.{ℕ, ◌≡◌, ◌++◌, ◌∷◌, [], map, List, IfOk, OnOk, Some};
+ghost use Rattle.std.specs.Prelude.{ℕ, ◌≡◌, ◌<◌, ◌++◌, ◌∷◌, [], false, true, length, map, slice_get, List, IfOk, None, OnOk, Some};
 ghost use Rattle.rtps_ids.specs.declared.identity.Guid.{Guid as GuidValue};
 ghost use Rattle.rtps_fragments.specs.FragmentDelivery.{last_fragment};
-ghost use Rattle.rtps_fragments.specs.Hearing.{Offer, tells};
+ghost use Rattle.rtps_fragments.specs.Hearing.{Offer, hearers_of, tells, told_apart, told_to};
 ghost use Rattle.rtps_fragments.specs.Hearing as hearing_spec;
-ghost use Rattle.rtps_fragments.specs.Tellings.{AreHearers};
+ghost use Rattle.rtps_fragments.specs.Heard.{IsHeard};
+ghost use Rattle.rtps_fragments.specs.Tellings.{AreApart, AreCounts, AreHearers, AreParted, AreTold, HasMember, IsAlikeNow, IsParted};
+ghost use Rattle.rtps_fragments.specs.Tellings as tellings;
+ghost use Rattle.rtps_fragments.specs.declared.heard.Heard.{Heard as HeardValue};
 ghost use Rattle.rtps_fragments.specs.ToldSamples.{IsSent, offer_of, sent_value, shape_of, told_each, told_value};
 
 use crate::heard::Heard;
@@ -60,7 +63,11 @@ impl<'a> Hearers<'a> {
     }
 
     /// From now on each reader is in a group: those of the audience in the first, the others in a second.
-    fn part(&mut self, audience: &Audience, readers: &[Guid]) -> Result<(), Memory> {
+    fn part(&mut self, audience: &Audience, readers: &[Guid]) -> Result<(), Memory>
+        ensures groups { OnOk result ((heard : HeardValue) × (self.new.groups.items ≡ self.old.groups.items ++ heard ∷ []) × ((last : ℕ) → IsHeard last [] heard)) }
+        ensures group_of { OnOk result (self.new.group_of.items ≡ self.old.group_of.items ++ map (tellings.first_or_second audience.now) readers.now) }
+        ensures alike { OnOk result (self.new.alike ≡ None) }
+    {
         self.groups.push(Heard::new(self.alloc))?;
         for reader in readers {
             let group = if audience.has(*reader) { 0 } else { 1 };
@@ -71,7 +78,11 @@ impl<'a> Hearers<'a> {
     }
 
     /// Whether some reader of a group is in an audience, or whether some is not.
-    fn has_some(&self, group: usize, audience: &Audience, readers: &[Guid], inside: bool) -> bool {
+    fn has_some(&self, group: usize, audience: &Audience, readers: &[Guid], inside: bool) -> bool
+        requires { length self.now.group_of.items ≡ length readers.now }
+        ensures some { result ≡ true → HasMember readers.now self.now.group_of.items group audience.now inside }
+        ensures none { result ≡ false → ¬ HasMember readers.now self.now.group_of.items group audience.now inside }
+    {
         for place in 0..readers.len() {
             if self.group_of[place] == group && audience.has(readers[place]) == inside {
                 return true;
@@ -81,7 +92,14 @@ impl<'a> Hearers<'a> {
     }
 
     /// The readers of a group that are in an audience are of another group from now on.
-    fn regroup(&mut self, group: usize, audience: &Audience, readers: &[Guid], other: usize) {
+    fn regroup(&mut self, group: usize, audience: &Audience, readers: &[Guid], other: usize)
+        requires { length self.old.group_of.items ≡ length readers.now }
+        ensures groups { self.new.groups ≡ self.old.groups }
+        ensures alike { self.new.alike ≡ self.old.alike }
+        ensures counted { length self.new.group_of.items ≡ length self.old.group_of.items }
+        ensures moved { (place old : ℕ) (reader : GuidValue) → slice_get readers.now place ≡ Some reader → slice_get self.old.group_of.items place ≡ Some old
+            → slice_get self.new.group_of.items place ≡ Some (tellings.regrouped group audience.now other old reader) }
+    {
         for place in 0..readers.len() {
             if self.group_of[place] == group && audience.has(readers[place]) {
                 self.group_of[place] = other;
@@ -95,7 +113,11 @@ impl<'a> Hearers<'a> {
         group: usize,
         audience: &Audience,
         readers: &[Guid],
-    ) -> Result<(), Memory> {
+    ) -> Result<(), Memory>
+        requires counted { length self.old.group_of.items ≡ length readers.now }
+        requires within { group < length self.old.groups.items }
+        ensures { OnOk result (IsParted readers.now audience.now group self.old self.new) }
+    {
         if !self.has_some(group, audience, readers, true)
             || !self.has_some(group, audience, readers, false)
         {
@@ -109,7 +131,13 @@ impl<'a> Hearers<'a> {
     }
 
     /// Parts each group of which some are in an audience and some are not.
-    fn split_all(&mut self, audience: &Audience, readers: &[Guid]) -> Result<(), Memory> {
+    fn split_all(&mut self, audience: &Audience, readers: &[Guid]) -> Result<(), Memory>
+        requires { length self.old.group_of.items ≡ length readers.now }
+        ensures alike { OnOk result (self.new.alike ≡ self.old.alike) }
+        ensures apart { OnOk result ((last : ℕ) (offers : List Offer) → AreApart readers.now last offers self.old.group_of.items self.old.groups.items
+            → AreApart readers.now last offers self.new.group_of.items self.new.groups.items) }
+        ensures parted { OnOk result (AreParted readers.now audience.now self.new.group_of.items) }
+    {
         for group in 0..self.groups.len() {
             self.split(group, audience, readers)?;
         }
@@ -117,7 +145,10 @@ impl<'a> Hearers<'a> {
     }
 
     /// How many samples each group has.
-    fn counts(&self, last: u64) -> Result<Vec<usize>, Memory> {
+    fn counts(&self, last: u64) -> Result<Vec<usize>, Memory>
+        requires { 0 < last }
+        ensures { IfOk result (λ counts. AreCounts last self.now.groups.items counts.items) }
+    {
         let mut counts = Vec::with_capacity(self.alloc, self.groups.len())?;
         for heard in &self.groups {
             counts.push(heard.count(last))?;
@@ -126,7 +157,15 @@ impl<'a> Hearers<'a> {
     }
 
     /// Each group that is in the audience hears fragments.
-    fn take(&mut self, sent: &SentFragments<'a>, readers: &[Guid]) -> Result<(), Memory> {
+    fn take(&mut self, sent: &SentFragments<'a>, readers: &[Guid]) -> Result<(), Memory>
+        requires sent { IsSent sent.now }
+        requires counted { length self.old.group_of.items ≡ length readers.now }
+        requires parted { AreParted readers.now sent.now.audience self.old.group_of.items }
+        ensures alike { OnOk result (self.new.alike ≡ self.old.alike) }
+        ensures group_of { OnOk result (self.new.group_of ≡ self.old.group_of) }
+        ensures apart { OnOk result ((offers : List Offer) → AreApart readers.now (last_fragment (shape_of sent.now.key)) offers self.old.group_of.items self.old.groups.items
+            → AreApart readers.now (last_fragment (shape_of sent.now.key)) (offers ++ offer_of (sent_value sent.now) ∷ []) self.new.group_of.items self.new.groups.items) }
+    {
         for group in 0..self.groups.len() {
             if self.has_some(group, &sent.audience, readers, true) {
                 self.groups[group].take_sent(sent)?;
@@ -141,7 +180,14 @@ impl<'a> Hearers<'a> {
         sent: &SentFragments<'_>,
         before: &[usize],
         readers: &[Guid],
-    ) -> Option<(usize, usize)> {
+    ) -> Option<(usize, usize)>
+        requires sent { IsSent sent.now }
+        requires counted { length self.now.group_of.items ≡ length readers.now }
+        requires within { (place group : ℕ) → slice_get self.now.group_of.items place ≡ Some group → group < length before.now }
+        requires groups { length before.now ≡ length self.now.groups.items }
+        ensures { (offers : List Offer) → AreTold readers.now sent.now offers before.now self.now
+            → IsAlikeNow (last_fragment (shape_of sent.now.key)) offers (offer_of (sent_value sent.now)) (hearers_of readers.now (offer_of (sent_value sent.now))) self.now.groups.items result }
+    {
         let last = sent.key.shape().last_fragment();
         let mut found: Option<(usize, usize)> = None;
         for place in 0..readers.len() {
@@ -164,7 +210,15 @@ impl<'a> Hearers<'a> {
         before: &[usize],
         readers: &[Guid],
         told: &mut Vec<ToldSample>,
-    ) -> Result<(), Memory> {
+    ) -> Result<(), Memory>
+        requires sent { IsSent sent.now }
+        requires counted { length self.now.group_of.items ≡ length readers.now }
+        requires within { (place group : ℕ) → slice_get self.now.group_of.items place ≡ Some group → group < length before.now }
+        requires groups { length before.now ≡ length self.now.groups.items }
+        ensures { OnOk result ((offers : List Offer) → AreTold readers.now sent.now offers before.now self.now
+            → map told_value told.new.items ≡ map told_value told.old.items
+            ++ told_each sent.now.act (shape_of sent.now.key) (told_apart (last_fragment (shape_of sent.now.key)) offers (offer_of (sent_value sent.now)) (hearers_of readers.now (offer_of (sent_value sent.now))))) }
+    {
         for place in 0..readers.len() {
             if sent.audience.has(readers[place]) {
                 let group = self.group_of[place];
@@ -186,7 +240,15 @@ impl<'a> Hearers<'a> {
         before: &[usize],
         readers: &[Guid],
         told: &mut Vec<ToldSample>,
-    ) -> Result<(), Memory> {
+    ) -> Result<(), Memory>
+        requires sent { IsSent sent.now }
+        requires counted { length self.now.group_of.items ≡ length readers.now }
+        requires within { (place group : ℕ) → slice_get self.now.group_of.items place ≡ Some group → group < length before.now }
+        requires groups { length before.now ≡ length self.now.groups.items }
+        ensures { OnOk result ((offers : List Offer) → AreTold readers.now sent.now offers before.now self.now
+            → map told_value told.new.items ≡ map told_value told.old.items
+            ++ told_each sent.now.act (shape_of sent.now.key) (told_to (last_fragment (shape_of sent.now.key)) offers (offer_of (sent_value sent.now)) (hearers_of readers.now (offer_of (sent_value sent.now))))) }
+    {
         match self.alike_now(sent, before, readers) {
             Some((group, fewest)) => {
                 self.groups[group].push_told(sent, fewest, sent.audience, told)

@@ -21,7 +21,7 @@ impl<'r, 'a> Tellings<'r, 'a> {
     /// Nothing was sent.
     pub(crate) fn new(alloc: Global, readers: &'r [Guid]) -> Tellings<'r, 'a>
         ensures told { AreTellings readers.now [] result }
-        ensures readers { result.readers ≡ readers }
+        ensures readers { result.readers ≡ readers.entry }
     {
         Tellings {
             readers,

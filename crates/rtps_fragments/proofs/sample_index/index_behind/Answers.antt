@@ -3,6 +3,7 @@ use Rattle.std.proofs.lemmas.List.{length-drop, length-map, length-take-le, take
 use Rattle.rtps_audit.specs.declared.report.Counts.{Counts}
 use Rattle.rtps_fragments.specs.Announcements.{IsIndexedBy}
 use Rattle.rtps_fragments.specs.Merging.{sents_in}
+use Rattle.rtps_fragments.specs.RecordedSamples.{readers_of}
 use Rattle.rtps_fragments.specs.SampleActs.{samples_told}
 use Rattle.rtps_fragments.specs.FragmentWalk.{piece_acts_of, sending_of}
 use Rattle.rtps_fragments.specs.ToldSamples.{overheard_behind, told_behind, told_value}
@@ -20,21 +21,21 @@ pub index-requires : goal.index-requires
 index-requires c =
     let octets = octets_of c.args.recording.now in
     let n = c.args.start.datagrams in
-    let count = told_count octets n c.args.samples.now (c.requires.start.without refl) c.requires.samples in
+    let count = told_count octets n c.args.samples.now (readers_of octets) (c.requires.start.without refl) c.requires.samples in
     omega (arith, count, length-drop n octets, length-map c.args.recording.now (λ datagram. datagram.now), c.loop-place-test.true, c.loop-place.auto.place)
 
 pub index-requires-in-loop-place : goal.index-requires-in-loop-place
 index-requires-in-loop-place c =
     let octets = octets_of c.args.recording.now in
     let n = c.args.start.datagrams in
-    let count = overheard_count octets n c.args.samples.now (c.requires.start.without refl) c.requires.samples in
+    let count = overheard_count octets n c.args.samples.now (readers_of octets) (c.requires.start.without refl) c.requires.samples in
     omega (arith, count, length-drop n octets, length-map c.args.recording.now (λ datagram. datagram.now), c.loop-place-test.true, c.loop-place.auto.place)
 
 pub note_datagram-requires : goal.note_datagram-requires
 note_datagram-requires c =
     let recording = c.args.recording.now in
     let i = c.loop-place.place in
-    let counted = ap (λ (counts : Counts). counts.datagrams) (c.loop-place.invariant.index.counts 0) ∙ length-acts samples_told [] (sending_of (octets_of (take i recording)))
+    let counted = ap (λ (counts : Counts). counts.datagrams) (c.loop-place.invariant.index.counts 0) ∙ length-acts (samples_told (readers_of (octets_of recording))) [] (sending_of (octets_of (take i recording)))
     ∙ length-map (octets_of (take i recording)) piece_acts_of ∙ length-map (take i recording) (λ datagram. datagram.now) ∙ length-take-le i recording (omega (arith, c.loop-place-test.true)) in
     omega (arith, counted, c.loop-place-test.true)
 
@@ -48,9 +49,10 @@ loop-place-preserved c =
     let lt = c.loop-place-test.true in
     let le = c.loop-place.auto.place in
     let none = c.requires.start.without refl in
-    let told = told_count octets n samples none c.requires.samples in
-    let overheard = overheard_count octets n samples none c.requires.samples in
-    let at = past octets n samples none c.requires.samples told_behind i le ∙ kept_at samples.told.items _ (i - n) c.index.result.now c.deref.result.now c.requires.samples.told (omega (arith, told, length-drop n octets, length-map recording (λ datagram. datagram.now), lt, le)) c.index.ensures c.deref.ensures.value in
-    let also = past octets n samples none c.requires.samples overheard_behind i le ∙ kept_at samples.overheard.items _ (i - n) c.index-in-loop-place.result.now c.deref-in-loop-place.result.now c.requires.samples.overheard (omega (arith, overheard, length-drop n octets, length-map recording (λ datagram. datagram.now), lt, le)) c.index-in-loop-place.ensures c.deref-in-loop-place.ensures.value in
+    let readers = readers_of octets in
+    let told = told_count octets n samples readers none c.requires.samples in
+    let overheard = overheard_count octets n samples readers none c.requires.samples in
+    let at = past octets n samples readers none c.requires.samples (told_behind readers) i le ∙ kept_at samples.told.items _ (i - n) c.index.result.now c.deref.result.now c.requires.samples.told (omega (arith, told, length-drop n octets, length-map recording (λ datagram. datagram.now), lt, le)) c.index.ensures c.deref.ensures.value in
+    let also = past octets n samples readers none c.requires.samples overheard_behind i le ∙ kept_at samples.overheard.items _ (i - n) c.index-in-loop-place.result.now c.deref-in-loop-place.result.now c.requires.samples.overheard (omega (arith, overheard, length-drop n octets, length-map recording (λ datagram. datagram.now), lt, le)) c.index-in-loop-place.ensures c.deref-in-loop-place.ensures.value in
     subst (λ intake. IsIndexedBy intake c.note_datagram.new.indexed) (taken_more recording i _ lt (map told_value c.deref.result.now) (map told_value c.deref-in-loop-place.result.now) at also)
-    (c.in_ok-note_datagram.ensures (taken recording i) (sents_in (sending_of octets)) (whole_behind octets n samples none c.requires.samples) (ap (λ n. n + 1) (sym (announced_count recording i (omega (arith, lt))))) c.loop-place.invariant)
+    (c.in_ok-note_datagram.ensures (taken recording i) (sents_in (sending_of octets)) (whole_behind octets n samples readers none c.requires.samples) (ap (λ n. n + 1) (sym (announced_count recording i (omega (arith, lt))))) c.loop-place.invariant)
