@@ -1,7 +1,7 @@
 ghost use Rattle.std.specs.Prelude.{◌≡◌, ◌++◌, ◌∷◌, [], map, IfOk, List, OnOk};
 ghost use Rattle.rtps_receiver.specs.Values.{ActValue, spoken_value};
 ghost use Rattle.rtps_audit.specs.Placed.{placed_value};
-ghost use Rattle.rtps_fragments.specs.Readers.{AreReadersOf, readers_in};
+ghost use Rattle.rtps_fragments.specs.Readers.{AreReadersOf};
 
 use rtps_audit::Placed;
 use rtps_discovery::{Side, announced_endpoint};
@@ -60,7 +60,7 @@ impl Readers {
 
     /// All of them.
     pub(crate) fn list(&self) -> Result<Vec<Guid>, Memory>
-        ensures { (acts : List ActValue) → AreReadersOf acts self.now → IfOk result (λ readers. readers.items ≡ readers_in acts) }
+        ensures { IfOk result (λ readers. readers.items ≡ self.now.guids.keys) }
     {
         let mut guids = Vec::with_capacity(self.alloc, self.guids.len())?;
         guids.extend(self.guids.iter().copied())?;
