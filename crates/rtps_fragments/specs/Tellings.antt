@@ -60,7 +60,7 @@ pub record AreCounts (last : ℕ) (groups : List Heard) (counts : List ℕ) : Ty
 -- Each reader heard these offers and the fragments that are sent, and before them it had so many samples.
 pub record AreTold (readers : List Guid) (sent : SentFragments) (offers : List Offer) (before : List ℕ) (hearers : Hearers) : Type 0 where
   pub heard : AreApart readers (last_fragment (shape_of sent.key)) (offers ++ offer_of (sent_value sent) ∷ []) hearers.group_of.items hearers.groups.items
-  pub before : (place group : ℕ) (reader : Guid) → slice_get readers place ≡ Some reader → slice_get hearers.group_of.items place ≡ Some group
+  pub had : (place group : ℕ) (reader : Guid) → slice_get readers place ≡ Some reader → slice_get hearers.group_of.items place ≡ Some group
       → slice_get before group ≡ Some (length (samples_for (last_fragment (shape_of sent.key)) offers reader))
 
 -- Whether all of these have the same samples now; and then a group of them, and the fewest that one of them had. There is at least one.
