@@ -53,11 +53,12 @@ block_stands order file at within =
 pub record LeadsOn (old new : Unread) : Type 0 where
   pub onward : old.at < new.at
   pub same : new.octets ≡ old.octets
+  pub captures : new.captures ≡ old.captures
 
 block_leads : (unread : Unread) (found : Block) → unread.at < length unread.octets → BlockStands unread.at unread.octets found → LeadsOn unread (step_of_block unread found).next
-block_leads unread Unfinished left stands = record { onward = left; same = refl }
-block_leads unread Bad left stands = record { onward = left; same = refl }
-block_leads unread (Whole whole) left stands = record { onward = omega (arith, stands.0); same = refl }
+block_leads unread Unfinished left stands = record { onward = left; same = refl; captures = refl }
+block_leads unread Bad left stands = record { onward = left; same = refl; captures = refl }
+block_leads unread (Whole whole) left stands = record { onward = omega (arith, stands.0); same = refl; captures = refl }
 
 -- one of two steps
 abbrev chosen : Bool → Step → Step → Step
@@ -83,10 +84,10 @@ record_leads unread records left =
 
     by : (room damaged fits : Bool)
         → LeadsOn unread (chosen room (chosen damaged (end_with Damaged unread) (chosen fits (whole_step unread records size) (end_with Rest unread))) (end_with Rest unread)).next
-    by false damaged fits = record { onward = left; same = refl }
-    by true true fits = record { onward = left; same = refl }
-    by true false true = record { onward = omega arith; same = refl }
-    by true false false = record { onward = left; same = refl }
+    by false damaged fits = record { onward = left; same = refl; captures = refl }
+    by true true fits = record { onward = left; same = refl; captures = refl }
+    by true false true = record { onward = omega arith; same = refl; captures = refl }
+    by true false false = record { onward = left; same = refl; captures = refl }
 
 pub step_leads : (unread : Unread) → unread.at < length unread.octets → LeadsOn unread (step_of unread).next
 unfolding step_of

@@ -14,3 +14,8 @@ pub mod SentLemmas
 pub mod GivenLemmas
 pub mod TimeLemmas
 pub mod ForgettingLemmas
+pub mod HeldLemmas
+pub mod OctetLemmas
+pub mod LeftLemmas
+pub mod CourseLemmas
+pub mod BlockLemmas

@@ -11,6 +11,9 @@ use rtps_ids::{Order, u16_at, u32_at};
 /// How many octets of a capture tell whether it is one that is read: those of its header.
 pub const CAPTURE_HEADER_SIZE: usize = file::SIZE;
 
+/// How many octets tell the form of a file.
+const FORM: usize = 4;
+
 /// The order of the numbers in the headers of a capture, by its first four octets; None where they begin no capture
 /// (PCAP Capture File Format, 4 "File Header").
 #[tactic(auto, unfolding(crate::specs::Opening::order_of))]
@@ -36,6 +39,23 @@ pub fn unread_link_type(octets: &[u8]) -> Option<u32>
     match link_read(Captures::Classic, number) {
         Some(_) => None,
         None => Some(number),
+    }
+}
+
+/// How many octets decide whether these begin a capture, and which, of those that are read. Of a file that can be a pcapng file it is all
+/// that there are.
+pub(crate) fn opening_needed(captures: Captures, octets: &[u8]) -> usize
+    ensures { result ≡ opening.opening_needed captures octets.now }
+{
+    if octets.len() < FORM {
+        return FORM;
+    }
+    if capture_order(octets).is_some() {
+        return file::SIZE;
+    }
+    match captures {
+        Captures::Classic => FORM,
+        Captures::Any => usize::MAX,
     }
 }
 

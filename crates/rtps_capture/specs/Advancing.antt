@@ -1,0 +1,47 @@
+-- How a reader of captures goes on, datagram by datagram. own: it is held to the course of the whole file, where its octets are known.
+use Rattle.std.specs.Prelude.{ℕ, ◌-◌, ◌≡◌, Bool, true, false, List, [], ◌∷◌, Option, Some, None, option_map, Result, Ok, Err}
+use Rattle.rtps_capture.specs.Course.{Course, DatagramValue, Notes, course_left}
+use Rattle.rtps_capture.specs.Frames.{Unread}
+use Rattle.rtps_capture.specs.Noting.{datagram_at, notes_of}
+use Rattle.rtps_capture.specs.declared.capture.CaptureFault.TheVariants as capture_fault
+use Rattle.rtps_capture.specs.declared.capture_reader.Summary.{Summary}
+use Rattle.rtps_capture.specs.declared.notes.Found.{Found}
+use Rattle.rtps_capture.specs.declared.notes.Notes.{Notes as NotesStruct}
+use Rattle.rtps_capture.specs.declared.read_fault.ReadFault.{ReadFault}
+use Rattle.rtps_capture.specs.declared.read_fault.ReadFault.TheVariants.{Input, Capture}
+
+-- the course of what is left, where it is known
+abbrev pub course_known : NotesStruct → Option Unread → Option Course
+course_known notes unread = option_map (course_left notes.most (notes_of notes)) unread
+
+-- the datagram that was found last, with what is held of the capture
+abbrev pub found_datagram : List ℕ → NotesStruct → Option Found → Option DatagramValue
+found_datagram held notes found = option_map (datagram_at held notes.packet.items) found
+
+-- the course ends with this fault, unless it is one that says nothing of the capture
+abbrev pub IsEnd : Course → ReadFault → Type 0
+IsEnd course Input = Unit {0}
+IsEnd course (Capture capture_fault.Memory) = Unit {0}
+IsEnd course (Capture fault) = course ≡ record { datagrams = []; end = Err fault }
+
+-- What came next was told, by the course of what is left before and behind it, where that is known; this was noted then, and this datagram
+-- came last.
+abbrev pub Advances : Option Course → Option Course → Notes → Option DatagramValue → Result Bool ReadFault → Type 0
+Advances None new notes datagram result = Unit {0}
+Advances (Some old) new notes datagram (Err fault) = IsEnd old fault
+Advances (Some old) None notes datagram (Ok found) = ⊥
+Advances (Some old) (Some new) notes (Some datagram) (Ok true) = old ≡ record { datagrams = datagram ∷ new.datagrams; end = new.end }
+Advances (Some old) (Some new) notes None (Ok true) = ⊥
+Advances (Some old) (Some new) notes datagram (Ok false) = (old ≡ record { datagrams = []; end = Ok notes }) × (new ≡ old)
+
+-- what is told of the frames for which this is noted
+abbrev pub summary_of : Notes → Summary
+summary_of notes = record {
+  start = notes.start;
+  end = notes.end;
+  pieces = notes.counts.fresh - notes.counts.settled;
+  cut = notes.counts.cut;
+  other = notes.counts.other;
+  links = notes.counts.links;
+  first_link = notes.counts.first_link;
+}

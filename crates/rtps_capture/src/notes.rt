@@ -1,0 +1,248 @@
+ghost use Rattle.std.specs.Prelude.{◌≡◌, ◌≤◌, ◌<◌, ◌+◌, ◌^◌, ℕ, Option, length, option_map, IfOk, IfSome};
+ghost use Rattle.rtps_capture.specs.Advancing.{summary_of};
+ghost use Rattle.rtps_capture.specs.Course as course;
+ghost use Rattle.rtps_capture.specs.Noting.{AreCounted, AreCountedWith, FoundStands, IsNoted, IsRange, TakesKept, datagram_at, given_at, notes_of, place_range, place_size};
+ghost use Rattle.rtps_capture.specs.Frames.{StandsInFile};
+ghost use Rattle.rtps_capture.specs.Packets.{StandsIn, fragment_size};
+
+use crate::assembly::Assembly;
+use crate::byte_range::ByteRange;
+use crate::capture::{CaptureFault, Counts};
+use crate::capture_reader::Summary;
+use crate::captures::Captures;
+use crate::fragment::Fragment;
+use crate::frames::{CapturedFrame, Frame};
+use crate::packet::{Contents, contents_read, moved};
+use crate::times::later;
+use rtps_ids::Memory;
+use std::alloc::Global;
+
+/// Where the octets of a datagram stand.
+#[derive(Clone, Copy)]
+pub(crate) enum Place {
+    /// Among those of the frame.
+    Frame(ByteRange),
+    /// Among those of the packet that was put together last.
+    Packet(ByteRange),
+}
+
+/// A datagram that a frame gave or completed.
+#[derive(Clone, Copy)]
+pub(crate) struct Found {
+    /// Where that frame stands in what is held.
+    pub(crate) range: ByteRange,
+    pub(crate) place: Place,
+    /// When that frame was captured, in nanoseconds since 1970, if that is told.
+    pub(crate) time: Option<u64>,
+    /// Its number.
+    pub(crate) frame: u64,
+}
+
+/// What is noted of the frames of a capture so far.
+#[derive(Drop)]
+pub(crate) struct Notes {
+    /// The most datagrams that are wanted.
+    most: u64,
+    /// The octets of fragments, one behind another.
+    kept: Vec<u8>,
+    assembly: Assembly,
+    /// The octets of the packet that was put together last.
+    packet: Vec<u8>,
+    datagrams: u64,
+    /// The first time of a frame.
+    start: Option<u64>,
+    /// The greatest time of a frame.
+    end: Option<u64>,
+    counts: Counts,
+}
+
+impl Notes {
+    /// Nothing is noted yet. So many datagrams are wanted at most.
+    pub(crate) fn new(alloc: Global, most: u64) -> Notes
+        ensures most { result.most ≡ most }
+        ensures notes { notes_of result ≡ course.no_notes }
+        ensures counted { AreCounted result }
+    {
+        Notes {
+            most,
+            kept: Vec::new(alloc),
+            assembly: Assembly::new(alloc),
+            packet: Vec::new(alloc),
+            datagrams: 0,
+            start: None,
+            end: None,
+            counts: Counts::default(),
+        }
+    }
+
+    /// The octets of the packet that was put together last.
+    pub(crate) fn packet(&self) -> &[u8]
+        ensures { result.now ≡ self.now.packet.items }
+    {
+        &self.packet
+    }
+
+    /// What is told of the frames.
+    pub(crate) fn summary(&self) -> Summary
+        requires counted { AreCounted self.now }
+        requires few { self.now.counts.frames < 2 ^ 63 }
+        ensures { result ≡ summary_of (notes_of self.now) }
+    {
+        let counts = self.counts;
+        Summary {
+            start: self.start,
+            end: self.end,
+            pieces: u128::from(counts.fresh).saturating_sub(counts.settled) as u64,
+            cut: counts.cut,
+            other: counts.other,
+            links: counts.links,
+            first_link: counts.first_link,
+        }
+    }
+
+    /// Notes what the next record or block gives, which stands in these octets, and answers the datagram that it gave or
+    /// completed. After an `Err` nothing is promised of what is noted.
+    #[tactic(auto, unfolding(crate::specs::Course::frame_gives, crate::specs::Course::gives_captured))]
+    pub(crate) fn note(
+        &mut self,
+        captures: Captures,
+        octets: &[u8],
+        frame: Frame,
+    ) -> Result<Option<Found>, CaptureFault>
+        requires counted { AreCounted self.old }
+        requires few { self.old.counts.frames < 2 ^ 63 }
+        requires stands { StandsInFile (length octets.now) frame }
+        ensures noted { IsNoted (course.frame_gives captures self.old.most octets.now (notes_of self.old) frame) octets.now self.new result }
+        ensures counted { AreCounted self.new }
+        ensures frames { self.new.counts.frames ≤ self.old.counts.frames + 1 }
+        ensures most { self.new.most ≡ self.old.most }
+        ensures stands { IfOk result (FoundStands octets.now self.new.packet.items) }
+    {
+        let number = self.counts.frames + 1;
+        self.start = self.start.or(frame.time());
+        self.end = later(self.end, frame.time());
+        match frame {
+            Frame::Captured(captured) => {
+                let found = self.note_captured(captures, octets, captured)?;
+                if self.datagrams > self.most {
+                    return Err(CaptureFault::TooMany);
+                }
+                Ok(found)
+            }
+            Frame::Unread { link, .. } => {
+                if self.counts.links == 0 {
+                    self.counts.first_link = link;
+                }
+                self.counts.frames = number;
+                self.counts.links += 1;
+                Ok(None)
+            }
+            Frame::NoFrame => Ok(None),
+            Frame::Rest => match captures {
+                Captures::Classic => Err(CaptureFault::CutCapture { frame: number }),
+                Captures::Any => {
+                    self.counts.frames = number;
+                    self.counts.cut += 1;
+                    Ok(None)
+                }
+            },
+            Frame::BadBlock => Err(CaptureFault::BadCapture),
+            Frame::Damaged => Err(CaptureFault::Damaged { frame: number }),
+            Frame::CutFrame => Err(CaptureFault::CutCapture { frame: number }),
+        }
+    }
+
+    /// Notes a frame whose link type is read, and whose time is noted.
+    #[tactic(auto, unfolding(crate::specs::Course::gives_captured))]
+    fn note_captured(
+        &mut self,
+        captures: Captures,
+        octets: &[u8],
+        captured: CapturedFrame,
+    ) -> Result<Option<Found>, Memory>
+        requires counted { AreCounted self.old }
+        requires few { self.old.counts.frames < 2 ^ 63 }
+        requires stands { (captured.range.from ≤ captured.range.to) × (captured.range.to ≤ length octets.now) }
+        ensures noted { IfOk result (λ found. course.gives_captured captures octets.now (notes_of self.old) captured ≡ record { datagram = option_map (datagram_at octets.now self.new.packet.items) found; notes = notes_of self.new }) }
+        ensures counted { AreCounted self.new }
+        ensures frames { self.new.counts.frames ≡ self.old.counts.frames + 1 }
+        ensures most { self.new.most ≡ self.old.most }
+        ensures stands { IfOk result (FoundStands octets.now self.new.packet.items) }
+    {
+        let range = captured.range;
+        let octets = &octets[range.from..range.to];
+        let contents = contents_read(captures, captured.link, octets);
+        match self.take(octets, contents)? {
+            Some(place) => Ok(Some(Found {
+                range,
+                place,
+                time: captured.time,
+                frame: self.counts.frames,
+            })),
+            None => Ok(None),
+        }
+    }
+
+    /// Takes what a frame contains, and answers where the datagram stands that it gives or completes.
+    fn take(&mut self, frame: &[u8], contents: Contents) -> Result<Option<Place>, Memory>
+        requires counted { AreCounted self.old }
+        requires few { self.old.counts.frames < 2 ^ 63 }
+        requires stands { StandsIn (length frame.now) contents }
+        ensures taken { IfOk result (λ place. (time : Option ℕ) → course.gives_contents (course.counted (notes_of self.old)) time frame.now contents ≡ record { datagram = option_map (given_at frame.now self.new.packet.items time self.new.counts.frames) place; notes = notes_of self.new }) }
+        ensures counted { AreCounted self.new }
+        ensures frames { self.new.counts.frames ≡ self.old.counts.frames + 1 }
+        ensures most { self.new.most ≡ self.old.most }
+        ensures stands { IfOk result (λ place. IfSome place (λ place. IsRange (place_range place) (place_size frame.now self.new.packet.items place))) }
+    {
+        self.counts.frames += 1;
+        let place = match contents {
+            Contents::Datagram(range) => Some(Place::Frame(range)),
+            Contents::Fragment(fragment) => self.take_fragment(frame, &fragment)?,
+            Contents::Cut => {
+                self.counts.cut += 1;
+                None
+            }
+            Contents::Other => {
+                self.counts.other += 1;
+                None
+            }
+        };
+        self.datagrams += u64::from(place.is_some());
+        Ok(place)
+    }
+
+    /// Takes a fragment, which stands in its frame: its octets are kept.
+    fn take_fragment(
+        &mut self,
+        frame: &[u8],
+        fragment: &Fragment,
+    ) -> Result<Option<Place>, Memory>
+        requires counted { AreCountedWith 1 self.old }
+        requires few { self.old.counts.frames < 2 ^ 64 }
+        requires within { (fragment.now.range.from ≤ fragment.now.range.to) × (fragment.now.range.to ≤ length frame.now) }
+        requires stands { fragment.now.start + fragment_size fragment.now < 2 ^ 32 }
+        ensures taken { IfOk result (TakesKept self.old self.new frame.now fragment.now) }
+        ensures counted { AreCounted self.new }
+        ensures same { (self.new.counts.frames ≡ self.old.counts.frames) × (self.new.datagrams ≡ self.old.datagrams) × (self.new.most ≡ self.old.most) }
+        ensures stands { IfOk result (λ place. IfSome place (λ place. IsRange (place_range place) (place_size frame.now self.new.packet.items place))) }
+    {
+        let at = self.kept.len();
+        self.kept
+            .extend_from_slice(&frame[fragment.range.from..fragment.range.to])?;
+        let kept = Fragment {
+            range: ByteRange {
+                from: at,
+                to: self.kept.len(),
+            },
+            ..*fragment
+        };
+        self.packet.clear();
+        let taken = self.assembly.take(&self.kept, &kept, &mut self.packet)?;
+        self.counts.fresh += u64::from(taken.fresh);
+        self.counts.settled += taken.settled as u128;
+        match taken.datagram {
+            Some(range) => Ok(Some(Place::Packet(range))),
+            None => Ok(None),
+        }
+    }
+}
