@@ -119,6 +119,13 @@ framed_moves interface ticks size by range =
         ap (λ (n : ℕ). frame_of_interface ticks (record { from = by + range.from; to = n }) interface) {x = by + range.from + size} {y = by + (range.from + size)} (omega arith)
         ∙ interface_moves ticks by (record { from = range.from; to = range.from + size }) interface
 
+-- a range from one place to another
+abbrev range_of : ℕ → ℕ → ByteRange
+range_of from to = record { from = from; to = to }
+
+later_range : (by from to begin end : ℕ) → begin ≡ by + from → end ≡ by + to → range_of begin end ≡ moved_range by (range_of from to)
+later_range by from to begin end first last = ap₂ range_of first last
+
 -- a block that ends so much later
 abbrev pub whole_behind : ℕ → WholeBlock → WholeBlock
 whole_behind by whole = record whole { to = by + whole.to }
@@ -129,8 +136,7 @@ packet_moves interfaces number whole octets at least =
     let high = four_there whole.order octets at (0 + 8 + 4) (at + 8 + 4) (omega arith) in
     let low = four_there whole.order octets at (0 + 8 + 4 + 4) (at + 8 + 4 + 4) (omega arith) in
     let size = four_there whole.order octets at (0 + 8 + 12) (at + 8 + 12) (omega arith) in
-    let range : record { from = at + 8 + 20; to = at + whole.to - 4 } ≡ moved_range at (record { from = 0 + 8 + 20; to = whole.to - 4 }) =
-    ap₂ (λ (from to : ℕ). record { from = from; to = to }) {x₁ = at + 8 + 20} {y₁ = at + (0 + 8 + 20)} (omega arith) (omega arith) in
+    let range = later_range at (0 + 8 + 20) (whole.to - 4) (at + 8 + 20) (at + whole.to - 4) (omega arith) (omega arith) in
     rw (high, low, size) (
     ap (framed (slice_get interfaces number) (Some (pair_at whole.order octets (at + 8 + 4))) (four_at whole.order octets (at + 8 + 12))) range
     ∙ framed_moves (slice_get interfaces number) (Some (pair_at whole.order octets (at + 8 + 4))) (four_at whole.order octets (at + 8 + 12)) at (record { from = 0 + 8 + 20; to = whole.to - 4 }))
@@ -140,8 +146,7 @@ simple_moves : (first : Option Interface) (whole : WholeBlock) (octets : List �
 simple_moves first whole octets at least =
     let original = four_there whole.order octets at (0 + 8) (at + 8) (omega arith) in
     let room : (at + whole.to - 4) - (at + 8 + 4) ≡ (whole.to - 4) - (0 + 8 + 4) = omega arith in
-    let range : record { from = at + 8 + 4; to = at + whole.to - 4 } ≡ moved_range at (record { from = 0 + 8 + 4; to = whole.to - 4 }) =
-    ap₂ (λ (from to : ℕ). record { from = from; to = to }) {x₁ = at + 8 + 4} {y₁ = at + (0 + 8 + 4)} (omega arith) (omega arith) in
+    let range = later_range at (0 + 8 + 4) (whole.to - 4) (at + 8 + 4) (at + whole.to - 4) (omega arith) (omega arith) in
     let size = simple_size (snap_of first) (four_at whole.order octets (at + 8)) ((whole.to - 4) - (0 + 8 + 4)) in
     rw (original, room) (ap (framed first None size) range ∙ framed_moves first None size at (record { from = 0 + 8 + 4; to = whole.to - 4 }))
 

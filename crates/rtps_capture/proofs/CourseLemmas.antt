@@ -5,7 +5,7 @@ use Rattle.std.specs.Io.KnownBytes.{prepend_known}
 use Rattle.std.proofs.lemmas.Bool.Decides.{nat_tests}
 use Rattle.std.proofs.lemmas.List.{drop-drop, drop_all, length-drop}
 use Rattle.rtps_capture.specs.Blocks.{BlockStands, block_at, fixed_size}
-use Rattle.rtps_capture.specs.Course.{Course, Given, Notes, course_left, course_of_frames, course_with, frame_gives, gives_captured}
+use Rattle.rtps_capture.specs.Course.{Course, Given, Notes, course_left, course_of_frames, course_with, frame_gives, gives_captured, summary_of}
 use Rattle.rtps_capture.specs.Frames.{StandsInFile, Step, Unread as UnreadPart, end_with, frame_from, frames_left, is_damaged, step_by, step_of, step_of_block, step_of_record, step_of_sized, unread_of}
 use Rattle.rtps_capture.specs.Left.{GivesFrame, IsStep, behind_passed, ends_reading, moved_frame, unread_known}
 use Rattle.rtps_capture.specs.OctetNumbers.{four_at}
@@ -165,7 +165,7 @@ course_step most notes unread left =
     let leads = step_leads unread left in
     rw (left-step unread left, leads.same, leads.captures) refl
 
-course_done : (most : ℕ) (notes : Notes) (unread : UnreadPart) → length unread.octets ≤ unread.at → course_left most notes unread ≡ record { datagrams = []; end = Ok notes }
+course_done : (most : ℕ) (notes : Notes) (unread : UnreadPart) → length unread.octets ≤ unread.at → course_left most notes unread ≡ record { datagrams = []; end = Ok (summary_of notes) }
 unfolding course_left
 course_done most notes unread past = rw (left-done unread past) refl
 
@@ -258,5 +258,5 @@ course_goes_on most notes left held None old new frame gives stands = absurd giv
 course_goes_on most notes left held (Some more) old new frame gives stands =
     (more, refl, course_given most notes (unread_of left old) (unread_of (held ++ more) new) held more frame gives.0 gives.1 refl stands)
 
-pub course_ends : (most : ℕ) (notes : Notes) (unread : UnreadPart) → length unread.octets ≤ unread.at → course_left most notes unread ≡ record { datagrams = []; end = Ok notes }
+pub course_ends : (most : ℕ) (notes : Notes) (unread : UnreadPart) → length unread.octets ≤ unread.at → course_left most notes unread ≡ record { datagrams = []; end = Ok (summary_of notes) }
 course_ends most notes unread past = course_done most notes unread past

@@ -1,12 +1,12 @@
 -- The frames of a capture by what is left of its octets: what is held in front decides what comes next, and places are counted from it.
 use Rattle.std.proofs.Common.{◌≡◌, ℕ, ◌+◌, ◌-◌, ◌^◌, ◌<◌, ◌≤◌, Bool, true, false, List, [], ◌∷◌, ◌++◌, length, drop, refl, sym, ap, ap₂, subst, ◌∙◌, append-nil, inl, inr, arith}
-use Rattle.std.specs.Prelude.{None, Option, Some, ◌⊎◌, nat_le, nat_lt, if◌then◌else◌, option_and_then, option_map}
+use Rattle.std.specs.Prelude.{None, Option, Some, Result, Ok, Err, IfOk, ◌⊎◌, nat_le, nat_lt, if◌then◌else◌, IfSome, option_and_then, option_map}
 use Rattle.std.specs.Io.KnownBytes.{IsAtEnd, Keeps, prepend_known}
 use Rattle.std.proofs.lemmas.Bool.Decides.{nat_tests}
 use Rattle.std.proofs.lemmas.List.{drop-append-le, length-append, length-drop}
 use Rattle.rtps_ids.specs.declared.order.Order.{Order}
 use Rattle.rtps_capture.specs.Frames.{Step, TakesStep, Unread, classic_with, end_with, frame_from, is_damaged, opened, opened_by, step_by, step_of, step_of_record, step_of_sized, unread_of}
-use Rattle.rtps_capture.specs.Left.{GivesFrame, IsDecided, IsStep, behind_passed, ends_reading, needed, needed_by, record_needed, record_size, unread_known}
+use Rattle.rtps_capture.specs.Left.{GivesFrame, IsDecided, IsStep, OpensAs, behind_passed, ends_reading, needed, needed_by, record_needed, record_size, unread_known}
 use Rattle.rtps_capture.specs.LinkTypes.{link_read}
 use Rattle.rtps_capture.specs.OctetNumbers.{four_at}
 use Rattle.rtps_capture.specs.Opening.{link_type_in, opening_needed, order_of}
@@ -20,6 +20,8 @@ use Rattle.rtps_capture.specs.declared.frames.Records.{Records}
 use Rattle.rtps_capture.specs.declared.layout.file.TheConstants as file_header
 use Rattle.rtps_capture.specs.declared.layout.record.TheConstants as frame_header
 use Rattle.rtps_capture.specs.declared.link_type.LinkType.{LinkType}
+use Rattle.rtps_capture.specs.declared.read_fault.ReadFault.{ReadFault}
+use Rattle.rtps_capture.proofs.FrameLemmas.{step_leads}
 use Rattle.rtps_capture.proofs.OctetLemmas.{four_at-append, two_at-append}
 use Rattle.rtps_capture.proofs.Offered.{order_of-append}
 
@@ -34,7 +36,7 @@ AreSame one other octets = (other.gives ≡ one.gives) × (ends_reading one.give
 pub time-append : (nanoseconds : Bool) (order : Order) (octets more : List ℕ) (at : ℕ) → at + 16 ≤ length octets
     → record_time nanoseconds order (octets ++ more) at ≡ record_time nanoseconds order octets at
 time-append nanoseconds order octets more at within =
-    let seconds = four_at-append order octets more at (omega arith) in
+    let seconds = four_at-append order octets more (at + 0) (omega arith) in
     let fraction = four_at-append order octets more (at + 4) (omega arith) in rw (seconds, fraction) refl
 
 -- one of two steps
@@ -96,13 +98,14 @@ decided unread more enough few = by unread.records refl
         record_decided unread records more (subst (λ (n : ℕ). unread.at + n ≤ length unread.octets) same enough)
 
 -- so do those that are there where no more come
-all_decided : (unread : Unread) → IsDecided unread []
-all_decided unread = rw (append-nil unread.octets) (refl, λ _. refl)
+all_decided : (unread : Unread) → unread.at < length unread.octets → IsDecided unread []
+all_decided unread left = rw (append-nil unread.octets) (refl, λ _. sym (ap (λ (l : List ℕ). record (step_of unread).next { octets = l }) (sym (step_leads unread left).same)))
 
 -- those that are held decide what comes next: they are enough, or no more come
-pub held_decides : (unread : Unread) (more : List ℕ) → (unread.at + needed unread ≤ length unread.octets) ⊎ (more ≡ []) → length unread.octets < 2 ^ 63 → IsDecided unread more
-held_decides unread more (inl enough) few = decided unread more enough few
-held_decides unread more (inr none) few = subst (IsDecided unread) (sym none) (all_decided unread)
+pub held_decides : (unread : Unread) (more : List ℕ) → (unread.at + needed unread ≤ length unread.octets) ⊎ (more ≡ []) → length unread.octets < 2 ^ 63 → unread.at < length unread.octets
+    → IsDecided unread more
+held_decides unread more (inl enough) few left = decided unread more enough few
+held_decides unread more (inr none) few left = subst (IsDecided unread) (sym none) (all_decided unread left)
 
 needed_some : (unread : Unread) → 0 < needed unread
 needed_some unread = by unread.records
@@ -130,7 +133,7 @@ frame_given old passed new held next (Some rest) None frame within few is kept e
 frame_given old passed new held next (Some rest) (Some more) frame within few is kept enough some taken =
     let front : drop old.at (held ++ rest) ≡ next ++ more = drop-append-le old.at held rest within ∙ sym kept in
     let size : length (held ++ rest) - old.at ≡ length next + length more = sym (length-drop old.at (held ++ rest)) ∙ ap (λ (l : List ℕ). length l) front ∙ length-append next more in
-    let decides = held_decides (unread_of next passed) more enough few in
+    let decides = held_decides (unread_of next passed) more enough few some in
     let all : behind_passed (unread_of (held ++ rest) old) ≡ unread_of (next ++ more) passed = ap₂ unread_of front (sym is) in (
       omega (arith, size, some),
       subst (λ (u : Unread). IsStep (step_of u) frame (unread_of (next ++ more) new)) (sym all) (
@@ -191,3 +194,46 @@ opened_decided captures octets more enough few = by (nat_lt (length octets) 4) r
         → opened_by captures (octets ++ more) (order_of (octets ++ more)) ≡ option_map (λ unread. with_more unread more) (opened_by captures octets (order_of octets))
     by true is = let few : opening_needed captures octets ≡ 4 = rw is refl in absurd (grind (arith, nat_tests, few, enough))
     by false is = four (grind (arith, nat_tests))
+
+-- so what a step over what is held gives is what comes next
+pub step_given : (old passed new : Frames) (held next : List ℕ) (rest more : Option (List ℕ)) (result : Result (Option Frame) ReadFault) → old.at ≤ length held → length next < 2 ^ 63
+    → passed ≡ record old { at = 0 } → Keeps (prepend_known (drop old.at held) rest) (prepend_known next more)
+    → (passed.at + needed (unread_of next passed) ≤ length next) ⊎ IsAtEnd more → IfOk result (λ given. given ≡ None → (length next ≤ passed.at) × (new ≡ passed))
+    → IfOk result (λ given. IfSome given (λ frame. (passed.at < length next) × TakesStep (step_of (unread_of next passed)) frame (unread_of next new)))
+    → IfOk result (GivesFrame (unread_known (prepend_known held rest) old) (unread_known (prepend_known next more) new))
+step_given old passed new held next rest more (Err fault) within few is kept enough none some = tt
+step_given old passed new held next rest more (Ok None) within few is kept enough none some =
+    subst (λ (f : Frames). GivesFrame (unread_known (prepend_known held rest) old) (unread_known (prepend_known next more) f) None) (sym (none refl).1)
+    (none_given old passed held next rest more within is kept enough (none refl).0)
+step_given old passed new held next rest more (Ok (Some frame)) within few is kept enough none some =
+    frame_given old passed new held next rest more frame within few is kept enough some.0 some.1
+
+-- what is held of a file decides what it begins with
+opened_all : (captures : Captures) (held more : List ℕ) → (opening_needed captures held ≤ length held) ⊎ (more ≡ []) → length held < 2 ^ 63
+    → opened captures (held ++ more) ≡ option_map (λ unread. with_more unread more) (opened captures held)
+opened_all captures held more (inl enough) few = opened_decided captures held more enough few
+opened_all captures held more (inr none) few =
+    subst (λ (l : List ℕ). opened captures (held ++ l) ≡ option_map (λ unread. with_more unread l) (opened captures held)) (sym none)
+    (rw (append-nil held) (same (opened captures held) refl))
+  where
+    same : (found : Option Unread) → opened captures held ≡ found → found ≡ option_map (λ unread. with_more unread []) found
+    same None is = refl
+    same (Some unread) is = ap Some (ap (λ (l : List ℕ). record unread { octets = l }) (sym (append-nil unread.octets)))
+
+pub opened_known : (captures : Captures) (held : List ℕ) (input rest : Option (List ℕ)) (frames : Frames) → Keeps (prepend_known [] input) (prepend_known held rest)
+    → (opening_needed captures held ≤ length held) ⊎ IsAtEnd rest → length held < 2 ^ 63 → opened captures held ≡ Some (unread_of held frames)
+    → IfSome input (λ file. OpensAs (opened captures file) (unread_known (prepend_known held rest) frames))
+opened_known captures held None rest frames kept enough few is = tt
+opened_known captures held (Some all) None frames kept enough few is = absurd kept
+opened_known captures held (Some all) (Some more) frames kept enough few is =
+    let found : opened captures all ≡ Some (unread_of (held ++ more) frames) =
+    ap (opened captures) (sym kept) ∙ opened_all captures held more enough few ∙ ap (option_map (λ (unread : Unread). with_more unread more)) is in
+    subst (λ (found : Option Unread). OpensAs found (Some (unread_of (held ++ more) frames))) (sym found) refl
+
+pub unopened_known : (captures : Captures) (held : List ℕ) (input rest : Option (List ℕ)) → Keeps (prepend_known [] input) (prepend_known held rest)
+    → (opening_needed captures held ≤ length held) ⊎ IsAtEnd rest → length held < 2 ^ 63 → opened captures held ≡ None
+    → IfSome input (λ file. opened captures file ≡ None)
+unopened_known captures held None rest kept enough few is = tt
+unopened_known captures held (Some all) None kept enough few is = absurd kept
+unopened_known captures held (Some all) (Some more) kept enough few is =
+    ap (opened captures) (sym kept) ∙ opened_all captures held more enough few ∙ ap (option_map (λ (unread : Unread). with_more unread more)) is

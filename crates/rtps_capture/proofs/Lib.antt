@@ -19,3 +19,6 @@ pub mod OctetLemmas
 pub mod LeftLemmas
 pub mod CourseLemmas
 pub mod BlockLemmas
+pub mod AdvanceLemmas
+pub mod AlikeLemmas
+pub mod AgreementLemmas

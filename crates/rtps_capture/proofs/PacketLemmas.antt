@@ -24,9 +24,10 @@ use Rattle.rtps_capture.specs.declared.packet.Contents.{Contents}
 use Rattle.rtps_capture.specs.declared.packet.Contents.TheVariants as contents
 use Rattle.rtps_capture.specs.declared.passed.Header.{Header}
 
--- a datagram ends within so many octets, and not at their beginning
+-- a datagram ends within so many octets, and not at their beginning; so does a fragment
 abbrev pub Ends : ℕ → Contents → Type 0
 Ends size (contents.Datagram range) = (range.from ≤ range.to) × (0 < range.to) × (range.to ≤ size)
+Ends size (contents.Fragment fragment) = (fragment.range.from ≤ fragment.range.to) × (0 < fragment.range.to) × (fragment.range.to ≤ size)
 Ends size _ = Unit {0}
 
 udp_ends : (packet : List ℕ) (range : ByteRange) (size : ℕ) → range.to ≤ size → Ends size (udp_within packet range)
@@ -41,22 +42,22 @@ udp_ends packet range size fits = by (nat_le (range.from + udp.SIZE) range.to &&
     by true says = (grind (arith, nat_tests), grind (arith, nat_tests), grind (arith, nat_tests))
     by false says = tt
 
-fragment_ends : (fragment : Fragment) (size : ℕ) → Ends size (fragment_of fragment)
-fragment_ends fragment size = by (can_be_fragment fragment)
+fragment_ends : (fragment : Fragment) (size : ℕ) → fragment.range.from ≤ fragment.range.to → 0 < fragment.range.to → fragment.range.to ≤ size → Ends size (fragment_of fragment)
+fragment_ends fragment size ordered some fits = by (can_be_fragment fragment)
   where
     by : (can : Bool) → Ends size (if can then contents.Fragment fragment else contents.Other)
-    by true = tt
+    by true = (ordered, some, fits)
     by false = tt
 
 -- a datagram, or a fragment
-one_ends : (whole : Bool) (packet : List ℕ) (range : ByteRange) (fragment : Fragment) → range.to ≤ length packet
-    → Ends (length packet) (if whole then udp_within packet range else fragment_of fragment)
-one_ends true packet range fragment fits = udp_ends packet range (length packet) fits
-one_ends false packet range fragment fits = fragment_ends fragment (length packet)
+one_ends : (whole : Bool) (packet : List ℕ) (fragment : Fragment) → fragment.range.from ≤ fragment.range.to → 0 < fragment.range.to → fragment.range.to ≤ length packet
+    → Ends (length packet) (if whole then udp_within packet fragment.range else fragment_of fragment)
+one_ends true packet fragment ordered some fits = udp_ends packet fragment.range (length packet) fits
+one_ends false packet fragment ordered some fits = fragment_ends fragment (length packet) ordered some fits
 
 ipv4_ends : (packet : List ℕ) → Ends (length packet) (contents_of_ipv4 packet)
 unfolding contents_of_ipv4
-ipv4_ends packet = by (nat_le packet_4.LEAST (length packet)) (is_ipv4_udp packet) (nat_le (total_size packet) (length packet)) refl
+ipv4_ends packet = by (nat_le packet_4.LEAST (length packet)) (is_ipv4_udp packet) refl (nat_le (total_size packet) (length packet)) refl
   where
     range : ByteRange
     range = record { from = header_size packet; to = total_size packet }
@@ -69,16 +70,16 @@ ipv4_ends packet = by (nat_le packet_4.LEAST (length packet)) (is_ipv4_udp packe
       range = range;
     }
 
-    by : (room udp_is there : Bool) → nat_le (total_size packet) (length packet) ≡ there
+    by : (room udp_is : Bool) → is_ipv4_udp packet ≡ udp_is → (there : Bool) → nat_le (total_size packet) (length packet) ≡ there
         → Ends (length packet) (if room then (if udp_is then (if there then contents_of_whole_ipv4 packet else contents.Cut) else contents.Other) else contents.Cut)
-    by false udp_is there is = tt
-    by true false there is = tt
-    by true true false is = tt
-    by true true true is = one_ends (two_at Big packet packet_4.FRAGMENT % packet_4.FRAGMENT_BITS == 0) packet range fragment (grind (arith, nat_tests))
+    by false udp_is udp there is = tt
+    by true false udp there is = tt
+    by true true udp false is = tt
+    by true true udp true is = one_ends (two_at Big packet packet_4.FRAGMENT % packet_4.FRAGMENT_BITS == 0) packet fragment (grind (arith, nat_tests)) (grind (arith, nat_tests)) (grind (arith, nat_tests))
 
 behind_ends : (packet : List ℕ) (last : Header) → Ends (length packet) (contents_behind packet last)
 behind_ends packet last =
-    by (last.kind == packet_4.UDP) (last.kind == extension.FRAGMENT && nat_le (last.at + extension.SIZE) (length packet) && slice_index packet last.at == packet_4.UDP)
+    by (last.kind == packet_4.UDP) (last.kind == extension.FRAGMENT && nat_le (last.at + extension.SIZE) (length packet) && slice_index packet last.at == packet_4.UDP) refl
   where
     range : ByteRange
     range = record { from = last.at; to = length packet }
@@ -91,10 +92,11 @@ behind_ends packet last =
       range = record { from = last.at + extension.SIZE; to = length packet };
     }
 
-    by : (udp_is part : Bool) → Ends (length packet) (if udp_is then udp_within packet range else if part then fragment_of fragment else contents.Other)
-    by true part = udp_ends packet range (length packet) (omega arith)
-    by false true = fragment_ends fragment (length packet)
-    by false false = tt
+    by : (udp_is part : Bool) → (last.kind == extension.FRAGMENT && nat_le (last.at + extension.SIZE) (length packet) && slice_index packet last.at == packet_4.UDP) ≡ part
+        → Ends (length packet) (if udp_is then udp_within packet range else if part then fragment_of fragment else contents.Other)
+    by true part is = udp_ends packet range (length packet) (omega arith)
+    by false true is = fragment_ends fragment (length packet) (grind (arith, nat_tests)) (grind (arith, nat_tests)) (omega arith)
+    by false false is = tt
 
 whole_ends : (packet : List ℕ) → Ends (length packet) (contents_of_whole packet)
 unfolding contents_of_whole
@@ -102,6 +104,7 @@ whole_ends packet = behind_ends packet (last_within (extension_passed packet) (l
 
 ends_more : (size more : ℕ) (found : Contents) → size ≤ more → Ends size found → Ends more found
 ends_more size more (contents.Datagram range) fits ends = (ends.0, ends.1, omega (arith, ends.2))
+ends_more size more (contents.Fragment fragment) fits ends = (ends.0, ends.1, omega (arith, ends.2))
 ends_more size more _ fits ends = tt
 
 ipv6_ends : (packet : List ℕ) → Ends (length packet) (contents_of_ipv6 packet)
@@ -121,6 +124,7 @@ ipv6_ends packet = by (nat_le packet_6.SIZE (length packet)) (is_ipv6_udp packet
 -- contents of the octets from a place on
 moved_ends : (by : ℕ) (octets : List ℕ) (found : Contents) → Ends (length (drop by octets)) found → Ends (length octets) (moved_contents by found)
 moved_ends by octets (contents.Datagram range) ends = (omega (arith, ends.0), omega (arith, ends.1), omega (arith, ends.1, ends.2, length-drop by octets))
+moved_ends by octets (contents.Fragment fragment) ends = (omega (arith, ends.0), omega (arith, ends.1), omega (arith, ends.1, ends.2, length-drop by octets))
 moved_ends by octets _ ends = tt
 
 contents_end : (kind : LinkType) (frame : List ℕ) → Ends (length frame) (contents_carried frame (packet_of kind frame))
@@ -135,7 +139,7 @@ whole_or_other_ends : (size : ℕ) (found : Contents) → Ends size found → En
 whole_or_other_ends size (contents.Datagram range) ends = ends
 whole_or_other_ends size _ ends = tt
 
-read_ends : (captures : Captures) (kind : LinkType) (frame : List ℕ) → Ends (length frame) (contents_read captures kind frame)
+pub read_ends : (captures : Captures) (kind : LinkType) (frame : List ℕ) → Ends (length frame) (contents_read captures kind frame)
 unfolding contents_read
 read_ends Any kind frame = contents_end kind frame
 read_ends Classic kind frame = by (is_plain (size_in_front kind) (packet_of kind frame))

@@ -1,6 +1,6 @@
 -- How a reader of captures goes on, datagram by datagram. own: it is held to the course of the whole file, where its octets are known.
-use Rattle.std.specs.Prelude.{ℕ, ◌-◌, ◌≡◌, Bool, true, false, List, [], ◌∷◌, Option, Some, None, option_map, Result, Ok, Err}
-use Rattle.rtps_capture.specs.Course.{Course, DatagramValue, Notes, course_left}
+use Rattle.std.specs.Prelude.{ℕ, ◌≡◌, Bool, true, false, List, [], ◌∷◌, Option, Some, None, option_map, Result, Ok, Err}
+use Rattle.rtps_capture.specs.Course.{Course, DatagramValue, course_left}
 use Rattle.rtps_capture.specs.Frames.{Unread}
 use Rattle.rtps_capture.specs.Noting.{datagram_at, notes_of}
 use Rattle.rtps_capture.specs.declared.capture.CaptureFault.TheVariants as capture_fault
@@ -24,24 +24,12 @@ IsEnd course Input = Unit {0}
 IsEnd course (Capture capture_fault.Memory) = Unit {0}
 IsEnd course (Capture fault) = course ≡ record { datagrams = []; end = Err fault }
 
--- What came next was told, by the course of what is left before and behind it, where that is known; this was noted then, and this datagram
--- came last.
-abbrev pub Advances : Option Course → Option Course → Notes → Option DatagramValue → Result Bool ReadFault → Type 0
-Advances None new notes datagram result = Unit {0}
-Advances (Some old) new notes datagram (Err fault) = IsEnd old fault
-Advances (Some old) None notes datagram (Ok found) = ⊥
-Advances (Some old) (Some new) notes (Some datagram) (Ok true) = old ≡ record { datagrams = datagram ∷ new.datagrams; end = new.end }
-Advances (Some old) (Some new) notes None (Ok true) = ⊥
-Advances (Some old) (Some new) notes datagram (Ok false) = (old ≡ record { datagrams = []; end = Ok notes }) × (new ≡ old)
-
--- what is told of the frames for which this is noted
-abbrev pub summary_of : Notes → Summary
-summary_of notes = record {
-  start = notes.start;
-  end = notes.end;
-  pieces = notes.counts.fresh - notes.counts.settled;
-  cut = notes.counts.cut;
-  other = notes.counts.other;
-  links = notes.counts.links;
-  first_link = notes.counts.first_link;
-}
+-- What came next was told, by the course of what is left before and behind it, where that is known; this is told of the frames then, and this
+-- datagram came last.
+abbrev pub Advances : Option Course → Option Course → Summary → Option DatagramValue → Result Bool ReadFault → Type 0
+Advances None new summary datagram result = Unit {0}
+Advances (Some old) new summary datagram (Err fault) = IsEnd old fault
+Advances (Some old) None summary datagram (Ok found) = ⊥
+Advances (Some old) (Some new) summary (Some datagram) (Ok true) = old ≡ record { datagrams = datagram ∷ new.datagrams; end = new.end }
+Advances (Some old) (Some new) summary None (Ok true) = ⊥
+Advances (Some old) (Some new) summary datagram (Ok false) = (old ≡ record { datagrams = []; end = Ok summary }) × (new ≡ old)

@@ -1,4 +1,4 @@
--- The course of a capture: its datagrams, one after another, and what is noted of its frames then, or its fault. It is what `specs/Capture.antt`
+-- The course of a capture: its datagrams, one after another, and what is told of its frames then, or its fault. It is what `specs/Capture.antt`
 -- tells of the whole file, in the order in which it is told. RFC 791 "Internet Protocol", 2.3 "Function Description"; RFC 768 "User
 -- Datagram Protocol", "Format".
 -- own: whoever reads a capture of any size keeps a datagram no longer than needed.
@@ -17,6 +17,7 @@ use Rattle.rtps_capture.specs.declared.byte_range.ByteRange.{ByteRange}
 use Rattle.rtps_capture.specs.declared.capture.CaptureFault.{CaptureFault}
 use Rattle.rtps_capture.specs.declared.capture.CaptureFault.TheVariants as fault
 use Rattle.rtps_capture.specs.declared.capture.Counts.{Counts}
+use Rattle.rtps_capture.specs.declared.capture_reader.Summary.{Summary}
 use Rattle.rtps_capture.specs.declared.captures.Captures.{Captures}
 use Rattle.rtps_capture.specs.declared.captures.Captures.TheVariants.{Classic, Any}
 use Rattle.rtps_capture.specs.declared.fragment.Fragment.{Fragment}
@@ -163,10 +164,22 @@ gives_noted captures most octets notes CutFrame = Err (fault.CutCapture (notes.c
 unfoldable pub frame_gives : Captures → ℕ → List ℕ → Notes → Frame → Result Given CaptureFault
 frame_gives captures most octets notes frame = gives_noted captures most octets (timed notes frame) frame
 
--- the datagrams, and what is noted behind the last one, or the fault behind them
+-- what is told of the frames for which this is noted
+abbrev pub summary_of : Notes → Summary
+summary_of notes = record {
+  start = notes.start;
+  end = notes.end;
+  pieces = notes.counts.fresh - notes.counts.settled;
+  cut = notes.counts.cut;
+  other = notes.counts.other;
+  links = notes.counts.links;
+  first_link = notes.counts.first_link;
+}
+
+-- the datagrams, and what is told of the frames behind the last one, or the fault behind them
 pub record Course : Type 0 where
   pub datagrams : List DatagramValue
-  pub end : Result Notes CaptureFault
+  pub end : Result Summary CaptureFault
 
 -- what is told of a frame, and then more
 abbrev pub course_with : Result Given CaptureFault → (Notes → Course) → Course
@@ -175,7 +188,7 @@ course_with (Err fault) more = record { datagrams = []; end = Err fault }
 
 -- what is told of these records or blocks, one after another, which stand in these octets
 abbrev pub course_of_frames : Captures → ℕ → List ℕ → Notes → List Frame → Course
-course_of_frames captures most octets notes [] = record { datagrams = []; end = Ok notes }
+course_of_frames captures most octets notes [] = record { datagrams = []; end = Ok (summary_of notes) }
 course_of_frames captures most octets notes (frame ∷ frames) =
     course_with (frame_gives captures most octets notes frame) (λ next. course_of_frames captures most octets next frames)
 

@@ -74,3 +74,8 @@ IsOpenFault (Capture fault) = fault ≡ Memory
 -- what is unread of a capture whose octets that are left are known
 abbrev pub unread_known : Option (List ℕ) → Frames → Option Unread
 unread_known left frames = option_map (λ octets. unread_of octets frames) left
+
+-- a file is opened, and this is unread of it, which is known
+abbrev pub OpensAs : Option Unread → Option Unread → Type 0
+OpensAs None known = ⊥
+OpensAs (Some unread) known = known ≡ Some unread

@@ -1,4 +1,5 @@
 pub mod Advancing
+pub mod Agreement
 pub mod Assembly
 pub mod Blocks
 pub mod Capture

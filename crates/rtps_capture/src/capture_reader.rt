@@ -1,6 +1,6 @@
 ghost use Rattle.std.specs.Prelude.{◌≡◌, ◌≤◌, ◌<◌, ◌^◌, IfErr, IfOk, IfSome, MatchOption, None, Some};
 ghost use Rattle.std.specs.Io.KnownBytes.{prepend_known};
-ghost use Rattle.rtps_capture.specs.Advancing.{Advances, IsEnd, course_known, found_datagram, summary_of};
+ghost use Rattle.rtps_capture.specs.Advancing.{Advances, IsEnd, course_known, found_datagram};
 ghost use Rattle.rtps_capture.specs.Course as course;
 ghost use Rattle.rtps_capture.specs.Left.{unread_known};
 ghost use Rattle.rtps_capture.specs.Noting.{AreCounted, FoundStands, notes_of};
@@ -94,7 +94,7 @@ impl<R: Read + Drop> CaptureReader<R> {
         ensures { Advances
             (course_known self.old.notes (unread_known (prepend_known self.old.frames.held (R.remaining self.old.frames.input)) self.old.frames.frames))
             (course_known self.new.notes (unread_known (prepend_known self.new.frames.held (R.remaining self.new.frames.input)) self.new.frames.frames))
-            (notes_of self.new.notes) (found_datagram self.new.frames.held self.new.notes self.new.found) result }
+            (course.summary_of (notes_of self.new.notes)) (found_datagram self.new.frames.held self.new.notes self.new.found) result }
     {
         self.found = None;
         'frames: while let Some(frame) = self.frames.next_frame()? {
@@ -129,7 +129,7 @@ impl<R: Read + Drop> CaptureReader<R> {
 
     /// What is told of the frames that were read.
     pub fn summary(&self) -> Summary
-        ensures { result ≡ summary_of (notes_of self.now.notes) }
+        ensures { result ≡ course.summary_of (notes_of self.now.notes) }
     {
         self.notes.summary()
     }

@@ -1,7 +1,7 @@
 ghost use Rattle.std.specs.Prelude.{◌≡◌, ◌≤◌, ◌<◌, ◌+◌, ◌^◌, ◌⊎◌, drop, length, IfErr, IfOk, IfSome, MatchOption, None, OnOk};
 ghost use Rattle.std.specs.Io.KnownBytes.{IsAtEnd, Keeps, prepend_known};
 ghost use Rattle.rtps_capture.specs.Frames.{StandsInFile, TakesStep, opened, step_of, unread_of};
-ghost use Rattle.rtps_capture.specs.Left.{GivesFrame, IsOpenFault, needed, unread_known};
+ghost use Rattle.rtps_capture.specs.Left.{GivesFrame, IsOpenFault, OpensAs, needed, unread_known};
 ghost use Rattle.rtps_capture.specs.Opening as opening;
 
 use crate::capture::CaptureFault;
@@ -55,7 +55,7 @@ impl<R: Read + Drop> FrameReader<R> {
         mut input: R,
     ) -> Result<Option<FrameReader<R>>, ReadFault>
         ensures opened { IfOk result (λ reader. IfSome (R.remaining input) (λ file. MatchOption reader (opened captures file ≡ None)
-            (λ reader. unread_known (prepend_known reader.held (R.remaining reader.input)) reader.frames ≡ opened captures file))) }
+            (λ reader. OpensAs (opened captures file) (unread_known (prepend_known reader.held (R.remaining reader.input)) reader.frames)))) }
         ensures place { IfOk result (λ reader. IfSome reader (λ reader. reader.place ≡ 0)) }
         ensures open { IfErr result IsOpenFault }
     {
@@ -134,6 +134,7 @@ impl<R: Read + Drop> FrameReader<R> {
             × TakesStep (step_of (unread_of self.old.held self.old.frames)) frame (unread_of self.old.held self.new.frames))) }
         ensures stands { IfOk result (λ given. IfSome given (StandsInFile (length self.new.held))) }
         ensures place { IfOk result (λ given. IfSome given (λ _. (self.old.place < 2 ^ 62) × (self.old.place < self.new.place))) }
+        ensures few { length self.old.held < 2 ^ 63 }
         ensures same { (self.new.held ≡ self.old.held) × (self.new.input ≡ self.old.input) × (self.new.frames.captures ≡ self.old.frames.captures) × (self.old.place ≤ self.new.place) }
         ensures open { IfErr result IsOpenFault }
     {

@@ -61,6 +61,7 @@ impl Held {
     /// Reads on until so many octets are held, or the input ends. Answers whether they are.
     pub(crate) fn fill<R: Read>(&mut self, input: &mut R, wanted: usize) -> Result<bool, ReadFault>
         ensures left { OnOk result (Keeps (prepend_known self.old (R.remaining input.old)) (prepend_known self.new (R.remaining input.new))) }
+        ensures kept { length self.old ≤ length self.new }
         ensures enough { IfOk result (λ enough. enough ≡ nat_le wanted (length self.new)) }
         ensures end { IfOk result (λ enough. enough ≡ false → IsAtEnd (R.remaining input.new)) }
         ensures open { IfErr result IsOpenFault }
@@ -76,6 +77,7 @@ impl Held {
     /// Reads what comes next behind these, and answers how many octets came.
     fn read_block<R: Read>(&mut self, input: &mut R) -> Result<usize, ReadFault>
         ensures left { OnOk result (Keeps (prepend_known self.old (R.remaining input.old)) (prepend_known self.new (R.remaining input.new))) }
+        ensures kept { length self.old ≤ length self.new }
         ensures grown { IfOk result (λ got. length self.new ≡ length self.old + got) }
         ensures end { IfOk result (λ got. got ≡ 0 → IsAtEnd (R.remaining input.new)) }
         ensures open { IfErr result IsOpenFault }

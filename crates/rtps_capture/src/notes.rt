@@ -1,5 +1,4 @@
 ghost use Rattle.std.specs.Prelude.{◌≡◌, ◌≤◌, ◌<◌, ◌+◌, ◌^◌, ℕ, Option, length, option_map, IfOk, IfSome};
-ghost use Rattle.rtps_capture.specs.Advancing.{summary_of};
 ghost use Rattle.rtps_capture.specs.Course as course;
 ghost use Rattle.rtps_capture.specs.Noting.{AreCounted, AreCountedWith, FoundStands, IsNoted, IsRange, TakesKept, datagram_at, given_at, notes_of, place_range, place_size};
 ghost use Rattle.rtps_capture.specs.Frames.{StandsInFile};
@@ -86,7 +85,7 @@ impl Notes {
     pub(crate) fn summary(&self) -> Summary
         requires counted { AreCounted self.now }
         requires few { self.now.counts.frames < 2 ^ 63 }
-        ensures { result ≡ summary_of (notes_of self.now) }
+        ensures { result ≡ course.summary_of (notes_of self.now) }
     {
         let counts = self.counts;
         Summary {

@@ -1,0 +1,255 @@
+-- Fragments that are kept in two places have the same octets, and so they are put together alike.
+use Rattle.std.proofs.Common.{◌≡◌, ℕ, ◌+◌, ◌-◌, ◌≤◌, Bool, true, false, List, [], ◌∷◌, ◌++◌, length, drop, take, refl, sym, ap, ap₂, subst, ◌∙◌, zero, suc, arith}
+use Rattle.std.specs.Prelude.{None, Option, Some, ◌==◌, ◌&&◌, ◌||◌, not, nat_eq, nat_lt, if◌then◌else◌, cond, count_by}
+use Rattle.std.proofs.lemmas.List.{drop-append-le, length-append, length-drop, take-append-le}
+use Rattle.std.proofs.lemmas.List.Sums.{sum_by_from}
+use Rattle.rtps_capture.specs.Assembly.{Joined, datagram_of_whole, given, given_with, gives_none, is_new, joined_with, packet_of, taken_piece}
+use Rattle.rtps_capture.specs.Pieces.{clashes, clashes_with, fills, in_order, is_repeat, is_same, joined, left_for, piece_octets, piece_size, pieces_with, put_in_order}
+use Rattle.rtps_capture.specs.Recent.{is_of, making_in, recent_with, without}
+use Rattle.rtps_capture.specs.declared.assembly.KeyedMaking.{KeyedMaking}
+use Rattle.rtps_capture.specs.declared.assembly.Making.{Making}
+use Rattle.rtps_capture.specs.declared.assembly.Taken.{Taken}
+use Rattle.rtps_capture.specs.declared.byte_range.ByteRange.{ByteRange}
+use Rattle.rtps_capture.specs.declared.fragment.FragmentKey.{FragmentKey}
+use Rattle.rtps_capture.specs.declared.layout.packet.TheConstants.{MOST_KEPT}
+use Rattle.rtps_capture.specs.declared.pieces.Piece.{Piece}
+
+-- a piece of a file and one of what is kept: they have the same octets, and the second one stands in what is kept
+pub record IsAlike (file kept : List ℕ) (one other : Piece) : Type 0 where
+  pub start : one.start ≡ other.start
+  pub end : one.end ≡ other.end
+  pub more : one.more ≡ other.more
+  pub octets : piece_octets file one ≡ piece_octets kept other
+  pub within : other.at + piece_size other ≤ length kept
+
+abbrev pub AreAlike : List ℕ → List ℕ → List Piece → List Piece → Type 0
+AreAlike file kept [] [] = Unit {0}
+AreAlike file kept [] (other ∷ others) = ⊥
+AreAlike file kept (one ∷ ones) [] = ⊥
+AreAlike file kept (one ∷ ones) (other ∷ others) = IsAlike file kept one other × AreAlike file kept ones others
+
+same_alike : (file kept : List ℕ) (a b c d : Piece) → IsAlike file kept a b → IsAlike file kept c d → is_same file a c ≡ is_same kept b d
+same_alike file kept a b c d one other = rw (one.octets, other.octets, one.start, one.end, one.more, other.start, other.end, other.more) refl
+
+repeat_alike : (file kept : List ℕ) (a b : Piece) (ones others : List Piece) → IsAlike file kept a b → AreAlike file kept ones others → is_repeat file a ones ≡ is_repeat kept b others
+repeat_alike file kept a b [] [] one all = refl
+repeat_alike file kept a b [] (d ∷ others) one all = absurd all
+repeat_alike file kept a b (c ∷ ones) [] one all = absurd all
+repeat_alike file kept a b (c ∷ ones) (d ∷ others) one all =
+    ap₂ (λ (x y : Bool). x || y) (same_alike file kept a b c d one all.0) (repeat_alike file kept a b ones others one all.1)
+
+clash_alike : (file kept : List ℕ) (a b c d : Piece) → IsAlike file kept a b → IsAlike file kept c d → clashes a c ≡ clashes b d
+clash_alike file kept a b c d one other = rw (one.start, one.end, one.more, other.start, other.end, other.more) refl
+
+clashes_alike : (file kept : List ℕ) (a b : Piece) (ones others : List Piece) → IsAlike file kept a b → AreAlike file kept ones others → clashes_with ones a ≡ clashes_with others b
+clashes_alike file kept a b [] [] one all = refl
+clashes_alike file kept a b [] (d ∷ others) one all = absurd all
+clashes_alike file kept a b (c ∷ ones) [] one all = absurd all
+clashes_alike file kept a b (c ∷ ones) (d ∷ others) one all =
+    ap₂ (λ (x y : Bool). x || y) (clash_alike file kept a b c d one all.0) (clashes_alike file kept a b ones others one all.1)
+
+left_alike : (file kept : List ℕ) (a b : Piece) (ones others : List Piece) → IsAlike file kept a b → AreAlike file kept ones others → AreAlike file kept (left_for a ones) (left_for b others)
+left_alike file kept a b [] [] one all = tt
+left_alike file kept a b [] (d ∷ others) one all = absurd all
+left_alike file kept a b (c ∷ ones) [] one all = absurd all
+left_alike file kept a b (c ∷ ones) (d ∷ others) one all =
+    rw (clashes_alike file kept a b (c ∷ ones) (d ∷ others) one all) (by (clashes_with (d ∷ others) b) (left_alike file kept a b ones others one all.1))
+  where
+    by : (clash : Bool) → AreAlike file kept (left_for a ones) (left_for b others)
+        → AreAlike file kept (if clash then left_for a ones else c ∷ ones) (if clash then left_for b others else d ∷ others)
+    by true rest = rest
+    by false rest = all
+
+push_alike : (file kept : List ℕ) (a b : Piece) (ones others : List Piece) → IsAlike file kept a b → AreAlike file kept ones others → AreAlike file kept (ones ++ a ∷ []) (others ++ b ∷ [])
+push_alike file kept a b [] [] one all = (one, tt)
+push_alike file kept a b [] (d ∷ others) one all = absurd all
+push_alike file kept a b (c ∷ ones) [] one all = absurd all
+push_alike file kept a b (c ∷ ones) (d ∷ others) one all = (all.0, push_alike file kept a b ones others one all.1)
+
+put_alike : (file kept : List ℕ) (a b : Piece) (ones others : List Piece) → IsAlike file kept a b → AreAlike file kept ones others
+    → AreAlike file kept (put_in_order a ones) (put_in_order b others)
+put_alike file kept a b [] [] one all = (one, tt)
+put_alike file kept a b [] (d ∷ others) one all = absurd all
+put_alike file kept a b (c ∷ ones) [] one all = absurd all
+put_alike file kept a b (c ∷ ones) (d ∷ others) one all =
+    rw (all.0.start, one.start) (by (nat_lt d.start b.start) (put_alike file kept a b ones others one all.1))
+  where
+    by : (behind : Bool) → AreAlike file kept (put_in_order a ones) (put_in_order b others)
+        → AreAlike file kept (if behind then c ∷ put_in_order a ones else a ∷ c ∷ ones) (if behind then d ∷ put_in_order b others else b ∷ d ∷ others)
+    by true rest = (all.0, rest)
+    by false rest = (one, all.0, all.1)
+
+order_alike : (file kept : List ℕ) (ones others : List Piece) → AreAlike file kept ones others → AreAlike file kept (in_order ones) (in_order others)
+order_alike file kept [] [] all = tt
+order_alike file kept [] (d ∷ others) all = absurd all
+order_alike file kept (c ∷ ones) [] all = absurd all
+order_alike file kept (c ∷ ones) (d ∷ others) all = put_alike file kept c d (in_order ones) (in_order others) all.0 (order_alike file kept ones others all.1)
+
+fills_alike : (file kept : List ℕ) (at : ℕ) (ones others : List Piece) → AreAlike file kept ones others → fills at ones ≡ fills at others
+fills_alike file kept at [] [] all = refl
+fills_alike file kept at [] (d ∷ others) all = absurd all
+fills_alike file kept at (c ∷ ones) [] all = absurd all
+fills_alike file kept at (c ∷ []) (d ∷ []) all = rw (all.0.start, all.0.more) refl
+fills_alike file kept at (c ∷ []) (d ∷ f ∷ others) all = absurd all.1
+fills_alike file kept at (c ∷ e ∷ ones) (d ∷ []) all = absurd all.1
+fills_alike file kept at (c ∷ e ∷ ones) (d ∷ f ∷ others) all =
+    ap₂ (λ (x y : Bool). x && y) (ap (λ (n : ℕ). n == at) all.0.start) (ap (λ (n : ℕ). fills n (e ∷ ones)) all.0.end ∙ fills_alike file kept d.end (e ∷ ones) (f ∷ others) all.1)
+
+joined_alike : (file kept : List ℕ) (ones others : List Piece) → AreAlike file kept ones others → joined file ones ≡ joined kept others
+joined_alike file kept [] [] all = refl
+joined_alike file kept [] (d ∷ others) all = absurd all
+joined_alike file kept (c ∷ ones) [] all = absurd all
+joined_alike file kept (c ∷ ones) (d ∷ others) all = ap₂ (λ (x y : List ℕ). x ++ y) all.0.octets (joined_alike file kept ones others all.1)
+
+pub record AreMakings (file kept : List ℕ) (one other : Making) : Type 0 where
+  pub making : AreAlike file kept one.making other.making
+  pub given : AreAlike file kept one.given other.given
+
+count_alike : (file kept : List ℕ) (one other : Making) (ones others : List Piece) → AreMakings file kept one other → AreAlike file kept ones others
+    → count_by (is_new file one) ones ≡ count_by (is_new kept other) others
+count_alike file kept one other [] [] makings all = refl
+count_alike file kept one other [] (d ∷ others) makings all = absurd all
+count_alike file kept one other (c ∷ ones) [] makings all = absurd all
+count_alike file kept one other (c ∷ ones) (d ∷ others) makings all =
+    sum_by_from (λ piece. cond (is_new file one piece) 1 0) (0 + cond (is_new file one c) 1 0) ones
+    ∙ ap₂ (λ (x : Bool) (n : ℕ). 0 + cond (not x) 1 0 + n) (repeat_alike file kept c d one.given other.given all.0 makings.given) (count_alike file kept one other ones others makings all.1)
+    ∙ sym (sum_by_from (λ piece. cond (is_new kept other piece) 1 0) (0 + cond (is_new kept other d) 1 0) others)
+
+dropped_alike : (file kept : List ℕ) (ones others : List Piece) → AreAlike file kept ones others → AreAlike file kept (drop 1 ones) (drop 1 others)
+dropped_alike file kept [] [] all = tt
+dropped_alike file kept [] (d ∷ others) all = absurd all
+dropped_alike file kept (c ∷ ones) [] all = absurd all
+dropped_alike file kept (c ∷ ones) (d ∷ others) all = all.1
+
+-- what one fragment more gives and leaves
+pub record AreJoined (file kept : List ℕ) (one other : Joined) : Type 0 where
+  pub making : AreMakings file kept one.making other.making
+  pub packet : one.packet ≡ other.packet
+  pub taken : one.taken ≡ other.taken
+
+given_with_alike : (file kept : List ℕ) (one other : Making) (fresh : Bool) (packet : List ℕ) (datagram : Option ByteRange) → AreMakings file kept one other
+    → AreJoined file kept (given_with file one fresh packet datagram) (given_with kept other fresh packet datagram)
+given_with_alike file kept one other fresh packet None makings =
+    record { making = record { making = dropped_alike file kept one.making other.making makings.making; given = makings.given }; packet = refl; taken = refl }
+given_with_alike file kept one other fresh packet (Some range) makings = record {
+  making = record { making = tt; given = makings.making };
+  packet = refl;
+  taken =
+      ap (λ (n : ℕ). let taken : Taken = record { fresh = fresh; settled = n; datagram = Some range } in taken)
+      (count_alike file kept one other one.making other.making makings makings.making);
+}
+
+given_alike : (file kept : List ℕ) (key : FragmentKey) (one other : Making) (fresh : Bool) → AreMakings file kept one other
+    → AreJoined file kept (given file key one fresh) (given kept key other fresh)
+unfolding given
+given_alike file kept key one other fresh makings =
+    let packet : packet_of file one.making ≡ packet_of kept other.making =
+    joined_alike file kept (in_order one.making) (in_order other.making) (order_alike file kept one.making other.making makings.making) in
+    rw packet (given_with_alike file kept one other fresh (packet_of kept other.making) (datagram_of_whole key (packet_of kept other.making)) makings)
+
+joined_with_alike : (file kept : List ℕ) (key : FragmentKey) (one other : Making) (fresh : Bool) → AreMakings file kept one other
+    → AreJoined file kept (joined_with file key one fresh) (joined_with kept key other fresh)
+joined_with_alike file kept key one other fresh makings =
+    rw (fills_alike file kept 0 (in_order one.making) (in_order other.making) (order_alike file kept one.making other.making makings.making)) (by (fills 0 (in_order other.making)))
+  where
+    by : (whole : Bool) → AreJoined file kept (if whole then given file key one fresh else gives_none one fresh) (if whole then given kept key other fresh else gives_none other fresh)
+    by true = given_alike file kept key one other fresh makings
+    by false = record { making = makings; packet = refl; taken = refl }
+
+pub taken_alike : (file kept : List ℕ) (key : FragmentKey) (one other : Making) (a b : Piece) → AreMakings file kept one other → IsAlike file kept a b
+    → AreJoined file kept (taken_piece file key one a) (taken_piece kept key other b)
+unfolding taken_piece
+taken_alike file kept key one other a b makings alike =
+    let seen = repeat_alike file kept a b one.making other.making alike makings.making in
+    let fresh : is_new file one a ≡ is_new kept other b = ap not (repeat_alike file kept a b one.given other.given alike makings.given) in
+    rw (seen, fresh) (by (is_repeat kept b other.making))
+  where
+    more : Making
+    more = record { making = pieces_with a one.making; given = one.given }
+
+    others : Making
+    others = record { making = pieces_with b other.making; given = other.given }
+
+    all : AreMakings file kept more others
+    all = record {
+      making = push_alike file kept a b (left_for a one.making) (left_for b other.making) alike (left_alike file kept a b one.making other.making alike makings.making);
+      given = makings.given;
+    }
+
+    by : (seen : Bool) → AreJoined file kept (if seen then gives_none one false else joined_with file key more (is_new kept other b)) (if seen then gives_none other false else joined_with kept key others (is_new kept other b))
+    by true = record { making = makings; packet = refl; taken = refl }
+    by false = joined_with_alike file kept key more others (is_new kept other b) all
+
+-- with more octets kept behind
+one_grown : (file kept more : List ℕ) (a b : Piece) → IsAlike file kept a b → IsAlike file (kept ++ more) a b
+one_grown file kept more a b alike =
+    let octets : piece_octets (kept ++ more) b ≡ piece_octets kept b =
+    ap (take (piece_size b)) (drop-append-le b.at kept more (omega (arith, alike.within))) ∙ take-append-le (piece_size b) (drop b.at kept) more (omega (arith, alike.within, length-drop b.at kept)) in
+    record {
+      start = alike.start;
+      end = alike.end;
+      more = alike.more;
+      octets = alike.octets ∙ sym octets;
+      within = omega (arith, alike.within, length-append kept more);
+    }
+
+grown : (file kept more : List ℕ) (ones others : List Piece) → AreAlike file kept ones others → AreAlike file (kept ++ more) ones others
+grown file kept more [] [] all = tt
+grown file kept more [] (d ∷ others) all = absurd all
+grown file kept more (c ∷ ones) [] all = absurd all
+grown file kept more (c ∷ ones) (d ∷ others) all = (one_grown file kept more c d all.0, grown file kept more ones others all.1)
+
+-- the keys of two hosts that are remembered
+abbrev pub AreKeyed : List ℕ → List ℕ → List KeyedMaking → List KeyedMaking → Type 0
+AreKeyed file kept [] [] = Unit {0}
+AreKeyed file kept [] (other ∷ others) = ⊥
+AreKeyed file kept (one ∷ ones) [] = ⊥
+AreKeyed file kept (one ∷ ones) (other ∷ others) =
+    (one.identification ≡ other.identification) × AreMakings file kept one.making other.making × AreKeyed file kept ones others
+
+pub keyed_grown : (file kept more : List ℕ) (ones others : List KeyedMaking) → AreKeyed file kept ones others → AreKeyed file (kept ++ more) ones others
+keyed_grown file kept more [] [] all = tt
+keyed_grown file kept more [] (d ∷ others) all = absurd all
+keyed_grown file kept more (c ∷ ones) [] all = absurd all
+keyed_grown file kept more (c ∷ ones) (d ∷ others) all = (
+  all.0,
+  record { making = grown file kept more c.making.making d.making.making all.1.making; given = grown file kept more c.making.given d.making.given all.1.given },
+  keyed_grown file kept more ones others all.2,
+)
+
+pub making_alike : (file kept : List ℕ) (identification : ℕ) (ones others : List KeyedMaking) → AreKeyed file kept ones others
+    → AreMakings file kept (making_in ones identification) (making_in others identification)
+making_alike file kept identification [] [] all = record { making = tt; given = tt }
+making_alike file kept identification [] (d ∷ others) all = absurd all
+making_alike file kept identification (c ∷ ones) [] all = absurd all
+making_alike file kept identification (c ∷ ones) (d ∷ others) all = rw all.0 (by (d.identification == identification) (making_alike file kept identification ones others all.2))
+  where
+    by : (here : Bool) → AreMakings file kept (making_in ones identification) (making_in others identification)
+        → AreMakings file kept (if here then c.making else making_in ones identification) (if here then d.making else making_in others identification)
+    by true rest = all.1
+    by false rest = rest
+
+without_alike : (file kept : List ℕ) (identification : ℕ) (ones others : List KeyedMaking) → AreKeyed file kept ones others
+    → AreKeyed file kept (without (is_of identification) ones) (without (is_of identification) others)
+without_alike file kept identification [] [] all = tt
+without_alike file kept identification [] (d ∷ others) all = absurd all
+without_alike file kept identification (c ∷ ones) [] all = absurd all
+without_alike file kept identification (c ∷ ones) (d ∷ others) all = rw all.0 (by (d.identification == identification) (without_alike file kept identification ones others all.2))
+  where
+    by : (here : Bool) → AreKeyed file kept (without (is_of identification) ones) (without (is_of identification) others)
+        → AreKeyed file kept (if here then ones else c ∷ without (is_of identification) ones) (if here then others else d ∷ without (is_of identification) others)
+    by true rest = all.2
+    by false rest = (all.0, all.1, rest)
+
+take_alike : (file kept : List ℕ) (n : ℕ) (ones others : List KeyedMaking) → AreKeyed file kept ones others → AreKeyed file kept (take n ones) (take n others)
+take_alike file kept zero ones others all = tt
+take_alike file kept (suc n) [] [] all = tt
+take_alike file kept (suc n) [] (d ∷ others) all = absurd all
+take_alike file kept (suc n) (c ∷ ones) [] all = absurd all
+take_alike file kept (suc n) (c ∷ ones) (d ∷ others) all = (all.0, all.1, take_alike file kept n ones others all.2)
+
+pub recent_alike : (file kept : List ℕ) (identification : ℕ) (one other : Making) (ones others : List KeyedMaking) → AreMakings file kept one other → AreKeyed file kept ones others
+    → AreKeyed file kept (recent_with identification one ones) (recent_with identification other others)
+recent_alike file kept identification one other ones others makings all =
+    take_alike file kept MOST_KEPT (record { identification = identification; making = one } ∷ without (is_of identification) ones)
+    (record { identification = identification; making = other } ∷ without (is_of identification) others) (refl, makings, without_alike file kept identification ones others all)
