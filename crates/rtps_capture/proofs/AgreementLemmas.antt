@@ -372,23 +372,23 @@ limited_same file told most so_far given same =
 unnoted : (file : List ℕ) (told : List DatagramValue) (so_far : Collected) (notes : Notes) → Same file told so_far notes → Same file (told ++ []) so_far notes
 unnoted file told so_far notes same = subst (λ (l : List DatagramValue). Same file l so_far notes) (sym (append-nil told)) same
 
+captured_same : (captures : Captures) (file : List ℕ) (told : List DatagramValue) (so_far : Collected) (notes : Notes) (frame : CapturedFrame) → Same file told (with_frame so_far) (counted notes)
+    → let gives = gives_captured captures file notes frame in
+    Same file (told ++ option_to_list gives.datagram) (collected file frame.time so_far (contents_in captures file frame)) gives.notes
+unfolding collected gives_captured contents_in
+captured_same captures file told so_far notes frame same =
+    contents_same captures file told (with_frame so_far) (counted notes) frame (contents_read captures frame.link (frame_octets file frame)) same
+    (read_ends captures frame.link (frame_octets file frame)) (in_file captures file frame)
+
 frame_same : (captures : Captures) (file : List ℕ) (most : ℕ) (told : List DatagramValue) (so_far : Collected) (notes : Notes) (frame : Frame) → Same file told so_far notes
     → StepSame file told (noted captures file most so_far frame) (frame_gives captures most file notes frame)
-unfolding noted collected frame_gives gives_captured
+unfolding noted collected frame_gives
 frame_same captures file most told so_far notes (Captured frame) same =
-    let there = recounted file told (timed_collected so_far (Captured frame)) (timed notes (Captured frame)) (λ counts. record counts { frames = counts.frames + 1 })
-    (timed_same file told so_far notes (Captured frame) same) in
-    limited_same file told most (collected file frame.time (timed_collected so_far (Captured frame)) (contents_in captures file frame))
-    (gives_captured captures file (timed notes (Captured frame)) frame) (captured there)
-  where
-    captured : Same file told (with_frame (timed_collected so_far (Captured frame))) (counted (timed notes (Captured frame)))
-        → Same file (told ++ option_to_list (gives_captured captures file (timed notes (Captured frame)) frame).datagram)
-        (collected file frame.time (timed_collected so_far (Captured frame)) (contents_in captures file frame)) (gives_captured captures file (timed notes (Captured frame)) frame).notes
-    unfolding contents_in
-    captured there =
-        let found = contents_read captures frame.link (frame_octets file frame) in
-        contents_same captures file told (with_frame (timed_collected so_far (Captured frame))) (counted (timed notes (Captured frame))) frame found there
-        (read_ends captures frame.link (frame_octets file frame)) (in_file captures file frame)
+    let now = timed_collected so_far (Captured frame) in
+    let told_then = timed notes (Captured frame) in
+    limited_same file told most (collected file frame.time now (contents_in captures file frame)) (gives_captured captures file told_then frame)
+    (captured_same captures file told now told_then frame
+    (recounted file told now told_then (λ counts. record counts { frames = counts.frames + 1 }) (timed_same file told so_far notes (Captured frame) same)))
 frame_same captures file most told so_far notes (Unread link time) same =
     unnoted file told _ _ (recounted file told (timed_collected so_far (Unread link time)) (timed notes (Unread link time))
     (λ counts. record counts { frames = counts.frames + 1; links = counts.links + 1; first_link = if counts.links == 0 then link else counts.first_link })

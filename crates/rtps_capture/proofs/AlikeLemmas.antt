@@ -77,7 +77,7 @@ put_alike file kept a b (c ∷ ones) (d ∷ others) one all =
     by : (behind : Bool) → AreAlike file kept (put_in_order a ones) (put_in_order b others)
         → AreAlike file kept (if behind then c ∷ put_in_order a ones else a ∷ c ∷ ones) (if behind then d ∷ put_in_order b others else b ∷ d ∷ others)
     by true rest = (all.0, rest)
-    by false rest = (one, all.0, all.1)
+    by false rest = (one, all)
 
 order_alike : (file kept : List ℕ) (ones others : List Piece) → AreAlike file kept ones others → AreAlike file kept (in_order ones) (in_order others)
 order_alike file kept [] [] all = tt
@@ -234,7 +234,9 @@ without_alike : (file kept : List ℕ) (identification : ℕ) (ones others : Lis
 without_alike file kept identification [] [] all = tt
 without_alike file kept identification [] (d ∷ others) all = absurd all
 without_alike file kept identification (c ∷ ones) [] all = absurd all
-without_alike file kept identification (c ∷ ones) (d ∷ others) all = rw all.0 (by (d.identification == identification) (without_alike file kept identification ones others all.2))
+without_alike file kept identification (c ∷ ones) (d ∷ others) all =
+    let same : (c.identification == identification) ≡ (d.identification == identification) = ap (λ (n : ℕ). n == identification) all.0 in
+    rw same (by (d.identification == identification) (without_alike file kept identification ones others all.2))
   where
     by : (here : Bool) → AreKeyed file kept (without (is_of identification) ones) (without (is_of identification) others)
         → AreKeyed file kept (if here then ones else c ∷ without (is_of identification) ones) (if here then others else d ∷ without (is_of identification) others)
