@@ -35,7 +35,7 @@ goes_on course notes (Some left) held rest before after frame captures known giv
       goes.0,
       goes.1,
       sym (some_same (course_left notes.most (notes_of notes) (unread_of left before)) course known) ∙ goes.2
-      ∙ ap (λ (c : Captures). course_with (frame_gives c notes.most held (notes_of notes) frame) (λ next. course_left notes.most next (unread_of (held ++ goes.0) after))) (sym same),
+          ∙ ap (λ (c : Captures). course_with (frame_gives c notes.most held (notes_of notes) frame) (λ next. course_left notes.most next (unread_of (held ++ goes.0) after))) (sym same),
     )
 
 -- no frame is left

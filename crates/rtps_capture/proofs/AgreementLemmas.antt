@@ -504,6 +504,8 @@ course_agrees captures most file = by (opened captures file) refl
     by None is = refl
     by (Some unread) is =
         let of = opened_octets captures file unread is in
-        rw (of.0, of.1) (
-        answer_same file (all_noted captures file most nothing (frames_left unread)) (course_of_frames captures most file no_notes (frames_left unread))
-        (frames_same captures file most [] nothing no_notes (frames_left unread) (nothing_same file)))
+        let frames = frames_left unread in
+        subst (λ (l : List ℕ). AgreesWith file (course_of_frames unread.captures most l no_notes frames) (answered (all_noted captures l most nothing frames))) (sym of.0)
+        (subst (λ (c : Captures). AgreesWith file (course_of_frames c most file no_notes frames) (answered (all_noted captures file most nothing frames))) (sym of.1)
+        (answer_same file (all_noted captures file most nothing frames) (course_of_frames captures most file no_notes frames)
+        (frames_same captures file most [] nothing no_notes frames (nothing_same file))))

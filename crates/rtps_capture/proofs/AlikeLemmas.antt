@@ -72,7 +72,8 @@ put_alike file kept a b [] [] one all = (one, tt)
 put_alike file kept a b [] (d ∷ others) one all = absurd all
 put_alike file kept a b (c ∷ ones) [] one all = absurd all
 put_alike file kept a b (c ∷ ones) (d ∷ others) one all =
-    rw (all.0.start, one.start) (by (nat_lt d.start b.start) (put_alike file kept a b ones others one all.1))
+    let same : nat_lt c.start a.start ≡ nat_lt d.start b.start = ap₂ nat_lt all.0.start one.start in
+    rw same (by (nat_lt d.start b.start) (put_alike file kept a b ones others one all.1))
   where
     by : (behind : Bool) → AreAlike file kept (put_in_order a ones) (put_in_order b others)
         → AreAlike file kept (if behind then c ∷ put_in_order a ones else a ∷ c ∷ ones) (if behind then d ∷ put_in_order b others else b ∷ d ∷ others)

@@ -68,11 +68,7 @@ pub struct CaptureReader<R> {
 
 impl<R: Read + Drop> CaptureReader<R> {
     /// Reads the header of a capture, and leaves its datagrams to be read.
-    pub fn open(
-        alloc: Global,
-        wanted: Wanted,
-        input: R,
-    ) -> Result<CaptureReader<R>, ReadFault>
+    pub fn open(alloc: Global, wanted: Wanted, input: R) -> Result<CaptureReader<R>, ReadFault>
         ensures opened { IfOk result (λ reader. IfSome (R.remaining input) (λ file.
             course_known reader.notes (unread_known (prepend_known reader.frames.held (R.remaining reader.frames.input)) reader.frames.frames)
             ≡ Some (course.course_of wanted.captures wanted.most file))) }

@@ -211,11 +211,7 @@ impl Notes {
     }
 
     /// Takes a fragment, which stands in its frame: its octets are kept.
-    fn take_fragment(
-        &mut self,
-        frame: &[u8],
-        fragment: &Fragment,
-    ) -> Result<Option<Place>, Memory>
+    fn take_fragment(&mut self, frame: &[u8], fragment: &Fragment) -> Result<Option<Place>, Memory>
         requires counted { AreCountedWith 1 self.old }
         requires few { self.old.counts.frames < 2 ^ 64 }
         requires within { (fragment.now.range.from ≤ fragment.now.range.to) × (fragment.now.range.to ≤ length frame.now) }

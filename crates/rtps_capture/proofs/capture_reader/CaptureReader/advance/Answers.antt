@@ -62,10 +62,10 @@ frames-preserved g c =
     let found = c.in_ok-self.field-0 in
     let none = sym c.is_some.ensures ∙ c.if-is_some.false in (
       none_at _ old.notes notes left new.held rest old.frames.frames new.frames c.in-Some.frame captures found c.frames.invariant.0
-      (subst (λ (given : Option Frame). GivesFrame (unread_known left old.frames.frames) (unread_known (prepend_known new.held rest) new.frames) given) c.in-Some.is c.in_ok-frame.ensures.gives)
-      (subst (λ (given : Option Frame). IfSome given (StandsInFile (length new.held))) c.in-Some.is c.in_ok-frame.ensures.stands) (c.captures-captures.ensures ∙ c.next_frame.ensures.same.0)
-      c.note.ensures.most
-      (subst (λ (l : List ℕ). frame_gives captures old.notes.most l (notes_of old.notes) c.in-Some.frame ≡ Ok (record { datagram = option_map (datagram_at l notes.packet.items) found; notes = notes_of notes })) c.octets.ensures c.in_ok-self.ensures.noted)
-      none,
+          (subst (λ (given : Option Frame). GivesFrame (unread_known left old.frames.frames) (unread_known (prepend_known new.held rest) new.frames) given) c.in-Some.is c.in_ok-frame.ensures.gives)
+          (subst (λ (given : Option Frame). IfSome given (StandsInFile (length new.held))) c.in-Some.is c.in_ok-frame.ensures.stands) (c.captures-captures.ensures ∙ c.next_frame.ensures.same.0)
+          c.note.ensures.most
+          (subst (λ (l : List ℕ). frame_gives captures old.notes.most l (notes_of old.notes) c.in-Some.frame ≡ Ok (record { datagram = option_map (datagram_at l notes.packet.items) found; notes = notes_of notes })) c.octets.ensures c.in_ok-self.ensures.noted)
+          none,
       none_found found none,
     )
