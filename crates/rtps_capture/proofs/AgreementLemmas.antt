@@ -1,6 +1,6 @@
 -- The course of a capture is what is told of the whole file, frame by frame.
-use Rattle.std.proofs.Common.{◌≡◌, ℕ, zero, suc, ◌+◌, ◌-◌, ◌<◌, ◌≤◌, Bool, true, false, List, [], ◌∷◌, ◌++◌, length, drop, take, refl, sym, ap, ap₂, subst, ◌∙◌, append_assoc, append-nil, arith}
-use Rattle.std.specs.Prelude.{None, Option, Some, Result, Ok, Err, ◌==◌, ◌&&◌, nat_le, nat_lt, if◌then◌else◌, option_and_then, option_map, option_to_list, slice_range}
+use Rattle.std.proofs.Common.{◌≡◌, ℕ, ◌+◌, ◌-◌, ◌≤◌, Bool, true, false, List, [], ◌∷◌, ◌++◌, length, drop, take, refl, sym, ap, ap₂, subst, ◌∙◌, append_assoc, append-nil, arith}
+use Rattle.std.specs.Prelude.{None, Option, Some, Result, Ok, Err, ◌==◌, nat_lt, if◌then◌else◌, option_and_then, option_map, option_to_list, slice_range}
 use Rattle.std.specs.List.{AllByRecursion}
 use Rattle.std.specs.Option.{option_or}
 use Rattle.std.specs.Ordering.{is_eq}
@@ -14,7 +14,7 @@ use Rattle.rtps_capture.specs.Blocks.{block_at}
 use Rattle.rtps_capture.specs.Frames.{Unread as UnreadPart, classic_with, frames_left, opened, opened_by, section_opened, time_of}
 use Rattle.rtps_capture.specs.LinkTypes.{link_read}
 use Rattle.rtps_capture.specs.Opening.{link_type_in, order_of}
-use Rattle.rtps_capture.specs.Packets.{contents_read, fragment_size, moved_contents, moved_range}
+use Rattle.rtps_capture.specs.Packets.{contents_read, moved_contents, moved_range}
 use Rattle.rtps_capture.specs.Pieces.{fills, in_order, is_repeat, piece_of, pieces_with}
 use Rattle.rtps_capture.specs.Recent.{hosts_cmp, hosts_of, making_in, recent_with}
 use Rattle.rtps_capture.specs.Times.{later_of}

@@ -1,16 +1,15 @@
 -- The blocks of a pcapng file by what is left of its octets: places are counted from its front.
-use Rattle.std.proofs.Common.{◌≡◌, ℕ, ◌+◌, ◌-◌, ◌<◌, ◌≤◌, Bool, true, false, List, [], ◌∷◌, ◌++◌, length, drop, refl, sym, ap, ap₂, subst, ◌∙◌, arith}
-use Rattle.std.specs.Prelude.{None, Option, Some, ◌==◌, ◌&&◌, ◌||◌, nat_le, nat_lt, slice_get, slice_range, if◌then◌else◌}
+use Rattle.std.proofs.Common.{◌≡◌, ℕ, ◌+◌, ◌-◌, ◌≤◌, Bool, true, false, List, length, drop, refl, sym, ap, ap₂, ◌∙◌, arith}
+use Rattle.std.specs.Prelude.{None, Option, Some, ◌==◌, ◌&&◌, nat_le, nat_lt, slice_get, if◌then◌else◌}
 use Rattle.std.proofs.lemmas.Bool.Decides.{nat_tests}
 use Rattle.std.proofs.lemmas.List.{length-drop}
 use Rattle.rtps_ids.specs.declared.order.Order.{Order}
 use Rattle.rtps_ids.specs.declared.order.Order.TheVariants.{Big, Little}
 use Rattle.rtps_capture.specs.Blocks.{block_at, block_sized, block_with, fixed_size, is_major, is_repeated, is_size, order_told, section_with}
-use Rattle.rtps_capture.specs.Frames.{body_at, body_end, frame_of_block, framed, frame_of_interface, frame_of_link, interface_of, interfaces_behind, is_damaged, packet_framed, simple_framed, simple_size, snap_of}
+use Rattle.rtps_capture.specs.Frames.{frame_of_block, framed, frame_of_interface, frame_of_link, interfaces_behind, is_damaged, packet_framed, simple_framed, simple_size, snap_of}
 use Rattle.rtps_capture.specs.Left.{moved_frame}
 use Rattle.rtps_capture.specs.LinkTypes.{link_type_numbered}
 use Rattle.rtps_capture.specs.OctetNumbers.{four_at, two_at}
-use Rattle.rtps_capture.specs.Options.{offset_told, resolution_told}
 use Rattle.rtps_capture.specs.Packets.{moved_range}
 use Rattle.rtps_capture.specs.Times.{pair_at}
 use Rattle.rtps_capture.specs.declared.blocks.Block.{Block}
@@ -19,8 +18,7 @@ use Rattle.rtps_capture.specs.declared.blocks.Interface.{Interface}
 use Rattle.rtps_capture.specs.declared.blocks.WholeBlock.{WholeBlock}
 use Rattle.rtps_capture.specs.declared.byte_range.ByteRange.{ByteRange}
 use Rattle.rtps_capture.specs.declared.captures.Captures.TheVariants.{Any}
-use Rattle.rtps_capture.specs.declared.frames.Frame.{Frame}
-use Rattle.rtps_capture.specs.declared.frames.Frame.TheVariants.{Captured, Unread, NoFrame, Damaged, CutFrame}
+use Rattle.rtps_capture.specs.declared.frames.Frame.TheVariants.{NoFrame, Damaged, CutFrame}
 use Rattle.rtps_capture.specs.declared.layout.block.TheConstants as block
 use Rattle.rtps_capture.specs.declared.layout.section.TheConstants as section
 use Rattle.rtps_capture.specs.declared.link_type.LinkType.{LinkType}

@@ -1,12 +1,12 @@
 -- The course of a capture, step by step: it goes by what is left of the octets.
-use Rattle.std.proofs.Common.{◌≡◌, ℕ, zero, suc, ◌+◌, ◌-◌, ◌<◌, ◌≤◌, Bool, true, false, List, [], ◌∷◌, ◌++◌, length, drop, take, refl, sym, ap, ap₂, subst, ◌∙◌, append-nil, arith}
+use Rattle.std.proofs.Common.{◌≡◌, ℕ, zero, suc, ◌+◌, ◌-◌, ◌<◌, ◌≤◌, Bool, true, false, List, [], ◌++◌, length, drop, take, refl, sym, ap, ap₂, ◌∙◌, arith}
 use Rattle.std.specs.Prelude.{None, Option, Some, Result, Ok, Err, nat_le, nat_lt, if◌then◌else◌, slice_range}
 use Rattle.std.specs.Io.KnownBytes.{prepend_known}
 use Rattle.std.proofs.lemmas.Bool.Decides.{nat_tests}
 use Rattle.std.proofs.lemmas.List.{drop-drop, drop_all, length-drop}
 use Rattle.rtps_capture.specs.Blocks.{BlockStands, block_at, fixed_size}
-use Rattle.rtps_capture.specs.Course.{Course, Given, Notes, course_left, course_of_frames, course_with, frame_gives, gives_captured, summary_of}
-use Rattle.rtps_capture.specs.Frames.{StandsInFile, Step, Unread as UnreadPart, end_with, frame_from, frames_left, is_damaged, step_by, step_of, step_of_block, step_of_record, step_of_sized, unread_of}
+use Rattle.rtps_capture.specs.Course.{Course, Given, Notes, course_left, course_with, frame_gives, gives_captured, summary_of}
+use Rattle.rtps_capture.specs.Frames.{StandsInFile, Step, Unread as UnreadPart, end_with, frame_from, is_damaged, step_by, step_of, step_of_block, step_of_record, step_of_sized, unread_of}
 use Rattle.rtps_capture.specs.Left.{GivesFrame, IsStep, behind_passed, ends_reading, moved_frame, unread_known}
 use Rattle.rtps_capture.specs.OctetNumbers.{four_at}
 use Rattle.rtps_capture.specs.Times.{record_time}

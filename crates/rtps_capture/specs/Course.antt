@@ -2,15 +2,14 @@
 -- tells of the whole file, in the order in which it is told. RFC 791 "Internet Protocol", 2.3 "Function Description"; RFC 768 "User
 -- Datagram Protocol", "Format".
 -- own: whoever reads a capture of any size keeps a datagram no longer than needed.
-use Rattle.std.specs.Prelude.{ℕ, ◌+◌, ◌-◌, ◌^◌, ◌≡◌, ◌≤◌, ◌==◌, true, false, nat_lt, Bool, if◌then◌else◌, List, [], ◌∷◌, ◌++◌, length, slice_range, Option, Some, None, IfSome, option_map, option_to_list, Result, Ok, Err}
-use Rattle.std.specs.Option.{is_some, option_or}
+use Rattle.std.specs.Prelude.{ℕ, ◌+◌, ◌-◌, ◌==◌, nat_lt, if◌then◌else◌, List, [], ◌∷◌, ◌++◌, length, slice_range, Option, Some, None, option_to_list, Result, Ok, Err}
+use Rattle.std.specs.Option.{option_or}
 use Rattle.std.specs.Ordering.{is_eq}
 use Rattle.rtps_capture.specs.Assembly.{Joined, taken_piece}
-use Rattle.rtps_capture.specs.Capture.{Answer, capture_read}
 use Rattle.rtps_capture.specs.Frames.{Unread as UnreadPart, frames_left, opened, time_of}
 use Rattle.rtps_capture.specs.Packets.{contents_read, fragment_size}
 use Rattle.rtps_capture.specs.Pieces.{piece_of}
-use Rattle.rtps_capture.specs.Recent.{hosts_cmp, hosts_of, making_in, recent_of, recent_with}
+use Rattle.rtps_capture.specs.Recent.{hosts_cmp, hosts_of, making_in, recent_with}
 use Rattle.rtps_capture.specs.Times.{later_of}
 use Rattle.rtps_capture.specs.declared.assembly.KeyedMaking.{KeyedMaking}
 use Rattle.rtps_capture.specs.declared.byte_range.ByteRange.{ByteRange}
@@ -26,7 +25,6 @@ use Rattle.rtps_capture.specs.declared.fragment.FragmentKey.{FragmentKey}
 use Rattle.rtps_capture.specs.declared.frames.CapturedFrame.{CapturedFrame}
 use Rattle.rtps_capture.specs.declared.frames.Frame.{Frame}
 use Rattle.rtps_capture.specs.declared.frames.Frame.TheVariants.{Captured, Unread, NoFrame, Rest, BadBlock, Damaged, CutFrame}
-use Rattle.rtps_capture.specs.declared.notes.Notes.{Notes as NotesStruct}
 use Rattle.rtps_capture.specs.declared.packet.Contents.{Contents}
 use Rattle.rtps_capture.specs.declared.packet.Contents.TheVariants as contents
 

@@ -1,6 +1,5 @@
 -- What the structs hold that note the course of a capture. own: they are seen as the values of `specs/Course.antt`.
 use Rattle.std.specs.Prelude.{ℕ, ◌+◌, ◌*◌, ◌^◌, ◌≡◌, ◌≤◌, List, ◌++◌, length, slice_range, Option, Some, None, option_map, Result, Ok, Err}
-use Rattle.rtps_capture.specs.Assembly.{Joined}
 use Rattle.rtps_capture.specs.Capture.{IsFault}
 use Rattle.rtps_capture.specs.Course.{DatagramValue, Given, Notes, fragment_behind, joined_in, notes_joined}
 use Rattle.rtps_capture.specs.Recent.{recent_of}

@@ -1,4 +1,4 @@
-use Rattle.std.proofs.Common.{None, Some, Ok, ◌≡◌, ◌∙◌, List, ℕ, Option, length, sym, subst}
+use Rattle.std.proofs.Common.{Ok, ◌≡◌, ◌∙◌, List, ℕ, Option, length, sym, subst}
 use Rattle.std.specs.Prelude.{IfSome, option_map}
 use Rattle.std.specs.Io.KnownBytes.{prepend_known}
 use Rattle.std.proofs.lemmas.Result.{err_from_is_err_and}

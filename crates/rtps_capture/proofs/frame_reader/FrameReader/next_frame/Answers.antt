@@ -1,4 +1,4 @@
-use Rattle.std.proofs.Common.{◌≡◌, ◌∙◌, List, ℕ, subst, ap₂}
+use Rattle.std.proofs.Common.{◌∙◌, List, ℕ, subst}
 use Rattle.std.specs.Io.KnownBytes.{Keeps, prepend_known}
 use Rattle.rtps_capture.proofs.LeftLemmas.{step_given}
 use Rattle.rtps_capture.proofs.frame_reader.FrameReader.next_frame.Goals as goal

@@ -1,7 +1,4 @@
-use Rattle.std.proofs.Common.{◌≡◌, ◌∙◌, List, Result, Ok, Err, ℕ, Option, drop, length, refl, sym, subst}
-use Rattle.std.specs.Prelude.{OnOk}
-use Rattle.std.specs.Io.KnownBytes.{Keeps, prepend_known}
-use Rattle.rtps_capture.specs.declared.read_fault.ReadFault.{ReadFault}
+use Rattle.std.proofs.Common.{◌∙◌}
 use Rattle.rtps_capture.proofs.HeldLemmas.{grown_kept}
 use Rattle.rtps_capture.proofs.held.Held.read_block.Goals as goal
 
