@@ -22,3 +22,4 @@ pub mod BlockLemmas
 pub mod AdvanceLemmas
 pub mod AlikeLemmas
 pub mod AgreementLemmas
+pub mod BlockFrontLemmas

@@ -1,7 +1,8 @@
 -- The frames of a capture by what is left of its octets: a capture that comes by blocks is read so, since what is passed is held no more.
 -- PCAP Capture File Format (IETF draft), 5 "Packet Record"; PCAP Now Generic Capture File Format (IETF draft), 3 "General File Structure".
 -- own: where a capture is cut into blocks changes nothing of what it says.
-use Rattle.std.specs.Prelude.{ℕ, ◌+◌, ◌-◌, ◌^◌, ◌≡◌, ◌≤◌, nat_le, Bool, true, false, if◌then◌else◌, List, ◌++◌, length, drop, Option, Some, None, option_map}
+use Rattle.std.specs.Prelude.{ℕ, ◌+◌, ◌≡◌, ◌≤◌, nat_le, Bool, true, false, if◌then◌else◌, List, ◌++◌, length, drop, Option, Some, None, option_map}
+use Rattle.rtps_capture.specs.Blocks.{block_needed}
 use Rattle.rtps_capture.specs.Frames.{Step, Unread, frame_from, is_damaged, step_of, unread_of}
 use Rattle.rtps_capture.specs.OctetNumbers.{four_at}
 use Rattle.rtps_capture.specs.Packets.{moved_range}
@@ -40,9 +41,9 @@ record_needed unread =
     then record_size unread (four_at unread.order unread.octets (unread.at + frame_header.CAPTURED))
     else frame_header.SIZE
 
--- how many decide what the next record or block gives; of a pcapng file all that there are
+-- how many decide what the next record or block gives
 abbrev pub needed_by : Unread → Option Records → ℕ
-needed_by unread None = 2 ^ 64 - 1
+needed_by unread None = block_needed unread.order unread.octets unread.at
 needed_by unread (Some records) = record_needed unread
 
 -- how many octets from its place on decide what the next record or block gives

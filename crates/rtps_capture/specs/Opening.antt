@@ -1,8 +1,10 @@
 -- How a capture begins. PCAP Capture File Format (IETF draft), 4 "File Header".
 -- own: every minor version is taken, since later ones only add.
-use Rattle.std.specs.Prelude.{ℕ, ◌-◌, ◌^◌, ◌==◌, ◌||◌, ◌%◌, nat_lt, Bool, true, false, if◌then◌else◌, List, length, take, Option, Some, None, option_and_then}
+use Rattle.std.specs.Prelude.{ℕ, ◌==◌, ◌||◌, ◌%◌, nat_lt, Bool, if◌then◌else◌, List, length, take, Option, Some, None, option_and_then}
 use Rattle.std.specs.Option.{is_none, is_some}
 use Rattle.rtps_ids.specs.declared.order.Order.{Order}
+use Rattle.rtps_ids.specs.declared.order.Order.TheVariants.{Big}
+use Rattle.rtps_capture.specs.Blocks.{block_needed, is_pcapng}
 use Rattle.rtps_capture.specs.LinkTypes.{link_read}
 use Rattle.rtps_capture.specs.OctetNumbers.{four_at, order_by, two_at}
 use Rattle.rtps_capture.specs.declared.captures.Captures.{Captures}
@@ -32,15 +34,14 @@ unless_read number = if is_none (link_read Classic number) then Some number else
 abbrev pub unread_link_type_of : List ℕ → Option ℕ
 unread_link_type_of file = option_and_then unless_read (option_and_then (λ order. link_type_in order file) (order_of file))
 
--- of classic captures alone
-abbrev pub is_classic : Captures → Bool
-is_classic Classic = true
-is_classic Any = false
+-- how many octets decide whether a file that is no classic capture is a pcapng file, where these captures are read
+abbrev pub section_needed : Captures → List ℕ → ℕ
+section_needed Classic octets = 4
+section_needed Any octets = if is_pcapng octets then block_needed Big octets 0 else 4
 
 -- how many octets decide whether a file is one of these captures, and which
 abbrev pub opening_needed : Captures → List ℕ → ℕ
 opening_needed captures octets =
     if nat_lt (length octets) 4 then 4
     else if is_some (order_of octets) then SIZE
-    else if is_classic captures then 4
-    else 2 ^ 64 - 1
+    else section_needed captures octets

@@ -134,7 +134,6 @@ impl<R: Read + Drop> FrameReader<R> {
             × TakesStep (step_of (unread_of self.old.held self.old.frames)) frame (unread_of self.old.held self.new.frames))) }
         ensures stands { IfOk result (λ given. IfSome given (StandsInFile (length self.new.held))) }
         ensures place { IfOk result (λ given. IfSome given (λ _. (self.old.place < 2 ^ 62) × (self.old.place < self.new.place))) }
-        ensures few { length self.old.held < 2 ^ 63 }
         ensures same { (self.new.held ≡ self.old.held) × (self.new.input ≡ self.old.input) × (self.new.frames.captures ≡ self.old.frames.captures) × (self.old.place ≤ self.new.place) }
         ensures open { IfErr result IsOpenFault }
     {

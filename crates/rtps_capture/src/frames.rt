@@ -6,7 +6,7 @@ ghost use Rattle.rtps_capture.specs.Frames as frames_spec;
 ghost use Rattle.rtps_capture.specs.Left.{needed};
 ghost use Rattle.rtps_capture.specs.declared.blocks.Block.TheVariants.{Whole};
 
-use crate::blocks::{Block, Interface, WholeBlock, block_at};
+use crate::blocks::{Block, Interface, WholeBlock, block_at, block_needed};
 use crate::byte_range::ByteRange;
 use crate::captures::Captures;
 use crate::layout::{block, file, interface, packet_block, record};
@@ -247,14 +247,13 @@ impl Frames {
         self.at = 0;
     }
 
-    /// How many octets from its place on decide what the next record or block gives, by those that are held of it. Of a pcapng
-    /// file it is all that there are.
+    /// How many octets from its place on decide what the next record or block gives, by those that are held of it.
     pub(crate) fn needed(&self, octets: &[u8]) -> usize
         requires { self.now.at ≤ length octets.now }
         ensures { result ≡ needed (unread_of octets.now self.now) }
     {
         if self.records.is_none() {
-            return usize::MAX;
+            return block_needed(self.order, octets, self.at);
         }
         if octets.len() - self.at < record::SIZE {
             return record::SIZE;

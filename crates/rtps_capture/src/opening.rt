@@ -3,6 +3,7 @@ ghost use Rattle.rtps_capture.specs.Opening.{order_of, unread_link_type_of};
 ghost use Rattle.rtps_capture.specs.Opening as opening;
 ghost use Rattle.rtps_capture.specs.declared.layout.file.TheConstants.{SIZE};
 
+use crate::blocks::{block_needed, is_pcapng};
 use crate::captures::Captures;
 use crate::layout::file;
 use crate::link_type::link_read;
@@ -42,8 +43,7 @@ pub fn unread_link_type(octets: &[u8]) -> Option<u32>
     }
 }
 
-/// How many octets decide whether these begin a capture, and which, of those that are read. Of a file that can be a pcapng file it is all
-/// that there are.
+/// How many octets decide whether these begin a capture, and which, of those that are read.
 pub(crate) fn opening_needed(captures: Captures, octets: &[u8]) -> usize
     ensures { result ≡ opening.opening_needed captures octets.now }
 {
@@ -55,7 +55,8 @@ pub(crate) fn opening_needed(captures: Captures, octets: &[u8]) -> usize
     }
     match captures {
         Captures::Classic => FORM,
-        Captures::Any => usize::MAX,
+        Captures::Any if is_pcapng(octets) => block_needed(Order::Big, octets, 0),
+        Captures::Any => FORM,
     }
 }
 

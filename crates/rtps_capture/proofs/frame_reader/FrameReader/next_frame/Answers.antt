@@ -13,5 +13,5 @@ returns-clause-gives g c =
     let stepped = c.step.ensures in
     let kept = subst (λ (l : List ℕ). Keeps (prepend_known l (g.R.Read.remaining c.pass.new.self.input)) (prepend_known next.held more)) c.pass.ensures.held hold.left in
     rw (stepped.same.0, stepped.same.1) (
-    step_given old.frames next.frames c.step.new.self.frames old.held next.held rest more c.step.result old.within stepped.few (hold.same.0 ∙ c.pass.ensures.frames)
+    step_given old.frames next.frames c.step.new.self.frames old.held next.held rest more c.step.result old.within (hold.same.0 ∙ c.pass.ensures.frames)
     (rw c.pass.ensures.same.0 at kept) hold.enough stepped.none stepped.some)

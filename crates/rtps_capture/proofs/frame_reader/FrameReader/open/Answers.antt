@@ -1,4 +1,4 @@
-use Rattle.std.proofs.Common.{List, ℕ, None, Some, subst, ◌≡◌, ◌<◌, ◌^◌, length, arith}
+use Rattle.std.proofs.Common.{List, ℕ, None, Some, subst, ◌≡◌}
 use Rattle.std.specs.Io.KnownBytes.{Keeps, prepend_known}
 use Rattle.rtps_capture.specs.Frames.{opened, unread_of}
 use Rattle.rtps_capture.proofs.LeftLemmas.{opened_known, unopened_known}
@@ -12,7 +12,7 @@ returns-in-Some-clause-opened g c =
     let frames = c.in-Some.frames in
     opened_known c.args.captures held input rest frames
     (subst (λ (l : List ℕ). Keeps (prepend_known l input) (prepend_known held rest)) c.new-held.ensures c.in_ok-hold_opening.ensures.left)
-    c.in_ok-hold_opening.ensures.enough (subst (λ (l : List ℕ). length l < 2 ^ 63) c.octets.ensures (omega (arith, c.octets.type_inv.1)))
+    c.in_ok-hold_opening.ensures.enough
     (subst (λ (l : List ℕ). opened c.args.captures l ≡ Some (unread_of l frames)) c.octets.ensures c.in-Some.ensures.opened)
 
 pub returns-in-None-clause-opened : goal.returns-in-None-clause-opened
@@ -22,5 +22,5 @@ returns-in-None-clause-opened g c =
     let held = c.hold_opening.new.held in
     unopened_known c.args.captures held input rest
     (subst (λ (l : List ℕ). Keeps (prepend_known l input) (prepend_known held rest)) c.new-held.ensures c.in_ok-hold_opening.ensures.left)
-    c.in_ok-hold_opening.ensures.enough (subst (λ (l : List ℕ). length l < 2 ^ 63) c.octets.ensures (omega (arith, c.octets.type_inv.1)))
+    c.in_ok-hold_opening.ensures.enough
     (subst (λ (l : List ℕ). opened c.args.captures l ≡ None) c.octets.ensures c.in-None.ensures.opened)
