@@ -45,15 +45,17 @@ abbrev pub place_size : List ℕ → List ℕ → Place → ℕ
 place_size frame packet (place.Frame range) = length frame
 place_size frame packet (place.Packet range) = length packet
 
--- the range of the frame, and of the datagram in it or in a packet; where none was found, they are empty
+-- the range of the frame; where none was found, it is empty
 abbrev pub frame_range : Option Found → ByteRange
 frame_range None = record { from = 0; to = 0 }
 frame_range (Some found) = found.range
 
+-- the range of the datagram in its frame or packet
 abbrev pub datagram_range : Option Found → ByteRange
 datagram_range None = record { from = 0; to = 0 }
 datagram_range (Some found) = place_range found.place
 
+-- how many octets its frame or packet has
 abbrev pub datagram_room : List ℕ → List ℕ → Option Found → ℕ
 datagram_room octets packet None = 0
 datagram_room octets packet (Some found) = place_size (slice_range octets found.range.from found.range.to) packet found.place

@@ -54,7 +54,8 @@ pub struct Summary {
     pub first_link: Option<u32>,
 }
 
-/// A capture that is read by blocks, datagram by datagram. It holds no more of it than a block and a record, and the fragments of packets.
+/// A capture that is read by blocks, datagram by datagram. It holds no more of it than a block and a record, and the
+/// octets of all fragments of packets.
 #[derive(Drop)]
 pub struct CaptureReader<R> {
     frames: FrameReader<R>,
