@@ -7,6 +7,7 @@ use Rattle.std.specs.Ordering.{is_eq}
 use Rattle.std.proofs.lemmas.Bool.Decides.{nat_tests}
 use Rattle.std.proofs.lemmas.List.{drop-drop, drop-take, drop_at, length-append, length-drop, length-take, length-take-le, take-take}
 use Rattle.rtps_capture.specs.Agreement.{AgreesWith, answer_summary, datagrams_in}
+use Rattle.rtps_capture.specs.Alike.{AreKeyed, IsAlike}
 use Rattle.rtps_capture.specs.Assembly.{Joined, datagram_of_whole, given, given_with, gives_none as joins_none, has_right_datagram, is_new, joined_with, packet_of, taken_piece, udp_length}
 use Rattle.rtps_capture.specs.Capture.{Collected, all_noted, answer_of, answered, capture_read, collected, contents_in, limited, noted, nothing, opened_read, or_fault, remembered, timed as timed_collected, with_contents, with_frame}
 use Rattle.rtps_capture.specs.Course.{Course, DatagramValue, Given, Notes, counted, course_left, course_of, course_of_frames, course_opened, course_with, fragment_behind, frame_gives, frame_octets, gives_captured, gives_contents, gives_joined, joined_in, limited as limited_given, no_notes, notes_joined, summary_of, timed}
@@ -43,7 +44,7 @@ use Rattle.rtps_capture.specs.declared.link_type.LinkType.{LinkType}
 use Rattle.rtps_capture.specs.declared.packet.Contents.{Contents}
 use Rattle.rtps_capture.specs.declared.packet.Contents.TheVariants as contents
 use Rattle.rtps_capture.specs.declared.pieces.Piece.{Piece}
-use Rattle.rtps_capture.proofs.AlikeLemmas.{AreJoined, AreKeyed, IsAlike, keyed_grown, making_alike, recent_alike, taken_alike}
+use Rattle.rtps_capture.proofs.AlikeLemmas.{AreJoined, keyed_grown, making_alike, recent_alike, taken_alike}
 use Rattle.rtps_capture.proofs.CarriedLemmas.{in_packet}
 use Rattle.rtps_capture.proofs.ComingLemmas.{slice_range-append}
 use Rattle.rtps_capture.proofs.PacketLemmas.{Ends, in_file, read_ends}
@@ -61,7 +62,7 @@ slice_within from to first last file ordered within =
     ∙ take-take (last - first) (width - first) (drop first behind) (omega (arith, fits))
     ∙ ap₂ take (sym same) (drop-drop first from file)
 
-slice_size : (from to : ℕ) (octets : List ℕ) → from ≤ to → to ≤ length octets → length (slice_range octets from to) ≡ to - from
+pub slice_size : (from to : ℕ) (octets : List ℕ) → from ≤ to → to ≤ length octets → length (slice_range octets from to) ≡ to - from
 slice_size from to octets ordered within = length-take-le (to - from) (drop from octets) (omega (arith, length-drop from octets))
 
 -- the ranges are in so many octets

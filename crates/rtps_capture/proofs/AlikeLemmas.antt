@@ -3,6 +3,7 @@ use Rattle.std.proofs.Common.{◌≡◌, ℕ, ◌+◌, ◌≤◌, Bool, true, fa
 use Rattle.std.specs.Prelude.{None, Option, Some, ◌==◌, ◌&&◌, ◌||◌, not, nat_lt, if◌then◌else◌, cond, count_by}
 use Rattle.std.proofs.lemmas.List.{drop-append-le, length-append, length-drop, take-append-le}
 use Rattle.std.proofs.lemmas.List.Sums.{sum_by_from}
+use Rattle.rtps_capture.specs.Alike.{AreAlike, AreKeyed, AreMakings, IsAlike}
 use Rattle.rtps_capture.specs.Assembly.{Joined, datagram_of_whole, given, given_with, gives_none, is_new, joined_with, packet_of, taken_piece}
 use Rattle.rtps_capture.specs.Pieces.{clashes, clashes_with, fills, in_order, is_repeat, is_same, joined, left_for, piece_octets, piece_size, pieces_with, put_in_order}
 use Rattle.rtps_capture.specs.Recent.{is_of, making_in, recent_with, without}
@@ -13,20 +14,6 @@ use Rattle.rtps_capture.specs.declared.byte_range.ByteRange.{ByteRange}
 use Rattle.rtps_capture.specs.declared.fragment.FragmentKey.{FragmentKey}
 use Rattle.rtps_capture.specs.declared.layout.packet.TheConstants.{MOST_KEPT}
 use Rattle.rtps_capture.specs.declared.pieces.Piece.{Piece}
-
--- a piece of a file and one of what is kept: they have the same octets, and the second one stands in what is kept
-pub record IsAlike (file kept : List ℕ) (one other : Piece) : Type 0 where
-  pub start : one.start ≡ other.start
-  pub end : one.end ≡ other.end
-  pub more : one.more ≡ other.more
-  pub octets : piece_octets file one ≡ piece_octets kept other
-  pub within : other.at + piece_size other ≤ length kept
-
-abbrev pub AreAlike : List ℕ → List ℕ → List Piece → List Piece → Type 0
-AreAlike file kept [] [] = Unit {0}
-AreAlike file kept [] (other ∷ others) = ⊥
-AreAlike file kept (one ∷ ones) [] = ⊥
-AreAlike file kept (one ∷ ones) (other ∷ others) = IsAlike file kept one other × AreAlike file kept ones others
 
 same_alike : (file kept : List ℕ) (a b c d : Piece) → IsAlike file kept a b → IsAlike file kept c d → is_same file a c ≡ is_same kept b d
 same_alike file kept a b c d one other = rw (one.octets, other.octets, one.start, one.end, one.more, other.start, other.end, other.more) refl
@@ -41,7 +28,7 @@ repeat_alike file kept a b (c ∷ ones) (d ∷ others) one all =
 clash_alike : (file kept : List ℕ) (a b c d : Piece) → IsAlike file kept a b → IsAlike file kept c d → clashes a c ≡ clashes b d
 clash_alike file kept a b c d one other = rw (one.start, one.end, one.more, other.start, other.end, other.more) refl
 
-clashes_alike : (file kept : List ℕ) (a b : Piece) (ones others : List Piece) → IsAlike file kept a b → AreAlike file kept ones others → clashes_with ones a ≡ clashes_with others b
+pub clashes_alike : (file kept : List ℕ) (a b : Piece) (ones others : List Piece) → IsAlike file kept a b → AreAlike file kept ones others → clashes_with ones a ≡ clashes_with others b
 clashes_alike file kept a b [] [] one all = refl
 clashes_alike file kept a b [] (d ∷ others) one all = absurd all
 clashes_alike file kept a b (c ∷ ones) [] one all = absurd all
@@ -60,7 +47,7 @@ left_alike file kept a b (c ∷ ones) (d ∷ others) one all =
     by true rest = rest
     by false rest = all
 
-push_alike : (file kept : List ℕ) (a b : Piece) (ones others : List Piece) → IsAlike file kept a b → AreAlike file kept ones others → AreAlike file kept (ones ++ a ∷ []) (others ++ b ∷ [])
+pub push_alike : (file kept : List ℕ) (a b : Piece) (ones others : List Piece) → IsAlike file kept a b → AreAlike file kept ones others → AreAlike file kept (ones ++ a ∷ []) (others ++ b ∷ [])
 push_alike file kept a b [] [] one all = (one, tt)
 push_alike file kept a b [] (d ∷ others) one all = absurd all
 push_alike file kept a b (c ∷ ones) [] one all = absurd all
@@ -101,10 +88,6 @@ joined_alike file kept [] [] all = refl
 joined_alike file kept [] (d ∷ others) all = absurd all
 joined_alike file kept (c ∷ ones) [] all = absurd all
 joined_alike file kept (c ∷ ones) (d ∷ others) all = ap₂ (λ (x y : List ℕ). x ++ y) all.0.octets (joined_alike file kept ones others all.1)
-
-pub record AreMakings (file kept : List ℕ) (one other : Making) : Type 0 where
-  pub making : AreAlike file kept one.making other.making
-  pub given : AreAlike file kept one.given other.given
 
 count_alike : (file kept : List ℕ) (one other : Making) (ones others : List Piece) → AreMakings file kept one other → AreAlike file kept ones others
     → count_by (is_new file one) ones ≡ count_by (is_new kept other) others
@@ -194,19 +177,11 @@ one_grown file kept more a b alike =
       within = omega (arith, alike.within, length-append kept more);
     }
 
-grown : (file kept more : List ℕ) (ones others : List Piece) → AreAlike file kept ones others → AreAlike file (kept ++ more) ones others
+pub grown : (file kept more : List ℕ) (ones others : List Piece) → AreAlike file kept ones others → AreAlike file (kept ++ more) ones others
 grown file kept more [] [] all = tt
 grown file kept more [] (d ∷ others) all = absurd all
 grown file kept more (c ∷ ones) [] all = absurd all
 grown file kept more (c ∷ ones) (d ∷ others) all = (one_grown file kept more c d all.0, grown file kept more ones others all.1)
-
--- the keys of two hosts that are remembered
-abbrev pub AreKeyed : List ℕ → List ℕ → List KeyedMaking → List KeyedMaking → Type 0
-AreKeyed file kept [] [] = Unit {0}
-AreKeyed file kept [] (other ∷ others) = ⊥
-AreKeyed file kept (one ∷ ones) [] = ⊥
-AreKeyed file kept (one ∷ ones) (other ∷ others) =
-    (one.identification ≡ other.identification) × AreMakings file kept one.making other.making × AreKeyed file kept ones others
 
 pub keyed_grown : (file kept more : List ℕ) (ones others : List KeyedMaking) → AreKeyed file kept ones others → AreKeyed file (kept ++ more) ones others
 keyed_grown file kept more [] [] all = tt

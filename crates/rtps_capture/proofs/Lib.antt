@@ -23,3 +23,5 @@ pub mod AdvanceLemmas
 pub mod AlikeLemmas
 pub mod AgreementLemmas
 pub mod BlockFrontLemmas
+pub mod SettledLemmas
+pub mod MovedLemmas

@@ -1,5 +1,6 @@
 pub mod Advancing
 pub mod Agreement
+pub mod Alike
 pub mod Assembly
 pub mod Blocks
 pub mod Capture

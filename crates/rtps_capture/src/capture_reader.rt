@@ -95,6 +95,7 @@ impl<R: Read + Drop> CaptureReader<R> {
     {
         self.found = None;
         'frames: while let Some(frame) = self.frames.next_frame()? {
+            self.notes.settle()?;
             let captures = self.frames.captures();
             self.found = self.notes.note(captures, self.frames.octets(), frame)?;
             if self.found.is_some() {

@@ -1,4 +1,5 @@
 ghost use Rattle.std.specs.Prelude.{◌≡◌, ◌≤◌, ◌<◌, ◌+◌, ◌^◌, ℕ, Option, length, option_map, IfOk, IfSome};
+ghost use Rattle.rtps_capture.specs.Alike.{Settles};
 ghost use Rattle.rtps_capture.specs.Course as course;
 ghost use Rattle.rtps_capture.specs.Noting.{AreCounted, AreCountedWith, FoundStands, IsNoted, IsRange, TakesKept, datagram_at, given_at, notes_of, place_range, place_size};
 ghost use Rattle.rtps_capture.specs.Frames.{StandsInFile};
@@ -15,6 +16,9 @@ use crate::packet::{Contents, contents_read, moved};
 use crate::times::later;
 use rtps_ids::Memory;
 use std::alloc::Global;
+
+/// As many octets of fragments are kept before any are left out.
+const KEPT_LEAST: usize = 1 << 20;
 
 /// Where the octets of a datagram stand.
 #[derive(Clone, Copy)]
@@ -42,8 +46,11 @@ pub(crate) struct Found {
 pub(crate) struct Notes {
     /// The most datagrams that are wanted.
     most: u64,
-    /// The octets of fragments, one behind another.
+    alloc: Global,
+    /// The octets of fragments, one behind another: of those that are remembered, and of others.
     kept: Vec<u8>,
+    /// Where there are more of them, the others are left out.
+    room: usize,
     assembly: Assembly,
     /// The octets of the packet that was put together last.
     packet: Vec<u8>,
@@ -64,7 +71,9 @@ impl Notes {
     {
         Notes {
             most,
+            alloc,
             kept: Vec::new(alloc),
+            room: KEPT_LEAST,
             assembly: Assembly::new(alloc),
             packet: Vec::new(alloc),
             datagrams: 0,
@@ -72,6 +81,24 @@ impl Notes {
             end: None,
             counts: Counts::default(),
         }
+    }
+
+    /// Leaves out the octets of fragments that are not remembered any more, once these may be as many as the others. After an `Err`
+    /// nothing is promised of the fragments.
+    pub(crate) fn settle(&mut self) -> Result<(), Memory>
+        requires { AreCounted self.old }
+        ensures settles { IfOk result (λ _. Settles (notes_of self.old) (notes_of self.new)) }
+        ensures counted { AreCounted self.new }
+        ensures same { (self.new.counts ≡ self.old.counts) × (self.new.datagrams ≡ self.old.datagrams) × (self.new.most ≡ self.old.most) × (self.new.packet ≡ self.old.packet) }
+    {
+        if self.kept.len() <= self.room {
+            return Ok(());
+        }
+        let mut kept = Vec::new(self.alloc);
+        self.assembly.settle(&self.kept, &mut kept)?;
+        self.room = kept.len().saturating_mul(2).max(KEPT_LEAST);
+        self.kept = kept;
+        Ok(())
     }
 
     /// The octets of the packet that was put together last.
