@@ -1,5 +1,5 @@
 -- Fragments that are put elsewhere, one after another: those of a packet are apart, so that they are put together again.
-use Rattle.std.proofs.Common.{◌≡◌, ℕ, ◌≤◌, Bool, true, false, List, [], ◌∷◌, ◌++◌, length, drop, take, refl, sym, ap, ap₂, subst, ◌∙◌, append_assoc, append-nil, arith}
+use Rattle.std.proofs.Common.{◌≡◌, ℕ, ◌+◌, ◌≤◌, Bool, true, false, List, [], ◌∷◌, ◌++◌, length, drop, take, refl, sym, ap, ap₂, subst, ◌∙◌, append_assoc, append-nil, arith}
 use Rattle.std.specs.Prelude.{None, Option, Some, ◌||◌, cond, nat_lt, if◌then◌else◌}
 use Rattle.std.specs.BTreeMap.{BTreeMap, Updates, get}
 use Rattle.std.specs.List.{AllByRecursion}
@@ -110,10 +110,10 @@ pub put_apart_so : (from old to : List ℕ) (all put : List Piece) (piece other 
     → piece.at + piece_size piece ≤ length from → other ≡ record piece { at = length to } → clashes_with put other ≡ false
 put_apart_so from old to all put piece other left so order within is = ap (clashes_with put) is ∙ put_clashes from old to all put piece left so order within
 
-pub one_put_so : (from old to next : List ℕ) (all put then : List Piece) (piece other : Piece) (left : List Piece) → PutSo from old to all put (piece ∷ left)
-    → piece.at + piece_size piece ≤ length from → other ≡ record piece { at = length to } → next ≡ to ++ piece_octets from piece → then ≡ put ++ other ∷ [] → PutSo from old next all then left
-one_put_so from old to next all put then piece other left so within is grown_to pushed_to =
-    subst (λ (l : List ℕ). PutSo from old l all then left) (sym grown_to)
+pub one_put_so : (from old to next : List ℕ) (all put after : List Piece) (piece other : Piece) (left : List Piece) → PutSo from old to all put (piece ∷ left)
+    → piece.at + piece_size piece ≤ length from → other ≡ record piece { at = length to } → next ≡ to ++ piece_octets from piece → after ≡ put ++ other ∷ [] → PutSo from old next all then left
+one_put_so from old to next all put after piece other left so within is grown_to pushed_to =
+    subst (λ (l : List ℕ). PutSo from old l all after left) (sym grown_to)
     (subst (λ (l : List Piece). PutSo from old (to ++ piece_octets from piece) all l left) (sym (pushed_to ∙ ap (λ (p : Piece). put ++ p ∷ []) is)) (one_put from old to all put piece left so within))
 
 pub all_put : (from old to : List ℕ) (all put : List Piece) → PutSo from old to all put [] → AreMoved from to all put
@@ -178,10 +178,10 @@ no_hosts_put from to all put none = λ hosts. by hosts (get hosts_cmp all hosts)
     by hosts (Some recent) is = refl
     by hosts None is = rw (none hosts) (tt, tt)
 
-pub hosts_put : (from to new : List ℕ) (all left rest put then : BTreeMap FragmentHosts RecentMakings) (hosts : FragmentHosts) (recent moved : RecentMakings) → AllPutSo from to all left put
-    → GrowsTo to new → get hosts_cmp left hosts ≡ Some recent → Updates hosts_cmp left rest hosts None → Updates hosts_cmp put then hosts (Some moved)
-    → KeysAreMoved from new recent.makings.items moved.makings.items → AllPutSo from new all rest then
-hosts_put from to new all left rest put then hosts recent moved so grows there leaves enters keys =
+pub hosts_put : (from to new : List ℕ) (all left rest put after : BTreeMap FragmentHosts RecentMakings) (hosts : FragmentHosts) (recent moved : RecentMakings) → AllPutSo from to all left put
+    → GrowsTo to new → get hosts_cmp left hosts ≡ Some recent → Updates hosts_cmp left rest hosts None → Updates hosts_cmp put after hosts (Some moved)
+    → KeysAreMoved from new recent.makings.items moved.makings.items → AllPutSo from new all rest after
+hosts_put from to new all left rest put after hosts recent moved so grows there leaves enters keys =
     λ other. rw (leaves.0 other, enters.0 other) (by other (is_eq (hosts_cmp hosts other)) refl (get hosts_cmp left other) refl (so other))
   where
     by : (other : FragmentHosts) (here : Bool) → is_eq (hosts_cmp hosts other) ≡ here → (mine : Option RecentMakings) → get hosts_cmp left other ≡ mine

@@ -58,7 +58,7 @@ making_left file kept more one other all = record {
   given = left_grown file kept more one.given other.given (all.0.given, all.1.given);
 }
 
-keyed_left : (file kept more : List ℕ) (ones others : List KeyedMaking) → KeysAreMoved file kept ones others → AreKeyed (file ++ more) kept ones others
+pub keyed_left : (file kept more : List ℕ) (ones others : List KeyedMaking) → KeysAreMoved file kept ones others → AreKeyed (file ++ more) kept ones others
 keyed_left file kept more [] [] all = tt
 keyed_left file kept more [] (d ∷ others) all = absurd all.0
 keyed_left file kept more (c ∷ ones) [] all = absurd all.0
@@ -214,7 +214,8 @@ captured_settled captures octets one other frame same =
     (read_ends captures frame.link there)
 
 limited_settled : (most : ℕ) (one other : Given) → one.datagram ≡ other.datagram → AreSettled one.notes other.notes → GivesSame (limited most one) (limited most other)
-limited_settled most one other datagram same = rw same.datagrams (by (nat_lt most other.notes.datagrams))
+limited_settled most one other datagram same =
+    let test : nat_lt most one.notes.datagrams ≡ nat_lt most other.notes.datagrams = ap (nat_lt most) same.datagrams in rw test (by (nat_lt most other.notes.datagrams))
   where
     by : (over : Bool) → GivesSame (if over then Err fault.TooMany else Ok one) (if over then Err fault.TooMany else Ok other)
     by true = refl
