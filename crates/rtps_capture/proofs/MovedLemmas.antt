@@ -111,7 +111,7 @@ pub put_apart_so : (from old to : List ℕ) (all put : List Piece) (piece other 
 put_apart_so from old to all put piece other left so order within is = ap (clashes_with put) is ∙ put_clashes from old to all put piece left so order within
 
 pub one_put_so : (from old to next : List ℕ) (all put after : List Piece) (piece other : Piece) (left : List Piece) → PutSo from old to all put (piece ∷ left)
-    → piece.at + piece_size piece ≤ length from → other ≡ record piece { at = length to } → next ≡ to ++ piece_octets from piece → after ≡ put ++ other ∷ [] → PutSo from old next all then left
+    → piece.at + piece_size piece ≤ length from → other ≡ record piece { at = length to } → next ≡ to ++ piece_octets from piece → after ≡ put ++ other ∷ [] → PutSo from old next all after left
 one_put_so from old to next all put after piece other left so within is grown_to pushed_to =
     subst (λ (l : List ℕ). PutSo from old l all after left) (sym grown_to)
     (subst (λ (l : List Piece). PutSo from old (to ++ piece_octets from piece) all l left) (sym (pushed_to ∙ ap (λ (p : Piece). put ++ p ∷ []) is)) (one_put from old to all put piece left so within))

@@ -69,10 +69,10 @@ frames-preserved g c =
     let known = settled_known _ old.notes settled (unread_known left old.frames.frames) c.in_ok-settle.ensures.settles c.settle.ensures.same.2 c.frames.invariant.0 in
     let none = sym c.is_some.ensures ∙ c.if-is_some.false in (
       none_at _ settled notes left new.held rest old.frames.frames new.frames c.in-Some.frame captures found known
-      (subst (λ (given : Option Frame). GivesFrame (unread_known left old.frames.frames) (unread_known (prepend_known new.held rest) new.frames) given) c.in-Some.is c.in_ok-frame.ensures.gives)
-      (subst (λ (given : Option Frame). IfSome given (StandsInFile (length new.held))) c.in-Some.is c.in_ok-frame.ensures.stands) (c.captures-captures.ensures ∙ c.next_frame.ensures.same.0)
-      c.note.ensures.most
-      (subst (λ (l : List ℕ). frame_gives captures settled.most l (notes_of settled) c.in-Some.frame ≡ Ok (record { datagram = option_map (datagram_at l notes.packet.items) found; notes = notes_of notes })) c.octets.ensures c.in_ok-self.ensures.noted)
-      none,
+          (subst (λ (given : Option Frame). GivesFrame (unread_known left old.frames.frames) (unread_known (prepend_known new.held rest) new.frames) given) c.in-Some.is c.in_ok-frame.ensures.gives)
+          (subst (λ (given : Option Frame). IfSome given (StandsInFile (length new.held))) c.in-Some.is c.in_ok-frame.ensures.stands) (c.captures-captures.ensures ∙ c.next_frame.ensures.same.0)
+          c.note.ensures.most
+          (subst (λ (l : List ℕ). frame_gives captures settled.most l (notes_of settled) c.in-Some.frame ≡ Ok (record { datagram = option_map (datagram_at l notes.packet.items) found; notes = notes_of notes })) c.octets.ensures c.in_ok-self.ensures.noted)
+          none,
       none_found found none,
     )
