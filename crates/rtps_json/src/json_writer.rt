@@ -28,7 +28,12 @@ fn push_total(writer: &mut Writer, total: u128) -> Result<(), AllocError>
     writer.number(buffer.format(total))
 }
 
-fn push_second(writer: &mut Writer, text: &mut String, second: Seconds) -> Result<(), AllocError>
+/// Writes a time with three places, to `text` first.
+pub fn push_second(
+    writer: &mut Writer,
+    text: &mut String,
+    second: Seconds,
+) -> Result<(), AllocError>
     ensures tokens { OnOk result (writer.new.tokens ≡ writer.old.tokens ++ number_token (seconds_text second) ∷ []) }
     ensures before { writer.new.before ≡ writer.old.before }
 {
@@ -37,7 +42,8 @@ fn push_second(writer: &mut Writer, text: &mut String, second: Seconds) -> Resul
     writer.number(text)
 }
 
-fn push_guid(writer: &mut Writer, text: &mut String, guid: Guid) -> Result<(), AllocError>
+/// Writes a GUID, to `text` first.
+pub fn push_guid(writer: &mut Writer, text: &mut String, guid: Guid) -> Result<(), AllocError>
     ensures tokens { OnOk result (writer.new.tokens ≡ writer.old.tokens ++ string_token (guid_text guid) ∷ []) }
     ensures before { writer.new.before ≡ writer.old.before }
 {

@@ -1,13 +1,12 @@
-ghost use Rattle.std.specs.Prelude.{◌≡◌, ◌++◌, map, OnOk};
-ghost use Rattle.json.specs.Tree.{json_tokens};
+ghost use Rattle.std.specs.Prelude.{◌≡◌, ◌++◌, map, IfOk, OnOk};
 ghost use Rattle.rtps_evidence.specs.Explanation.{explanation_value};
-ghost use Rattle.rtps_json.specs.JsonText.{clock_times, second_json, tokens_of_member};
-ghost use Rattle.rtps_lines.specs.Lines.{second_in};
+ghost use Rattle.rtps_json.specs.JsonText.{clock_times, tokens_of_member};
+ghost use Rattle.rtps_json.specs.Values.{value_json};
 ghost use Rattle.rtps_page.specs.Joining.{joined_in, joined_json, joined_member};
 
 use json::Writer;
 use rtps_evidence::{Explanation, Location};
-use rtps_json::{Clock, push_seconds};
+use rtps_json::{Clock, Made, Value, array, push_value, some_second};
 use std::alloc::AllocError;
 
 /// Where the reader of a row joins; None where it does not, or was there before the recording.
@@ -24,39 +23,24 @@ fn joined_of(row: &Explanation<'_>) -> Option<Location>
     }
 }
 
-/// Appends the second of a datagram, or null where it has none.
-fn push_second(writer: &mut Writer, clock: Clock<'_>, datagram: u64) -> Result<(), AllocError>
-    ensures tokens { OnOk result (writer.new.tokens
-        ≡ writer.old.tokens ++ json_tokens (second_json (second_in (clock_times clock.entry) datagram))) }
-    ensures before { writer.new.before ≡ writer.old.before }
-{
-    match clock.times.second(datagram) {
-        Some(second) => push_seconds(writer, second, clock.alloc),
-        None => writer.null(),
-    }
-}
-
-fn push_joined(
-    writer: &mut Writer,
-    clock: Clock<'_>,
-    joined: Option<Location>,
-) -> Result<(), AllocError>
-    ensures tokens { OnOk result (writer.new.tokens ≡ writer.old.tokens ++ json_tokens (joined_json (clock_times clock.entry) joined)) }
-    ensures before { writer.new.before ≡ writer.old.before }
+fn joined_value<'a>(joined: Option<Location>, clock: Clock<'_>) -> Made<Value<'a>>
+    ensures { IfOk result (λ value. value_json value ≡ joined_json (clock_times clock.entry) joined) }
 {
     let Some(place) = joined else {
-        return writer.null();
+        return Ok(Value::Null);
     };
-    writer.begin_array()?;
-    writer.u64(place.datagram)?;
-    writer.u64(place.at as u64)?;
-    push_second(writer, clock, place.datagram)?;
-    writer.end_array()
+    let values = vec![in clock.alloc;
+        Value::Count(place.datagram),
+        Value::Count(place.at as u64),
+        some_second(clock.times.second(place.datagram)),
+    ]?;
+    Ok(array(values))
 }
 
 /// Appends where the reader of each row joins.
 pub(crate) fn push_all_joined(
     writer: &mut Writer,
+    text: &mut String,
     clock: Clock<'_>,
     rows: &[Explanation<'_>],
 ) -> Result<(), AllocError>
@@ -67,7 +51,8 @@ pub(crate) fn push_all_joined(
     writer.key("joined")?;
     writer.begin_array()?;
     for row in rows {
-        push_joined(writer, clock, joined_of(row))?;
+        let joined = joined_value(joined_of(row), clock)?;
+        push_value(writer, text, &joined)?;
     }
     writer.end_array()
 }

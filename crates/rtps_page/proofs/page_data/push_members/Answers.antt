@@ -1,6 +1,7 @@
 use Rattle.std.proofs.Common.{◌++◌, ◌∙◌, List, ap, map, sym}
 use Rattle.std.proofs.lemmas.List.Concat.{flat_map-append}
 use Rattle.rtps_evidence.specs.Explanation.{explanation_value}
+use Rattle.rtps_json.specs.JsonText.{Member}
 use Rattle.rtps_page.proofs.Written.{acts_judged, asked_value, chart_members, check_members, directory_member, intake_in, joined_member, options_member, origin_value, own_members, recording_member, report_value, six_parts, Token, tokens_of, tokens_of_member}
 use Rattle.rtps_report.specs.FullReport.{rows_of}
 use Rattle.rtps_page.proofs.page_data.push_members.Goals as goal
@@ -20,8 +21,10 @@ returns-clause-tokens c =
     let charts = chart_members recording.times (acts_judged recording) c.args.pairs.now in
     six_parts start (tokens_of told) (tokens_of_member made) (tokens_of_member (options_member asked)) (tokens_of_member announced) (tokens_of_member joining) (tokens_of charts)
     c.in_ok-push_check_members.ensures.tokens
-    (c.in_ok-push_recording.ensures.tokens ∙ ap (λ times. c.push_check_members.new.writer.tokens ++ tokens_of_member (recording_member origin times)) c.times.ensures)
-    c.in_ok-push_options.ensures.tokens c.in_ok-push_directory.ensures.tokens
+    (c.in_ok-push_member.ensures.tokens ∙ ap (λ (member : Member). c.push_check_members.new.writer.tokens ++ tokens_of_member member)
+    (c.in_ok-recording.ensures ∙ ap (λ times. recording_member origin times) c.times.ensures))
+    (c.in_ok-push_member-2.ensures.tokens ∙ ap (λ (member : Member). c.push_member.new.writer.tokens ++ tokens_of_member member) c.in_ok-options.ensures)
+    c.in_ok-push_directory.ensures.tokens
     (c.in_ok-push_all_joined.ensures.tokens
     ∙ ap (λ times. c.push_directory.new.writer.tokens ++ tokens_of_member (joined_member times (map explanation_value c.deref.result.now))) c.times.ensures
     ∙ ap (λ rows. c.push_directory.new.writer.tokens ++ tokens_of_member (joined_member recording.times (map explanation_value rows))) c.deref.ensures.value)
