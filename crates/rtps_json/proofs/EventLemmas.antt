@@ -1,29 +1,13 @@
--- The tokens of an event, and how deep the events of a report nest.
-use Rattle.std.proofs.Common.{◌≡◌, ◌≤◌, ◌++◌, ◌∷◌, [], ◌∙◌, ℕ, List, Option, None, Some, ap, append_assoc, append-nil, arith, sym}
-use Rattle.json.specs.Token.{Token}
+-- How deep the events of a report nest.
+use Rattle.std.proofs.Common.{◌≤◌, ◌∷◌, List, Option, None, Some, arith}
 use Rattle.json.specs.Tree.{depth}
 use Rattle.rtps_evidence.specs.Times.{TimesValue}
 use Rattle.rtps_ids.specs.declared.identity.GuidPrefix.{GuidPrefix}
 use Rattle.rtps_report.specs.Events.{EventValue}
 use Rattle.rtps_report.specs.Talk.{TalkValue}
-use Rattle.rtps_report.specs.declared.event_rows.EventKey.{EventKey}
-use Rattle.rtps_json.specs.EventMembers.{event_json, events_member, parties_by, parties_json, party_json}
-use Rattle.rtps_json.specs.JsonText.{Member, array_of, tokens_of, tokens_of_member}
-use Rattle.rtps_json.proofs.JsonLemmas.{items_within, numbers_within, place_within, tokens_of_three}
-
--- two members, two lists of members, a member, and what stands behind
-pub event_tokens : (a b : Member) (c d : List Member) (e : Member) (end : List Token)
-    → tokens_of_member a ++ (tokens_of_member b ++ (tokens_of c ++ (tokens_of d ++ (tokens_of_member e ++ end)))) ≡ tokens_of (a ∷ b ∷ (c ++ (d ++ e ∷ []))) ++ end
-event_tokens a b c d e end =
-    let first = tokens_of_member a in
-    let second = tokens_of_member b in
-    let last = tokens_of_member e in
-    let rest = tokens_of (c ++ (d ++ e ∷ [])) in
-    let behind : rest ++ end ≡ tokens_of c ++ (tokens_of d ++ (last ++ end)) = ap (λ (tokens : List Token). tokens ++ end) (tokens_of_three c d (e ∷ []))
-    ∙ append_assoc (tokens_of c) (tokens_of d ++ (last ++ [])) end
-    ∙ ap (λ (tokens : List Token). tokens_of c ++ tokens) (append_assoc (tokens_of d) (last ++ []) end
-    ∙ ap (λ (tokens : List Token). tokens_of d ++ (tokens ++ end)) (append-nil last)) in
-    sym (append_assoc first (second ++ rest) end ∙ ap (λ (tokens : List Token). first ++ tokens) (append_assoc second rest end ∙ ap (λ (tokens : List Token). second ++ tokens) behind))
+use Rattle.rtps_json.specs.EventMembers.{event_json, events_member, parties_by, party_json}
+use Rattle.rtps_json.specs.JsonText.{array_of}
+use Rattle.rtps_json.proofs.JsonLemmas.{items_within, numbers_within, place_within}
 
 parties_within : (first : GuidPrefix) (second : Option GuidPrefix) → depth (array_of (party_json first ∷ parties_by second)) ≤ 1
 parties_within first None = omega arith

@@ -12,7 +12,7 @@ use Rattle.json.proofs.Printed.Trees.{value-json_tokens}
 use Rattle.json.specs.Json.{Json, boolean, document, if_last, max_depth, null, string, value}
 use Rattle.json.specs.Lex.{tokens}
 use Rattle.json.specs.Print.{IsNumber, print}
-use Rattle.json.specs.Token.{Token, begin_array, begin_object, end_array, end_object, key}
+use Rattle.json.specs.Token.{begin_array, begin_object, end_array, end_object, key}
 use Rattle.json.specs.Tree.{depth, items_depth, items_tokens, json_tokens, members_depth, members_tokens}
 use Rattle.json.specs.Word.{after_exponent, after_fraction, after_number, after_whole, head}
 use Rattle.rtps_evidence.specs.FirstNumbers.{numbers_of}
@@ -32,7 +32,6 @@ use Rattle.rtps_evidence.specs.Explanation.{lost_at}
 use Rattle.rtps_evidence.specs.Kinds.{KindValue, LostValue}
 use Rattle.rtps_evidence.specs.declared.kinds.NumberRange.{NumberRange}
 use Rattle.rtps_json.specs.JsonText.{Member, TellingValue, advice_json, advice_member, announcement_json, array_of, claim_json, count_json, counts_members, delivery_members, evidence_members, first_missed_members, frame_at, frame_members, further_members, ignored_members, items_of, kind_json, kind_members, kinds_members, lacking_members, lost_member, members_of, node_members, not_received_json, numbers_json, object_of, outcomes_json, pair_members, payload_members, place_json, place_members, range_json, reasons_members, report_json, row_json, rows_members, second_at, second_json, sent_json, shown_members, silence_member, silence_members, some_node_json, span_by, span_members, spanned_members, teller_json, telling_value, timed_members, times_told, tokens_of, tokens_of_member, until_json, until_members, verdict_members, wait_json, wait_member, wait_members}
-use Rattle.rtps_lines.proofs.Offered.{four_parts}
 
 -- ---- tokens
 
@@ -45,68 +44,13 @@ pub whole : (members : List Member) → members_tokens (members_of members) ≡ 
 whole [] = refl
 whole ((name, json) ∷ members) = ap (λ rest. key name ∷ (json_tokens json ++ rest)) (whole members) ∙ sym (append_assoc (key name ∷ json_tokens json) (tokens_of members) (end_object ∷ []))
 
--- an object of six parts
-pub row_tokens : (a b c d e f : List Member)
-    → json_tokens (object_of (a ++ (b ++ (c ++ (d ++ (e ++ f)))))) ≡ begin_object ∷ (tokens_of a ++ (tokens_of b ++ (tokens_of c ++ (tokens_of d ++ (tokens_of e ++ (tokens_of f ++ end_object ∷ []))))))
-row_tokens a b c d e f =
-    ap (λ rest. begin_object ∷ rest)
-    (front a (b ++ (c ++ (d ++ (e ++ f))))
-    ∙ ap (λ rest. tokens_of a ++ rest) (front b (c ++ (d ++ (e ++ f)))
-    ∙ ap (λ rest. tokens_of b ++ rest) (front c (d ++ (e ++ f))
-    ∙ ap (λ rest. tokens_of c ++ rest) (front d (e ++ f) ∙ ap (λ rest. tokens_of d ++ rest) (front e f ∙ ap (λ rest. tokens_of e ++ rest) (whole f))))))
-
--- a member and three parts
-pub audit_tokens : (a : Member) (b c d : List Member) → tokens_of (a ∷ (b ++ (c ++ d))) ≡ tokens_of_member a ++ (tokens_of b ++ (tokens_of c ++ tokens_of d))
-audit_tokens a b c d =
-    ap (λ rest. tokens_of_member a ++ rest)
-    (flat_map-append tokens_of_member b (c ++ d) ∙ ap (λ rest. tokens_of b ++ rest) (flat_map-append tokens_of_member c d))
-
--- a list of members, a member, and two lists more
-pub spanned_tokens : (a c d : List Member) (b : Member) → tokens_of (a ++ b ∷ (c ++ d)) ≡ tokens_of a ++ (tokens_of_member b ++ (tokens_of c ++ tokens_of d))
-spanned_tokens a c d b =
-    flat_map-append tokens_of_member a (b ∷ (c ++ d)) ∙ ap (λ rest. tokens_of a ++ (tokens_of_member b ++ rest)) (flat_map-append tokens_of_member c d)
-
 -- three lists of members
 pub tokens_of_three : (a b c : List Member) → tokens_of (a ++ (b ++ c)) ≡ tokens_of a ++ (tokens_of b ++ tokens_of c)
 tokens_of_three a b c = flat_map-append tokens_of_member a (b ++ c) ∙ ap (λ rest. tokens_of a ++ rest) (flat_map-append tokens_of_member b c)
 
--- three members, and a list of members behind each
-pub span_tokens : (a c e : Member) (b d f : List Member)
-    → tokens_of (a ∷ (b ++ (c ∷ (d ++ (e ∷ f)))))
-    ≡ tokens_of_member a ++ (tokens_of b ++ (tokens_of_member c ++ (tokens_of d ++ (tokens_of_member e ++ tokens_of f))))
-span_tokens a c e b d f =
-    ap (λ rest. tokens_of_member a ++ rest)
-    (flat_map-append tokens_of_member b (c ∷ (d ++ (e ∷ f)))
-    ∙ ap (λ rest. tokens_of b ++ (tokens_of_member c ++ rest)) (flat_map-append tokens_of_member d (e ∷ f)))
-
 -- an object
 pub object_tokens : (members : List Member) → json_tokens (object_of members) ≡ begin_object ∷ (tokens_of members ++ end_object ∷ [])
 object_tokens members = ap (λ rest. begin_object ∷ rest) (whole members)
-
--- four lists of members
-pub tokens_of_four : (a b c d : List Member) → tokens_of a ++ (tokens_of b ++ (tokens_of c ++ tokens_of d)) ≡ tokens_of (a ++ (b ++ (c ++ d)))
-tokens_of_four a b c d =
-    ap (λ rest. tokens_of a ++ (tokens_of b ++ rest)) (sym (flat_map-append tokens_of_member c d))
-    ∙ ap (λ rest. tokens_of a ++ rest) (sym (flat_map-append tokens_of_member b (c ++ d)))
-    ∙ sym (flat_map-append tokens_of_member a (b ++ (c ++ d)))
-
--- members that stand only where there are times: the first one by itself
-pub timed_front : (times : TimesValue) (a : Member) (others : List Member)
-    → tokens_of (timed_members times (a ∷ [])) ++ tokens_of (timed_members times others) ≡ tokens_of (timed_members times (a ∷ others))
-timed_front times a others = go (are_there times.of_datagrams)
-  where
-    go : (timed : Bool) → tokens_of (if timed then a ∷ [] else []) ++ tokens_of (if timed then others else []) ≡ tokens_of (if timed then a ∷ others else [])
-    go true = ap (λ first. first ++ tokens_of others) (append-nil (tokens_of_member a))
-    go false = refl
-
-none_timed : (timed : Bool) → tokens_of (if timed then [] else []) ≡ []
-none_timed true = refl
-none_timed false = refl
-
--- each by itself
-pub timed_each : (times : TimesValue) (members : List Member) → flat_map (λ a. tokens_of (timed_members times (a ∷ []))) members ≡ tokens_of (timed_members times members)
-timed_each times [] = sym (none_timed (are_there times.of_datagrams))
-timed_each times (a ∷ others) = ap (λ rest. tokens_of (timed_members times (a ∷ [])) ++ rest) (timed_each times others) ∙ timed_front times a others
 
 -- times with frames, or without them
 abbrev times_with : Bool → TimesValue → TimesValue
@@ -120,13 +64,6 @@ clock_told telling framed mine times flag same = (λ i. times_with (flag i) (sam
     by_case : (one : Option Telling) → times_with (is_some one) times ≡ times_told (option_map telling_value one) times
     by_case None = refl
     by_case (Some one) = refl
-
--- an object that is written in two parts
-pub object_written : {one two three four : List Token} (start : List Token) (a b : List Member)
-    → one ≡ start ++ begin_object ∷ [] → two ≡ one ++ tokens_of a → three ≡ two ++ tokens_of b → four ≡ three ++ end_object ∷ [] → four ≡ start ++ json_tokens (object_of (a ++ b))
-object_written start a b first second third fourth =
-    four_parts start (begin_object ∷ []) (tokens_of a) (tokens_of b) (end_object ∷ []) first second third fourth
-    ∙ ap (λ tokens. start ++ begin_object ∷ tokens) (ap (λ rest. tokens_of a ++ rest) (sym (whole b)) ∙ sym (front a b))
 
 list_tokens : (values : List Json) → items_tokens (items_of values) ≡ flat_map json_tokens values ++ end_array ∷ []
 list_tokens [] = refl

@@ -1,12 +1,8 @@
--- Tokens of arrays of what is made alike, and how deep the members nest that say who does not talk.
-use Rattle.std.proofs.Common.{◌≡◌, ◌≤◌, ◌++◌, ◌∷◌, [], ◌∙◌, ℕ, Bool, true, false, if◌then◌else◌, is_some, List, Option, None, Some, ap, append-nil, arith, codes, map, refl, sym}
-use Rattle.std.proofs.lemmas.List.Concat.{flat_map-append}
-use Rattle.std.proofs.lemmas.List.Folds.{flat_map-map}
-use Rattle.std.specs.List.{flat_map}
-use Rattle.json.specs.Json.{Json, boolean, string}
-use Rattle.json.specs.Token.{Token, begin_array, end_array}
-use Rattle.json.specs.Tree.{depth, json_tokens, members_depth}
-use Rattle.rtps_evidence.specs.Times.{TimesValue, are_there, seconds_of}
+-- How deep the members nest that say who does not talk.
+use Rattle.std.proofs.Common.{◌≤◌, ◌++◌, ◌∷◌, [], ℕ, Bool, true, false, is_some, List, Option, None, Some, arith, codes}
+use Rattle.json.specs.Json.{boolean, string}
+use Rattle.json.specs.Tree.{depth, members_depth}
+use Rattle.rtps_evidence.specs.Times.{TimesValue, seconds_of}
 use Rattle.rtps_policies.specs.Fitting.{ProfileValue}
 use Rattle.rtps_policies.specs.PolicyText.{policy_name}
 use Rattle.rtps_policies.specs.Unmatched.{UnmatchedValue}
@@ -25,47 +21,11 @@ use Rattle.rtps_json.specs.DiscoveryMembers.{discovery_members, ends_json, late_
 use Rattle.rtps_lines.specs.Lines.{sent_second}
 use Rattle.rtps_json.specs.EndMembers.{known_json, nodes_member, process_members}
 use Rattle.rtps_report.specs.declared.participant.Participant.{Participant}
-use Rattle.rtps_json.specs.JsonText.{Member, array_of, frame_at, members_of, node_json, second_at, second_json, timed_members, tokens_of, tokens_of_member, until_json}
+use Rattle.rtps_json.specs.JsonText.{frame_at, members_of, node_json, second_at, second_json, until_json}
 use Rattle.rtps_lines.specs.PolicyValues.{value_text}
 use Rattle.rtps_json.specs.TalkMembers.{address_json, best_effort_json, best_effort_member, first_of, held_json, held_members, last_of, named_members, one_way_json, participant_json, participants_member, placed_members, reasons_json, stay_times, talk_members, talking_json, unmatched_json, unobserved_json, values_json}
 use Rattle.rtps_lines.specs.declared.policy_values.Naming.TheVariants.{Dds}
-use Rattle.rtps_json.proofs.JsonLemmas.{items_within, joined, mapped_tokens, numbers_within, place_within, second_within, timed_within}
-use Rattle.rtps_lines.proofs.Offered.{four_parts}
-
--- ---- tokens
-
--- a name, and an array of what is made of these values one by one
-pub array_written : {X : Type 0} {one two three four : List Token} (f : X → Json) (xs taken : List X) (start : List Token) (name : Token) → taken ≡ xs
-    → one ≡ start ++ name ∷ [] → two ≡ one ++ begin_array ∷ [] → three ≡ two ++ flat_map (λ x. json_tokens (f x)) taken → four ≡ three ++ end_array ∷ []
-    → four ≡ start ++ name ∷ json_tokens (array_of (map f xs))
-array_written {X} {one} {two} f xs taken start name all first second third fourth =
-    four_parts start (name ∷ []) (begin_array ∷ []) (flat_map (λ x. json_tokens (f x)) xs) (end_array ∷ []) first second
-    (third ∙ ap (λ some. two ++ flat_map (λ x. json_tokens (f x)) some) all) fourth
-    ∙ ap (λ tokens. start ++ name ∷ tokens) (sym (mapped_tokens f xs))
-
--- the same of values that are views of items
-pub views_written : {X Y : Type 0} {one two three four : List Token} (f : Y → Json) (g : X → Y) (xs taken : List X) (start : List Token) (name : Token) → taken ≡ xs
-    → one ≡ start ++ name ∷ [] → two ≡ one ++ begin_array ∷ [] → three ≡ two ++ flat_map (λ x. json_tokens (f (g x))) taken → four ≡ three ++ end_array ∷ []
-    → four ≡ start ++ name ∷ json_tokens (array_of (map f (map g xs)))
-views_written {X} {Y} {one} {two} f g xs taken start name all first second third fourth =
-    array_written f (map g xs) (map g taken) start name (ap (map g) all) first second
-    (third ∙ ap (λ tokens. two ++ tokens) (sym (flat_map-map (λ y. json_tokens (f y)) g taken))) fourth
-
--- three members
-pub three_tokens : (a b c : Member) → tokens_of_member a ++ (tokens_of_member b ++ tokens_of_member c) ≡ tokens_of (a ∷ b ∷ c ∷ [])
-three_tokens a b c = ap (λ last. tokens_of_member a ++ (tokens_of_member b ++ last)) (sym (append-nil (tokens_of_member c)))
-
--- four members, some more, one, some others, and a last one
-pub eight_tokens : (a b c d : Member) (more : List Member) (e : Member) (others : List Member) (last : Member)
-    → tokens_of_member a ++ (tokens_of_member b ++ (tokens_of_member c ++ (tokens_of_member d ++ (tokens_of more ++ (tokens_of_member e ++ (tokens_of others ++ tokens_of_member last))))))
-    ≡ tokens_of (a ∷ b ∷ c ∷ d ∷ (more ++ e ∷ (others ++ last ∷ [])))
-eight_tokens a b c d more e others last =
-    ap (λ (rest : List Token). tokens_of_member a ++ (tokens_of_member b ++ (tokens_of_member c ++ (tokens_of_member d ++ rest))))
-    (ap (λ (end : List Token). tokens_of more ++ (tokens_of_member e ++ end))
-    (ap (λ (end : List Token). tokens_of others ++ end) (sym (append-nil (tokens_of_member last))) ∙ sym (flat_map-append tokens_of_member others (last ∷ [])))
-    ∙ sym (flat_map-append tokens_of_member more (e ∷ (others ++ last ∷ []))))
-
--- ---- depth
+use Rattle.rtps_json.proofs.JsonLemmas.{items_within, joined, numbers_within, place_within, second_within, timed_within}
 
 reasons_within : (policies : List Policy) → depth (reasons_json policies) ≤ 1
 reasons_within policies = omega (arith, items_within (λ policy. string (policy_name policy)) 0 policies (λ policy. omega arith))
