@@ -1,12 +1,12 @@
--- The value of JSON that a `Value` stands for. own: a value is known before it is written, and numbers and names have no text of their own till then.
-use Rattle.std.specs.Prelude.{ℕ, ◌×◌, List, map}
+-- The value of JSON that a `Value` stands for. own: a value is known before it is written, and numbers, times and GUIDs have no text of their own till then.
+use Rattle.std.specs.Prelude.{ℕ, List, map}
 use Rattle.std.specs.Borrow.{Bor}
 use Rattle.std.specs.Fmt.{signed_decimal}
 use Rattle.std.specs.String.{string_bytes}
 use Rattle.json.specs.Json.{Json, null, boolean, number, string}
 use Rattle.rtps_lines.specs.Lines.{seconds_text}
 use Rattle.rtps_parts.specs.Names.{guid_text}
-use Rattle.rtps_json.specs.JsonText.{Member, array_of, count_json, name_json, numbers_json, object_of}
+use Rattle.rtps_json.specs.JsonText.{Member, array_of, count_json, numbers_json, object_of}
 use Rattle.rtps_json.specs.declared.values.Value.{Value, fold-Value}
 use Rattle.rtps_json.specs.declared.values.Value.TheOpen.{Value-F}
 
@@ -23,11 +23,9 @@ value_step (Value-F.Total n) = count_json n
 value_step (Value-F.Number n) = number (signed_decimal n)
 value_step (Value-F.Second second) = number (seconds_text second)
 value_step (Value-F.Guid guid) = string (guid_text guid)
-value_step (Value-F.Name octets) = name_json octets.now
 value_step (Value-F.Word word) = string word.now
 value_step (Value-F.Text text) = string (string_bytes text)
-value_step (Value-F.Counts numbers) = numbers_json numbers.now
-value_step (Value-F.Words texts) = array_of (map string (map string_bytes texts.now))
+value_step (Value-F.Counts numbers) = numbers_json numbers.items
 value_step (Value-F.Texts texts) = array_of (map string (map string_bytes texts.items))
 value_step (Value-F.Array values) = array_of values.items
 value_step (Value-F.Object members) = object_of (named members.items)

@@ -33,12 +33,12 @@ fn status_name(ending: &Ending) -> &'static str
     }
 }
 
-fn status_members<'a>(ending: &Ending, causes: &'a [String], alloc: Global) -> Made<Members<'a>>
-    ensures { IfOk result (λ members. members_json members.items ≡ of_check.status_members ending.now (map string_bytes causes.now)) }
+fn status_members(ending: &Ending, causes: Vec<String>, alloc: Global) -> Made<Members>
+    ensures { IfOk result (λ members. members_json members.items ≡ of_check.status_members ending.now (map string_bytes causes.items)) }
 {
     Ok(vec![in alloc;
         ("status", Value::Word(status_name(ending))),
-        ("because", Value::Words(causes)),
+        ("because", Value::Texts(causes)),
     ]?)
 }
 
@@ -56,7 +56,7 @@ fn telling_of<'t, 'a>(report: &'t FullReport<'a>) -> Telling<'t, 'a>
 }
 
 /// How many pairs are the wrong way round, where there is another recording.
-fn wrong_way_members<'a>(has_other: bool, wrong: u128, alloc: Global) -> Made<Members<'a>>
+fn wrong_way_members(has_other: bool, wrong: u128, alloc: Global) -> Made<Members>
     ensures { IfOk result (λ members. members_json members.items ≡ of_check.wrong_way_members has_other wrong) }
 {
     if has_other {
@@ -67,17 +67,17 @@ fn wrong_way_members<'a>(has_other: bool, wrong: u128, alloc: Global) -> Made<Me
 }
 
 /// The members that stand last.
-fn last_members<'a>(
+fn last_members(
     report: &FullReport<'_>,
-    events: &'a [Event],
-    notes: &'a [String],
+    events: &[Event],
+    notes: Vec<String>,
     clock: Clock<'_>,
-) -> Made<Members<'a>>
+) -> Made<Members>
     ensures { IfOk result (λ members. members_json members.items
-        ≡ of_check.last_members (is_some (report_value report.now).arrived) report.now.order.wrong (events_member (clock_times clock.entry) (talk_value report.now.talk) (map event_value events.now)) (map string_bytes notes.now)) }
+        ≡ of_check.last_members (is_some (report_value report.now).arrived) report.now.order.wrong (events_member (clock_times clock.entry) (talk_value report.now.talk) (map event_value events.now)) (map string_bytes notes.items)) }
 {
     let events = event_members::events_member(events, &report.talk, clock)?;
-    let members = vec![in clock.alloc; events, ("notes", Value::Words(notes))]?;
+    let members = vec![in clock.alloc; events, ("notes", Value::Texts(notes))]?;
     joined(
         wrong_way_members(has_other(report), report.order.wrong, clock.alloc)?,
         members,
@@ -89,10 +89,10 @@ fn push_ends(
     alloc: Global,
     writer: &mut Writer,
     report: &FullReport<'_>,
-    notes: &[String],
+    notes: Vec<String>,
 ) -> Result<(), AllocError>
     ensures tokens { OnOk result (writer.new.tokens ≡ writer.old.tokens
-        ++ tokens_of (talk_members report.now.recording.now.times (report_value report.now) ++ report_ends (asked_value report.now.asked.now) report.now.recording.now (report_value report.now) (map string_bytes notes.now))) }
+        ++ tokens_of (talk_members report.now.recording.now.times (report_value report.now) ++ report_ends (asked_value report.now.asked.now) report.now.recording.now (report_value report.now) (map string_bytes notes.items))) }
     ensures before { writer.new.before ≡ writer.old.before }
 {
     let clock = Clock {
@@ -120,7 +120,7 @@ pub fn push_check_members(
     let mut text = String::new(alloc);
     let causes = report_causes(alloc, report)?;
     let notes = report_notes(alloc, report)?;
-    let status = status_members(&report.ending, &causes, alloc)?;
+    let status = status_members(&report.ending, causes, alloc)?;
     push_members(writer, &mut text, &status)?;
     let rows = ToldRows {
         explained: &report.explained,
@@ -128,5 +128,5 @@ pub fn push_check_members(
         telling: Some(telling_of(report)),
     };
     push_report_members(alloc, writer, &rows)?;
-    push_ends(alloc, writer, report, &notes)
+    push_ends(alloc, writer, report, notes)
 }

@@ -13,7 +13,7 @@ ghost use Rattle.rtps_json.specs.Values.{member_json, members_json, value_json};
 
 use crate::json_members::{Clock, place_value};
 use crate::talk_members::address_value;
-use crate::values::{Made, Member, Members, Value, array, object};
+use crate::values::{Made, Member, Members, Value, array, name, object};
 use rtps_evidence::Seconds;
 use rtps_lines::sent_second;
 use rtps_report::{FullReport, LateRow, NotTold, Talk, TopicEnd, TwoLives, late_rows};
@@ -21,7 +21,7 @@ use std::alloc::Global;
 
 /// The GUIDs of endpoints.
 #[tactic(auto, using(crate::proofs::ValueLemmas::one_more))]
-fn ends_value<'a>(ends: &[TopicEnd<'_>], alloc: Global) -> Made<Value<'a>>
+fn ends_value(ends: &[TopicEnd<'_>], alloc: Global) -> Made<Value>
     ensures { IfOk result (λ value. value_json value ≡ ends_json (map topic_end_value ends.now)) }
 {
     let mut values = Vec::new(alloc);
@@ -31,7 +31,7 @@ fn ends_value<'a>(ends: &[TopicEnd<'_>], alloc: Global) -> Made<Value<'a>>
     Ok(array(values))
 }
 
-fn not_told_object<'a>(one: &NotTold<'_>, alloc: Global) -> Made<Value<'a>>
+fn not_told_object(one: &NotTold<'_>, alloc: Global) -> Made<Value>
     ensures { IfOk result (λ value. value_json value ≡ not_told_json (not_told_value one.now)) }
 {
     let writers = ends_value(&one.writers, alloc)?;
@@ -47,7 +47,7 @@ fn not_told_object<'a>(one: &NotTold<'_>, alloc: Global) -> Made<Value<'a>>
 }
 
 #[tactic(auto, using(crate::proofs::ValueLemmas::one_more))]
-fn not_told_member<'a>(found: &[NotTold<'_>], alloc: Global) -> Made<Member<'a>>
+fn not_told_member(found: &[NotTold<'_>], alloc: Global) -> Made<Member>
     ensures { IfOk result (λ member. member_json member ≡ of_discovery.not_told_member (map not_told_value found.now)) }
 {
     let mut values = Vec::new(alloc);
@@ -57,12 +57,13 @@ fn not_told_member<'a>(found: &[NotTold<'_>], alloc: Global) -> Made<Member<'a>>
     Ok(("untold", array(values)))
 }
 
-fn late_object<'a>(one: &LateRow<'a>, clock: Clock<'_>) -> Made<Value<'a>>
+fn late_object(one: &LateRow<'_>, clock: Clock<'_>) -> Made<Value>
     ensures { IfOk result (λ value. value_json value ≡ late_json (clock_times clock.entry) (late_row_value one.now)) }
 {
     let matched = place_value(Some(one.late.place), clock)?;
+    let topic = name(one.topic, clock.alloc)?;
     let members = vec![in clock.alloc;
-        ("topic", Value::Name(one.topic)),
+        ("topic", topic),
         ("writer", Value::Guid(one.pair.writer)),
         ("reader", Value::Guid(one.pair.reader)),
         ("seconds", Value::Second(Seconds::of(one.late.delay))),
@@ -72,7 +73,7 @@ fn late_object<'a>(one: &LateRow<'a>, clock: Clock<'_>) -> Made<Value<'a>>
 }
 
 #[tactic(auto, using(crate::proofs::ValueLemmas::one_more))]
-fn late_member<'a>(late: &[LateRow<'a>], clock: Clock<'_>) -> Made<Member<'a>>
+fn late_member(late: &[LateRow<'_>], clock: Clock<'_>) -> Made<Member>
     ensures { IfOk result (λ member. member_json member
         ≡ of_discovery.late_member (clock_times clock.entry) (map late_row_value late.now)) }
 {
@@ -84,7 +85,7 @@ fn late_member<'a>(late: &[LateRow<'a>], clock: Clock<'_>) -> Made<Member<'a>>
 }
 
 /// The two source times of a participant with two lives.
-fn sent_value<'a>(sent: (u64, u64), clock: Clock<'_>) -> Made<Value<'a>>
+fn sent_value(sent: (u64, u64), clock: Clock<'_>) -> Made<Value>
     ensures { IfOk result (λ value. value_json value ≡ sent_json (clock_times clock.entry) sent) }
 {
     let first = sent_second(clock.times, sent.0);
@@ -92,7 +93,7 @@ fn sent_value<'a>(sent: (u64, u64), clock: Clock<'_>) -> Made<Value<'a>>
     Ok(array(vec![in clock.alloc; Value::Second(first), Value::Second(other)]?))
 }
 
-fn lives_object<'a>(one: TwoLives, talk: &Talk<'_>, clock: Clock<'_>) -> Made<Value<'a>>
+fn lives_object(one: TwoLives, talk: &Talk<'_>, clock: Clock<'_>) -> Made<Value>
     ensures { IfOk result (λ value. value_json value ≡ lives_json (talk_value talk.now) (clock_times clock.entry) one) }
 {
     let address = address_value(talk.end(one.participant).address, clock.alloc)?;
@@ -106,7 +107,7 @@ fn lives_object<'a>(one: TwoLives, talk: &Talk<'_>, clock: Clock<'_>) -> Made<Va
 }
 
 #[tactic(auto, using(crate::proofs::ValueLemmas::one_more))]
-fn lives_member<'a>(talk: &Talk<'_>, clock: Clock<'_>) -> Made<Member<'a>>
+fn lives_member(talk: &Talk<'_>, clock: Clock<'_>) -> Made<Member>
     ensures { IfOk result (λ member. member_json member
         ≡ of_discovery.lives_member (clock_times clock.entry) (talk_value talk.now)) }
 {
@@ -118,7 +119,7 @@ fn lives_member<'a>(talk: &Talk<'_>, clock: Clock<'_>) -> Made<Member<'a>>
 }
 
 /// Who was never told of which endpoints, which pairs matched late, and who has two lives.
-pub(crate) fn discovery_members<'a>(report: &FullReport<'a>, clock: Clock<'_>) -> Made<Members<'a>>
+pub(crate) fn discovery_members(report: &FullReport<'_>, clock: Clock<'_>) -> Made<Members>
     ensures { IfOk result (λ members. members_json members.items
         ≡ of_discovery.discovery_members (clock_times clock.entry) (talk_value report.now.talk) (late_rows_spec.late_rows (talk_value report.now.talk) (rows_of (report_value report.now)))) }
 {

@@ -27,14 +27,14 @@ fn event_name(key: EventKey) -> &'static str
 }
 
 /// The GUID of a participant.
-fn party<'a>(prefix: GuidPrefix) -> Value<'a>
+fn party(prefix: GuidPrefix) -> Value
     ensures { value_json result ≡ party_json prefix }
 {
     Value::Guid(participant_of(prefix))
 }
 
 /// The GUIDs of the participants of an event.
-fn parties<'a>(key: EventKey, alloc: Global) -> Made<Value<'a>>
+fn parties(key: EventKey, alloc: Global) -> Made<Value>
     ensures { IfOk result (λ value. value_json value ≡ parties_json key) }
 {
     match key.second {
@@ -44,17 +44,18 @@ fn parties<'a>(key: EventKey, alloc: Global) -> Made<Value<'a>>
 }
 
 /// The places of the rows of an event, and how many numbers they lost.
-fn amounts_members<'a>(event: &'a Event, alloc: Global) -> Made<Members<'a>>
+fn amounts_members(event: &Event, alloc: Global) -> Made<Members>
     ensures { IfOk result (λ members. members_json members.items ≡ event_members.amounts_members (event_value event.now)) }
 {
+    let pairs = Vec::from_slice(alloc, &event.places)?;
     Ok(vec![in alloc;
-        ("pairs", Value::Counts(&event.places)),
+        ("pairs", Value::Counts(pairs)),
         ("numbers", Value::Total(event.numbers)),
     ]?)
 }
 
 /// Where the first and the last of these numbers were sent first, and where the silent participant was asked.
-fn places_members<'a>(event: &Event, clock: Clock<'_>) -> Made<Members<'a>>
+fn places_members(event: &Event, clock: Clock<'_>) -> Made<Members>
     ensures { IfOk result (λ members. members_json members.items
         ≡ event_members.places_members (clock_times clock.entry) (event_value event.now)) }
 {
@@ -65,7 +66,7 @@ fn places_members<'a>(event: &Event, clock: Clock<'_>) -> Made<Members<'a>>
 }
 
 /// An event as a sentence.
-fn sentence_member<'a>(event: &Event, talk: &Talk<'_>, clock: Clock<'_>) -> Made<Member<'a>>
+fn sentence_member(event: &Event, talk: &Talk<'_>, clock: Clock<'_>) -> Made<Member>
     ensures { IfOk result (λ member. member_json member
         ≡ event_members.sentence_member (clock_times clock.entry) (talk_value talk.now) (event_value event.now)) }
 {
@@ -74,7 +75,7 @@ fn sentence_member<'a>(event: &Event, talk: &Talk<'_>, clock: Clock<'_>) -> Made
     Ok(("text", Value::Text(text)))
 }
 
-fn event_object<'a>(event: &'a Event, talk: &Talk<'_>, clock: Clock<'_>) -> Made<Value<'a>>
+fn event_object(event: &Event, talk: &Talk<'_>, clock: Clock<'_>) -> Made<Value>
     ensures { IfOk result (λ value. value_json value
         ≡ event_json (clock_times clock.entry) (talk_value talk.now) (event_value event.now)) }
 {
@@ -91,11 +92,7 @@ fn event_object<'a>(event: &'a Event, talk: &Talk<'_>, clock: Clock<'_>) -> Made
 
 /// All events.
 #[tactic(auto, using(crate::proofs::ValueLemmas::one_more))]
-pub(crate) fn events_member<'a>(
-    events: &'a [Event],
-    talk: &Talk<'_>,
-    clock: Clock<'_>,
-) -> Made<Member<'a>>
+pub(crate) fn events_member(events: &[Event], talk: &Talk<'_>, clock: Clock<'_>) -> Made<Member>
     ensures { IfOk result (λ member. member_json member
         ≡ event_members.events_member (clock_times clock.entry) (talk_value talk.now) (map event_value events.now)) }
 {

@@ -51,30 +51,22 @@ fn frame_at(clock: Clock<'_>, datagram: Option<u64>) -> Option<u64>
 }
 
 /// The second of a datagram; null where it has no time, and where there is no datagram.
-pub(crate) fn second_member<'a>(
-    name: &'static str,
-    datagram: Option<u64>,
-    clock: Clock<'_>,
-) -> Member<'a>
+pub(crate) fn second_member(name: &'static str, datagram: Option<u64>, clock: Clock<'_>) -> Member
     ensures { member_json result ≡ json_text.second_member name.now (clock_times clock.entry) datagram }
 {
     (name, some_second(second_at(clock.times, datagram)))
 }
 
 /// The frame of a datagram; null where it has none, and where there is no datagram.
-pub(crate) fn frame_member<'a>(
-    name: &'static str,
-    datagram: Option<u64>,
-    clock: Clock<'_>,
-) -> Member<'a>
+pub(crate) fn frame_member(name: &'static str, datagram: Option<u64>, clock: Clock<'_>) -> Member
     ensures { member_json result ≡ json_text.frame_member name.now (clock_times clock.entry) datagram }
 {
     (name, some_count(frame_at(clock, datagram)))
 }
 
 /// Members that stand only where the recording has times.
-pub(crate) fn timed<'a>(members: Members<'a>, clock: Clock<'_>) -> Members<'a>
-    ensures { members_json result.items ≡ json_text.timed_members (clock_times clock.entry) (members_json members.entry.items) }
+pub(crate) fn timed(members: Members, clock: Clock<'_>) -> Members
+    ensures { members_json result.items ≡ json_text.timed_members (clock_times clock.entry) (members_json members.items) }
 {
     if clock.times.are_there() {
         members
@@ -83,7 +75,7 @@ pub(crate) fn timed<'a>(members: Members<'a>, clock: Clock<'_>) -> Members<'a>
     }
 }
 
-fn frame_members<'a>(frame: Option<u64>, alloc: Global) -> Made<Members<'a>>
+fn frame_members(frame: Option<u64>, alloc: Global) -> Made<Members>
     ensures { IfOk result (λ members. members_json members.items ≡ json_text.frame_members frame) }
 {
     match frame {
@@ -92,7 +84,7 @@ fn frame_members<'a>(frame: Option<u64>, alloc: Global) -> Made<Members<'a>>
     }
 }
 
-fn place_members<'a>(place: Location, clock: Clock<'_>) -> Made<Members<'a>>
+fn place_members(place: Location, clock: Clock<'_>) -> Made<Members>
     ensures { IfOk result (λ members. members_json members.items ≡ json_text.place_members (clock_times clock.entry) place) }
 {
     let datagram = Some(place.datagram);
@@ -106,15 +98,15 @@ fn place_members<'a>(place: Location, clock: Clock<'_>) -> Made<Members<'a>>
 }
 
 /// The object of members, and of a place behind them.
-fn placed<'a>(members: Members<'a>, place: Location, clock: Clock<'_>) -> Made<Value<'a>>
+fn placed(members: Members, place: Location, clock: Clock<'_>) -> Made<Value>
     ensures { IfOk result (λ value. value_json value
-        ≡ object_of (members_json members.entry.items ++ json_text.place_members (clock_times clock.entry) place)) }
+        ≡ object_of (members_json members.items ++ json_text.place_members (clock_times clock.entry) place)) }
 {
     Ok(object(joined(members, place_members(place, clock)?)?))
 }
 
 /// Where a submessage stands; null where there is none.
-pub(crate) fn place_value<'a>(place: Option<Location>, clock: Clock<'_>) -> Made<Value<'a>>
+pub(crate) fn place_value(place: Option<Location>, clock: Clock<'_>) -> Made<Value>
     ensures { IfOk result (λ value. value_json value ≡ place_json (clock_times clock.entry) place) }
 {
     match place {
@@ -123,7 +115,7 @@ pub(crate) fn place_value<'a>(place: Option<Location>, clock: Clock<'_>) -> Made
     }
 }
 
-fn announcement_value<'a>(announcement: Option<Announcement>, clock: Clock<'_>) -> Made<Value<'a>>
+fn announcement_value(announcement: Option<Announcement>, clock: Clock<'_>) -> Made<Value>
     ensures { IfOk result (λ value. value_json value ≡ announcement_json (clock_times clock.entry) announcement) }
 {
     let Some(announcement) = announcement else {
@@ -136,7 +128,7 @@ fn announcement_value<'a>(announcement: Option<Announcement>, clock: Clock<'_>) 
     placed(members, announcement.place, clock)
 }
 
-pub(crate) fn claim_value<'a>(claim: Option<Claim>, clock: Clock<'_>) -> Made<Value<'a>>
+pub(crate) fn claim_value(claim: Option<Claim>, clock: Clock<'_>) -> Made<Value>
     ensures { IfOk result (λ value. value_json value ≡ claim_json (clock_times clock.entry) claim) }
 {
     let Some(claim) = claim else {
@@ -146,7 +138,7 @@ pub(crate) fn claim_value<'a>(claim: Option<Claim>, clock: Clock<'_>) -> Made<Va
     placed(members, claim.place, clock)
 }
 
-pub(crate) fn teller_value<'a>(teller: Option<Teller>, clock: Clock<'_>) -> Made<Value<'a>>
+pub(crate) fn teller_value(teller: Option<Teller>, clock: Clock<'_>) -> Made<Value>
     ensures { IfOk result (λ value. value_json value ≡ teller_json (clock_times clock.entry) teller) }
 {
     let Some(teller) = teller else {
@@ -156,7 +148,7 @@ pub(crate) fn teller_value<'a>(teller: Option<Teller>, clock: Clock<'_>) -> Made
     placed(members, teller.place, clock)
 }
 
-fn waited_value<'a>(wait: Wait, clock: Clock<'_>) -> Made<Value<'a>>
+fn waited_value(wait: Wait, clock: Clock<'_>) -> Made<Value>
     ensures { IfOk result (λ value. value_json value ≡ waited_json (clock_times clock.entry) wait) }
 {
     let asked = place_value(Some(wait.asked), clock)?;
@@ -169,7 +161,7 @@ fn waited_value<'a>(wait: Wait, clock: Clock<'_>) -> Made<Value<'a>>
     Ok(object(members))
 }
 
-fn wait_value<'a>(wait: Option<Wait>, clock: Clock<'_>) -> Made<Value<'a>>
+fn wait_value(wait: Option<Wait>, clock: Clock<'_>) -> Made<Value>
     ensures { IfOk result (λ value. value_json value ≡ wait_json (clock_times clock.entry) wait) }
 {
     match wait {
@@ -179,14 +171,14 @@ fn wait_value<'a>(wait: Option<Wait>, clock: Clock<'_>) -> Made<Value<'a>>
 }
 
 /// For how long the reader of a row let its writer wait, null where that is not told; nothing where the recording has no times.
-pub(crate) fn wait_members<'a>(wait: Option<Wait>, clock: Clock<'_>) -> Made<Members<'a>>
+pub(crate) fn wait_members(wait: Option<Wait>, clock: Clock<'_>) -> Made<Members>
     ensures { IfOk result (λ members. members_json members.items ≡ json_text.wait_members (clock_times clock.entry) wait) }
 {
     let members = vec![in clock.alloc; ("wait", wait_value(wait, clock)?)]?;
     Ok(timed(members, clock))
 }
 
-fn carried_members<'a>(kind: &'static str, octets: usize, alloc: Global) -> Made<Members<'a>>
+fn carried_members(kind: &'static str, octets: usize, alloc: Global) -> Made<Members>
     ensures { IfOk result (λ members. members_json members.items ≡ json_text.carried_members kind.now octets) }
 {
     Ok(vec![in alloc;
@@ -195,7 +187,7 @@ fn carried_members<'a>(kind: &'static str, octets: usize, alloc: Global) -> Made
     ]?)
 }
 
-fn payload_members<'a>(payload: Payload<'_>, alloc: Global) -> Made<Members<'a>>
+fn payload_members(payload: Payload<'_>, alloc: Global) -> Made<Members>
     ensures { IfOk result (λ members. members_json members.items ≡ json_text.payload_members (Some (payload_value payload.entry))) }
 {
     match payload {
@@ -205,7 +197,7 @@ fn payload_members<'a>(payload: Payload<'_>, alloc: Global) -> Made<Members<'a>>
     }
 }
 
-pub(crate) fn sent_place_value<'a>(sent: Option<Sent<'_>>, clock: Clock<'_>) -> Made<Value<'a>>
+pub(crate) fn sent_place_value(sent: Option<Sent<'_>>, clock: Clock<'_>) -> Made<Value>
     ensures { IfOk result (λ value. value_json value ≡ sent_json (clock_times clock.entry) (option_map sent_value sent.entry)) }
 {
     let Some(sent) = sent else {
@@ -218,7 +210,7 @@ pub(crate) fn sent_place_value<'a>(sent: Option<Sent<'_>>, clock: Clock<'_>) -> 
     )
 }
 
-pub(crate) fn evidence_members<'a>(evidence: &Evidence<'_>, clock: Clock<'_>) -> Made<Members<'a>>
+pub(crate) fn evidence_members(evidence: &Evidence<'_>, clock: Clock<'_>) -> Made<Members>
     ensures { IfOk result (λ members. members_json members.items
         ≡ json_text.evidence_members (clock_times clock.entry) (evidence_value evidence.now)) }
 {
@@ -234,7 +226,7 @@ pub(crate) fn evidence_members<'a>(evidence: &Evidence<'_>, clock: Clock<'_>) ->
     Ok(members)
 }
 
-fn not_received_value<'a>(kept: Option<NotReceived>, clock: Clock<'_>) -> Made<Value<'a>>
+fn not_received_value(kept: Option<NotReceived>, clock: Clock<'_>) -> Made<Value>
     ensures { IfOk result (λ value. value_json value ≡ not_received_json (clock_times clock.entry) kept) }
 {
     let Some(kept) = kept else {
@@ -250,7 +242,7 @@ fn not_received_value<'a>(kept: Option<NotReceived>, clock: Clock<'_>) -> Made<V
     Ok(object(members))
 }
 
-fn first_missed_members<'a>(first: Option<FirstMissed>, clock: Clock<'_>) -> Made<Members<'a>>
+fn first_missed_members(first: Option<FirstMissed>, clock: Clock<'_>) -> Made<Members>
     ensures { IfOk result (λ members. members_json members.items ≡ json_text.first_missed_members (clock_times clock.entry) first) }
 {
     let Some(first) = first else {
@@ -268,7 +260,7 @@ fn first_missed_members<'a>(first: Option<FirstMissed>, clock: Clock<'_>) -> Mad
     Ok(vec![in clock.alloc; ("first_missed", object(members))]?)
 }
 
-pub(crate) fn delivery_members<'a>(evidence: &Evidence<'_>, clock: Clock<'_>) -> Made<Members<'a>>
+pub(crate) fn delivery_members(evidence: &Evidence<'_>, clock: Clock<'_>) -> Made<Members>
     ensures { IfOk result (λ members. members_json members.items
         ≡ json_text.delivery_members (clock_times clock.entry) (evidence_value evidence.now)) }
 {
@@ -282,11 +274,11 @@ pub(crate) fn delivery_members<'a>(evidence: &Evidence<'_>, clock: Clock<'_>) ->
 }
 
 /// How often an answer is asked for since the last one, and where last.
-pub(crate) fn asked_members<'a>(
+pub(crate) fn asked_members(
     asked_since: u64,
     last_asked: Option<Location>,
     clock: Clock<'_>,
-) -> Made<Members<'a>>
+) -> Made<Members>
     ensures { IfOk result (λ members. members_json members.items
         ≡ json_text.asked_members (clock_times clock.entry) asked_since last_asked) }
 {

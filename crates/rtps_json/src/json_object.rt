@@ -19,7 +19,7 @@ use crate::json_members::{
 };
 use crate::json_writer::{push_members, push_value};
 use crate::number_members::lost_object;
-use crate::values::{Made, Member, Members, Value, array, joined, object, some_count};
+use crate::values::{Made, Member, Members, Value, array, joined, name, object, some_count};
 use json::Writer;
 use rtps_audit::{Counts, Verdict};
 use rtps_evidence::{
@@ -149,7 +149,7 @@ fn push_row(
     push_value(writer, text, &object)
 }
 
-fn row_object<'r>(row: &'r Explanation<'_>, form: RowForm<'_, '_>) -> Made<Value<'r>>
+fn row_object(row: &Explanation<'_>, form: RowForm<'_, '_>) -> Made<Value>
     ensures { IfOk result (λ value. value_json value
         ≡ row_json (option_map telling_value form.entry.telling) (clock_times form.entry.clock) (explanation_value row.now)) }
 {
@@ -166,7 +166,7 @@ fn row_object<'r>(row: &'r Explanation<'_>, form: RowForm<'_, '_>) -> Made<Value
 }
 
 /// What is told of a row of a report beside its evidence; nothing of a row of an audit.
-fn further_members<'r>(row: &'r Explanation<'_>, form: RowForm<'_, '_>) -> Made<Members<'r>>
+fn further_members(row: &Explanation<'_>, form: RowForm<'_, '_>) -> Made<Members>
     ensures { IfOk result (λ members. members_json members.items
         ≡ json_text.further_members (option_map telling_value form.entry.telling) (clock_times form.entry.clock) (explanation_value row.now)) }
 {
@@ -176,11 +176,11 @@ fn further_members<'r>(row: &'r Explanation<'_>, form: RowForm<'_, '_>) -> Made<
     }
 }
 
-fn spanned_members<'r>(
-    row: &'r Explanation<'_>,
+fn spanned_members(
+    row: &Explanation<'_>,
     telling: Telling<'_, '_>,
     clock: Clock<'_>,
-) -> Made<Members<'r>>
+) -> Made<Members>
     ensures { IfOk result (λ members. members_json members.items
         ≡ json_text.spanned_members (telling_value telling.entry) (clock_times clock.entry) (explanation_value row.now)) }
 {
@@ -194,11 +194,11 @@ fn spanned_members<'r>(
 }
 
 /// The span of a row, what became of its numbers, whether it is clean, and its longest wait; nothing where it is in no span.
-fn span_members<'r>(
-    evidence: &'r Evidence<'_>,
+fn span_members(
+    evidence: &Evidence<'_>,
     telling: Telling<'_, '_>,
     clock: Clock<'_>,
-) -> Made<Members<'r>>
+) -> Made<Members>
     ensures { IfOk result (λ members. members_json members.items
         ≡ json_text.span_members (telling_value telling.entry) (clock_times clock.entry) (evidence_value evidence.now)) }
 {
@@ -221,7 +221,7 @@ fn span_members<'r>(
     joined(vec![in alloc; ("from", from)]?, members)
 }
 
-fn until_members<'a>(until: Option<u64>, clock: Clock<'_>) -> Made<Members<'a>>
+fn until_members(until: Option<u64>, clock: Clock<'_>) -> Made<Members>
     ensures { IfOk result (λ members. members_json members.items ≡ json_text.until_members (clock_times clock.entry) until) }
 {
     let times = vec![in clock.alloc;
@@ -234,7 +234,7 @@ fn until_members<'a>(until: Option<u64>, clock: Clock<'_>) -> Made<Members<'a>>
     )
 }
 
-fn outcome_members<'a>(in_span: &InSpan, has_other: bool, alloc: Global) -> Made<Members<'a>>
+fn outcome_members(in_span: &InSpan, has_other: bool, alloc: Global) -> Made<Members>
     ensures { IfOk result (λ members. members_json members.items ≡ json_text.outcome_members has_other in_span.now) }
 {
     let outcomes = in_span.outcomes;
@@ -247,7 +247,7 @@ fn outcome_members<'a>(in_span: &InSpan, has_other: bool, alloc: Global) -> Made
 }
 
 /// How many numbers have each outcome but the first.
-fn lost_members<'a>(outcomes: Outcomes, alloc: Global) -> Made<Members<'a>>
+fn lost_members(outcomes: Outcomes, alloc: Global) -> Made<Members>
     ensures { IfOk result (λ members. members_json members.items ≡ json_text.lost_members outcomes) }
 {
     let members = vec![in alloc;
@@ -261,7 +261,7 @@ fn lost_members<'a>(outcomes: Outcomes, alloc: Global) -> Made<Members<'a>>
 }
 
 /// How many numbers of a row arrived; null where it is not held against another recording.
-fn arrived_value<'a>(in_span: &InSpan) -> Value<'a>
+fn arrived_value(in_span: &InSpan) -> Value
     ensures { value_json result ≡ arrived_json in_span.now }
 {
     if in_span.is_held {
@@ -272,7 +272,7 @@ fn arrived_value<'a>(in_span: &InSpan) -> Value<'a>
 }
 
 /// That, where there is another recording.
-fn arrived_members<'a>(in_span: &InSpan, has_other: bool, alloc: Global) -> Made<Members<'a>>
+fn arrived_members(in_span: &InSpan, has_other: bool, alloc: Global) -> Made<Members>
     ensures { IfOk result (λ members. members_json members.items ≡ json_text.arrived_members has_other in_span.now) }
 {
     if has_other {
@@ -283,33 +283,29 @@ fn arrived_members<'a>(in_span: &InSpan, has_other: bool, alloc: Global) -> Made
 }
 
 /// The first numbers of a row that did not arrive; null where it is not held against another recording.
-fn lacking_value<'a>(in_span: &'a InSpan) -> Value<'a>
-    ensures { value_json result ≡ lacking_json in_span.now }
+fn lacking_value(in_span: &InSpan, alloc: Global) -> Made<Value>
+    ensures { IfOk result (λ value. value_json value ≡ lacking_json in_span.now) }
 {
-    if in_span.is_held {
-        Value::Counts(in_span.lacking.as_slice())
-    } else {
-        Value::Null
+    if !in_span.is_held {
+        return Ok(Value::Null);
     }
+    let lacking = Vec::from_slice(alloc, in_span.lacking.as_slice())?;
+    Ok(Value::Counts(lacking))
 }
 
 /// These, where there is another recording.
-fn lacking_members<'a>(in_span: &'a InSpan, has_other: bool, alloc: Global) -> Made<Members<'a>>
+fn lacking_members(in_span: &InSpan, has_other: bool, alloc: Global) -> Made<Members>
     ensures { IfOk result (λ members. members_json members.items ≡ json_text.lacking_members has_other in_span.now) }
 {
     if has_other {
-        Ok(vec![in alloc; ("not_arrived", lacking_value(in_span))]?)
+        Ok(vec![in alloc; ("not_arrived", lacking_value(in_span, alloc)?)]?)
     } else {
         Ok(Vec::new(alloc))
     }
 }
 
 /// The sentences on who is silent of the two of a row, where there are times.
-fn silence_members<'a>(
-    row: &Explanation<'_>,
-    telling: Telling<'_, '_>,
-    alloc: Global,
-) -> Made<Members<'a>>
+fn silence_members(row: &Explanation<'_>, telling: Telling<'_, '_>, alloc: Global) -> Made<Members>
     ensures { IfOk result (λ members. members_json members.items
         ≡ json_text.silence_members (telling_value telling.entry) (explanation_value row.now)) }
 {
@@ -321,11 +317,7 @@ fn silence_members<'a>(
 }
 
 /// What to do for a row that is not clean.
-fn sentence_value<'a>(
-    row: &Explanation<'_>,
-    telling: Telling<'_, '_>,
-    alloc: Global,
-) -> Made<Value<'a>>
+fn sentence_value(row: &Explanation<'_>, telling: Telling<'_, '_>, alloc: Global) -> Made<Value>
     ensures { IfOk result (λ value. value_json value ≡ sentence_json (telling_value telling.entry) (explanation_value row.now)) }
 {
     let Telling {
@@ -341,11 +333,7 @@ fn sentence_value<'a>(
 }
 
 /// What to do for a row; null for a clean one.
-fn advice_value<'a>(
-    row: &Explanation<'_>,
-    telling: Telling<'_, '_>,
-    alloc: Global,
-) -> Made<Value<'a>>
+fn advice_value(row: &Explanation<'_>, telling: Telling<'_, '_>, alloc: Global) -> Made<Value>
     ensures { IfOk result (λ value. value_json value ≡ advice_json (telling_value telling.entry) (explanation_value row.now)) }
 {
     if is_clean(telling.scope.tail, &row.evidence) {
@@ -354,29 +342,31 @@ fn advice_value<'a>(
     sentence_value(row, telling, alloc)
 }
 
-fn pair_members<'r>(row: &'r Explanation<'_>, alloc: Global) -> Made<Members<'r>>
+fn pair_members(row: &Explanation<'_>, alloc: Global) -> Made<Members>
     ensures { IfOk result (λ members. members_json members.items ≡ json_text.pair_members (explanation_value row.now)) }
 {
+    let topic = name(row.topic, alloc)?;
+    let type_name = name(row.type_name, alloc)?;
     let members = vec![in alloc;
         ("writer", Value::Guid(row.pair.writer)),
         ("reader", Value::Guid(row.pair.reader)),
-        ("topic", Value::Name(row.topic)),
-        ("type", Value::Name(row.type_name)),
+        ("topic", topic),
+        ("type", type_name),
     ]?;
     Ok(members)
 }
 
-fn judged<'a>(name: &'static str, number: i64, alloc: Global) -> Made<Members<'a>>
+fn judged(verdict: &'static str, number: i64, alloc: Global) -> Made<Members>
     ensures { IfOk result (λ members. members_json members.items
-        ≡ (codes "verdict", string name.now) ∷ (codes "number", number_of (signed_decimal number)) ∷ []) }
+        ≡ (codes "verdict", string verdict.now) ∷ (codes "number", number_of (signed_decimal number)) ∷ []) }
 {
     Ok(vec![in alloc;
-        ("verdict", Value::Word(name)),
+        ("verdict", Value::Word(verdict)),
         ("number", Value::Number(number)),
     ]?)
 }
 
-fn verdict_members<'a>(verdict: Verdict, alloc: Global) -> Made<Members<'a>>
+fn verdict_members(verdict: Verdict, alloc: Global) -> Made<Members>
     ensures { IfOk result (λ members. members_json members.items ≡ json_text.verdict_members verdict) }
 {
     match verdict {
@@ -390,7 +380,7 @@ fn verdict_members<'a>(verdict: Verdict, alloc: Global) -> Made<Members<'a>>
     }
 }
 
-fn shown_members<'a>(grounds: &Grounds<'_>, clock: Clock<'_>) -> Made<Members<'a>>
+fn shown_members(grounds: &Grounds<'_>, clock: Clock<'_>) -> Made<Members>
     ensures { IfOk result (λ members. members_json members.items
         ≡ json_text.shown_members (clock_times clock.entry) (grounds_value grounds.now)) }
 {
@@ -419,7 +409,7 @@ fn shown_members<'a>(grounds: &Grounds<'_>, clock: Clock<'_>) -> Made<Members<'a
     }
 }
 
-fn counts_members<'a>(counts: Counts, alloc: Global) -> Made<Members<'a>>
+fn counts_members(counts: Counts, alloc: Global) -> Made<Members>
     ensures { IfOk result (λ members. members_json members.items ≡ json_text.counts_members counts) }
 {
     let members = vec![in alloc;
@@ -433,7 +423,7 @@ fn counts_members<'a>(counts: Counts, alloc: Global) -> Made<Members<'a>>
     Ok(members)
 }
 
-fn ignored_members<'a>(ignored: Option<u64>, alloc: Global) -> Made<Members<'a>>
+fn ignored_members(ignored: Option<u64>, alloc: Global) -> Made<Members>
     ensures { IfOk result (λ members. members_json members.items ≡ json_text.ignored_members ignored) }
 {
     match ignored {
@@ -442,7 +432,7 @@ fn ignored_members<'a>(ignored: Option<u64>, alloc: Global) -> Made<Members<'a>>
     }
 }
 
-fn reasons_members<'a>(reasons: Option<Reasons>, alloc: Global) -> Made<Members<'a>>
+fn reasons_members(reasons: Option<Reasons>, alloc: Global) -> Made<Members>
     ensures { IfOk result (λ members. members_json members.items ≡ json_text.reasons_members reasons) }
 {
     let Some(reasons) = reasons else {
@@ -458,7 +448,7 @@ fn reasons_members<'a>(reasons: Option<Reasons>, alloc: Global) -> Made<Members<
 }
 
 /// What was counted, and how many frames gave no datagram, for which reasons.
-fn counts_told<'a>(counts: Counts, recording: &Recording, alloc: Global) -> Made<Members<'a>>
+fn counts_told(counts: Counts, recording: &Recording, alloc: Global) -> Made<Members>
     ensures { IfOk result (λ members. members_json members.items
         ≡ json_text.counts_members counts ++ (json_text.ignored_members recording.now.ignored ++ json_text.reasons_members recording.now.reasons)) }
 {

@@ -7,17 +7,16 @@ ghost use Rattle.json.specs.Json.{string};
 ghost use Rattle.json.specs.Token.{number as number_token, string as string_token};
 ghost use Rattle.json.specs.Tree.{json_tokens};
 ghost use Rattle.rtps_lines.specs.Lines.{seconds_text};
-ghost use Rattle.rtps_json.specs.JsonText.{array_of, name_json, numbers_json, object_of, tokens_of, tokens_of_member};
+ghost use Rattle.rtps_json.specs.JsonText.{array_of, numbers_json, object_of, tokens_of, tokens_of_member};
 ghost use Rattle.rtps_json.specs.Values.{items_json, member_json, members_json, value_json};
 ghost use Rattle.rtps_parts.specs.Names.{guid_text};
 
-use crate::values::{Made, Member, Members, Value};
+use crate::values::{Member, Members, Value};
 use itoa::Buffer;
 use json::Writer;
 use rtps_evidence::Seconds;
 use rtps_ids::Guid;
 use rtps_lines::SecondsText;
-use rtps_parts::NameOctets;
 use std::alloc::AllocError;
 
 fn push_total(writer: &mut Writer, total: u128) -> Result<(), AllocError>
@@ -52,15 +51,6 @@ pub fn push_guid(writer: &mut Writer, text: &mut String, guid: Guid) -> Result<(
     writer.string(text)
 }
 
-fn push_name(writer: &mut Writer, text: &mut String, octets: &[u8]) -> Result<(), AllocError>
-    ensures tokens { OnOk result (writer.new.tokens ≡ writer.old.tokens ++ json_tokens (name_json octets.now)) }
-    ensures before { writer.new.before ≡ writer.old.before }
-{
-    text.clear();
-    write!(text, "{}", NameOctets(octets))?;
-    writer.string(text)
-}
-
 fn push_counts(writer: &mut Writer, counts: &[u64]) -> Result<(), AllocError>
     ensures tokens { OnOk result (writer.new.tokens ≡ writer.old.tokens ++ json_tokens (numbers_json counts.now)) }
     ensures before { writer.new.before ≡ writer.old.before }
@@ -84,13 +74,9 @@ fn push_texts(writer: &mut Writer, texts: &[String]) -> Result<(), AllocError>
     writer.end_array()
 }
 
-/// Writes a value. Names and times are written to `text` first.
+/// Writes a value. GUIDs and times are written to `text` first.
 #[cycle(value)]
-pub fn push_value(
-    writer: &mut Writer,
-    text: &mut String,
-    value: &Value<'_>,
-) -> Result<(), AllocError>
+pub fn push_value(writer: &mut Writer, text: &mut String, value: &Value) -> Result<(), AllocError>
     ensures tokens { OnOk result (writer.new.tokens ≡ writer.old.tokens ++ json_tokens (value_json value.now)) }
     ensures before { writer.new.before ≡ writer.old.before }
 {
@@ -102,11 +88,9 @@ pub fn push_value(
         Value::Number(number) => writer.i64(*number),
         Value::Second(second) => push_second(writer, text, *second),
         Value::Guid(guid) => push_guid(writer, text, *guid),
-        Value::Name(octets) => push_name(writer, text, octets),
         Value::Word(word) => writer.string(word),
         Value::Text(told) => writer.string(told),
         Value::Counts(counts) => push_counts(writer, counts),
-        Value::Words(texts) => push_texts(writer, texts),
         Value::Texts(texts) => push_texts(writer, texts),
         Value::Array(values) => push_array(writer, text, values),
         Value::Object(members) => push_object(writer, text, members),
@@ -114,11 +98,7 @@ pub fn push_value(
 }
 
 #[cycle(value)]
-fn push_array(
-    writer: &mut Writer,
-    text: &mut String,
-    values: &Vec<Value<'_>>,
-) -> Result<(), AllocError>
+fn push_array(writer: &mut Writer, text: &mut String, values: &Vec<Value>) -> Result<(), AllocError>
     ensures tokens { OnOk result (writer.new.tokens ≡ writer.old.tokens ++ json_tokens (array_of (items_json values.now.items))) }
     ensures before { writer.new.before ≡ writer.old.before }
 {
@@ -130,11 +110,7 @@ fn push_array(
 }
 
 #[cycle(value)]
-fn push_object(
-    writer: &mut Writer,
-    text: &mut String,
-    members: &Members<'_>,
-) -> Result<(), AllocError>
+fn push_object(writer: &mut Writer, text: &mut String, members: &Members) -> Result<(), AllocError>
     ensures tokens { OnOk result (writer.new.tokens ≡ writer.old.tokens ++ json_tokens (object_of (members_json members.now.items))) }
     ensures before { writer.new.before ≡ writer.old.before }
 {
@@ -148,7 +124,7 @@ fn push_object(
 pub fn push_members(
     writer: &mut Writer,
     text: &mut String,
-    members: &Members<'_>,
+    members: &Members,
 ) -> Result<(), AllocError>
     ensures tokens { OnOk result (writer.new.tokens ≡ writer.old.tokens ++ tokens_of (members_json members.now.items)) }
     ensures before { writer.new.before ≡ writer.old.before }
@@ -164,7 +140,7 @@ pub fn push_members(
 pub fn push_member(
     writer: &mut Writer,
     text: &mut String,
-    member: &Member<'_>,
+    member: &Member,
 ) -> Result<(), AllocError>
     ensures tokens { OnOk result (writer.new.tokens ≡ writer.old.tokens ++ tokens_of_member (member_json member.now)) }
     ensures before { writer.new.before ≡ writer.old.before }

@@ -11,7 +11,7 @@ use crate::json_members::{Clock, place_value};
 use crate::values::{Made, Member, Members, Value, array, joined, object};
 use rtps_evidence::{KindNumbers, LostNumbers, NumberRange};
 
-fn range_value<'a>(range: NumberRange, clock: Clock<'_>) -> Made<Value<'a>>
+fn range_value(range: NumberRange, clock: Clock<'_>) -> Made<Value>
     ensures { IfOk result (λ value. value_json value ≡ range_json (clock_times clock.entry) range) }
 {
     let sent = place_value(range.sent, clock)?;
@@ -24,7 +24,7 @@ fn range_value<'a>(range: NumberRange, clock: Clock<'_>) -> Made<Value<'a>>
 }
 
 #[tactic(auto, using(crate::proofs::ValueLemmas::one_more))]
-fn ranges_value<'a>(ranges: &[NumberRange], clock: Clock<'_>) -> Made<Value<'a>>
+fn ranges_value(ranges: &[NumberRange], clock: Clock<'_>) -> Made<Value>
     ensures { IfOk result (λ value. value_json value ≡ array_of (map (range_json (clock_times clock.entry)) ranges.now)) }
 {
     let mut values = Vec::new(clock.alloc);
@@ -34,7 +34,7 @@ fn ranges_value<'a>(ranges: &[NumberRange], clock: Clock<'_>) -> Made<Value<'a>>
     Ok(array(values))
 }
 
-fn kind_object<'a>(kind: &KindNumbers, clock: Clock<'_>) -> Made<Value<'a>>
+fn kind_object(kind: &KindNumbers, clock: Clock<'_>) -> Made<Value>
     ensures { IfOk result (λ value. value_json value ≡ kind_json (clock_times clock.entry) (kind_value kind.now)) }
 {
     let ranges = ranges_value(&kind.ranges, clock)?;
@@ -45,7 +45,7 @@ fn kind_object<'a>(kind: &KindNumbers, clock: Clock<'_>) -> Made<Value<'a>>
 }
 
 /// The ranges of a kind under its name; nothing where it has no number.
-fn kind_members<'a>(name: &'static str, kind: &KindNumbers, clock: Clock<'_>) -> Made<Members<'a>>
+fn kind_members(name: &'static str, kind: &KindNumbers, clock: Clock<'_>) -> Made<Members>
     ensures { IfOk result (λ members. members_json members.items
         ≡ json_text.kind_members name.now (clock_times clock.entry) (kind_value kind.now)) }
 {
@@ -55,7 +55,7 @@ fn kind_members<'a>(name: &'static str, kind: &KindNumbers, clock: Clock<'_>) ->
     Ok(vec![in clock.alloc; (name, kind_object(kind, clock)?)]?)
 }
 
-fn kinds_members<'a>(lost: &LostNumbers, clock: Clock<'_>) -> Made<Members<'a>>
+fn kinds_members(lost: &LostNumbers, clock: Clock<'_>) -> Made<Members>
     ensures { IfOk result (λ members. members_json members.items
         ≡ json_text.kinds_members (clock_times clock.entry) (lost_value lost.now)) }
 {
@@ -67,7 +67,7 @@ fn kinds_members<'a>(lost: &LostNumbers, clock: Clock<'_>) -> Made<Members<'a>>
 }
 
 /// Those of the row of a place, if there is one.
-fn kinds_members_at<'a>(lost: &[LostNumbers], place: usize, clock: Clock<'_>) -> Made<Members<'a>>
+fn kinds_members_at(lost: &[LostNumbers], place: usize, clock: Clock<'_>) -> Made<Members>
     ensures { IfOk result (λ members. members_json members.items
         ≡ json_text.kinds_members (clock_times clock.entry) (lost_at (map lost_value lost.now) place)) }
 {
@@ -78,11 +78,7 @@ fn kinds_members_at<'a>(lost: &[LostNumbers], place: usize, clock: Clock<'_>) ->
 }
 
 /// Which numbers of the row of a place are lost, or look so.
-pub(crate) fn lost_object<'a>(
-    lost: &[LostNumbers],
-    place: usize,
-    clock: Clock<'_>,
-) -> Made<Value<'a>>
+pub(crate) fn lost_object(lost: &[LostNumbers], place: usize, clock: Clock<'_>) -> Made<Value>
     ensures { IfOk result (λ value. value_json value
         ≡ object_of (json_text.kinds_members (clock_times clock.entry) (lost_at (map lost_value lost.now) place))) }
 {

@@ -19,14 +19,14 @@ ghost use Rattle.rtps_json.specs.Values.{member_json, members_json, value_json};
 use crate::discovery_members::discovery_members;
 use crate::end_members::{nodes_member, process_members};
 use crate::json_members::{Clock, frame_member, second_member, timed};
-use crate::values::{Made, Member, Members, Value, array, joined, object, some_count};
+use crate::values::{Made, Member, Members, Value, array, joined, name, object, some_count};
 use rtps_lines::{Naming, PolicyValue};
 use rtps_policies::{Address, OneWay, Policy, Profile, Silence, Unmatched, participant_of};
 use rtps_report::{BestEffort, FullReport, HeldPair, LeftOut, Participant, Stay, Talk};
 use std::alloc::Global;
 
 /// The name of a policy.
-fn reason<'a>(policy: Policy, alloc: Global) -> Made<Value<'a>>
+fn reason(policy: Policy, alloc: Global) -> Made<Value>
     ensures { IfOk result (λ value. value_json value ≡ string (policy_name policy)) }
 {
     let mut text = String::new(alloc);
@@ -36,7 +36,7 @@ fn reason<'a>(policy: Policy, alloc: Global) -> Made<Value<'a>>
 
 /// The names of policies.
 #[tactic(auto, using(crate::proofs::ValueLemmas::one_more))]
-fn reasons<'a>(policies: &[Policy], alloc: Global) -> Made<Value<'a>>
+fn reasons(policies: &[Policy], alloc: Global) -> Made<Value>
     ensures { IfOk result (λ value. value_json value ≡ reasons_json policies.now) }
 {
     let mut values = Vec::new(alloc);
@@ -47,7 +47,7 @@ fn reasons<'a>(policies: &[Policy], alloc: Global) -> Made<Value<'a>>
 }
 
 /// What an endpoint has of a policy.
-fn policy_value<'a>(policy: Policy, profile: &Profile<'_>, alloc: Global) -> Made<Value<'a>>
+fn policy_value(policy: Policy, profile: &Profile<'_>, alloc: Global) -> Made<Value>
     ensures { IfOk result (λ value. value_json value ≡ string (value_text Dds policy (profile_value profile.now))) }
 {
     let value = PolicyValue {
@@ -62,7 +62,7 @@ fn policy_value<'a>(policy: Policy, profile: &Profile<'_>, alloc: Global) -> Mad
 
 /// What an endpoint has of policies.
 #[tactic(auto, using(crate::proofs::ValueLemmas::one_more))]
-fn policy_values<'a>(policies: &[Policy], profile: &Profile<'_>, alloc: Global) -> Made<Value<'a>>
+fn policy_values(policies: &[Policy], profile: &Profile<'_>, alloc: Global) -> Made<Value>
     ensures { IfOk result (λ value. value_json value ≡ values_json policies.now (profile_value profile.now)) }
 {
     let mut values = Vec::new(alloc);
@@ -72,14 +72,15 @@ fn policy_values<'a>(policies: &[Policy], profile: &Profile<'_>, alloc: Global) 
     Ok(array(values))
 }
 
-fn unmatched_object<'a>(one: &Unmatched<'a>, alloc: Global) -> Made<Value<'a>>
+fn unmatched_object(one: &Unmatched<'_>, alloc: Global) -> Made<Value>
     ensures { IfOk result (λ value. value_json value ≡ unmatched_json (unmatched_value one.now)) }
 {
     let because = reasons(&one.reasons, alloc)?;
     let offered = policy_values(&one.reasons, &one.writer, alloc)?;
     let requested = policy_values(&one.reasons, &one.reader, alloc)?;
+    let topic = name(one.writer.endpoint.topic, alloc)?;
     let members = vec![in alloc;
-        ("topic", Value::Name(one.writer.endpoint.topic)),
+        ("topic", topic),
         ("writer", Value::Guid(one.writer.endpoint.guid)),
         ("reader", Value::Guid(one.reader.endpoint.guid)),
         ("because", because),
@@ -90,7 +91,7 @@ fn unmatched_object<'a>(one: &Unmatched<'a>, alloc: Global) -> Made<Value<'a>>
 }
 
 #[tactic(auto, using(crate::proofs::ValueLemmas::one_more))]
-fn unmatched_member<'a>(unmatched: &[Unmatched<'a>], alloc: Global) -> Made<Member<'a>>
+fn unmatched_member(unmatched: &[Unmatched<'_>], alloc: Global) -> Made<Member>
     ensures { IfOk result (λ member. member_json member ≡ of_talk.unmatched_member (map unmatched_value unmatched.now)) }
 {
     let mut values = Vec::new(alloc);
@@ -100,12 +101,13 @@ fn unmatched_member<'a>(unmatched: &[Unmatched<'a>], alloc: Global) -> Made<Memb
     Ok(("unmatched", array(values)))
 }
 
-fn talking_object<'a>(one: &Unmatched<'a>, alloc: Global) -> Made<Value<'a>>
+fn talking_object(one: &Unmatched<'_>, alloc: Global) -> Made<Value>
     ensures { IfOk result (λ value. value_json value ≡ talking_json (unmatched_value one.now)) }
 {
     let because = reasons(&one.reasons, alloc)?;
+    let topic = name(one.writer.endpoint.topic, alloc)?;
     let members = vec![in alloc;
-        ("topic", Value::Name(one.writer.endpoint.topic)),
+        ("topic", topic),
         ("writer", Value::Guid(one.writer.endpoint.guid)),
         ("reader", Value::Guid(one.reader.endpoint.guid)),
         ("because", because),
@@ -114,7 +116,7 @@ fn talking_object<'a>(one: &Unmatched<'a>, alloc: Global) -> Made<Value<'a>>
 }
 
 #[tactic(auto, using(crate::proofs::ValueLemmas::one_more))]
-fn talking_member<'a>(talking: &[Unmatched<'a>], alloc: Global) -> Made<Member<'a>>
+fn talking_member(talking: &[Unmatched<'_>], alloc: Global) -> Made<Member>
     ensures { IfOk result (λ member. member_json member ≡ of_talk.talking_member (map unmatched_value talking.now)) }
 {
     let mut values = Vec::new(alloc);
@@ -137,11 +139,12 @@ fn silence_name(silence: Silence) -> &'static str
     }
 }
 
-fn unobserved_object<'a>(one: &LeftOut<'a>, silence: Silence, alloc: Global) -> Made<Value<'a>>
+fn unobserved_object(one: &LeftOut<'_>, silence: Silence, alloc: Global) -> Made<Value>
     ensures { IfOk result (λ value. value_json value ≡ unobserved_json silence (left_out_value one.now)) }
 {
+    let topic = name(one.topic, alloc)?;
     let members = vec![in alloc;
-        ("topic", Value::Name(one.topic)),
+        ("topic", topic),
         ("writer", Value::Guid(one.pair.writer)),
         ("reader", Value::Guid(one.pair.reader)),
         ("because", Value::Word(silence_name(silence))),
@@ -150,7 +153,7 @@ fn unobserved_object<'a>(one: &LeftOut<'a>, silence: Silence, alloc: Global) -> 
 }
 
 #[tactic(auto, using(crate::proofs::ValueLemmas::one_more))]
-fn unobserved_member<'a>(talk: &Talk<'a>, alloc: Global) -> Made<Member<'a>>
+fn unobserved_member(talk: &Talk<'_>, alloc: Global) -> Made<Member>
     ensures { IfOk result (λ member. member_json member ≡ of_talk.unobserved_member (talk_value talk.now).silence (talk_value talk.now).left_out) }
 {
     let mut values = Vec::new(alloc);
@@ -160,7 +163,7 @@ fn unobserved_member<'a>(talk: &Talk<'a>, alloc: Global) -> Made<Member<'a>>
     Ok(("unobserved", array(values)))
 }
 
-fn one_way_object<'a>(one: OneWay, alloc: Global) -> Made<Value<'a>>
+fn one_way_object(one: OneWay, alloc: Global) -> Made<Value>
     ensures { IfOk result (λ value. value_json value ≡ one_way_json one) }
 {
     let members = vec![in alloc;
@@ -172,7 +175,7 @@ fn one_way_object<'a>(one: OneWay, alloc: Global) -> Made<Value<'a>>
 }
 
 #[tactic(auto, using(crate::proofs::ValueLemmas::one_more))]
-fn one_way_member<'a>(one_way: &[OneWay], alloc: Global) -> Made<Member<'a>>
+fn one_way_member(one_way: &[OneWay], alloc: Global) -> Made<Member>
     ensures { IfOk result (λ member. member_json member ≡ of_talk.one_way_member one_way.now) }
 {
     let mut values = Vec::new(alloc);
@@ -182,11 +185,12 @@ fn one_way_member<'a>(one_way: &[OneWay], alloc: Global) -> Made<Member<'a>>
     Ok(("one_way", array(values)))
 }
 
-fn best_effort_object<'a>(sum: &BestEffort<'a>, alloc: Global) -> Made<Value<'a>>
+fn best_effort_object(sum: &BestEffort<'_>, alloc: Global) -> Made<Value>
     ensures { IfOk result (λ value. value_json value ≡ best_effort_json (best_effort_value sum.now)) }
 {
+    let topic = name(sum.topic, alloc)?;
     let members = vec![in alloc;
-        ("topic", Value::Name(sum.topic)),
+        ("topic", topic),
         ("pairs", Value::Count(sum.pairs)),
         ("numbers", Value::Total(sum.numbers)),
         ("recorded", Value::Total(sum.recorded)),
@@ -195,7 +199,7 @@ fn best_effort_object<'a>(sum: &BestEffort<'a>, alloc: Global) -> Made<Value<'a>
 }
 
 #[tactic(auto, using(crate::proofs::ValueLemmas::one_more))]
-fn best_effort_member<'a>(sums: &[BestEffort<'a>], alloc: Global) -> Made<Member<'a>>
+fn best_effort_member(sums: &[BestEffort<'_>], alloc: Global) -> Made<Member>
     ensures { IfOk result (λ member. member_json member ≡ of_talk.best_effort_member (map best_effort_value sums.now)) }
 {
     let mut values = Vec::new(alloc);
@@ -205,22 +209,24 @@ fn best_effort_member<'a>(sums: &[BestEffort<'a>], alloc: Global) -> Made<Member
     Ok(("best_effort", array(values)))
 }
 
-fn held_object<'t>(one: &'t HeldPair<'_>, alloc: Global) -> Made<Value<'t>>
+fn held_object(one: &HeldPair<'_>, alloc: Global) -> Made<Value>
     ensures { IfOk result (λ value. value_json value ≡ held_json (held_value one.now)) }
 {
+    let topic = name(one.topic, alloc)?;
+    let lacking = Vec::from_slice(alloc, one.arrived.lacking.as_slice())?;
     let members = vec![in alloc;
-        ("topic", Value::Name(one.topic)),
+        ("topic", topic),
         ("writer", Value::Guid(one.pair.writer)),
         ("reader", Value::Guid(one.pair.reader)),
         ("numbers", Value::Count(one.numbers)),
         ("arrived", Value::Count(one.arrived.arrived)),
-        ("not_arrived", Value::Counts(one.arrived.lacking.as_slice())),
+        ("not_arrived", Value::Counts(lacking)),
     ]?;
     Ok(object(members))
 }
 
 #[tactic(auto, using(crate::proofs::ValueLemmas::one_more))]
-fn held_member<'t>(held: &'t [HeldPair<'_>], alloc: Global) -> Made<Member<'t>>
+fn held_member(held: &[HeldPair<'_>], alloc: Global) -> Made<Member>
     ensures { IfOk result (λ member. member_json member ≡ of_talk.held_member (map held_value held.now)) }
 {
     let mut values = Vec::new(alloc);
@@ -231,7 +237,7 @@ fn held_member<'t>(held: &'t [HeldPair<'_>], alloc: Global) -> Made<Member<'t>>
 }
 
 /// What arrived of pairs of best effort, where there is another recording.
-fn held_members<'t>(held: &'t [HeldPair<'_>], has_other: bool, alloc: Global) -> Made<Members<'t>>
+fn held_members(held: &[HeldPair<'_>], has_other: bool, alloc: Global) -> Made<Members>
     ensures { IfOk result (λ members. members_json members.items ≡ of_talk.held_members has_other (map held_value held.now)) }
 {
     if !has_other {
@@ -241,7 +247,7 @@ fn held_members<'t>(held: &'t [HeldPair<'_>], has_other: bool, alloc: Global) ->
 }
 
 /// An address; null where none is known.
-pub(crate) fn address_value<'a>(address: Option<Address>, alloc: Global) -> Made<Value<'a>>
+pub(crate) fn address_value(address: Option<Address>, alloc: Global) -> Made<Value>
     ensures { IfOk result (λ value. value_json value ≡ address_json address) }
 {
     let Some(address) = address else {
@@ -283,7 +289,7 @@ fn last_of(stay: Option<Stay>) -> Option<u64>
 }
 
 /// When the datagrams came of which it is told, and whether the participant is silent; nothing where the recording has no times.
-fn stay_times<'a>(participant: &Participant, clock: Clock<'_>) -> Made<Members<'a>>
+fn stay_times(participant: &Participant, clock: Clock<'_>) -> Made<Members>
     ensures { IfOk result (λ members. members_json members.items ≡ of_talk.stay_times (clock_times clock.entry) participant.now) }
 {
     let first = first_of(participant.stay);
@@ -301,7 +307,7 @@ fn stay_times<'a>(participant: &Participant, clock: Clock<'_>) -> Made<Members<'
 }
 
 /// From when to when there is something of a participant, and where it leaves.
-fn stay_members<'a>(participant: &Participant, clock: Clock<'_>) -> Made<Members<'a>>
+fn stay_members(participant: &Participant, clock: Clock<'_>) -> Made<Members>
     ensures { IfOk result (λ members. members_json members.items ≡ of_talk.stay_members (clock_times clock.entry) participant.now) }
 {
     let members = vec![in clock.alloc;
@@ -313,7 +319,7 @@ fn stay_members<'a>(participant: &Participant, clock: Clock<'_>) -> Made<Members
 }
 
 /// The process of a participant, and its nodes.
-fn named_members<'a>(participant: &Participant, talk: &Talk<'a>, alloc: Global) -> Made<Members<'a>>
+fn named_members(participant: &Participant, talk: &Talk<'_>, alloc: Global) -> Made<Members>
     ensures { IfOk result (λ members. members_json members.items ≡ of_talk.named_members (talk_value talk.now) participant.now) }
 {
     let end = talk.end(participant.guid);
@@ -323,7 +329,7 @@ fn named_members<'a>(participant: &Participant, talk: &Talk<'a>, alloc: Global) 
 }
 
 /// Where a participant is, and when there is something of it.
-fn placed_members<'a>(participant: &Participant, clock: Clock<'_>) -> Made<Members<'a>>
+fn placed_members(participant: &Participant, clock: Clock<'_>) -> Made<Members>
     ensures { IfOk result (λ members. members_json members.items ≡ of_talk.placed_members (clock_times clock.entry) participant.now) }
 {
     let address = address_value(participant.host.address, clock.alloc)?;
@@ -335,11 +341,7 @@ fn placed_members<'a>(participant: &Participant, clock: Clock<'_>) -> Made<Membe
     joined(members, stay_members(participant, clock)?)
 }
 
-fn participant_object<'a>(
-    participant: &Participant,
-    talk: &Talk<'a>,
-    clock: Clock<'_>,
-) -> Made<Value<'a>>
+fn participant_object(participant: &Participant, talk: &Talk<'_>, clock: Clock<'_>) -> Made<Value>
     ensures { IfOk result (λ value. value_json value ≡ participant_json (talk_value talk.now) (clock_times clock.entry) participant.now) }
 {
     let named = named_members(participant, talk, clock.alloc)?;
@@ -347,7 +349,7 @@ fn participant_object<'a>(
 }
 
 #[tactic(auto, using(crate::proofs::ValueLemmas::one_more))]
-fn participants_member<'a>(talk: &Talk<'a>, clock: Clock<'_>) -> Made<Member<'a>>
+fn participants_member(talk: &Talk<'_>, clock: Clock<'_>) -> Made<Member>
     ensures { IfOk result (λ member. member_json member ≡ of_talk.participants_member (clock_times clock.entry) (talk_value talk.now)) }
 {
     let mut values = Vec::new(clock.alloc);
@@ -365,7 +367,7 @@ pub(crate) fn has_other(report: &FullReport<'_>) -> bool
 }
 
 /// Who does not match, who talks all the same, and of whom the recording cannot speak.
-fn silent_members<'a>(talk: &Talk<'a>, alloc: Global) -> Made<Members<'a>>
+fn silent_members(talk: &Talk<'_>, alloc: Global) -> Made<Members>
     ensures { IfOk result (λ members. members_json members.items
         ≡ of_talk.unmatched_member (talk_value talk.now).unmatched ∷ of_talk.talking_member (talk_value talk.now).talking
         ∷ of_talk.unobserved_member (talk_value talk.now).silence (talk_value talk.now).left_out ∷ of_talk.one_way_member (talk_value talk.now).one_way ∷ []) }
@@ -378,7 +380,7 @@ fn silent_members<'a>(talk: &Talk<'a>, alloc: Global) -> Made<Members<'a>>
 }
 
 /// Who does not talk.
-pub(crate) fn talk_members<'t>(report: &'t FullReport<'_>, clock: Clock<'_>) -> Made<Members<'t>>
+pub(crate) fn talk_members(report: &FullReport<'_>, clock: Clock<'_>) -> Made<Members>
     ensures { IfOk result (λ members. members_json members.items ≡ of_talk.talk_members (clock_times clock.entry) (report_value report.now)) }
 {
     let alloc = clock.alloc;

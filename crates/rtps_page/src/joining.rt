@@ -23,7 +23,7 @@ fn joined_of(row: &Explanation<'_>) -> Option<Location>
     }
 }
 
-fn joined_value<'a>(joined: Option<Location>, clock: Clock<'_>) -> Made<Value<'a>>
+fn joined_value(joined: Option<Location>, clock: Clock<'_>) -> Made<Value>
     ensures { IfOk result (λ value. value_json value ≡ joined_json (clock_times clock.entry) joined) }
 {
     let Some(place) = joined else {

@@ -20,7 +20,7 @@ pub struct Origin<'a> {
 }
 
 /// A moment in milliseconds; null where there is none.
-fn moment<'a>(nanoseconds: Option<u64>) -> Value<'a>
+fn moment(nanoseconds: Option<u64>) -> Value
     ensures { value_json result ≡ moment_json nanoseconds }
 {
     match nanoseconds {
@@ -30,16 +30,14 @@ fn moment<'a>(nanoseconds: Option<u64>) -> Value<'a>
 }
 
 /// Which recording the page is of.
-pub(crate) fn recording_member<'a>(
-    origin: Origin<'a>,
-    times: &Times,
-    alloc: Global,
-) -> Made<Member<'a>>
+pub(crate) fn recording_member(origin: Origin<'_>, times: &Times, alloc: Global) -> Made<Member>
     ensures { IfOk result (λ member. member_json member ≡ origin_spec.recording_member (origin_value origin.entry) times.now) }
 {
+    let name = String::from_str(alloc, origin.name)?;
+    let version = String::from_str(alloc, origin.version)?;
     let members = vec![in alloc;
-        ("name", Value::Word(origin.name)),
-        ("version", Value::Word(origin.version)),
+        ("name", Value::Text(name)),
+        ("version", Value::Text(version)),
         ("begin", moment(times.of_datagram(1))),
         ("end", moment(times.of_last_frame())),
     ]?;

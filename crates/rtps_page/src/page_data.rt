@@ -1,9 +1,10 @@
-ghost use Rattle.std.specs.Prelude.{◌≡◌, ◌++◌, IfOk, OnOk};
+ghost use Rattle.std.specs.Prelude.{◌≡◌, ◌++◌, IfOk, OnOk, map, string_bytes};
+ghost use Rattle.json.specs.Json.{string};
 ghost use Rattle.rtps_audit.specs.Index.{IsIndexBy};
 ghost use Rattle.rtps_audit.specs.Intake.{Intake};
 ghost use Rattle.rtps_audit.specs.Placed.{placed_in};
 ghost use Rattle.rtps_report.specs.Asked.{asked_value};
-ghost use Rattle.rtps_json.specs.JsonText.{clock_times, tokens_of};
+ghost use Rattle.rtps_json.specs.JsonText.{array_of, clock_times, tokens_of};
 ghost use Rattle.rtps_json.specs.Values.{member_json, value_json};
 ghost use Rattle.rtps_page.specs.Page.{IsPrinted, chart_members, expect_json, intake_in, json_in, members_in};
 ghost use Rattle.rtps_page.specs.Page as page_spec;
@@ -19,7 +20,7 @@ use json::Writer;
 use rtps_audit::Index;
 use rtps_discovery::{Directory, Pair};
 use rtps_ids::Memory;
-use rtps_json::{Clock, Made, Member, Value, object, push_check_members, push_member};
+use rtps_json::{Clock, Made, Member, Value, array, object, push_check_members, push_member};
 use rtps_report::{Asked, FullReport};
 use std::alloc::{AllocError, Global};
 
@@ -32,7 +33,7 @@ pub(crate) struct Shown<'r, 'a> {
 }
 
 /// How many rows were expected; null where that is not asked.
-fn expected<'a>(expect: Option<u64>) -> Value<'a>
+fn expected(expect: Option<u64>) -> Value
     ensures { value_json result ≡ expect_json expect }
 {
     match expect {
@@ -41,13 +42,26 @@ fn expected<'a>(expect: Option<u64>) -> Value<'a>
     }
 }
 
-fn options_member<'a>(asked: &Asked<'a>, alloc: Global) -> Made<Member<'a>>
+#[tactic(auto, using(rtps_json::proofs::Offered::one_more))]
+fn texts(told: &[String], alloc: Global) -> Made<Value>
+    ensures { IfOk result (λ value. value_json value ≡ array_of (map string (map string_bytes told.now))) }
+{
+    let mut values = Vec::new(alloc);
+    for text in told {
+        values.push(Value::Text(String::from_str(alloc, text)?))?;
+    }
+    Ok(array(values))
+}
+
+fn options_member(asked: &Asked<'_>, alloc: Global) -> Made<Member>
     ensures { IfOk result (λ member. member_json member ≡ page_spec.options_member (asked_value asked.now)) }
 {
+    let topics = texts(asked.topics, alloc)?;
+    let nodes = texts(asked.nodes, alloc)?;
     let members = vec![in alloc;
         ("from", Value::Count(asked.first_asked())),
-        ("topics", Value::Words(asked.topics)),
-        ("nodes", Value::Words(asked.nodes)),
+        ("topics", topics),
+        ("nodes", nodes),
         ("expect", expected(asked.expect)),
         ("tail", Value::Count(asked.tail)),
         ("certain", Value::Flag(asked.certain)),

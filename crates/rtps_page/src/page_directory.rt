@@ -7,18 +7,20 @@ ghost use Rattle.rtps_page.specs.Page.{directory_member, endpoint_json};
 use json::Writer;
 use rtps_discovery::{Directory, Endpoint};
 use rtps_ids::Memory;
-use rtps_json::{Made, Value, object, push_value};
+use rtps_json::{Made, Value, name, object, push_value};
 use rtps_lines::{durability_name, reliability_name, side_name};
 use std::alloc::Global;
 
-fn endpoint_object<'a>(endpoint: &Endpoint<'a>, alloc: Global) -> Made<Value<'a>>
+fn endpoint_object(endpoint: &Endpoint<'_>, alloc: Global) -> Made<Value>
     ensures { IfOk result (λ value. value_json value ≡ endpoint_json (endpoint_value endpoint.now)) }
 {
+    let topic = name(endpoint.topic, alloc)?;
+    let type_name = name(endpoint.type_name, alloc)?;
     let members = vec![in alloc;
         ("guid", Value::Guid(endpoint.guid)),
         ("side", Value::Word(side_name(endpoint.side))),
-        ("topic", Value::Name(endpoint.topic)),
-        ("type", Value::Name(endpoint.type_name)),
+        ("topic", topic),
+        ("type", type_name),
         (
             "reliability",
             Value::Word(reliability_name(endpoint.reliability))
