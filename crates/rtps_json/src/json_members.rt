@@ -66,7 +66,7 @@ pub(crate) fn frame_member(name: &'static str, datagram: Option<u64>, clock: Clo
 
 /// Members that stand only where the recording has times.
 pub(crate) fn timed(members: Members, clock: Clock<'_>) -> Members
-    ensures { members_json result.items ≡ json_text.timed_members (clock_times clock.entry) (members_json members.items) }
+    ensures { members_json result.items ≡ json_text.timed_members (clock_times clock.entry) (members_json members.entry.items) }
 {
     if clock.times.are_there() {
         members
@@ -100,7 +100,7 @@ fn place_members(place: Location, clock: Clock<'_>) -> Made<Members>
 /// The object of members, and of a place behind them.
 fn placed(members: Members, place: Location, clock: Clock<'_>) -> Made<Value>
     ensures { IfOk result (λ value. value_json value
-        ≡ object_of (members_json members.items ++ json_text.place_members (clock_times clock.entry) place)) }
+        ≡ object_of (members_json members.entry.items ++ json_text.place_members (clock_times clock.entry) place)) }
 {
     Ok(object(joined(members, place_members(place, clock)?)?))
 }

@@ -68,14 +68,14 @@ pub fn some_second(second: Option<Seconds>) -> Value
 
 /// The array of values.
 pub fn array(values: Vec<Value>) -> Value
-    ensures { value_json result ≡ array_of (items_json values.items) }
+    ensures { value_json result ≡ array_of (items_json values.entry.items) }
 {
     Value::Array(values)
 }
 
 /// The object of members.
 pub fn object(members: Members) -> Value
-    ensures { value_json result ≡ object_of (members_json members.items) }
+    ensures { value_json result ≡ object_of (members_json members.entry.items) }
 {
     Value::Object(members)
 }
@@ -83,7 +83,7 @@ pub fn object(members: Members) -> Value
 /// Members, and more behind them.
 #[tactic(auto, using(crate::proofs::ValueLemmas::joined_members))]
 pub fn joined(mut members: Members, mut more: Members) -> Made<Members>
-    ensures { IfOk result (λ all. members_json all.items ≡ members_json members.items ++ members_json more.items) }
+    ensures { IfOk result (λ all. members_json all.items ≡ members_json members.entry.items ++ members_json more.entry.items) }
 {
     members.append(&mut more)?;
     Ok(members)
