@@ -68,7 +68,7 @@ pub fn some_second(second: Option<Seconds>) -> Value
 
 /// The array of values.
 pub fn array(values: Vec<Value>) -> Value
-    ensures { value_json result ≡ array_of (items_json values.entry.items) }
+    ensures { value_json result ≡ array_of (items_json values.items) }
 {
     Value::Array(values)
 }
