@@ -4,10 +4,11 @@ ghost use Rattle.std.specs.Prelude.{◌≡◌, ◌≤◌, ◌++◌, ◌∷◌, [
 ghost use Rattle.std.specs.Fmt.{signed_decimal};
 ghost use Rattle.std.specs.Option.{option_map};
 ghost use Rattle.std.specs.String.{string_bytes};
-ghost use Rattle.json.specs.Json.{Json, max_depth, number as number_of, string};
+ghost use Rattle.json.specs.Json.{Json, boolean, max_depth, number as number_of, string};
 ghost use Rattle.json.specs.Tree.{depth, json_tokens};
 ghost use Rattle.rtps_evidence.specs.Explanation.{evidence_value, explanation_value};
 ghost use Rattle.rtps_evidence.specs.Grounds.{grounds_value};
+ghost use Rattle.rtps_report.specs.RowFacts as row_facts;
 ghost use Rattle.rtps_json.specs.JsonText.{clock_times, IsJsonLine, advice_json, arrived_json, lacking_json, pairs_member, report_json, row_json, rows_members, sentence_json, telling_value, tokens_of, tokens_of_member};
 ghost use Rattle.rtps_json.specs.JsonText as json_text;
 ghost use Rattle.rtps_json.specs.Values.{members_json, value_json};
@@ -23,7 +24,7 @@ use crate::values::{Made, Member, Members, Value, array, joined, name, object, s
 use json::Writer;
 use rtps_audit::{Counts, Verdict};
 use rtps_evidence::{
-    Evidence, Explained, Explanation, Grounds, InSpan, LostNumbers, Outcomes, Times,
+    Evidence, Explained, Explanation, Grounds, InSpan, LostNumbers, Outcomes, Times, Wait,
 };
 use rtps_lines::{AdviceText, silence_lines};
 use rtps_report::{Reasons, Recording, Scope, Talk, advice_of, is_clean, row_from};
@@ -202,23 +203,45 @@ fn span_members(
     ensures { IfOk result (λ members. members_json members.items
         ≡ json_text.span_members (telling_value telling.entry) (clock_times clock.entry) (evidence_value evidence.now)) }
 {
-    let alloc = clock.alloc;
     let Some(in_span) = &evidence.in_span else {
-        return Ok(Vec::new(alloc));
+        return Ok(Vec::new(clock.alloc));
     };
     let Telling {
         scope,
         has_other,
         ..
     } = telling;
-    let clean = vec![in alloc; ("clean", Value::Flag(is_clean(scope.tail, evidence)))]?;
-    let members = joined(clean, wait_members(in_span.wait, clock)?)?;
-    let members = joined(lacking_members(in_span, has_other, alloc)?, members)?;
-    let outcomes = object(outcome_members(in_span, has_other, alloc)?);
-    let members = joined(vec![in alloc; ("outcomes", outcomes)]?, members)?;
+    let clean = clean_members(evidence, in_span.wait, scope.tail, clock)?;
+    let members = joined(lost_and_lacking(in_span, has_other, clock.alloc)?, clean)?;
     let members = joined(until_members(in_span.until, clock)?, members)?;
     let from = Value::Count(row_from(scope.from, evidence));
-    joined(vec![in alloc; ("from", from)]?, members)
+    joined(vec![in clock.alloc; ("from", from)]?, members)
+}
+
+/// Whether a row is clean, and its longest wait.
+fn clean_members(
+    evidence: &Evidence<'_>,
+    wait: Option<Wait>,
+    tail: u64,
+    clock: Clock<'_>,
+) -> Made<Members>
+    ensures { IfOk result (λ members. members_json members.items
+        ≡ (codes "clean", boolean (row_facts.is_clean tail (evidence_value evidence.now))) ∷ json_text.wait_members (clock_times clock.entry) wait) }
+{
+    let clean = vec![in clock.alloc; ("clean", Value::Flag(is_clean(tail, evidence)))]?;
+    joined(clean, wait_members(wait, clock)?)
+}
+
+/// What became of the numbers of a row, and the first that did not arrive.
+fn lost_and_lacking(in_span: &InSpan, has_other: bool, alloc: Global) -> Made<Members>
+    ensures { IfOk result (λ members. members_json members.items
+        ≡ (codes "outcomes", json_text.outcomes_json has_other in_span.now) ∷ json_text.lacking_members has_other in_span.now) }
+{
+    let outcomes = object(outcome_members(in_span, has_other, alloc)?);
+    joined(
+        vec![in alloc; ("outcomes", outcomes)]?,
+        lacking_members(in_span, has_other, alloc)?,
+    )
 }
 
 fn until_members(until: Option<u64>, clock: Clock<'_>) -> Made<Members>

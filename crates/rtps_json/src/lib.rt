@@ -16,4 +16,6 @@ pub use check_members::push_check_members;
 pub use json_members::Clock;
 pub use json_object::{json_line, push_report};
 pub use json_writer::{push_guid, push_member, push_members, push_second, push_value};
-pub use values::{Made, Member, Members, Value, array, joined, name, object, some_count, some_second};
+pub use values::{
+    Made, Member, Members, Value, array, joined, name, object, some_count, some_second,
+};
