@@ -1,6 +1,7 @@
 //! The member on what makes rows unclean together.
 
-ghost use Rattle.std.specs.Prelude.{◌≡◌, IfOk, map};
+ghost use Rattle.std.specs.Prelude.{◌≡◌, ◌++◌, ◌∷◌, [], IfOk, codes, map};
+ghost use Rattle.json.specs.Json.{string};
 ghost use Rattle.rtps_report.specs.Events.{event_value};
 ghost use Rattle.rtps_report.specs.Talk.{talk_value};
 ghost use Rattle.rtps_json.specs.EventMembers.{event_json, parties_json, party_json};
@@ -75,19 +76,35 @@ fn sentence_member(event: &Event, talk: &Talk<'_>, clock: Clock<'_>) -> Made<Mem
     Ok(("text", Value::Text(text)))
 }
 
+/// What an event is of, and its participants.
+fn named_members(key: EventKey, alloc: Global) -> Made<Members>
+    ensures { IfOk result (λ members. members_json members.items
+        ≡ (codes "event", string (event_members.event_name key)) ∷ (codes "participants", parties_json key) ∷ []) }
+{
+    let participants = parties(key, alloc)?;
+    Ok(vec![in alloc;
+        ("event", Value::Word(event_name(key))),
+        ("participants", participants),
+    ]?)
+}
+
+/// Its places, and a sentence.
+fn told_members(event: &Event, talk: &Talk<'_>, clock: Clock<'_>) -> Made<Members>
+    ensures { IfOk result (λ members. members_json members.items
+        ≡ event_members.places_members (clock_times clock.entry) (event_value event.now)
+        ++ event_members.sentence_member (clock_times clock.entry) (talk_value talk.now) (event_value event.now) ∷ []) }
+{
+    let sentence = vec![in clock.alloc; sentence_member(event, talk, clock)?]?;
+    joined(places_members(event, clock)?, sentence)
+}
+
 fn event_object(event: &Event, talk: &Talk<'_>, clock: Clock<'_>) -> Made<Value>
     ensures { IfOk result (λ value. value_json value
         ≡ event_json (clock_times clock.entry) (talk_value talk.now) (event_value event.now)) }
 {
-    let participants = parties(event.key, clock.alloc)?;
-    let named = vec![in clock.alloc;
-        ("event", Value::Word(event_name(event.key))),
-        ("participants", participants),
-    ]?;
-    let amounts = amounts_members(event, clock.alloc)?;
-    let places = places_members(event, clock)?;
-    let sentence = vec![in clock.alloc; sentence_member(event, talk, clock)?]?;
-    Ok(object(joined(named, joined(amounts, joined(places, sentence)?)?)?))
+    let told = told_members(event, talk, clock)?;
+    let members = joined(amounts_members(event, clock.alloc)?, told)?;
+    Ok(object(joined(named_members(event.key, clock.alloc)?, members)?))
 }
 
 /// All events.

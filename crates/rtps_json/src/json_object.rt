@@ -185,13 +185,20 @@ fn spanned_members(
     ensures { IfOk result (λ members. members_json members.items
         ≡ json_text.spanned_members (telling_value telling.entry) (clock_times clock.entry) (explanation_value row.now)) }
 {
-    let alloc = clock.alloc;
+    let lost = vec![in clock.alloc; ("numbers", lost_object(telling.lost, row.place, clock)?)]?;
+    let members = joined(lost, advised_members(row, telling, clock.alloc)?)?;
+    joined(span_members(&row.evidence, telling, clock)?, members)
+}
+
+/// Who is silent of the two of a row, what to do for it, and its nodes.
+fn advised_members(row: &Explanation<'_>, telling: Telling<'_, '_>, alloc: Global) -> Made<Members>
+    ensures { IfOk result (λ members. members_json members.items
+        ≡ json_text.silence_members (telling_value telling.entry) (explanation_value row.now)
+        ++ json_text.advice_member (telling_value telling.entry) (explanation_value row.now) ∷ json_text.node_members (telling_value telling.entry).talk row.now.pair) }
+{
     let advice = vec![in alloc; ("advice", advice_value(row, telling, alloc)?)]?;
     let members = joined(advice, node_members(telling.talk, row.pair, alloc)?)?;
-    let members = joined(silence_members(row, telling, alloc)?, members)?;
-    let lost = vec![in alloc; ("numbers", lost_object(telling.lost, row.place, clock)?)]?;
-    let members = joined(lost, members)?;
-    joined(span_members(&row.evidence, telling, clock)?, members)
+    joined(silence_members(row, telling, alloc)?, members)
 }
 
 /// The span of a row, what became of its numbers, whether it is clean, and its longest wait; nothing where it is in no span.
