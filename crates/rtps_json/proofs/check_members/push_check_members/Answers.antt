@@ -1,6 +1,5 @@
-use Rattle.std.proofs.Common.{◌++◌, ◌∙◌, List, ℕ, Some, ap, map, sym}
+use Rattle.std.proofs.Common.{◌++◌, ◌∙◌, List, ℕ, Some, ap, sym}
 use Rattle.std.proofs.lemmas.Result.{on_ok_weaker}
-use Rattle.std.specs.String.{string_bytes}
 use Rattle.json.specs.Token.{Token}
 use Rattle.rtps_report.specs.Asked.{asked_value}
 use Rattle.rtps_report.specs.FullReport.{report_value, rows_of}
@@ -24,13 +23,12 @@ returns-clause-tokens c =
     let members = rows_members (Some (check_telling asked recording value)) rows report.explained.counts recording in
     let ends : List (List ℕ) → List Member = λ notes. talk_members recording.times value ++ report_ends asked recording value notes in
     let first = c.in_ok-push_members.ensures.tokens
-    ∙ ap (λ (all : List Member). start ++ tokens_of all) (c.in_ok-status.ensures ∙ ap (status_members report.ending) (ap (map string_bytes) c.deref.ensures.value ∙ c.in_ok-causes.ensures)) in
+    ∙ ap (λ (all : List Member). start ++ tokens_of all) (c.in_ok-status.ensures ∙ ap (status_members report.ending) c.in_ok-causes.ensures) in
     let second = c.in_ok-push_report_members.ensures.tokens
     ∙ ap (λ (telling : TellingValue). c.push_members.new.writer.tokens ++ tokens_of (rows_members (Some telling) rows report.explained.counts recording)) c.telling_of.ensures in
-    let told = ap (map string_bytes) c.deref-2.ensures.value ∙ c.in_ok-notes.ensures in
     on_ok_weaker c.push_ends.result
     (λ last.
     three_parts start (tokens_of status) (tokens_of members) (tokens_of (ends (report_notes asked recording value))) first second
-    (last ∙ ap (λ (all : List (List ℕ)). c.push_report_members.new.writer.tokens ++ tokens_of (ends all)) told)
+    (last ∙ ap (λ (all : List (List ℕ)). c.push_report_members.new.writer.tokens ++ tokens_of (ends all)) c.in_ok-notes.ensures)
     ∙ ap (λ (tokens : List Token). start ++ tokens) (sym (tokens_of_three status members (ends (report_notes asked recording value)))))
     c.push_ends.ensures.tokens

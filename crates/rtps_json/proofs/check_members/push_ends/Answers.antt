@@ -17,7 +17,7 @@ returns-clause-tokens c =
     let times = c.args.report.now.recording.now.times in
     let report = report_value c.args.report.now in
     let ends : TimesValue → List EventValue → List Member = λ those events.
-    last_members (is_some report.arrived) report.order.wrong (events_member those report.talk events) (map string_bytes c.args.notes.now) in
+    last_members (is_some report.arrived) report.order.wrong (events_member those report.talk events) (map string_bytes c.args.notes.items) in
     on_ok_weaker c.push_members.result
     (λ last.
     last
