@@ -1,18 +1,17 @@
 ghost use Rattle.std.specs.Prelude.{◌≡◌, ◌≤◌, ◌++◌, drop, filter, IfOk, length, List, OnOk, map, take};
-ghost use Rattle.rtps_audit.specs.Intake.{Intake};
-ghost use Rattle.rtps_audit.specs.Placed.{PlacedValue, placed_value};
+ghost use Rattle.rtps_audit.specs.Intake as intake;
+ghost use Rattle.rtps_audit.specs.Placed as placed_spec;
 ghost use Rattle.rtps_evidence.specs.UnansweredLaw as unanswered_law;
-ghost use Rattle.rtps_fragments.specs.Announcements.{announcements_in};
-ghost use Rattle.rtps_known.specs.Matched.{AreMatchesOf};
-ghost use Rattle.rtps_known.specs.Places.{PlacedAct};
-ghost use Rattle.rtps_known.specs.Recorded.{IsKnownOf};
-ghost use Rattle.rtps_known.specs.Tellings.{TimedAct};
-ghost use Rattle.rtps_policies.specs.Namings.{AreNamingsOf};
-ghost use Rattle.rtps_receiver.specs.Values.{spoken_value};
-ghost use Rattle.rtps_report.specs.ActsRead.{acts_at, datagrams_read, timed_acts};
-ghost use Rattle.rtps_report.specs.MatchingActs.{act_placed, acts_placed, of_datagram, run_of, run_past, samples_at, with_samples};
+ghost use Rattle.rtps_fragments.specs.Announcements as announcements_spec;
+ghost use Rattle.rtps_known.specs.Matched as matched;
+ghost use Rattle.rtps_known.specs.Places as places;
+ghost use Rattle.rtps_known.specs.Recorded as recorded;
+ghost use Rattle.rtps_known.specs.Tellings as tellings;
+ghost use Rattle.rtps_policies.specs.Namings as namings_spec;
+ghost use Rattle.rtps_receiver.specs.Values as values;
+ghost use Rattle.rtps_report.specs.ActsRead as acts_read;
 ghost use Rattle.rtps_report.specs.MatchingActs as matching_acts;
-ghost use Rattle.rtps_report.specs.Talk.{acts_of_matching};
+ghost use Rattle.rtps_report.specs.Talk as talk;
 
 use rtps_audit::{Placed, place};
 use rtps_evidence::Times;
@@ -53,8 +52,8 @@ fn came_as(times: &Times, datagram: u64) -> Came
 
 /// Keeps what the acts of a datagram say of discovery, which came then. After `Memory` it is of no use.
 fn note_known(known: &mut Known, acts: &[Spoken<'_>], time: Option<u64>) -> Result<(), Memory>
-    ensures { OnOk result ((before : List TimedAct) → IsKnownOf before known.old
-        → IsKnownOf (before ++ acts_at time (map spoken_value acts.now)) known.new) }
+    ensures { OnOk result ((before : List tellings.TimedAct) → recorded.IsKnownOf before known.old
+        → recorded.IsKnownOf (before ++ acts_read.acts_at time (map values.spoken_value acts.now)) known.new) }
 {
     for act in acts {
         known.note(act, time)?;
@@ -64,7 +63,7 @@ fn note_known(known: &mut Known, acts: &[Spoken<'_>], time: Option<u64>) -> Resu
 
 /// Where an act stands.
 fn place_in(came: Came, act: &Spoken<'_>) -> Place
-    ensures { result ≡ (act_placed came (spoken_value act.now)).place }
+    ensures { result ≡ (matching_acts.act_placed came (values.spoken_value act.now)).place }
 {
     Place {
         datagram: came.datagram,
@@ -74,7 +73,7 @@ fn place_in(came: Came, act: &Spoken<'_>) -> Place
 }
 
 fn is_data_frag(act: &Spoken<'_>) -> bool
-    ensures { result ≡ unanswered_law.is_data_frag (spoken_value act.now).body }
+    ensures { result ≡ unanswered_law.is_data_frag (values.spoken_value act.now).body }
 {
     match &act.body {
         SpokenBody::Act(_) | SpokenBody::NackFrag(_) => false,
@@ -84,7 +83,7 @@ fn is_data_frag(act: &Spoken<'_>) -> bool
 
 /// A sample, for those to whom the act is sent that completes it.
 fn sent_as<'a>(act: &Spoken<'_>, sample: &Placed<'a>) -> Spoken<'a>
-    ensures { spoken_value result ≡ matching_acts.sent_as (spoken_value act.now) (placed_value sample.now).act }
+    ensures { values.spoken_value result ≡ matching_acts.sent_as (values.spoken_value act.now) (placed_spec.placed_value sample.now).act }
 {
     let copy = place(sample.datagram, &sample.act);
     Spoken {
@@ -100,8 +99,8 @@ fn note_samples(
     samples: &[Placed<'_>],
     came: Came,
 ) -> Result<(), Memory>
-    ensures { OnOk result ((before : List PlacedAct) → AreMatchesOf before matches.old
-        → AreMatchesOf (before ++ map (act_placed came) (samples_at (spoken_value act.now) (map placed_value samples.now))) matches.new) }
+    ensures { OnOk result ((before : List places.PlacedAct) → matched.AreMatchesOf before matches.old
+        → matched.AreMatchesOf (before ++ map (matching_acts.act_placed came) (matching_acts.samples_at (values.spoken_value act.now) (map placed_spec.placed_value samples.now))) matches.new) }
 {
     for sample in samples {
         if sample.act.at == act.at {
@@ -118,8 +117,8 @@ fn note_act(
     samples: &[Placed<'_>],
     came: Came,
 ) -> Result<(), Memory>
-    ensures { OnOk result ((before : List PlacedAct) (announcements : List PlacedValue) → map placed_value samples.now ≡ filter (of_datagram came.datagram) announcements
-        → AreMatchesOf before matches.old → AreMatchesOf (before ++ map (act_placed came) (with_samples announcements came.datagram (spoken_value act.now))) matches.new) }
+    ensures { OnOk result ((before : List places.PlacedAct) (announcements : List placed_spec.PlacedValue) → map placed_spec.placed_value samples.now ≡ filter (matching_acts.of_datagram came.datagram) announcements
+        → matched.AreMatchesOf before matches.old → matched.AreMatchesOf (before ++ map (matching_acts.act_placed came) (matching_acts.with_samples announcements came.datagram (values.spoken_value act.now))) matches.new) }
 {
     matches.note(act, place_in(came, act))?;
     if is_data_frag(act) {
@@ -135,8 +134,8 @@ fn note_matches(
     samples: &[Placed<'_>],
     came: Came,
 ) -> Result<(), Memory>
-    ensures { OnOk result ((before : List PlacedAct) (announcements : List PlacedValue) → map placed_value samples.now ≡ filter (of_datagram came.datagram) announcements
-        → AreMatchesOf before matches.old → AreMatchesOf (before ++ acts_placed announcements came (map spoken_value acts.now)) matches.new) }
+    ensures { OnOk result ((before : List places.PlacedAct) (announcements : List placed_spec.PlacedValue) → map placed_spec.placed_value samples.now ≡ filter (matching_acts.of_datagram came.datagram) announcements
+        → matched.AreMatchesOf before matches.old → matched.AreMatchesOf (before ++ matching_acts.acts_placed announcements came (map values.spoken_value acts.now)) matches.new) }
 {
     for act in acts {
         note_act(matches, act, samples, came)?;
@@ -147,8 +146,8 @@ fn note_matches(
 /// How many of these, from the first on, are of this datagram.
 fn run_length(placed: &[Placed<'_>], datagram: usize) -> usize
     ensures within { result ≤ length placed.now }
-    ensures run { run_of datagram (map placed_value placed.now) ≡ map placed_value (take result placed.now) }
-    ensures past { run_past datagram (map placed_value placed.now) ≡ map placed_value (drop result placed.now) }
+    ensures run { matching_acts.run_of datagram (map placed_spec.placed_value placed.now) ≡ map placed_spec.placed_value (take result placed.now) }
+    ensures past { matching_acts.run_past datagram (map placed_spec.placed_value placed.now) ≡ map placed_spec.placed_value (drop result placed.now) }
 {
     for at in 0..placed.len() {
         if placed[at].datagram != datagram {
@@ -161,7 +160,7 @@ fn run_length(placed: &[Placed<'_>], datagram: usize) -> usize
 /// Which participants of a recording, any datagrams, name which, by all acts that are read. `Memory` is answered where they
 /// cannot grow.
 pub(crate) fn namings_of(alloc: Global, recording: &[&[u8]]) -> Result<Namings, Memory>
-    ensures { IfOk result (AreNamingsOf (datagrams_read (map (λ datagram. datagram.now) recording.now))) }
+    ensures { IfOk result (namings_spec.AreNamingsOf (acts_read.datagrams_read (map (λ datagram. datagram.now) recording.now))) }
 {
     let mut namings = Namings::new(alloc);
     let mut walk = FragmentWalk::new(alloc);
@@ -180,10 +179,10 @@ pub(crate) fn walk_all(
     announcements: &[Placed<'_>],
     times: &Times,
 ) -> Result<Walked, Memory>
-    ensures namings { IfOk result (λ walked. AreNamingsOf (datagrams_read (map (λ datagram. datagram.now) recording.now)) walked.namings) }
-    ensures known { IfOk result (λ walked. IsKnownOf (timed_acts (map (λ datagram. datagram.now) recording.now) times.now.of_datagrams) walked.known) }
-    ensures matches { IfOk result (λ walked. (intake : Intake) → map placed_value announcements.now ≡ announcements_in intake.announcing
-        → AreMatchesOf (acts_of_matching intake (map (λ datagram. datagram.now) recording.now) times.now.of_datagrams) walked.matches) }
+    ensures namings { IfOk result (λ walked. namings_spec.AreNamingsOf (acts_read.datagrams_read (map (λ datagram. datagram.now) recording.now)) walked.namings) }
+    ensures known { IfOk result (λ walked. recorded.IsKnownOf (acts_read.timed_acts (map (λ datagram. datagram.now) recording.now) times.now.of_datagrams) walked.known) }
+    ensures matches { IfOk result (λ walked. (intake : intake.Intake) → map placed_spec.placed_value announcements.now ≡ announcements_spec.announcements_in intake.announcing
+        → matched.AreMatchesOf (talk.acts_of_matching intake (map (λ datagram. datagram.now) recording.now) times.now.of_datagrams) walked.matches) }
 {
     let mut namings = Namings::new(alloc);
     let mut known = Known::new(alloc);
