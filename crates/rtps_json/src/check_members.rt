@@ -1,9 +1,9 @@
-ghost use Rattle.std.specs.Prelude.{◌≡◌, ◌++◌, IfOk, OnOk, map};
+ghost use Rattle.std.specs.Prelude.{◌≡◌, ◌++◌, OnOk, map};
 ghost use Rattle.std.specs.String.{string_bytes};
-ghost use Rattle.rtps_report.specs.Asked.{asked_value};
-ghost use Rattle.rtps_report.specs.FullReport.{report_value};
-ghost use Rattle.rtps_json.specs.CheckMembers.{check_members, check_telling, report_ends, report_events, status_members, status_text, wrong_way_members};
-ghost use Rattle.rtps_json.specs.JsonText.{telling_value, tokens_of, tokens_of_member};
+ghost use Rattle.rtps_report.specs.Asked as asked;
+ghost use Rattle.rtps_report.specs.FullReport as full_report;
+ghost use Rattle.rtps_json.specs.CheckMembers as check_members;
+ghost use Rattle.rtps_json.specs.JsonText as json_text;
 
 use crate::event_members::push_events;
 use crate::json_members::{Clock, push_text, push_texts, push_total};
@@ -15,7 +15,7 @@ use rtps_report::{Ending, FullReport, events_of, scope_of};
 use std::alloc::{AllocError, Global};
 
 fn status_name(ending: &Ending) -> &'static str
-    ensures { result.now ≡ status_text ending.now }
+    ensures { result.now ≡ check_members.status_text ending.now }
 {
     match ending {
         Ending::Clean => "clean",
@@ -25,7 +25,7 @@ fn status_name(ending: &Ending) -> &'static str
 
 fn push_status(writer: &mut Writer, ending: &Ending, causes: &[String]) -> Result<(), AllocError>
     ensures tokens { OnOk result (writer.new.tokens
-        ≡ writer.old.tokens ++ tokens_of (status_members ending.now (map string_bytes causes.now))) }
+        ≡ writer.old.tokens ++ json_text.tokens_of (check_members.status_members ending.now (map string_bytes causes.now))) }
     ensures before { writer.new.before ≡ writer.old.before }
 {
     push_text(writer, "status", status_name(ending))?;
@@ -34,7 +34,7 @@ fn push_status(writer: &mut Writer, ending: &Ending, causes: &[String]) -> Resul
 
 /// By what the objects of a report's rows are told.
 fn telling_of<'t, 'a>(report: &'t FullReport<'a>) -> Telling<'t, 'a>
-    ensures { telling_value result ≡ check_telling (asked_value report.now.asked.now) report.now.recording.now (report_value report.now) }
+    ensures { json_text.telling_value result ≡ check_members.check_telling (asked.asked_value report.now.asked.now) report.now.recording.now (full_report.report_value report.now) }
 {
     Telling {
         scope: scope_of(report),
@@ -47,7 +47,7 @@ fn telling_of<'t, 'a>(report: &'t FullReport<'a>) -> Telling<'t, 'a>
 
 /// Appends how many pairs are the wrong way round, where there is another recording.
 fn push_wrong_way(writer: &mut Writer, has_other: bool, wrong: u128) -> Result<(), AllocError>
-    ensures tokens { OnOk result (writer.new.tokens ≡ writer.old.tokens ++ tokens_of (wrong_way_members has_other wrong)) }
+    ensures tokens { OnOk result (writer.new.tokens ≡ writer.old.tokens ++ json_text.tokens_of (check_members.wrong_way_members has_other wrong)) }
     ensures before { writer.new.before ≡ writer.old.before }
 {
     if has_other {
@@ -64,7 +64,7 @@ fn push_report_events(
     report: &FullReport<'_>,
 ) -> Result<(), AllocError>
     ensures tokens { OnOk result (writer.new.tokens ≡ writer.old.tokens
-        ++ tokens_of_member (report_events (asked_value report.now.asked.now) report.now.recording.now (report_value report.now))) }
+        ++ json_text.tokens_of_member (check_members.report_events (asked.asked_value report.now.asked.now) report.now.recording.now (full_report.report_value report.now))) }
     ensures before { writer.new.before ≡ writer.old.before }
 {
     let events = events_of(alloc, report)?;
@@ -84,7 +84,7 @@ fn push_last_members(
     notes: &[String],
 ) -> Result<(), AllocError>
     ensures tokens { OnOk result (writer.new.tokens ≡ writer.old.tokens
-        ++ tokens_of (report_ends (asked_value report.now.asked.now) report.now.recording.now (report_value report.now) (map string_bytes notes.now))) }
+        ++ json_text.tokens_of (check_members.report_ends (asked.asked_value report.now.asked.now) report.now.recording.now (full_report.report_value report.now) (map string_bytes notes.now))) }
     ensures before { writer.new.before ≡ writer.old.before }
 {
     push_wrong_way(writer, has_other(report), report.order.wrong)?;
@@ -99,7 +99,7 @@ pub fn push_check_members(
     report: &FullReport<'_>,
 ) -> Result<(), AllocError>
     ensures tokens { OnOk result (writer.new.tokens ≡ writer.old.tokens
-        ++ tokens_of (check_members (asked_value report.now.asked.now) report.now.recording.now (report_value report.now))) }
+        ++ json_text.tokens_of (check_members.check_members (asked.asked_value report.now.asked.now) report.now.recording.now (full_report.report_value report.now))) }
     ensures before { writer.new.before ≡ writer.old.before }
 {
     let causes = report_causes(alloc, report)?;

@@ -3,13 +3,12 @@
 ghost use Rattle.std.specs.Prelude.{◌≡◌, ◌++◌, ◌∷◌, OnOk, codes, map};
 ghost use Rattle.json.specs.Token.{key};
 ghost use Rattle.json.specs.Tree.{json_tokens};
-ghost use Rattle.rtps_report.specs.FullReport.{report_value, rows_of};
-ghost use Rattle.rtps_report.specs.LateRows.{late_row_value};
+ghost use Rattle.rtps_report.specs.FullReport as full_report;
 ghost use Rattle.rtps_report.specs.LateRows as late_rows_spec;
-ghost use Rattle.rtps_report.specs.NotTold.{not_told_value, topic_end_value};
-ghost use Rattle.rtps_report.specs.Talk.{talk_value};
-ghost use Rattle.rtps_json.specs.DiscoveryMembers.{discovery_members, ends_json, late_json, late_member, lives_json, lives_member, not_told_json, not_told_member, sent_json};
-ghost use Rattle.rtps_json.specs.JsonText.{clock_times, tokens_of, tokens_of_member};
+ghost use Rattle.rtps_report.specs.NotTold as not_told;
+ghost use Rattle.rtps_report.specs.Talk as talk_spec;
+ghost use Rattle.rtps_json.specs.DiscoveryMembers as discovery_members;
+ghost use Rattle.rtps_json.specs.JsonText as json_text;
 
 use crate::json_members::{Clock, push_count, push_guid, push_name, push_seconds, push_standing};
 use crate::talk_members::push_address;
@@ -26,7 +25,7 @@ fn push_ends(
     name: &str,
     ends: &[TopicEnd<'_>],
 ) -> Result<(), AllocError>
-    ensures tokens { OnOk result (writer.new.tokens ≡ writer.old.tokens ++ key name.now ∷ json_tokens (ends_json (map topic_end_value ends.now))) }
+    ensures tokens { OnOk result (writer.new.tokens ≡ writer.old.tokens ++ key name.now ∷ json_tokens (discovery_members.ends_json (map not_told.topic_end_value ends.now))) }
     ensures before { writer.new.before ≡ writer.old.before }
 {
     writer.key(name)?;
@@ -44,7 +43,7 @@ fn push_not_told(
     text: &mut String,
     one: &NotTold<'_>,
 ) -> Result<(), AllocError>
-    ensures tokens { OnOk result (writer.new.tokens ≡ writer.old.tokens ++ json_tokens (not_told_json (not_told_value one.now))) }
+    ensures tokens { OnOk result (writer.new.tokens ≡ writer.old.tokens ++ json_tokens (discovery_members.not_told_json (not_told.not_told_value one.now))) }
     ensures before { writer.new.before ≡ writer.old.before }
 {
     writer.begin_object()?;
@@ -61,7 +60,7 @@ fn push_all_not_told(
     text: &mut String,
     found: &[NotTold<'_>],
 ) -> Result<(), AllocError>
-    ensures tokens { OnOk result (writer.new.tokens ≡ writer.old.tokens ++ tokens_of_member (not_told_member (map not_told_value found.now))) }
+    ensures tokens { OnOk result (writer.new.tokens ≡ writer.old.tokens ++ json_text.tokens_of_member (discovery_members.not_told_member (map not_told.not_told_value found.now))) }
     ensures before { writer.new.before ≡ writer.old.before }
 {
     writer.key("untold")?;
@@ -78,7 +77,7 @@ fn push_late(
     one: &LateRow<'_>,
     clock: Clock<'_>,
 ) -> Result<(), AllocError>
-    ensures tokens { OnOk result (writer.new.tokens ≡ writer.old.tokens ++ json_tokens (late_json (clock_times clock.entry) (late_row_value one.now))) }
+    ensures tokens { OnOk result (writer.new.tokens ≡ writer.old.tokens ++ json_tokens (discovery_members.late_json (json_text.clock_times clock.entry) (late_rows_spec.late_row_value one.now))) }
     ensures before { writer.new.before ≡ writer.old.before }
 {
     writer.begin_object()?;
@@ -98,7 +97,7 @@ fn push_all_late(
     clock: Clock<'_>,
 ) -> Result<(), AllocError>
     ensures tokens { OnOk result (writer.new.tokens ≡ writer.old.tokens
-        ++ tokens_of_member (late_member (clock_times clock.entry) (map late_row_value late.now))) }
+        ++ json_text.tokens_of_member (discovery_members.late_member (json_text.clock_times clock.entry) (map late_rows_spec.late_row_value late.now))) }
     ensures before { writer.new.before ≡ writer.old.before }
 {
     writer.key("late")?;
@@ -111,7 +110,7 @@ fn push_all_late(
 
 /// Appends the two source times of a participant with two lives.
 fn push_sent(writer: &mut Writer, sent: (u64, u64), clock: Clock<'_>) -> Result<(), AllocError>
-    ensures tokens { OnOk result (writer.new.tokens ≡ writer.old.tokens ++ key (codes "sent") ∷ json_tokens (sent_json (clock_times clock.entry) sent)) }
+    ensures tokens { OnOk result (writer.new.tokens ≡ writer.old.tokens ++ key (codes "sent") ∷ json_tokens (discovery_members.sent_json (json_text.clock_times clock.entry) sent)) }
     ensures before { writer.new.before ≡ writer.old.before }
 {
     let (first, other) = sent;
@@ -129,7 +128,7 @@ fn push_lives(
     by: (&Talk<'_>, Clock<'_>),
 ) -> Result<(), AllocError>
     ensures tokens { OnOk result (writer.new.tokens ≡ writer.old.tokens
-        ++ json_tokens (lives_json (talk_value by.entry.0.now) (clock_times by.entry.1) one)) }
+        ++ json_tokens (discovery_members.lives_json (talk_spec.talk_value by.entry.0.now) (json_text.clock_times by.entry.1) one)) }
     ensures before { writer.new.before ≡ writer.old.before }
 {
     let (talk, clock) = by;
@@ -147,7 +146,7 @@ fn push_all_lives(
     clock: Clock<'_>,
 ) -> Result<(), AllocError>
     ensures tokens { OnOk result (writer.new.tokens ≡ writer.old.tokens
-        ++ tokens_of_member (lives_member (clock_times clock.entry) (talk_value talk.now))) }
+        ++ json_text.tokens_of_member (discovery_members.lives_member (json_text.clock_times clock.entry) (talk_spec.talk_value talk.now))) }
     ensures before { writer.new.before ≡ writer.old.before }
 {
     writer.key("lives")?;
@@ -166,7 +165,7 @@ pub(crate) fn push_discovery_members(
     clock: Clock<'_>,
 ) -> Result<(), AllocError>
     ensures tokens { OnOk result (writer.new.tokens ≡ writer.old.tokens
-        ++ tokens_of (discovery_members (clock_times clock.entry) (talk_value report.now.talk) (late_rows_spec.late_rows (talk_value report.now.talk) (rows_of (report_value report.now))))) }
+        ++ json_text.tokens_of (discovery_members.discovery_members (json_text.clock_times clock.entry) (talk_spec.talk_value report.now.talk) (late_rows_spec.late_rows (talk_spec.talk_value report.now.talk) (full_report.rows_of (full_report.report_value report.now))))) }
     ensures before { writer.new.before ≡ writer.old.before }
 {
     let late = late_rows(clock.alloc, &report.talk, &report.explained.rows)?;

@@ -2,11 +2,11 @@ ghost use Rattle.std.specs.Prelude.{◌≡◌, ◌++◌, ◌∷◌, OnOk, map, o
 ghost use Rattle.std.specs.Option.{option_map};
 ghost use Rattle.json.specs.Token.{key};
 ghost use Rattle.json.specs.Tree.{json_tokens};
-ghost use Rattle.rtps_report.specs.Talk.{talk_value};
-ghost use Rattle.rtps_who.specs.Processes.{process_value};
-ghost use Rattle.rtps_who.specs.Samples.{node_value};
-ghost use Rattle.rtps_json.specs.EndMembers.{known_json, nodes_member, process_members};
-ghost use Rattle.rtps_json.specs.JsonText.{node_json, node_members, some_node_json, tokens_of, tokens_of_member};
+ghost use Rattle.rtps_report.specs.Talk as talk_spec;
+ghost use Rattle.rtps_who.specs.Processes as processes;
+ghost use Rattle.rtps_who.specs.Samples as samples;
+ghost use Rattle.rtps_json.specs.EndMembers as end_members;
+ghost use Rattle.rtps_json.specs.JsonText as json_text;
 
 use crate::json_members::{push_name, push_optional};
 use json::Writer;
@@ -23,7 +23,7 @@ fn push_known(
     name: &str,
     octets: Option<&[u8]>,
 ) -> Result<(), AllocError>
-    ensures tokens { OnOk result (writer.new.tokens ≡ writer.old.tokens ++ key name.now ∷ json_tokens (known_json (option_copied octets.entry))) }
+    ensures tokens { OnOk result (writer.new.tokens ≡ writer.old.tokens ++ key name.now ∷ json_tokens (end_members.known_json (option_copied octets.entry))) }
     ensures before { writer.new.before ≡ writer.old.before }
 {
     match octets {
@@ -37,7 +37,7 @@ fn push_known(
 
 /// Appends the name of a node, which is written to `text` first.
 fn push_node_name(writer: &mut Writer, text: &mut String, node: Node<'_>) -> Result<(), AllocError>
-    ensures tokens { OnOk result (writer.new.tokens ≡ writer.old.tokens ++ json_tokens (node_json (node_value node.entry))) }
+    ensures tokens { OnOk result (writer.new.tokens ≡ writer.old.tokens ++ json_tokens (json_text.node_json (samples.node_value node.entry))) }
     ensures before { writer.new.before ≡ writer.old.before }
 {
     text.clear();
@@ -52,7 +52,7 @@ fn push_node(
     name: &str,
     node: Option<Node<'_>>,
 ) -> Result<(), AllocError>
-    ensures tokens { OnOk result (writer.new.tokens ≡ writer.old.tokens ++ key name.now ∷ json_tokens (some_node_json (option_map node_value node.entry))) }
+    ensures tokens { OnOk result (writer.new.tokens ≡ writer.old.tokens ++ key name.now ∷ json_tokens (json_text.some_node_json (option_map samples.node_value node.entry))) }
     ensures before { writer.new.before ≡ writer.old.before }
 {
     writer.key(name)?;
@@ -69,7 +69,7 @@ pub(crate) fn push_nodes_of(
     talk: &Talk<'_>,
     pair: Pair,
 ) -> Result<(), AllocError>
-    ensures tokens { OnOk result (writer.new.tokens ≡ writer.old.tokens ++ tokens_of (node_members (talk_value talk.now) pair)) }
+    ensures tokens { OnOk result (writer.new.tokens ≡ writer.old.tokens ++ json_text.tokens_of (json_text.node_members (talk_spec.talk_value talk.now) pair)) }
     ensures before { writer.new.before ≡ writer.old.before }
 {
     push_node(writer, text, "writer_node", talk.node(pair.writer))?;
@@ -92,7 +92,7 @@ pub(crate) fn push_process(
     text: &mut String,
     process: &Process<'_>,
 ) -> Result<(), AllocError>
-    ensures tokens { OnOk result (writer.new.tokens ≡ writer.old.tokens ++ tokens_of (process_members (process_value process.now))) }
+    ensures tokens { OnOk result (writer.new.tokens ≡ writer.old.tokens ++ json_text.tokens_of (end_members.process_members (processes.process_value process.now))) }
     ensures before { writer.new.before ≡ writer.old.before }
 {
     let pid = pid_number(process.pid);
@@ -109,7 +109,7 @@ pub(crate) fn push_node_names(
     text: &mut String,
     nodes: &[Node<'_>],
 ) -> Result<(), AllocError>
-    ensures tokens { OnOk result (writer.new.tokens ≡ writer.old.tokens ++ tokens_of_member (nodes_member (map node_value nodes.now))) }
+    ensures tokens { OnOk result (writer.new.tokens ≡ writer.old.tokens ++ json_text.tokens_of_member (end_members.nodes_member (map samples.node_value nodes.now))) }
     ensures before { writer.new.before ≡ writer.old.before }
 {
     writer.key("nodes")?;

@@ -1,11 +1,10 @@
 ghost use Rattle.std.specs.Prelude.{◌≡◌, ◌++◌, ◌∷◌, OnOk, codes, map};
 ghost use Rattle.json.specs.Token.{key as key_token};
 ghost use Rattle.json.specs.Tree.{items_tokens, json_tokens};
-ghost use Rattle.rtps_report.specs.Events.{event_value};
-ghost use Rattle.rtps_report.specs.Talk.{talk_value};
-ghost use Rattle.rtps_json.specs.EventMembers.{amounts_members, event_json, events_member, parties_by, parties_json, party_json, places_members, sentence_member};
+ghost use Rattle.rtps_report.specs.Events as events_spec;
+ghost use Rattle.rtps_report.specs.Talk as talk_spec;
 ghost use Rattle.rtps_json.specs.EventMembers as event_members;
-ghost use Rattle.rtps_json.specs.JsonText.{clock_times, items_of, tokens_of, tokens_of_member};
+ghost use Rattle.rtps_json.specs.JsonText as json_text;
 
 use crate::json_members::{Clock, push_numbers, push_standing, push_text, push_total};
 use json::Writer;
@@ -27,7 +26,7 @@ fn event_name(key: EventKey) -> &'static str
 
 /// Appends the GUID of a participant.
 fn push_party(writer: &mut Writer, text: &mut String, prefix: GuidPrefix) -> Result<(), AllocError>
-    ensures tokens { OnOk result (writer.new.tokens ≡ writer.old.tokens ++ json_tokens (party_json prefix)) }
+    ensures tokens { OnOk result (writer.new.tokens ≡ writer.old.tokens ++ json_tokens (event_members.party_json prefix)) }
     ensures before { writer.new.before ≡ writer.old.before }
 {
     text.clear();
@@ -41,7 +40,7 @@ fn push_second(
     text: &mut String,
     second: Option<GuidPrefix>,
 ) -> Result<(), AllocError>
-    ensures tokens { OnOk result (writer.new.tokens ≡ writer.old.tokens ++ items_tokens (items_of (parties_by second))) }
+    ensures tokens { OnOk result (writer.new.tokens ≡ writer.old.tokens ++ items_tokens (json_text.items_of (event_members.parties_by second))) }
     ensures before { writer.new.before ≡ writer.old.before }
 {
     let Some(prefix) = second else {
@@ -53,7 +52,7 @@ fn push_second(
 
 /// Appends the GUIDs of the participants of an event.
 fn push_parties(writer: &mut Writer, text: &mut String, key: EventKey) -> Result<(), AllocError>
-    ensures tokens { OnOk result (writer.new.tokens ≡ writer.old.tokens ++ key_token (codes "participants") ∷ json_tokens (parties_json key)) }
+    ensures tokens { OnOk result (writer.new.tokens ≡ writer.old.tokens ++ key_token (codes "participants") ∷ json_tokens (event_members.parties_json key)) }
     ensures before { writer.new.before ≡ writer.old.before }
 {
     writer.key("participants")?;
@@ -64,7 +63,7 @@ fn push_parties(writer: &mut Writer, text: &mut String, key: EventKey) -> Result
 
 /// Appends the places of the rows of an event, and how many numbers they lost.
 fn push_amounts(writer: &mut Writer, event: &Event) -> Result<(), AllocError>
-    ensures tokens { OnOk result (writer.new.tokens ≡ writer.old.tokens ++ tokens_of (amounts_members (event_value event.now))) }
+    ensures tokens { OnOk result (writer.new.tokens ≡ writer.old.tokens ++ json_text.tokens_of (event_members.amounts_members (events_spec.event_value event.now))) }
     ensures before { writer.new.before ≡ writer.old.before }
 {
     writer.key("pairs")?;
@@ -74,7 +73,7 @@ fn push_amounts(writer: &mut Writer, event: &Event) -> Result<(), AllocError>
 
 /// Appends where the first and the last of these numbers were sent first, and where the silent participant was asked.
 fn push_places(writer: &mut Writer, event: &Event, clock: Clock<'_>) -> Result<(), AllocError>
-    ensures tokens { OnOk result (writer.new.tokens ≡ writer.old.tokens ++ tokens_of (places_members (clock_times clock.entry) (event_value event.now))) }
+    ensures tokens { OnOk result (writer.new.tokens ≡ writer.old.tokens ++ json_text.tokens_of (event_members.places_members (json_text.clock_times clock.entry) (events_spec.event_value event.now))) }
     ensures before { writer.new.before ≡ writer.old.before }
 {
     push_standing(writer, "first", event.first, clock)?;
@@ -89,7 +88,7 @@ fn push_sentence(
     talk: &Talk<'_>,
     clock: Clock<'_>,
 ) -> Result<(), AllocError>
-    ensures tokens { OnOk result (writer.new.tokens ≡ writer.old.tokens ++ tokens_of_member (sentence_member clock.entry.times.now (talk_value talk.now) (event_value event.now))) }
+    ensures tokens { OnOk result (writer.new.tokens ≡ writer.old.tokens ++ json_text.tokens_of_member (event_members.sentence_member clock.entry.times.now (talk_spec.talk_value talk.now) (events_spec.event_value event.now))) }
     ensures before { writer.new.before ≡ writer.old.before }
 {
     let mut text = String::new(clock.alloc);
@@ -104,7 +103,7 @@ fn push_event(
     talk: &Talk<'_>,
     clock: Clock<'_>,
 ) -> Result<(), AllocError>
-    ensures tokens { OnOk result (writer.new.tokens ≡ writer.old.tokens ++ json_tokens (event_json (clock_times clock.entry) (talk_value talk.now) (event_value event.now))) }
+    ensures tokens { OnOk result (writer.new.tokens ≡ writer.old.tokens ++ json_tokens (event_members.event_json (json_text.clock_times clock.entry) (talk_spec.talk_value talk.now) (events_spec.event_value event.now))) }
     ensures before { writer.new.before ≡ writer.old.before }
 {
     let mut text = String::new(clock.alloc);
@@ -124,7 +123,7 @@ pub(crate) fn push_events(
     talk: &Talk<'_>,
     clock: Clock<'_>,
 ) -> Result<(), AllocError>
-    ensures tokens { OnOk result (writer.new.tokens ≡ writer.old.tokens ++ tokens_of_member (events_member (clock_times clock.entry) (talk_value talk.now) (map event_value events.now))) }
+    ensures tokens { OnOk result (writer.new.tokens ≡ writer.old.tokens ++ json_text.tokens_of_member (event_members.events_member (json_text.clock_times clock.entry) (talk_spec.talk_value talk.now) (map events_spec.event_value events.now))) }
     ensures before { writer.new.before ≡ writer.old.before }
 {
     writer.key("events")?;

@@ -8,12 +8,11 @@ ghost use Rattle.std.specs.String.{string_bytes};
 ghost use Rattle.json.specs.Json.{string};
 ghost use Rattle.json.specs.Token.{boolean as boolean_token, key, number as number_token, string as string_token};
 ghost use Rattle.json.specs.Tree.{json_tokens};
-ghost use Rattle.rtps_evidence.specs.Locations.{sent_value};
-ghost use Rattle.rtps_evidence.specs.Explanation.{evidence_value};
-ghost use Rattle.rtps_wire.specs.Values.{payload_value};
-ghost use Rattle.rtps_json.specs.JsonText.{clock_times, announcement_json, array_of, asked_members, carried_members, claim_json, delivery_members, evidence_members, first_missed_members, frame_member, frame_members, not_received_json, numbers_json, payload_members, place_json, place_members, second_json, second_member, sent_json, teller_json, timed_members, tokens_of, tokens_of_member, until_json, wait_json, wait_member, wait_members, waited_json};
+ghost use Rattle.rtps_evidence.specs.Locations as locations;
+ghost use Rattle.rtps_evidence.specs.Explanation as explanation;
+ghost use Rattle.rtps_wire.specs.Values as values;
 ghost use Rattle.rtps_json.specs.JsonText as json_text;
-ghost use Rattle.rtps_parts.specs.Names.{guid_text, octet_text};
+ghost use Rattle.rtps_parts.specs.Names as names;
 
 use itoa::Buffer;
 use json::Writer;
@@ -67,7 +66,7 @@ pub(crate) fn push_optional(
     name: &str,
     number: Option<u64>,
 ) -> Result<(), AllocError>
-    ensures tokens { OnOk result (writer.new.tokens ≡ writer.old.tokens ++ key name.now ∷ json_tokens (until_json number)) }
+    ensures tokens { OnOk result (writer.new.tokens ≡ writer.old.tokens ++ key name.now ∷ json_tokens (json_text.until_json number)) }
     ensures before { writer.new.before ≡ writer.old.before }
 {
     writer.key(name)?;
@@ -87,7 +86,7 @@ pub(crate) fn push_flag(writer: &mut Writer, name: &str, flag: bool) -> Result<(
 
 /// Appends an array of numbers.
 pub(crate) fn push_numbers(writer: &mut Writer, numbers: &[u64]) -> Result<(), AllocError>
-    ensures tokens { OnOk result (writer.new.tokens ≡ writer.old.tokens ++ json_tokens (numbers_json numbers.now)) }
+    ensures tokens { OnOk result (writer.new.tokens ≡ writer.old.tokens ++ json_tokens (json_text.numbers_json numbers.now)) }
     ensures before { writer.new.before ≡ writer.old.before }
 {
     writer.begin_array()?;
@@ -107,7 +106,7 @@ pub fn push_text(writer: &mut Writer, name: &str, text: &str) -> Result<(), Allo
 
 pub fn push_texts(writer: &mut Writer, name: &str, texts: &[String]) -> Result<(), AllocError>
     ensures tokens { OnOk result (writer.new.tokens
-        ≡ writer.old.tokens ++ key name.now ∷ json_tokens (array_of (map string (map string_bytes texts.now)))) }
+        ≡ writer.old.tokens ++ key name.now ∷ json_tokens (json_text.array_of (map string (map string_bytes texts.now)))) }
     ensures before { writer.new.before ≡ writer.old.before }
 {
     writer.key(name)?;
@@ -125,7 +124,7 @@ pub fn push_guid(
     name: &str,
     guid: Guid,
 ) -> Result<(), AllocError>
-    ensures tokens { OnOk result (writer.new.tokens ≡ writer.old.tokens ++ key name.now ∷ string_token (guid_text guid) ∷ []) }
+    ensures tokens { OnOk result (writer.new.tokens ≡ writer.old.tokens ++ key name.now ∷ string_token (names.guid_text guid) ∷ []) }
     ensures before { writer.new.before ≡ writer.old.before }
 {
     text.clear();
@@ -141,7 +140,7 @@ pub fn push_name(
     octets: &[u8],
 ) -> Result<(), AllocError>
     ensures tokens { OnOk result (writer.new.tokens
-        ≡ writer.old.tokens ++ key name.now ∷ string_token (flat_map octet_text octets.now) ∷ []) }
+        ≡ writer.old.tokens ++ key name.now ∷ string_token (flat_map names.octet_text octets.now) ∷ []) }
     ensures before { writer.new.before ≡ writer.old.before }
 {
     text.clear();
@@ -151,7 +150,7 @@ pub fn push_name(
 
 /// Appends a time, which is written to a text first.
 pub fn push_seconds(writer: &mut Writer, seconds: Seconds, alloc: Global) -> Result<(), AllocError>
-    ensures tokens { OnOk result (writer.new.tokens ≡ writer.old.tokens ++ json_tokens (second_json (Some seconds))) }
+    ensures tokens { OnOk result (writer.new.tokens ≡ writer.old.tokens ++ json_tokens (json_text.second_json (Some seconds))) }
     ensures before { writer.new.before ≡ writer.old.before }
 {
     let mut text = String::new(alloc);
@@ -177,7 +176,7 @@ fn push_second(
     clock: Clock<'_>,
 ) -> Result<(), AllocError>
     ensures tokens { OnOk result (writer.new.tokens
-        ≡ writer.old.tokens ++ tokens_of_member (second_member name.now (clock_times clock.entry) datagram)) }
+        ≡ writer.old.tokens ++ json_text.tokens_of_member (json_text.second_member name.now (json_text.clock_times clock.entry) datagram)) }
     ensures before { writer.new.before ≡ writer.old.before }
 {
     writer.key(name)?;
@@ -195,7 +194,7 @@ pub(crate) fn push_timed(
     clock: Clock<'_>,
 ) -> Result<(), AllocError>
     ensures tokens { OnOk result (writer.new.tokens
-        ≡ writer.old.tokens ++ tokens_of (timed_members (clock_times clock.entry) (second_member name.now (clock_times clock.entry) datagram ∷ []))) }
+        ≡ writer.old.tokens ++ json_text.tokens_of (json_text.timed_members (json_text.clock_times clock.entry) (json_text.second_member name.now (json_text.clock_times clock.entry) datagram ∷ []))) }
     ensures before { writer.new.before ≡ writer.old.before }
 {
     if clock.times.are_there() {
@@ -207,7 +206,7 @@ pub(crate) fn push_timed(
 
 /// The frame of a datagram, if there is one and frames are told.
 fn frame_at(clock: Clock<'_>, datagram: Option<u64>) -> Option<u64>
-    ensures { result ≡ json_text.frame_at (clock_times clock.entry) datagram }
+    ensures { result ≡ json_text.frame_at (json_text.clock_times clock.entry) datagram }
 {
     if !clock.framed {
         return None;
@@ -226,7 +225,7 @@ pub(crate) fn push_framed(
     clock: Clock<'_>,
 ) -> Result<(), AllocError>
     ensures tokens { OnOk result (writer.new.tokens
-        ≡ writer.old.tokens ++ tokens_of (timed_members (clock_times clock.entry) (frame_member name.now (clock_times clock.entry) datagram ∷ []))) }
+        ≡ writer.old.tokens ++ json_text.tokens_of (json_text.timed_members (json_text.clock_times clock.entry) (json_text.frame_member name.now (json_text.clock_times clock.entry) datagram ∷ []))) }
     ensures before { writer.new.before ≡ writer.old.before }
 {
     if clock.times.are_there() {
@@ -238,7 +237,7 @@ pub(crate) fn push_framed(
 
 /// Appends a frame, if there is one.
 fn push_frame(writer: &mut Writer, frame: Option<u64>) -> Result<(), AllocError>
-    ensures tokens { OnOk result (writer.new.tokens ≡ writer.old.tokens ++ tokens_of (frame_members frame)) }
+    ensures tokens { OnOk result (writer.new.tokens ≡ writer.old.tokens ++ json_text.tokens_of (json_text.frame_members frame)) }
     ensures before { writer.new.before ≡ writer.old.before }
 {
     match frame {
@@ -248,7 +247,7 @@ fn push_frame(writer: &mut Writer, frame: Option<u64>) -> Result<(), AllocError>
 }
 
 fn push_place(writer: &mut Writer, place: Location, clock: Clock<'_>) -> Result<(), AllocError>
-    ensures tokens { OnOk result (writer.new.tokens ≡ writer.old.tokens ++ tokens_of (place_members (clock_times clock.entry) place)) }
+    ensures tokens { OnOk result (writer.new.tokens ≡ writer.old.tokens ++ json_text.tokens_of (json_text.place_members (json_text.clock_times clock.entry) place)) }
     ensures before { writer.new.before ≡ writer.old.before }
 {
     push_count(writer, "datagram", place.datagram)?;
@@ -262,7 +261,7 @@ fn push_announcement(
     announcement: Option<Announcement>,
     clock: Clock<'_>,
 ) -> Result<(), AllocError>
-    ensures tokens { OnOk result (writer.new.tokens ≡ writer.old.tokens ++ json_tokens (announcement_json (clock_times clock.entry) announcement)) }
+    ensures tokens { OnOk result (writer.new.tokens ≡ writer.old.tokens ++ json_tokens (json_text.announcement_json (json_text.clock_times clock.entry) announcement)) }
     ensures before { writer.new.before ≡ writer.old.before }
 {
     let Some(announcement) = announcement else {
@@ -281,7 +280,7 @@ pub(crate) fn push_claim(
     claim: Option<Claim>,
     clock: Clock<'_>,
 ) -> Result<(), AllocError>
-    ensures tokens { OnOk result (writer.new.tokens ≡ writer.old.tokens ++ key name.now ∷ json_tokens (claim_json (clock_times clock.entry) claim)) }
+    ensures tokens { OnOk result (writer.new.tokens ≡ writer.old.tokens ++ key name.now ∷ json_tokens (json_text.claim_json (json_text.clock_times clock.entry) claim)) }
     ensures before { writer.new.before ≡ writer.old.before }
 {
     writer.key(name)?;
@@ -300,7 +299,7 @@ pub(crate) fn push_teller(
     teller: Option<Teller>,
     clock: Clock<'_>,
 ) -> Result<(), AllocError>
-    ensures tokens { OnOk result (writer.new.tokens ≡ writer.old.tokens ++ key name.now ∷ json_tokens (teller_json (clock_times clock.entry) teller)) }
+    ensures tokens { OnOk result (writer.new.tokens ≡ writer.old.tokens ++ key name.now ∷ json_tokens (json_text.teller_json (json_text.clock_times clock.entry) teller)) }
     ensures before { writer.new.before ≡ writer.old.before }
 {
     writer.key(name)?;
@@ -319,7 +318,7 @@ pub(crate) fn push_standing(
     place: Option<Location>,
     clock: Clock<'_>,
 ) -> Result<(), AllocError>
-    ensures tokens { OnOk result (writer.new.tokens ≡ writer.old.tokens ++ key name.now ∷ json_tokens (place_json (clock_times clock.entry) place)) }
+    ensures tokens { OnOk result (writer.new.tokens ≡ writer.old.tokens ++ key name.now ∷ json_tokens (json_text.place_json (json_text.clock_times clock.entry) place)) }
     ensures before { writer.new.before ≡ writer.old.before }
 {
     writer.key(name)?;
@@ -332,7 +331,7 @@ pub(crate) fn push_standing(
 }
 
 fn push_waited(writer: &mut Writer, wait: Wait, clock: Clock<'_>) -> Result<(), AllocError>
-    ensures tokens { OnOk result (writer.new.tokens ≡ writer.old.tokens ++ json_tokens (waited_json (clock_times clock.entry) wait)) }
+    ensures tokens { OnOk result (writer.new.tokens ≡ writer.old.tokens ++ json_tokens (json_text.waited_json (json_text.clock_times clock.entry) wait)) }
     ensures before { writer.new.before ≡ writer.old.before }
 {
     writer.begin_object()?;
@@ -348,7 +347,7 @@ fn push_wait_value(
     wait: Option<Wait>,
     clock: Clock<'_>,
 ) -> Result<(), AllocError>
-    ensures tokens { OnOk result (writer.new.tokens ≡ writer.old.tokens ++ json_tokens (wait_json (clock_times clock.entry) wait)) }
+    ensures tokens { OnOk result (writer.new.tokens ≡ writer.old.tokens ++ json_tokens (json_text.wait_json (json_text.clock_times clock.entry) wait)) }
     ensures before { writer.new.before ≡ writer.old.before }
 {
     match wait {
@@ -362,7 +361,7 @@ fn push_wait_member(
     wait: Option<Wait>,
     clock: Clock<'_>,
 ) -> Result<(), AllocError>
-    ensures tokens { OnOk result (writer.new.tokens ≡ writer.old.tokens ++ tokens_of_member (wait_member (clock_times clock.entry) wait)) }
+    ensures tokens { OnOk result (writer.new.tokens ≡ writer.old.tokens ++ json_text.tokens_of_member (json_text.wait_member (json_text.clock_times clock.entry) wait)) }
     ensures before { writer.new.before ≡ writer.old.before }
 {
     writer.key("wait")?;
@@ -375,7 +374,7 @@ pub(crate) fn push_wait(
     wait: Option<Wait>,
     clock: Clock<'_>,
 ) -> Result<(), AllocError>
-    ensures tokens { OnOk result (writer.new.tokens ≡ writer.old.tokens ++ tokens_of (wait_members (clock_times clock.entry) wait)) }
+    ensures tokens { OnOk result (writer.new.tokens ≡ writer.old.tokens ++ json_text.tokens_of (json_text.wait_members (json_text.clock_times clock.entry) wait)) }
     ensures before { writer.new.before ≡ writer.old.before }
 {
     if clock.times.are_there() {
@@ -386,7 +385,7 @@ pub(crate) fn push_wait(
 }
 
 fn push_carried(writer: &mut Writer, kind: &str, octets: usize) -> Result<(), AllocError>
-    ensures tokens { OnOk result (writer.new.tokens ≡ writer.old.tokens ++ tokens_of (carried_members kind.now octets)) }
+    ensures tokens { OnOk result (writer.new.tokens ≡ writer.old.tokens ++ json_text.tokens_of (json_text.carried_members kind.now octets)) }
     ensures before { writer.new.before ≡ writer.old.before }
 {
     push_text(writer, "payload", kind)?;
@@ -394,7 +393,7 @@ fn push_carried(writer: &mut Writer, kind: &str, octets: usize) -> Result<(), Al
 }
 
 fn push_payload(writer: &mut Writer, payload: Payload<'_>) -> Result<(), AllocError>
-    ensures tokens { OnOk result (writer.new.tokens ≡ writer.old.tokens ++ tokens_of (payload_members (Some (payload_value payload.entry)))) }
+    ensures tokens { OnOk result (writer.new.tokens ≡ writer.old.tokens ++ json_text.tokens_of (json_text.payload_members (Some (values.payload_value payload.entry)))) }
     ensures before { writer.new.before ≡ writer.old.before }
 {
     match payload {
@@ -410,7 +409,7 @@ pub(crate) fn push_sent(
     clock: Clock<'_>,
 ) -> Result<(), AllocError>
     ensures tokens { OnOk result (writer.new.tokens
-        ≡ writer.old.tokens ++ json_tokens (sent_json (clock_times clock.entry) (option_map sent_value sent.entry))) }
+        ≡ writer.old.tokens ++ json_tokens (json_text.sent_json (json_text.clock_times clock.entry) (option_map locations.sent_value sent.entry))) }
     ensures before { writer.new.before ≡ writer.old.before }
 {
     let Some(sent) = sent else {
@@ -428,7 +427,7 @@ pub(crate) fn push_evidence(
     clock: Clock<'_>,
 ) -> Result<(), AllocError>
     ensures tokens { OnOk result (writer.new.tokens
-        ≡ writer.old.tokens ++ tokens_of (evidence_members (clock_times clock.entry) (evidence_value evidence.now))) }
+        ≡ writer.old.tokens ++ json_text.tokens_of (json_text.evidence_members (json_text.clock_times clock.entry) (explanation.evidence_value evidence.now))) }
     ensures before { writer.new.before ≡ writer.old.before }
 {
     writer.key("announced")?;
@@ -445,7 +444,7 @@ fn push_not_received(
     kept: Option<NotReceived>,
     clock: Clock<'_>,
 ) -> Result<(), AllocError>
-    ensures tokens { OnOk result (writer.new.tokens ≡ writer.old.tokens ++ key name.now ∷ json_tokens (not_received_json (clock_times clock.entry) kept)) }
+    ensures tokens { OnOk result (writer.new.tokens ≡ writer.old.tokens ++ key name.now ∷ json_tokens (json_text.not_received_json (json_text.clock_times clock.entry) kept)) }
     ensures before { writer.new.before ≡ writer.old.before }
 {
     writer.key(name)?;
@@ -464,7 +463,7 @@ fn push_first_missed(
     first: Option<FirstMissed>,
     clock: Clock<'_>,
 ) -> Result<(), AllocError>
-    ensures tokens { OnOk result (writer.new.tokens ≡ writer.old.tokens ++ tokens_of (first_missed_members (clock_times clock.entry) first)) }
+    ensures tokens { OnOk result (writer.new.tokens ≡ writer.old.tokens ++ json_text.tokens_of (json_text.first_missed_members (json_text.clock_times clock.entry) first)) }
     ensures before { writer.new.before ≡ writer.old.before }
 {
     let Some(first) = first else {
@@ -485,7 +484,7 @@ pub(crate) fn push_delivery(
     clock: Clock<'_>,
 ) -> Result<(), AllocError>
     ensures tokens { OnOk result (writer.new.tokens
-        ≡ writer.old.tokens ++ tokens_of (delivery_members (clock_times clock.entry) (evidence_value evidence.now))) }
+        ≡ writer.old.tokens ++ json_text.tokens_of (json_text.delivery_members (json_text.clock_times clock.entry) (explanation.evidence_value evidence.now))) }
     ensures before { writer.new.before ≡ writer.old.before }
 {
     push_count(writer, "received", evidence.received)?;
@@ -501,7 +500,7 @@ pub(crate) fn push_asked(
     last_asked: Option<Location>,
     clock: Clock<'_>,
 ) -> Result<(), AllocError>
-    ensures tokens { OnOk result (writer.new.tokens ≡ writer.old.tokens ++ tokens_of (asked_members (clock_times clock.entry) asked_since last_asked)) }
+    ensures tokens { OnOk result (writer.new.tokens ≡ writer.old.tokens ++ json_text.tokens_of (json_text.asked_members (json_text.clock_times clock.entry) asked_since last_asked)) }
     ensures before { writer.new.before ≡ writer.old.before }
 {
     push_count(writer, "asked_since", asked_since)?;

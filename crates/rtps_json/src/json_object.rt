@@ -5,9 +5,9 @@ ghost use Rattle.std.specs.String.{string_bytes};
 ghost use Rattle.json.specs.Json.{Json, max_depth};
 ghost use Rattle.json.specs.Token.{key, number as number_token, string as string_token};
 ghost use Rattle.json.specs.Tree.{depth, json_tokens};
-ghost use Rattle.rtps_evidence.specs.Explanation.{evidence_value, explanation_value};
-ghost use Rattle.rtps_evidence.specs.Grounds.{grounds_value};
-ghost use Rattle.rtps_json.specs.JsonText.{clock_times, IsJsonLine, advice_member, arrived_member, arrived_members, counts_members, further_members, ignored_members, lacking_member, lacking_members, lost_members, node_members, outcome_members, outcomes_json, pair_members, pairs_member, reasons_members, report_json, row_json, rows_members, sentence_json, shown_members, silence_member, silence_members, span_members, spanned_members, telling_value, tokens_of, tokens_of_member, until_members, verdict_members};
+ghost use Rattle.rtps_evidence.specs.Explanation as explanation;
+ghost use Rattle.rtps_evidence.specs.Grounds as grounds_spec;
+ghost use Rattle.rtps_json.specs.JsonText as json_text;
 
 use crate::end_members::push_nodes_of;
 use crate::json_members::{
@@ -29,7 +29,7 @@ use std::alloc::{AllocError, Global};
 pub fn json_line(writer: Writer) -> Result<String, AllocError>
     requires { writer.before ≡ [] }
     ensures { (value : Json) → writer.tokens ≡ json_tokens value → depth value ≤ max_depth
-        → IfOk result (λ text. IsJsonLine value (string_bytes text)) }
+        → IfOk result (λ text. json_text.IsJsonLine value (string_bytes text)) }
 {
     let mut text = unsafe { String::from_utf8_unchecked(writer.into_inner()) };
     text.push_str("\n")?;
@@ -73,7 +73,7 @@ pub fn push_report<'r>(
     recording: &'r Recording,
 ) -> Result<(), AllocError>
     ensures tokens { OnOk result (writer.new.tokens
-        ≡ writer.old.tokens ++ json_tokens (report_json (map explanation_value explained.now.rows.items) explained.now.counts recording.now)) }
+        ≡ writer.old.tokens ++ json_tokens (json_text.report_json (map explanation.explanation_value explained.now.rows.items) explained.now.counts recording.now)) }
     ensures before { writer.new.before ≡ writer.old.before }
 {
     writer.begin_object()?;
@@ -93,7 +93,7 @@ pub(crate) fn push_report_members(
     told: &ToldRows<'_, '_>,
 ) -> Result<(), AllocError>
     ensures tokens { OnOk result (writer.new.tokens
-        ≡ writer.old.tokens ++ tokens_of (rows_members (option_map telling_value told.now.telling) (map explanation_value told.now.explained.now.rows.items) told.now.explained.now.counts told.now.recording.now)) }
+        ≡ writer.old.tokens ++ json_text.tokens_of (json_text.rows_members (option_map json_text.telling_value told.now.telling) (map explanation.explanation_value told.now.explained.now.rows.items) told.now.explained.now.counts told.now.recording.now)) }
     ensures before { writer.new.before ≡ writer.old.before }
 {
     let recording = told.recording;
@@ -121,7 +121,7 @@ fn push_pairs(
     form: RowForm<'_, '_>,
 ) -> Result<(), AllocError>
     ensures tokens { OnOk result (writer.new.tokens
-        ≡ writer.old.tokens ++ tokens_of_member (pairs_member (option_map telling_value form.entry.telling) (clock_times form.entry.clock) (map explanation_value rows.now))) }
+        ≡ writer.old.tokens ++ json_text.tokens_of_member (json_text.pairs_member (option_map json_text.telling_value form.entry.telling) (json_text.clock_times form.entry.clock) (map explanation.explanation_value rows.now))) }
     ensures before { writer.new.before ≡ writer.old.before }
 {
     writer.key("pairs")?;
@@ -139,7 +139,7 @@ fn push_row(
     form: RowForm<'_, '_>,
 ) -> Result<(), AllocError>
     ensures tokens { OnOk result (writer.new.tokens
-        ≡ writer.old.tokens ++ json_tokens (row_json (option_map telling_value form.entry.telling) (clock_times form.entry.clock) (explanation_value row.now))) }
+        ≡ writer.old.tokens ++ json_tokens (json_text.row_json (option_map json_text.telling_value form.entry.telling) (json_text.clock_times form.entry.clock) (explanation.explanation_value row.now))) }
     ensures before { writer.new.before ≡ writer.old.before }
 {
     writer.begin_object()?;
@@ -159,7 +159,7 @@ fn push_further(
     form: RowForm<'_, '_>,
 ) -> Result<(), AllocError>
     ensures tokens { OnOk result (writer.new.tokens
-        ≡ writer.old.tokens ++ tokens_of (further_members (option_map telling_value form.entry.telling) (clock_times form.entry.clock) (explanation_value row.now))) }
+        ≡ writer.old.tokens ++ json_text.tokens_of (json_text.further_members (option_map json_text.telling_value form.entry.telling) (json_text.clock_times form.entry.clock) (explanation.explanation_value row.now))) }
     ensures before { writer.new.before ≡ writer.old.before }
 {
     match form.telling {
@@ -175,7 +175,7 @@ fn push_spanned(
     clock: Clock<'_>,
 ) -> Result<(), AllocError>
     ensures tokens { OnOk result (writer.new.tokens
-        ≡ writer.old.tokens ++ tokens_of (spanned_members (telling_value telling.entry) (clock_times clock.entry) (explanation_value row.now))) }
+        ≡ writer.old.tokens ++ json_text.tokens_of (json_text.spanned_members (json_text.telling_value telling.entry) (json_text.clock_times clock.entry) (explanation.explanation_value row.now))) }
     ensures before { writer.new.before ≡ writer.old.before }
 {
     push_span(writer, &row.evidence, telling, clock)?;
@@ -193,7 +193,7 @@ fn push_span(
     clock: Clock<'_>,
 ) -> Result<(), AllocError>
     ensures tokens { OnOk result (writer.new.tokens
-        ≡ writer.old.tokens ++ tokens_of (span_members (telling_value telling.entry) (clock_times clock.entry) (evidence_value evidence.now))) }
+        ≡ writer.old.tokens ++ json_text.tokens_of (json_text.span_members (json_text.telling_value telling.entry) (json_text.clock_times clock.entry) (explanation.evidence_value evidence.now))) }
     ensures before { writer.new.before ≡ writer.old.before }
 {
     let Some(in_span) = &evidence.in_span else {
@@ -213,7 +213,7 @@ fn push_span(
 }
 
 fn push_until(writer: &mut Writer, until: Option<u64>, clock: Clock<'_>) -> Result<(), AllocError>
-    ensures tokens { OnOk result (writer.new.tokens ≡ writer.old.tokens ++ tokens_of (until_members (clock_times clock.entry) until)) }
+    ensures tokens { OnOk result (writer.new.tokens ≡ writer.old.tokens ++ json_text.tokens_of (json_text.until_members (json_text.clock_times clock.entry) until)) }
     ensures before { writer.new.before ≡ writer.old.before }
 {
     push_optional(writer, "until", until)?;
@@ -222,7 +222,7 @@ fn push_until(writer: &mut Writer, until: Option<u64>, clock: Clock<'_>) -> Resu
 }
 
 fn push_outcomes(writer: &mut Writer, in_span: &InSpan, has_other: bool) -> Result<(), AllocError>
-    ensures tokens { OnOk result (writer.new.tokens ≡ writer.old.tokens ++ key (codes "outcomes") ∷ json_tokens (outcomes_json has_other in_span.now)) }
+    ensures tokens { OnOk result (writer.new.tokens ≡ writer.old.tokens ++ key (codes "outcomes") ∷ json_tokens (json_text.outcomes_json has_other in_span.now)) }
     ensures before { writer.new.before ≡ writer.old.before }
 {
     writer.key("outcomes")?;
@@ -236,7 +236,7 @@ fn push_outcome_members(
     in_span: &InSpan,
     has_other: bool,
 ) -> Result<(), AllocError>
-    ensures tokens { OnOk result (writer.new.tokens ≡ writer.old.tokens ++ tokens_of (outcome_members has_other in_span.now)) }
+    ensures tokens { OnOk result (writer.new.tokens ≡ writer.old.tokens ++ json_text.tokens_of (json_text.outcome_members has_other in_span.now)) }
     ensures before { writer.new.before ≡ writer.old.before }
 {
     push_count(writer, "received", in_span.outcomes.received)?;
@@ -246,7 +246,7 @@ fn push_outcome_members(
 
 /// Appends how many numbers have each outcome but the first.
 fn push_lost(writer: &mut Writer, outcomes: Outcomes) -> Result<(), AllocError>
-    ensures tokens { OnOk result (writer.new.tokens ≡ writer.old.tokens ++ tokens_of (lost_members outcomes)) }
+    ensures tokens { OnOk result (writer.new.tokens ≡ writer.old.tokens ++ json_text.tokens_of (json_text.lost_members outcomes)) }
     ensures before { writer.new.before ≡ writer.old.before }
 {
     push_count(writer, "missed", outcomes.missed)?;
@@ -258,7 +258,7 @@ fn push_lost(writer: &mut Writer, outcomes: Outcomes) -> Result<(), AllocError>
 
 /// Appends how many numbers of a row arrived; null where it is not held against another recording.
 fn push_arrived_number(writer: &mut Writer, in_span: &InSpan) -> Result<(), AllocError>
-    ensures tokens { OnOk result (writer.new.tokens ≡ writer.old.tokens ++ tokens_of_member (arrived_member in_span.now)) }
+    ensures tokens { OnOk result (writer.new.tokens ≡ writer.old.tokens ++ json_text.tokens_of_member (json_text.arrived_member in_span.now)) }
     ensures before { writer.new.before ≡ writer.old.before }
 {
     writer.key("arrived")?;
@@ -271,7 +271,7 @@ fn push_arrived_number(writer: &mut Writer, in_span: &InSpan) -> Result<(), Allo
 
 /// Appends that, where there is another recording.
 fn push_arrived(writer: &mut Writer, in_span: &InSpan, has_other: bool) -> Result<(), AllocError>
-    ensures tokens { OnOk result (writer.new.tokens ≡ writer.old.tokens ++ tokens_of (arrived_members has_other in_span.now)) }
+    ensures tokens { OnOk result (writer.new.tokens ≡ writer.old.tokens ++ json_text.tokens_of (json_text.arrived_members has_other in_span.now)) }
     ensures before { writer.new.before ≡ writer.old.before }
 {
     if has_other {
@@ -283,7 +283,7 @@ fn push_arrived(writer: &mut Writer, in_span: &InSpan, has_other: bool) -> Resul
 
 /// Appends the first numbers of a row that did not arrive; null where it is not held against another recording.
 fn push_lacking_numbers(writer: &mut Writer, in_span: &InSpan) -> Result<(), AllocError>
-    ensures tokens { OnOk result (writer.new.tokens ≡ writer.old.tokens ++ tokens_of_member (lacking_member in_span.now)) }
+    ensures tokens { OnOk result (writer.new.tokens ≡ writer.old.tokens ++ json_text.tokens_of_member (json_text.lacking_member in_span.now)) }
     ensures before { writer.new.before ≡ writer.old.before }
 {
     writer.key("not_arrived")?;
@@ -296,7 +296,7 @@ fn push_lacking_numbers(writer: &mut Writer, in_span: &InSpan) -> Result<(), All
 
 /// Appends these, where there is another recording.
 fn push_lacking(writer: &mut Writer, in_span: &InSpan, has_other: bool) -> Result<(), AllocError>
-    ensures tokens { OnOk result (writer.new.tokens ≡ writer.old.tokens ++ tokens_of (lacking_members has_other in_span.now)) }
+    ensures tokens { OnOk result (writer.new.tokens ≡ writer.old.tokens ++ json_text.tokens_of (json_text.lacking_members has_other in_span.now)) }
     ensures before { writer.new.before ≡ writer.old.before }
 {
     if has_other {
@@ -314,7 +314,7 @@ fn push_silence_lines(
     alloc: Global,
 ) -> Result<(), AllocError>
     ensures tokens { OnOk result (writer.new.tokens
-        ≡ writer.old.tokens ++ tokens_of_member (silence_member (telling_value telling.entry) (explanation_value row.now))) }
+        ≡ writer.old.tokens ++ json_text.tokens_of_member (json_text.silence_member (json_text.telling_value telling.entry) (explanation.explanation_value row.now))) }
     ensures before { writer.new.before ≡ writer.old.before }
 {
     let silences = telling.talk.silences(row.pair);
@@ -330,7 +330,7 @@ fn push_silence(
     alloc: Global,
 ) -> Result<(), AllocError>
     ensures tokens { OnOk result (writer.new.tokens
-        ≡ writer.old.tokens ++ tokens_of (silence_members (telling_value telling.entry) (explanation_value row.now))) }
+        ≡ writer.old.tokens ++ json_text.tokens_of (json_text.silence_members (json_text.telling_value telling.entry) (explanation.explanation_value row.now))) }
     ensures before { writer.new.before ≡ writer.old.before }
 {
     if telling.times.are_there() {
@@ -348,7 +348,7 @@ fn push_sentence(
     alloc: Global,
 ) -> Result<(), AllocError>
     ensures tokens { OnOk result (writer.new.tokens
-        ≡ writer.old.tokens ++ json_tokens (sentence_json (telling_value telling.entry) (explanation_value row.now))) }
+        ≡ writer.old.tokens ++ json_tokens (json_text.sentence_json (json_text.telling_value telling.entry) (explanation.explanation_value row.now))) }
     ensures before { writer.new.before ≡ writer.old.before }
 {
     let Telling {
@@ -371,7 +371,7 @@ fn push_advice(
     alloc: Global,
 ) -> Result<(), AllocError>
     ensures tokens { OnOk result (writer.new.tokens
-        ≡ writer.old.tokens ++ tokens_of_member (advice_member (telling_value telling.entry) (explanation_value row.now))) }
+        ≡ writer.old.tokens ++ json_text.tokens_of_member (json_text.advice_member (json_text.telling_value telling.entry) (explanation.explanation_value row.now))) }
     ensures before { writer.new.before ≡ writer.old.before }
 {
     let evidence = &row.evidence;
@@ -390,7 +390,7 @@ fn push_nodes(
     alloc: Global,
 ) -> Result<(), AllocError>
     ensures tokens { OnOk result (writer.new.tokens
-        ≡ writer.old.tokens ++ tokens_of (node_members (telling_value telling.entry).talk row.now.pair)) }
+        ≡ writer.old.tokens ++ json_text.tokens_of (json_text.node_members (json_text.telling_value telling.entry).talk row.now.pair)) }
     ensures before { writer.new.before ≡ writer.old.before }
 {
     let mut text = String::new(alloc);
@@ -402,7 +402,7 @@ fn push_pair(
     text: &mut String,
     row: &Explanation<'_>,
 ) -> Result<(), AllocError>
-    ensures tokens { OnOk result (writer.new.tokens ≡ writer.old.tokens ++ tokens_of (pair_members (explanation_value row.now))) }
+    ensures tokens { OnOk result (writer.new.tokens ≡ writer.old.tokens ++ json_text.tokens_of (json_text.pair_members (explanation.explanation_value row.now))) }
     ensures before { writer.new.before ≡ writer.old.before }
 {
     push_guid(writer, text, "writer", row.pair.writer)?;
@@ -421,7 +421,7 @@ fn push_judged(writer: &mut Writer, name: &str, number: i64) -> Result<(), Alloc
 }
 
 fn push_verdict(writer: &mut Writer, verdict: Verdict) -> Result<(), AllocError>
-    ensures tokens { OnOk result (writer.new.tokens ≡ writer.old.tokens ++ tokens_of (verdict_members verdict)) }
+    ensures tokens { OnOk result (writer.new.tokens ≡ writer.old.tokens ++ json_text.tokens_of (json_text.verdict_members verdict)) }
     ensures before { writer.new.before ≡ writer.old.before }
 {
     match verdict {
@@ -441,7 +441,7 @@ fn push_shown(
     clock: Clock<'_>,
 ) -> Result<(), AllocError>
     ensures tokens { OnOk result (writer.new.tokens
-        ≡ writer.old.tokens ++ tokens_of (shown_members (clock_times clock.entry) (grounds_value grounds.now))) }
+        ≡ writer.old.tokens ++ json_text.tokens_of (json_text.shown_members (json_text.clock_times clock.entry) (grounds_spec.grounds_value grounds.now))) }
     ensures before { writer.new.before ≡ writer.old.before }
 {
     match *grounds {
@@ -470,7 +470,7 @@ fn push_shown(
 }
 
 fn push_counts(writer: &mut Writer, counts: Counts) -> Result<(), AllocError>
-    ensures tokens { OnOk result (writer.new.tokens ≡ writer.old.tokens ++ tokens_of (counts_members counts)) }
+    ensures tokens { OnOk result (writer.new.tokens ≡ writer.old.tokens ++ json_text.tokens_of (json_text.counts_members counts)) }
     ensures before { writer.new.before ≡ writer.old.before }
 {
     push_count(writer, "datagrams", counts.datagrams)?;
@@ -482,7 +482,7 @@ fn push_counts(writer: &mut Writer, counts: Counts) -> Result<(), AllocError>
 }
 
 fn push_ignored(writer: &mut Writer, ignored: Option<u64>) -> Result<(), AllocError>
-    ensures tokens { OnOk result (writer.new.tokens ≡ writer.old.tokens ++ tokens_of (ignored_members ignored)) }
+    ensures tokens { OnOk result (writer.new.tokens ≡ writer.old.tokens ++ json_text.tokens_of (json_text.ignored_members ignored)) }
     ensures before { writer.new.before ≡ writer.old.before }
 {
     match ignored {
@@ -492,7 +492,7 @@ fn push_ignored(writer: &mut Writer, ignored: Option<u64>) -> Result<(), AllocEr
 }
 
 fn push_reasons(writer: &mut Writer, reasons: Option<Reasons>) -> Result<(), AllocError>
-    ensures tokens { OnOk result (writer.new.tokens ≡ writer.old.tokens ++ tokens_of (reasons_members reasons)) }
+    ensures tokens { OnOk result (writer.new.tokens ≡ writer.old.tokens ++ json_text.tokens_of (json_text.reasons_members reasons)) }
     ensures before { writer.new.before ≡ writer.old.before }
 {
     let Some(reasons) = reasons else {

@@ -1,8 +1,8 @@
 ghost use Rattle.std.specs.Prelude.{◌≡◌, ◌++◌, OnOk, map};
 ghost use Rattle.json.specs.Tree.{json_tokens};
-ghost use Rattle.rtps_evidence.specs.Explanation.{lost_at};
-ghost use Rattle.rtps_evidence.specs.Kinds.{kind_value, lost_value};
-ghost use Rattle.rtps_json.specs.JsonText.{clock_times, array_of, kind_json, kind_members, kinds_members, lost_member, range_json, tokens_of, tokens_of_member};
+ghost use Rattle.rtps_evidence.specs.Explanation as explanation;
+ghost use Rattle.rtps_evidence.specs.Kinds as kinds;
+ghost use Rattle.rtps_json.specs.JsonText as json_text;
 
 use crate::json_members::{Clock, push_count, push_standing};
 use json::Writer;
@@ -10,7 +10,7 @@ use rtps_evidence::{KindNumbers, LostNumbers, NumberRange};
 use std::alloc::AllocError;
 
 fn push_range(writer: &mut Writer, range: NumberRange, clock: Clock<'_>) -> Result<(), AllocError>
-    ensures tokens { OnOk result (writer.new.tokens ≡ writer.old.tokens ++ json_tokens (range_json (clock_times clock.entry) range)) }
+    ensures tokens { OnOk result (writer.new.tokens ≡ writer.old.tokens ++ json_tokens (json_text.range_json (json_text.clock_times clock.entry) range)) }
     ensures before { writer.new.before ≡ writer.old.before }
 {
     writer.begin_object()?;
@@ -25,7 +25,7 @@ fn push_ranges(
     ranges: &[NumberRange],
     clock: Clock<'_>,
 ) -> Result<(), AllocError>
-    ensures tokens { OnOk result (writer.new.tokens ≡ writer.old.tokens ++ json_tokens (array_of (map (range_json (clock_times clock.entry)) ranges.now))) }
+    ensures tokens { OnOk result (writer.new.tokens ≡ writer.old.tokens ++ json_tokens (json_text.array_of (map (json_text.range_json (json_text.clock_times clock.entry)) ranges.now))) }
     ensures before { writer.new.before ≡ writer.old.before }
 {
     writer.begin_array()?;
@@ -40,7 +40,7 @@ fn push_kind_object(
     kind: &KindNumbers,
     clock: Clock<'_>,
 ) -> Result<(), AllocError>
-    ensures tokens { OnOk result (writer.new.tokens ≡ writer.old.tokens ++ json_tokens (kind_json (clock_times clock.entry) (kind_value kind.now))) }
+    ensures tokens { OnOk result (writer.new.tokens ≡ writer.old.tokens ++ json_tokens (json_text.kind_json (json_text.clock_times clock.entry) (kinds.kind_value kind.now))) }
     ensures before { writer.new.before ≡ writer.old.before }
 {
     writer.begin_object()?;
@@ -57,7 +57,7 @@ fn push_kind(
     kind: &KindNumbers,
     clock: Clock<'_>,
 ) -> Result<(), AllocError>
-    ensures tokens { OnOk result (writer.new.tokens ≡ writer.old.tokens ++ tokens_of (kind_members name.now (clock_times clock.entry) (kind_value kind.now))) }
+    ensures tokens { OnOk result (writer.new.tokens ≡ writer.old.tokens ++ json_text.tokens_of (json_text.kind_members name.now (json_text.clock_times clock.entry) (kinds.kind_value kind.now))) }
     ensures before { writer.new.before ≡ writer.old.before }
 {
     if kind.ranges.is_empty() {
@@ -68,7 +68,7 @@ fn push_kind(
 }
 
 fn push_kinds(writer: &mut Writer, lost: &LostNumbers, clock: Clock<'_>) -> Result<(), AllocError>
-    ensures tokens { OnOk result (writer.new.tokens ≡ writer.old.tokens ++ tokens_of (kinds_members (clock_times clock.entry) (lost_value lost.now))) }
+    ensures tokens { OnOk result (writer.new.tokens ≡ writer.old.tokens ++ json_text.tokens_of (json_text.kinds_members (json_text.clock_times clock.entry) (kinds.lost_value lost.now))) }
     ensures before { writer.new.before ≡ writer.old.before }
 {
     push_kind(writer, "missed", &lost.missed, clock)?;
@@ -84,7 +84,7 @@ fn push_kinds_at(
     place: usize,
     clock: Clock<'_>,
 ) -> Result<(), AllocError>
-    ensures tokens { OnOk result (writer.new.tokens ≡ writer.old.tokens ++ tokens_of (kinds_members (clock_times clock.entry) (lost_at (map lost_value lost.now) place))) }
+    ensures tokens { OnOk result (writer.new.tokens ≡ writer.old.tokens ++ json_text.tokens_of (json_text.kinds_members (json_text.clock_times clock.entry) (explanation.lost_at (map kinds.lost_value lost.now) place))) }
     ensures before { writer.new.before ≡ writer.old.before }
 {
     match lost.get(place) {
@@ -100,7 +100,7 @@ pub(crate) fn push_lost_of(
     place: usize,
     clock: Clock<'_>,
 ) -> Result<(), AllocError>
-    ensures tokens { OnOk result (writer.new.tokens ≡ writer.old.tokens ++ tokens_of_member (lost_member (clock_times clock.entry) (lost_at (map lost_value lost.now) place))) }
+    ensures tokens { OnOk result (writer.new.tokens ≡ writer.old.tokens ++ json_text.tokens_of_member (json_text.lost_member (json_text.clock_times clock.entry) (explanation.lost_at (map kinds.lost_value lost.now) place))) }
     ensures before { writer.new.before ≡ writer.old.before }
 {
     writer.key("numbers")?;

@@ -3,13 +3,13 @@ ghost use Rattle.std.specs.Option.{option_map};
 ghost use Rattle.json.specs.Json.{boolean};
 ghost use Rattle.json.specs.Token.{key};
 ghost use Rattle.json.specs.Tree.{json_tokens};
-ghost use Rattle.rtps_policies.specs.Fitting.{profile_value};
-ghost use Rattle.rtps_policies.specs.Unmatched.{unmatched_value};
-ghost use Rattle.rtps_report.specs.BestEfforts.{best_effort_value, held_value};
-ghost use Rattle.rtps_report.specs.FullReport.{report_value};
-ghost use Rattle.rtps_report.specs.Talk.{left_out_value, talk_value};
-ghost use Rattle.rtps_json.specs.JsonText.{clock_times, array_of, timed_members, tokens_of, tokens_of_member};
-ghost use Rattle.rtps_json.specs.TalkMembers.{address_json, best_effort_json, best_effort_member, held_json, held_member, held_members, named_members, one_way_json, one_way_member, participant_json, participants_member, placed_members, reasons_json, stay_members, stay_times, talk_members, talking_json, talking_member, unmatched_json, unmatched_member, unobserved_json, unobserved_member, values_json};
+ghost use Rattle.rtps_policies.specs.Fitting as fitting;
+ghost use Rattle.rtps_policies.specs.Unmatched as unmatched_spec;
+ghost use Rattle.rtps_report.specs.BestEfforts as best_efforts;
+ghost use Rattle.rtps_report.specs.FullReport as full_report;
+ghost use Rattle.rtps_report.specs.Talk as talk_spec;
+ghost use Rattle.rtps_json.specs.JsonText as json_text;
+ghost use Rattle.rtps_json.specs.AddressMembers as address_members;
 ghost use Rattle.rtps_json.specs.TalkMembers as talk_members_spec;
 
 use crate::discovery_members::push_discovery_members;
@@ -38,7 +38,7 @@ fn push_reasons(
     text: &mut String,
     policies: &[Policy],
 ) -> Result<(), AllocError>
-    ensures tokens { OnOk result (writer.new.tokens ≡ writer.old.tokens ++ key (codes "because") ∷ json_tokens (reasons_json policies.now)) }
+    ensures tokens { OnOk result (writer.new.tokens ≡ writer.old.tokens ++ key (codes "because") ∷ json_tokens (talk_members_spec.reasons_json policies.now)) }
     ensures before { writer.new.before ≡ writer.old.before }
 {
     writer.key("because")?;
@@ -59,7 +59,7 @@ fn push_values(
     valued: Valued<'_, '_>,
 ) -> Result<(), AllocError>
     ensures tokens { OnOk result (writer.new.tokens ≡ writer.old.tokens
-        ++ key name.now ∷ json_tokens (values_json valued.entry.policies.now (profile_value valued.entry.profile.now))) }
+        ++ key name.now ∷ json_tokens (talk_members_spec.values_json valued.entry.policies.now (fitting.profile_value valued.entry.profile.now))) }
     ensures before { writer.new.before ≡ writer.old.before }
 {
     writer.key(name)?;
@@ -82,7 +82,7 @@ fn push_unmatched(
     text: &mut String,
     one: &Unmatched<'_>,
 ) -> Result<(), AllocError>
-    ensures tokens { OnOk result (writer.new.tokens ≡ writer.old.tokens ++ json_tokens (unmatched_json (unmatched_value one.now))) }
+    ensures tokens { OnOk result (writer.new.tokens ≡ writer.old.tokens ++ json_tokens (talk_members_spec.unmatched_json (unmatched_spec.unmatched_value one.now))) }
     ensures before { writer.new.before ≡ writer.old.before }
 {
     let offered = Valued {
@@ -108,7 +108,7 @@ fn push_all_unmatched(
     text: &mut String,
     unmatched: &[Unmatched<'_>],
 ) -> Result<(), AllocError>
-    ensures tokens { OnOk result (writer.new.tokens ≡ writer.old.tokens ++ tokens_of_member (unmatched_member (map unmatched_value unmatched.now))) }
+    ensures tokens { OnOk result (writer.new.tokens ≡ writer.old.tokens ++ json_text.tokens_of_member (talk_members_spec.unmatched_member (map unmatched_spec.unmatched_value unmatched.now))) }
     ensures before { writer.new.before ≡ writer.old.before }
 {
     writer.key("unmatched")?;
@@ -124,7 +124,7 @@ fn push_talking(
     text: &mut String,
     one: &Unmatched<'_>,
 ) -> Result<(), AllocError>
-    ensures tokens { OnOk result (writer.new.tokens ≡ writer.old.tokens ++ json_tokens (talking_json (unmatched_value one.now))) }
+    ensures tokens { OnOk result (writer.new.tokens ≡ writer.old.tokens ++ json_tokens (talk_members_spec.talking_json (unmatched_spec.unmatched_value one.now))) }
     ensures before { writer.new.before ≡ writer.old.before }
 {
     writer.begin_object()?;
@@ -140,7 +140,7 @@ fn push_all_talking(
     text: &mut String,
     talking: &[Unmatched<'_>],
 ) -> Result<(), AllocError>
-    ensures tokens { OnOk result (writer.new.tokens ≡ writer.old.tokens ++ tokens_of_member (talking_member (map unmatched_value talking.now))) }
+    ensures tokens { OnOk result (writer.new.tokens ≡ writer.old.tokens ++ json_text.tokens_of_member (talk_members_spec.talking_member (map unmatched_spec.unmatched_value talking.now))) }
     ensures before { writer.new.before ≡ writer.old.before }
 {
     writer.key("talking")?;
@@ -170,7 +170,7 @@ fn push_unobserved(
     one: &LeftOut<'_>,
     silence: Silence,
 ) -> Result<(), AllocError>
-    ensures tokens { OnOk result (writer.new.tokens ≡ writer.old.tokens ++ json_tokens (unobserved_json silence (left_out_value one.now))) }
+    ensures tokens { OnOk result (writer.new.tokens ≡ writer.old.tokens ++ json_tokens (talk_members_spec.unobserved_json silence (talk_spec.left_out_value one.now))) }
     ensures before { writer.new.before ≡ writer.old.before }
 {
     writer.begin_object()?;
@@ -187,7 +187,7 @@ fn push_all_unobserved(
     talk: &Talk<'_>,
 ) -> Result<(), AllocError>
     ensures tokens { OnOk result (writer.new.tokens ≡ writer.old.tokens
-        ++ tokens_of_member (unobserved_member (talk_value talk.now).silence (talk_value talk.now).left_out)) }
+        ++ json_text.tokens_of_member (talk_members_spec.unobserved_member (talk_spec.talk_value talk.now).silence (talk_spec.talk_value talk.now).left_out)) }
     ensures before { writer.new.before ≡ writer.old.before }
 {
     writer.key("unobserved")?;
@@ -199,7 +199,7 @@ fn push_all_unobserved(
 }
 
 fn push_one_way(writer: &mut Writer, text: &mut String, one: OneWay) -> Result<(), AllocError>
-    ensures tokens { OnOk result (writer.new.tokens ≡ writer.old.tokens ++ json_tokens (one_way_json one)) }
+    ensures tokens { OnOk result (writer.new.tokens ≡ writer.old.tokens ++ json_tokens (talk_members_spec.one_way_json one)) }
     ensures before { writer.new.before ≡ writer.old.before }
 {
     writer.begin_object()?;
@@ -214,7 +214,7 @@ fn push_all_one_way(
     text: &mut String,
     one_way: &[OneWay],
 ) -> Result<(), AllocError>
-    ensures tokens { OnOk result (writer.new.tokens ≡ writer.old.tokens ++ tokens_of_member (one_way_member one_way.now)) }
+    ensures tokens { OnOk result (writer.new.tokens ≡ writer.old.tokens ++ json_text.tokens_of_member (talk_members_spec.one_way_member one_way.now)) }
     ensures before { writer.new.before ≡ writer.old.before }
 {
     writer.key("one_way")?;
@@ -230,7 +230,7 @@ fn push_best_effort(
     text: &mut String,
     sum: &BestEffort<'_>,
 ) -> Result<(), AllocError>
-    ensures tokens { OnOk result (writer.new.tokens ≡ writer.old.tokens ++ json_tokens (best_effort_json (best_effort_value sum.now))) }
+    ensures tokens { OnOk result (writer.new.tokens ≡ writer.old.tokens ++ json_tokens (talk_members_spec.best_effort_json (best_efforts.best_effort_value sum.now))) }
     ensures before { writer.new.before ≡ writer.old.before }
 {
     writer.begin_object()?;
@@ -246,7 +246,7 @@ fn push_all_best_effort(
     text: &mut String,
     sums: &[BestEffort<'_>],
 ) -> Result<(), AllocError>
-    ensures tokens { OnOk result (writer.new.tokens ≡ writer.old.tokens ++ tokens_of_member (best_effort_member (map best_effort_value sums.now))) }
+    ensures tokens { OnOk result (writer.new.tokens ≡ writer.old.tokens ++ json_text.tokens_of_member (talk_members_spec.best_effort_member (map best_efforts.best_effort_value sums.now))) }
     ensures before { writer.new.before ≡ writer.old.before }
 {
     writer.key("best_effort")?;
@@ -258,7 +258,7 @@ fn push_all_best_effort(
 }
 
 fn push_held(writer: &mut Writer, text: &mut String, one: &HeldPair<'_>) -> Result<(), AllocError>
-    ensures tokens { OnOk result (writer.new.tokens ≡ writer.old.tokens ++ json_tokens (held_json (held_value one.now))) }
+    ensures tokens { OnOk result (writer.new.tokens ≡ writer.old.tokens ++ json_tokens (talk_members_spec.held_json (best_efforts.held_value one.now))) }
     ensures before { writer.new.before ≡ writer.old.before }
 {
     writer.begin_object()?;
@@ -277,7 +277,7 @@ fn push_all_held(
     text: &mut String,
     held: &[HeldPair<'_>],
 ) -> Result<(), AllocError>
-    ensures tokens { OnOk result (writer.new.tokens ≡ writer.old.tokens ++ tokens_of_member (held_member (map held_value held.now))) }
+    ensures tokens { OnOk result (writer.new.tokens ≡ writer.old.tokens ++ json_text.tokens_of_member (talk_members_spec.held_member (map best_efforts.held_value held.now))) }
     ensures before { writer.new.before ≡ writer.old.before }
 {
     writer.key("arrived")?;
@@ -295,7 +295,7 @@ fn push_arrived(
     held: &[HeldPair<'_>],
     has_other: bool,
 ) -> Result<(), AllocError>
-    ensures tokens { OnOk result (writer.new.tokens ≡ writer.old.tokens ++ tokens_of (held_members has_other (map held_value held.now))) }
+    ensures tokens { OnOk result (writer.new.tokens ≡ writer.old.tokens ++ json_text.tokens_of (talk_members_spec.held_members has_other (map best_efforts.held_value held.now))) }
     ensures before { writer.new.before ≡ writer.old.before }
 {
     if has_other {
@@ -310,7 +310,7 @@ pub(crate) fn push_address(
     text: &mut String,
     address: Option<Address>,
 ) -> Result<(), AllocError>
-    ensures tokens { OnOk result (writer.new.tokens ≡ writer.old.tokens ++ key (codes "address") ∷ json_tokens (address_json address)) }
+    ensures tokens { OnOk result (writer.new.tokens ≡ writer.old.tokens ++ key (codes "address") ∷ json_tokens (address_members.address_json address)) }
     ensures before { writer.new.before ≡ writer.old.before }
 {
     writer.key("address")?;
@@ -355,7 +355,7 @@ fn last_of(stay: Option<Stay>) -> Option<u64>
 /// Appends whether a participant is silent; nothing where the recording has no times.
 fn push_silent(writer: &mut Writer, silent: bool, times: &Times) -> Result<(), AllocError>
     ensures tokens { OnOk result (writer.new.tokens
-        ≡ writer.old.tokens ++ tokens_of (timed_members times.now ((codes "silent", boolean silent) ∷ []))) }
+        ≡ writer.old.tokens ++ json_text.tokens_of (json_text.timed_members times.now ((codes "silent", boolean silent) ∷ []))) }
     ensures before { writer.new.before ≡ writer.old.before }
 {
     if !times.are_there() {
@@ -370,7 +370,7 @@ fn push_stay_times(
     participant: &Participant,
     clock: Clock<'_>,
 ) -> Result<(), AllocError>
-    ensures tokens { OnOk result (writer.new.tokens ≡ writer.old.tokens ++ tokens_of (stay_times (clock_times clock.entry) participant.now)) }
+    ensures tokens { OnOk result (writer.new.tokens ≡ writer.old.tokens ++ json_text.tokens_of (talk_members_spec.stay_times (json_text.clock_times clock.entry) participant.now)) }
     ensures before { writer.new.before ≡ writer.old.before }
 {
     push_timed(writer, "first_time", first_of(participant.stay), clock)?;
@@ -388,7 +388,7 @@ fn push_stay(
     participant: &Participant,
     clock: Clock<'_>,
 ) -> Result<(), AllocError>
-    ensures tokens { OnOk result (writer.new.tokens ≡ writer.old.tokens ++ tokens_of (stay_members (clock_times clock.entry) participant.now)) }
+    ensures tokens { OnOk result (writer.new.tokens ≡ writer.old.tokens ++ json_text.tokens_of (talk_members_spec.stay_members (json_text.clock_times clock.entry) participant.now)) }
     ensures before { writer.new.before ≡ writer.old.before }
 {
     push_optional(writer, "first", first_of(participant.stay))?;
@@ -412,7 +412,7 @@ fn push_named(
     by: Presented<'_, '_>,
 ) -> Result<(), AllocError>
     ensures tokens { OnOk result (writer.new.tokens
-        ≡ writer.old.tokens ++ tokens_of (named_members (talk_value by.entry.talk.now) participant.now)) }
+        ≡ writer.old.tokens ++ json_text.tokens_of (talk_members_spec.named_members (talk_spec.talk_value by.entry.talk.now) participant.now)) }
     ensures before { writer.new.before ≡ writer.old.before }
 {
     let end = by.talk.end(participant.guid);
@@ -429,7 +429,7 @@ fn push_placed(
     clock: Clock<'_>,
 ) -> Result<(), AllocError>
     ensures tokens { OnOk result (writer.new.tokens
-        ≡ writer.old.tokens ++ tokens_of (placed_members (clock_times clock.entry) participant.now)) }
+        ≡ writer.old.tokens ++ json_text.tokens_of (talk_members_spec.placed_members (json_text.clock_times clock.entry) participant.now)) }
     ensures before { writer.new.before ≡ writer.old.before }
 {
     let domain = domain_number(participant.host.domain);
@@ -446,7 +446,7 @@ fn push_participant(
     by: Presented<'_, '_>,
 ) -> Result<(), AllocError>
     ensures tokens { OnOk result (writer.new.tokens
-        ≡ writer.old.tokens ++ json_tokens (participant_json (talk_value by.entry.talk.now) (clock_times by.entry.clock) participant.now)) }
+        ≡ writer.old.tokens ++ json_tokens (talk_members_spec.participant_json (talk_spec.talk_value by.entry.talk.now) (json_text.clock_times by.entry.clock) participant.now)) }
     ensures before { writer.new.before ≡ writer.old.before }
 {
     writer.begin_object()?;
@@ -461,7 +461,7 @@ fn push_all_participants(
     by: Presented<'_, '_>,
 ) -> Result<(), AllocError>
     ensures tokens { OnOk result (writer.new.tokens
-        ≡ writer.old.tokens ++ tokens_of_member (participants_member (clock_times by.entry.clock) (talk_value by.entry.talk.now))) }
+        ≡ writer.old.tokens ++ json_text.tokens_of_member (talk_members_spec.participants_member (json_text.clock_times by.entry.clock) (talk_spec.talk_value by.entry.talk.now))) }
     ensures before { writer.new.before ≡ writer.old.before }
 {
     writer.key("participants")?;
@@ -474,7 +474,7 @@ fn push_all_participants(
 
 /// Whether there is another recording.
 pub(crate) fn has_other(report: &FullReport<'_>) -> bool
-    ensures { result ≡ is_some (report_value report.now).arrived }
+    ensures { result ≡ is_some (full_report.report_value report.now).arrived }
 {
     report.arrived.is_some()
 }
@@ -485,7 +485,7 @@ pub(crate) fn push_talk_members(
     writer: &mut Writer,
     report: &FullReport<'_>,
 ) -> Result<(), AllocError>
-    ensures tokens { OnOk result (writer.new.tokens ≡ writer.old.tokens ++ tokens_of (talk_members report.now.recording.now.times (report_value report.now))) }
+    ensures tokens { OnOk result (writer.new.tokens ≡ writer.old.tokens ++ json_text.tokens_of (talk_members_spec.talk_members report.now.recording.now.times (full_report.report_value report.now))) }
     ensures before { writer.new.before ≡ writer.old.before }
 {
     let mut text = String::new(alloc);

@@ -6,7 +6,7 @@ use Rattle.json.specs.Json.{Json}
 use Rattle.json.specs.Token.{Token, begin_array, end_array}
 use Rattle.json.specs.Tree.{json_tokens}
 use Rattle.rtps_evidence.specs.declared.kinds.NumberRange.{NumberRange}
-use Rattle.rtps_json.specs.JsonText.{clock_times, range_json}
+use Rattle.rtps_json.specs.JsonText as json_text
 use Rattle.rtps_json.proofs.JsonLemmas.{mapped_tokens}
 use Rattle.rtps_lines.proofs.Offered.{three_parts}
 use Rattle.rtps_json.proofs.number_members.push_ranges.Goals as goal
@@ -15,7 +15,7 @@ pub returns-clause-tokens : goal.returns-clause-tokens
 returns-clause-tokens c =
     let start : List Token = c.args.writer.now.tokens in
     let ranges = c.args.ranges.now in
-    let one : NumberRange → Json = range_json (clock_times c.args.clock) in
+    let one : NumberRange → Json = json_text.range_json (json_text.clock_times c.args.clock) in
     let told : List NumberRange → List Token = λ these. flat_map (λ range. json_tokens (one range)) these in
     let all = take_all c.loop-range.range-index ranges c.loop-range-test.false in
     let written = c.loop-range.invariant.0 ∙ ap (λ these. c.begin_array.new.self.tokens ++ told these) all in

@@ -1,10 +1,10 @@
 use Rattle.std.proofs.Common.{◌≡◌, ◌++◌, take}
 use Rattle.std.specs.List.{flat_map}
 use Rattle.json.specs.Tree.{json_tokens}
-use Rattle.rtps_json.specs.TalkMembers.{one_way_json}
+use Rattle.rtps_json.specs.TalkMembers as talk_members
 use Rattle.rtps_json.proofs.talk_members.push_all_one_way.Given as goal
 
 abbrev pub invariant-loop-one : goal.invariant-loop-one
 invariant-loop-one l =
-    (l.writer.tokens ≡ l.initial.writer.tokens ++ flat_map (λ one. json_tokens (one_way_json one)) (take l.one-index l.one_way))
+    (l.writer.tokens ≡ l.initial.writer.tokens ++ flat_map (λ one. json_tokens (talk_members.one_way_json one)) (take l.one-index l.one_way))
     × (l.writer.before ≡ l.initial.writer.before)

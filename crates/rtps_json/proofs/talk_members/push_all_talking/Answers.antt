@@ -3,15 +3,15 @@ use Rattle.std.proofs.lemmas.List.{take_all}
 use Rattle.std.proofs.lemmas.Result.{on_ok_weaker}
 use Rattle.json.specs.Token.{key}
 use Rattle.json.specs.Tree.{json_tokens}
-use Rattle.rtps_policies.specs.Unmatched.{unmatched_value}
-use Rattle.rtps_json.specs.TalkMembers.{talking_json}
+use Rattle.rtps_policies.specs.Unmatched as unmatched
+use Rattle.rtps_json.specs.TalkMembers as talk_members
 use Rattle.rtps_lines.proofs.Offered.{item_more}
 use Rattle.rtps_json.proofs.TalkLemmas.{views_written}
 use Rattle.rtps_json.proofs.talk_members.push_all_talking.Goals as goal
 
 pub loop-one-preserved : goal.loop-one-preserved
 loop-one-preserved c = (
-  item_more (λ one. json_tokens (talking_json (unmatched_value one))) c.args.talking.now c.loop-one.one-index c.one-item.result c.one-item.result c.begin_array.new.self.tokens c.loop-one.writer.tokens
+  item_more (λ one. json_tokens (talk_members.talking_json (unmatched.unmatched_value one))) c.args.talking.now c.loop-one.one-index c.one-item.result c.one-item.result c.begin_array.new.self.tokens c.loop-one.writer.tokens
       c.push_talking.new.writer.tokens c.loop-one-test.true c.one-item.is c.loop-one.invariant.0 c.in_ok-push_talking.ensures.tokens,
   c.in_ok-push_talking.ensures.before ∙ c.loop-one.invariant.1,
 )
@@ -20,5 +20,5 @@ pub returns-clause-tokens : goal.returns-clause-tokens
 returns-clause-tokens c =
     let all = take_all c.loop-one.one-index c.args.talking.now c.loop-one-test.false in
     on_ok_weaker c.end_array.result
-    (views_written talking_json unmatched_value c.args.talking.now _ c.args.writer.now.tokens (key (codes "talking")) all c.in_ok-key.ensures.ok c.in_ok-begin_array.ensures.ok c.loop-one.invariant.0)
+    (views_written talk_members.talking_json unmatched.unmatched_value c.args.talking.now _ c.args.writer.now.tokens (key (codes "talking")) all c.in_ok-key.ensures.ok c.in_ok-begin_array.ensures.ok c.loop-one.invariant.0)
     c.end_array.ensures.ok

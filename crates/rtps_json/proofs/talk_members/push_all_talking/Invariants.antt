@@ -1,11 +1,11 @@
 use Rattle.std.proofs.Common.{◌≡◌, ◌++◌, take}
 use Rattle.std.specs.List.{flat_map}
 use Rattle.json.specs.Tree.{json_tokens}
-use Rattle.rtps_policies.specs.Unmatched.{unmatched_value}
-use Rattle.rtps_json.specs.TalkMembers.{talking_json}
+use Rattle.rtps_policies.specs.Unmatched as unmatched
+use Rattle.rtps_json.specs.TalkMembers as talk_members
 use Rattle.rtps_json.proofs.talk_members.push_all_talking.Given as goal
 
 abbrev pub invariant-loop-one : goal.invariant-loop-one
 invariant-loop-one l =
-    (l.writer.tokens ≡ l.initial.writer.tokens ++ flat_map (λ one. json_tokens (talking_json (unmatched_value one))) (take l.one-index l.talking))
+    (l.writer.tokens ≡ l.initial.writer.tokens ++ flat_map (λ one. json_tokens (talk_members.talking_json (unmatched.unmatched_value one))) (take l.one-index l.talking))
     × (l.writer.before ≡ l.initial.writer.before)

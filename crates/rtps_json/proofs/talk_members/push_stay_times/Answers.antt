@@ -2,8 +2,8 @@ use Rattle.std.proofs.Common.{◌++◌, ◌∷◌, [], ◌∙◌, List, ℕ, Opt
 use Rattle.std.proofs.lemmas.Result.{on_ok_weaker}
 use Rattle.json.specs.Json.{boolean}
 use Rattle.json.specs.Token.{Token}
-use Rattle.rtps_json.specs.JsonText.{Member, clock_times, frame_member, second_member, timed_members, tokens_of}
-use Rattle.rtps_json.specs.TalkMembers.{first_of, last_of}
+use Rattle.rtps_json.specs.JsonText as json_text
+use Rattle.rtps_json.specs.TalkMembers as talk_members
 use Rattle.rtps_json.proofs.JsonLemmas.{timed_each}
 use Rattle.rtps_lines.proofs.Offered.{seven_parts}
 use Rattle.rtps_json.proofs.talk_members.push_stay_times.Goals as goal
@@ -11,18 +11,18 @@ use Rattle.rtps_json.proofs.talk_members.push_stay_times.Goals as goal
 pub returns-clause-tokens : goal.returns-clause-tokens
 returns-clause-tokens c =
     let participant = c.args.participant.now in
-    let times = clock_times c.args.clock in
+    let times = json_text.clock_times c.args.clock in
     let start : List Token = c.args.writer.now.tokens in
-    let told : Member → List Token = λ member. tokens_of (timed_members times (member ∷ [])) in
-    let second : List ℕ → Option ℕ → Member = λ name datagram. second_member name times datagram in
-    let frame : List ℕ → Option ℕ → Member = λ name datagram. frame_member name times datagram in
-    let a = second (codes "first_time") (first_of participant) in
-    let b = second (codes "last_time") (last_of participant) in
+    let told : json_text.Member → List Token = λ member. json_text.tokens_of (json_text.timed_members times (member ∷ [])) in
+    let second : List ℕ → Option ℕ → json_text.Member = λ name datagram. json_text.second_member name times datagram in
+    let frame : List ℕ → Option ℕ → json_text.Member = λ name datagram. json_text.frame_member name times datagram in
+    let a = second (codes "first_time") (talk_members.first_of participant) in
+    let b = second (codes "last_time") (talk_members.last_of participant) in
     let d = second (codes "left_time") participant.left in
-    let e = frame (codes "first_frame") (first_of participant) in
-    let f = frame (codes "last_frame") (last_of participant) in
+    let e = frame (codes "first_frame") (talk_members.first_of participant) in
+    let f = frame (codes "last_frame") (talk_members.last_of participant) in
     let g = frame (codes "left_frame") participant.left in
-    let h : Member = (codes "silent", boolean participant.silent) in
+    let h : json_text.Member = (codes "silent", boolean participant.silent) in
     on_ok_weaker c.push_silent.result
     (λ end.
     seven_parts start (told a) (told b) (told d) (told e) (told f) (told g) (told h)
