@@ -1,9 +1,9 @@
 ghost use Rattle.std.specs.Prelude.{◌≡◌, ◌++◌, map, OnOk};
 ghost use Rattle.json.specs.Tree.{json_tokens};
-ghost use Rattle.rtps_evidence.specs.Explanation.{explanation_value};
-ghost use Rattle.rtps_json.specs.JsonText.{clock_times, second_json, tokens_of_member};
-ghost use Rattle.rtps_lines.specs.Lines.{second_in};
-ghost use Rattle.rtps_page.specs.Joining.{joined_in, joined_json, joined_member};
+ghost use Rattle.rtps_evidence.specs.Explanation as explanation;
+ghost use Rattle.rtps_json.specs.JsonText as json_text;
+ghost use Rattle.rtps_lines.specs.Lines as lines;
+ghost use Rattle.rtps_page.specs.Joining as joining;
 
 use json::Writer;
 use rtps_evidence::{Explanation, Location};
@@ -12,7 +12,7 @@ use std::alloc::AllocError;
 
 /// Where the reader of a row joins; None where it does not, or was there before the recording.
 fn joined_of(row: &Explanation<'_>) -> Option<Location>
-    ensures { result ≡ joined_in (explanation_value row.now).evidence.in_span }
+    ensures { result ≡ joining.joined_in (explanation.explanation_value row.now).evidence.in_span }
 {
     let Some(in_span) = &row.evidence.in_span else {
         return None;
@@ -27,7 +27,7 @@ fn joined_of(row: &Explanation<'_>) -> Option<Location>
 /// Appends the second of a datagram, or null where it has none.
 fn push_second(writer: &mut Writer, clock: Clock<'_>, datagram: u64) -> Result<(), AllocError>
     ensures tokens { OnOk result (writer.new.tokens
-        ≡ writer.old.tokens ++ json_tokens (second_json (second_in (clock_times clock.entry) datagram))) }
+        ≡ writer.old.tokens ++ json_tokens (json_text.second_json (lines.second_in (json_text.clock_times clock.entry) datagram))) }
     ensures before { writer.new.before ≡ writer.old.before }
 {
     match clock.times.second(datagram) {
@@ -41,7 +41,7 @@ fn push_joined(
     clock: Clock<'_>,
     joined: Option<Location>,
 ) -> Result<(), AllocError>
-    ensures tokens { OnOk result (writer.new.tokens ≡ writer.old.tokens ++ json_tokens (joined_json (clock_times clock.entry) joined)) }
+    ensures tokens { OnOk result (writer.new.tokens ≡ writer.old.tokens ++ json_tokens (joining.joined_json (json_text.clock_times clock.entry) joined)) }
     ensures before { writer.new.before ≡ writer.old.before }
 {
     let Some(place) = joined else {
@@ -61,7 +61,7 @@ pub(crate) fn push_all_joined(
     rows: &[Explanation<'_>],
 ) -> Result<(), AllocError>
     ensures tokens { OnOk result (writer.new.tokens
-        ≡ writer.old.tokens ++ tokens_of_member (joined_member (clock_times clock.entry) (map explanation_value rows.now))) }
+        ≡ writer.old.tokens ++ json_text.tokens_of_member (joining.joined_member (json_text.clock_times clock.entry) (map explanation.explanation_value rows.now))) }
     ensures before { writer.new.before ≡ writer.old.before }
 {
     writer.key("joined")?;

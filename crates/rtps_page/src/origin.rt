@@ -1,8 +1,8 @@
 ghost use Rattle.std.specs.Prelude.{◌≡◌, ◌++◌, ◌∷◌, OnOk};
 ghost use Rattle.json.specs.Token.{key};
 ghost use Rattle.json.specs.Tree.{json_tokens};
-ghost use Rattle.rtps_json.specs.JsonText.{tokens_of, tokens_of_member};
-ghost use Rattle.rtps_page.specs.Origin.{moment_json, origin_value, recording_member, recording_members};
+ghost use Rattle.rtps_json.specs.JsonText as json_text;
+ghost use Rattle.rtps_page.specs.Origin as origin_spec;
 
 use json::Writer;
 use rtps_evidence::Times;
@@ -22,7 +22,7 @@ pub struct Origin<'a> {
 }
 
 fn push_moment(writer: &mut Writer, name: &str, moment: Option<u64>) -> Result<(), AllocError>
-    ensures tokens { OnOk result (writer.new.tokens ≡ writer.old.tokens ++ key name.now ∷ json_tokens (moment_json moment)) }
+    ensures tokens { OnOk result (writer.new.tokens ≡ writer.old.tokens ++ key name.now ∷ json_tokens (origin_spec.moment_json moment)) }
     ensures before { writer.new.before ≡ writer.old.before }
 {
     writer.key(name)?;
@@ -37,7 +37,7 @@ fn push_recording_members(
     origin: Origin<'_>,
     times: &Times,
 ) -> Result<(), AllocError>
-    ensures tokens { OnOk result (writer.new.tokens ≡ writer.old.tokens ++ tokens_of (recording_members (origin_value origin.entry) times.now)) }
+    ensures tokens { OnOk result (writer.new.tokens ≡ writer.old.tokens ++ json_text.tokens_of (origin_spec.recording_members (origin_spec.origin_value origin.entry) times.now)) }
     ensures before { writer.new.before ≡ writer.old.before }
 {
     push_text(writer, "name", origin.name)?;
@@ -52,7 +52,7 @@ pub(crate) fn push_recording(
     origin: Origin<'_>,
     times: &Times,
 ) -> Result<(), AllocError>
-    ensures tokens { OnOk result (writer.new.tokens ≡ writer.old.tokens ++ tokens_of_member (recording_member (origin_value origin.entry) times.now)) }
+    ensures tokens { OnOk result (writer.new.tokens ≡ writer.old.tokens ++ json_text.tokens_of_member (origin_spec.recording_member (origin_spec.origin_value origin.entry) times.now)) }
     ensures before { writer.new.before ≡ writer.old.before }
 {
     writer.key("recording")?;

@@ -1,12 +1,12 @@
 ghost use Rattle.std.specs.Prelude.{◌≡◌, ◌++◌, ◌∷◌, [], codes, IfOk, OnOk};
 ghost use Rattle.json.specs.Token.{boolean, key};
 ghost use Rattle.json.specs.Tree.{json_tokens};
-ghost use Rattle.rtps_audit.specs.Index.{IsIndexBy};
-ghost use Rattle.rtps_audit.specs.Intake.{Intake};
-ghost use Rattle.rtps_audit.specs.Placed.{placed_in};
-ghost use Rattle.rtps_report.specs.Asked.{asked_value};
-ghost use Rattle.rtps_json.specs.JsonText.{clock_times, tokens_of, tokens_of_member};
-ghost use Rattle.rtps_page.specs.Page.{IsPrinted, chart_members, expect_json, intake_in, json_in, members_in, option_members, options_member};
+ghost use Rattle.rtps_audit.specs.Index as index_spec;
+ghost use Rattle.rtps_audit.specs.Intake as intake;
+ghost use Rattle.rtps_audit.specs.Placed as placed;
+ghost use Rattle.rtps_report.specs.Asked as asked_spec;
+ghost use Rattle.rtps_json.specs.JsonText as json_text;
+ghost use Rattle.rtps_page.specs.Page as page;
 
 use crate::chart_answers::push_all_answers;
 use crate::chart_room::pairs_with_charts;
@@ -40,7 +40,7 @@ fn push_flag(writer: &mut Writer, name: &str, flag: bool) -> Result<(), AllocErr
 }
 
 fn push_expect(writer: &mut Writer, expect: Option<u64>) -> Result<(), AllocError>
-    ensures tokens { OnOk result (writer.new.tokens ≡ writer.old.tokens ++ key (codes "expect") ∷ json_tokens (expect_json expect)) }
+    ensures tokens { OnOk result (writer.new.tokens ≡ writer.old.tokens ++ key (codes "expect") ∷ json_tokens (page.expect_json expect)) }
     ensures before { writer.new.before ≡ writer.old.before }
 {
     writer.key("expect")?;
@@ -51,7 +51,7 @@ fn push_expect(writer: &mut Writer, expect: Option<u64>) -> Result<(), AllocErro
 }
 
 fn push_option_members(writer: &mut Writer, asked: &Asked<'_>) -> Result<(), AllocError>
-    ensures tokens { OnOk result (writer.new.tokens ≡ writer.old.tokens ++ tokens_of (option_members (asked_value asked.now))) }
+    ensures tokens { OnOk result (writer.new.tokens ≡ writer.old.tokens ++ json_text.tokens_of (page.option_members (asked_spec.asked_value asked.now))) }
     ensures before { writer.new.before ≡ writer.old.before }
 {
     push_count(writer, "from", asked.first_asked())?;
@@ -63,7 +63,7 @@ fn push_option_members(writer: &mut Writer, asked: &Asked<'_>) -> Result<(), All
 }
 
 fn push_options(writer: &mut Writer, asked: &Asked<'_>) -> Result<(), AllocError>
-    ensures tokens { OnOk result (writer.new.tokens ≡ writer.old.tokens ++ tokens_of_member (options_member (asked_value asked.now))) }
+    ensures tokens { OnOk result (writer.new.tokens ≡ writer.old.tokens ++ json_text.tokens_of_member (page.options_member (asked_spec.asked_value asked.now))) }
     ensures before { writer.new.before ≡ writer.old.before }
 {
     writer.key("options")?;
@@ -78,8 +78,8 @@ fn push_charts(
     index: &Index<'_>,
     pairs: &[Pair],
 ) -> Result<(), AllocError>
-    ensures tokens { (intake : Intake) → IsIndexBy intake index.now
-        → OnOk result (writer.new.tokens ≡ writer.old.tokens ++ tokens_of (chart_members (clock_times clock.entry) (placed_in intake.acts) pairs.now)) }
+    ensures tokens { (intake : intake.Intake) → index_spec.IsIndexBy intake index.now
+        → OnOk result (writer.new.tokens ≡ writer.old.tokens ++ json_text.tokens_of (page.chart_members (json_text.clock_times clock.entry) (placed.placed_in intake.acts) pairs.now)) }
     ensures before { writer.new.before ≡ writer.old.before }
 {
     push_writers(clock.alloc, writer, index, pairs)?;
@@ -93,8 +93,8 @@ fn push_members(
     shown: &Shown<'_, '_>,
     pairs: &[Pair],
 ) -> Result<(), Memory>
-    requires { IsIndexBy (intake_in shown.now) shown.now.report.now.index }
-    ensures tokens { OnOk result (writer.new.tokens ≡ writer.old.tokens ++ tokens_of (members_in shown.now pairs.now)) }
+    requires { index_spec.IsIndexBy (page.intake_in shown.now) shown.now.report.now.index }
+    ensures tokens { OnOk result (writer.new.tokens ≡ writer.old.tokens ++ json_text.tokens_of (page.members_in shown.now pairs.now)) }
     ensures before { writer.new.before ≡ writer.old.before }
 {
     let report = shown.report;
@@ -114,8 +114,8 @@ fn push_members(
 }
 
 pub(crate) fn data_of(alloc: Global, shown: &Shown<'_, '_>) -> Result<Vec<u8>, Memory>
-    requires { IsIndexBy (intake_in shown.now) shown.now.report.now.index }
-    ensures { IfOk result (λ text. IsPrinted (json_in shown.now) text.items) }
+    requires { index_spec.IsIndexBy (page.intake_in shown.now) shown.now.report.now.index }
+    ensures { IfOk result (λ text. page.IsPrinted (page.json_in shown.now) text.items) }
 {
     let report = shown.report;
     let pairs = pairs_with_charts(

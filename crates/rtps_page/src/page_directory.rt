@@ -1,8 +1,8 @@
 ghost use Rattle.std.specs.Prelude.{◌≡◌, ◌++◌, OnOk};
 ghost use Rattle.json.specs.Tree.{json_tokens};
-ghost use Rattle.rtps_discovery.specs.Endpoint.{endpoint_value};
-ghost use Rattle.rtps_json.specs.JsonText.{tokens_of_member};
-ghost use Rattle.rtps_page.specs.Page.{directory_member, endpoint_json};
+ghost use Rattle.rtps_discovery.specs.Endpoint as endpoint_spec;
+ghost use Rattle.rtps_json.specs.JsonText as json_text;
+ghost use Rattle.rtps_page.specs.Page as page;
 
 use json::Writer;
 use rtps_discovery::{Directory, Endpoint};
@@ -16,7 +16,7 @@ fn push_endpoint(
     text: &mut String,
     endpoint: &Endpoint<'_>,
 ) -> Result<(), AllocError>
-    ensures tokens { OnOk result (writer.new.tokens ≡ writer.old.tokens ++ json_tokens (endpoint_json (endpoint_value endpoint.now))) }
+    ensures tokens { OnOk result (writer.new.tokens ≡ writer.old.tokens ++ json_tokens (page.endpoint_json (endpoint_spec.endpoint_value endpoint.now))) }
     ensures before { writer.new.before ≡ writer.old.before }
 {
     writer.begin_object()?;
@@ -39,7 +39,7 @@ pub(crate) fn push_directory(
     directory: &Directory<'_>,
 ) -> Result<(), Memory>
     ensures tokens { OnOk result (writer.new.tokens
-        ≡ writer.old.tokens ++ tokens_of_member (directory_member directory.now)) }
+        ≡ writer.old.tokens ++ json_text.tokens_of_member (page.directory_member directory.now)) }
     ensures before { writer.new.before ≡ writer.old.before }
 {
     let endpoints = directory.endpoints()?;

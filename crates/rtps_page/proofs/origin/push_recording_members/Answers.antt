@@ -1,5 +1,5 @@
 use Rattle.std.proofs.Common.{◌++◌, ◌∷◌, [], ◌∙◌, ℕ, List, Option, ap, append-nil, codes, sym}
-use Rattle.rtps_evidence.specs.Times.{time_of}
+use Rattle.rtps_evidence.specs.Times as times_spec
 use Rattle.rtps_page.proofs.Written.{Token, four_parts, json_tokens, key, moment_json, on_ok_weaker, string}
 use Rattle.rtps_page.proofs.origin.push_recording_members.Goals as goal
 
@@ -15,7 +15,7 @@ returns-clause-tokens c =
     let last_moment : List Token = json_tokens (moment_json times.end) in
     on_ok_weaker c.push_moment-2.result
     (λ last.
-    four_parts start name version (begin (time_of times.of_datagrams 1)) (key (codes "end") ∷ (last_moment ++ [])) c.in_ok-push_text.ensures.tokens c.in_ok-push_text-2.ensures.tokens
+    four_parts start name version (begin (times_spec.time_of times.of_datagrams 1)) (key (codes "end") ∷ (last_moment ++ [])) c.in_ok-push_text.ensures.tokens c.in_ok-push_text-2.ensures.tokens
     (c.in_ok-push_moment.ensures.tokens ∙ ap (λ moment. c.push_text-2.new.writer.tokens ++ begin moment) c.of_datagram.ensures)
     (last ∙ ap (λ moment. before ++ end moment) c.of_last_frame.ensures ∙ ap (λ l. before ++ key (codes "end") ∷ l) (sym (append-nil last_moment))))
     c.push_moment-2.ensures.tokens
