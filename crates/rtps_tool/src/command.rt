@@ -3,8 +3,8 @@ ghost use Rattle.std.specs.Option.{option_map};
 ghost use Rattle.std.specs.String.{string_bytes};
 ghost use Rattle.clap.specs.Words.{app_of, fault_of, first_of, found_of, new_app, one_of, rows_of, rule_of, subcommand_of, subcommand_rows_of, takes};
 ghost use Rattle.clap.specs.declared.builder.command.Command.TheViews.{out-Command};
-ghost use Rattle.rtps_report.specs.Asked.{are_read};
-ghost use Rattle.rtps_tool.specs.Words.{bare_program as bare_app, audit_app, check_app, form_name, fragments_app, limited_app, flag_rule, is_any, is_json, number_rule, program as program_app, reading_app, report_app, arrived_rule, IsReadTwice, AreLimitsGiven, IsChoice, IsFlagGiven, IsGivenOr, IsNumberGiven, IsOneOf, HasItsKind, IsFormGiven};
+ghost use Rattle.rtps_report.specs.Asked as asked_spec;
+ghost use Rattle.rtps_tool.specs.Words as words_spec;
 
 use crate::demands::{Demands, demands_of, with_rows, with_standard};
 use crate::runs::{Form, Limits};
@@ -84,9 +84,9 @@ pub enum WordFault {
 /// The text of an error of `clap` is its own, of which no clause of `clap` says what it is; those of [`WordFault::BothInput`] and of
 /// [`WordFault::Memory`] are given here.
 impl fmt::Display for WordFault {
-    ghost use Rattle.rtps_tool.specs.FaultText.{word_fault_text};
+    ghost use Rattle.rtps_tool.specs.FaultText as fault_text;
 
-    ghost output = { word_fault_text };
+    ghost output = { fault_text.word_fault_text };
 
     fn fmt<W: fmt::Write>(&self, f: &mut fmt::Formatter<W>) -> fmt::Result {
         match self {
@@ -110,9 +110,7 @@ impl From<AllocError> for WordFault {
 }
 
 impl From<clap::Error> for WordFault {
-    ghost use Rattle.rtps_tool.specs.Words.{word_fault_of};
-
-    ghost from_gives = { λ error fault. fault ≡ word_fault_of error };
+    ghost from_gives = { λ error fault. fault ≡ words_spec.word_fault_of error };
 
     fn from(error: clap::Error) -> WordFault {
         match error.kind() {
@@ -207,7 +205,7 @@ const SAMPLES: &str = "Writes an example recording, which audit finds complete";
 
 /// An option of this name that takes a number from 1 to 2^63 - 1, which is called so.
 fn number_option<'a>(alloc: Global, called: &'a str, name: &'a str, help: &'a str) -> Arg<'a>
-    ensures rule { rule_of result ≡ number_rule called.now name.now }
+    ensures rule { rule_of result ≡ words_spec.number_rule called.now name.now }
     ensures local { result.global ≡ false }
 {
     Arg::new(alloc, called)
@@ -219,7 +217,7 @@ fn number_option<'a>(alloc: Global, called: &'a str, name: &'a str, help: &'a st
 
 /// A flag of this name.
 pub(crate) fn flag<'a>(alloc: Global, name: &'a str, help: &'a str) -> Arg<'a>
-    ensures rule { rule_of result ≡ flag_rule name.now }
+    ensures rule { rule_of result ≡ words_spec.flag_rule name.now }
     ensures local { result.global ≡ false }
 {
     Arg::new(alloc, name)
@@ -230,7 +228,7 @@ pub(crate) fn flag<'a>(alloc: Global, name: &'a str, help: &'a str) -> Arg<'a>
 
 /// The option that names another recording.
 fn arrived_option<'a>(alloc: Global) -> Arg<'a>
-    ensures rule { rule_of result ≡ arrived_rule }
+    ensures rule { rule_of result ≡ words_spec.arrived_rule }
     ensures local { result.global ≡ false }
 {
     Arg::new(alloc, "OTHER")
@@ -246,7 +244,7 @@ fn limited_subcommand<'a>(
     about: &'a str,
     statuses: &'a str,
 ) -> Result<Command<'a>, AllocError>
-    ensures app { IfOk result (λ command. app_of command ≡ limited_app name.now) }
+    ensures app { IfOk result (λ command. app_of command ≡ words_spec.limited_app name.now) }
     ensures local { IfOk result (λ command. (out-Command command).has_globals ≡ false) }
 {
     let file = Arg::new(alloc, "FILE")
@@ -267,7 +265,7 @@ fn reading_subcommand<'a>(
     about: &'a str,
     statuses: &'a str,
 ) -> Result<Command<'a>, AllocError>
-    ensures app { IfOk result (λ command. app_of command ≡ reading_app name.now) }
+    ensures app { IfOk result (λ command. app_of command ≡ words_spec.reading_app name.now) }
     ensures local { IfOk result (λ command. (out-Command command).has_globals ≡ false) }
 {
     let limited = limited_subcommand(alloc, name, about, statuses)?;
@@ -281,7 +279,7 @@ fn fragments_subcommand<'a>(
     about: &'a str,
     statuses: &'a str,
 ) -> Result<Command<'a>, AllocError>
-    ensures app { IfOk result (λ command. app_of command ≡ fragments_app name.now) }
+    ensures app { IfOk result (λ command. app_of command ≡ words_spec.fragments_app name.now) }
     ensures local { IfOk result (λ command. (out-Command command).has_globals ≡ false) }
 {
     let reading = reading_subcommand(alloc, name, about, statuses)?;
@@ -296,7 +294,7 @@ fn report_subcommand<'a>(
     about: &'a str,
     statuses: &'a str,
 ) -> Result<Command<'a>, AllocError>
-    ensures app { IfOk result (λ command. app_of command ≡ report_app name.now) }
+    ensures app { IfOk result (λ command. app_of command ≡ words_spec.report_app name.now) }
     ensures local { IfOk result (λ command. (out-Command command).has_globals ≡ false) }
 {
     let from = number_option(alloc, "N", "from", FROM_HELP);
@@ -309,7 +307,7 @@ fn report_subcommand<'a>(
 
 /// The subcommand `check`, which tells a report, and prints JSON where it is asked to.
 fn check_subcommand<'a>(alloc: Global) -> Result<Command<'a>, AllocError>
-    ensures app { IfOk result (λ command. app_of command ≡ check_app) }
+    ensures app { IfOk result (λ command. app_of command ≡ words_spec.check_app) }
     ensures local { IfOk result (λ command. (out-Command command).has_globals ≡ false) }
 {
     let report = report_subcommand(alloc, "check", CHECKS, REPORT_STATUSES)?;
@@ -318,7 +316,7 @@ fn check_subcommand<'a>(alloc: Global) -> Result<Command<'a>, AllocError>
 
 /// The subcommand `audit`, which judges by the numbers from some number on, and prints JSON where it is asked to.
 fn audit_subcommand<'a>(alloc: Global) -> Result<Command<'a>, AllocError>
-    ensures app { IfOk result (λ command. app_of command ≡ audit_app) }
+    ensures app { IfOk result (λ command. app_of command ≡ words_spec.audit_app) }
     ensures local { IfOk result (λ command. (out-Command command).has_globals ≡ false) }
 {
     let from = number_option(alloc, "N", "from", FROM_HELP);
@@ -339,7 +337,7 @@ fn plain_subcommand<'a>(alloc: Global, name: &'a str, about: &'a str) -> Command
 
 /// The program, with no subcommand yet.
 fn bare_program<'a>(alloc: Global) -> Command<'a>
-    ensures { app_of result ≡ bare_app }
+    ensures { app_of result ≡ words_spec.bare_program }
 {
     Command::new(alloc, "rtps-audit")
         .about("Audits recordings of RTPS datagrams: shows them, lists discovery, judges delivery")
@@ -350,7 +348,7 @@ fn bare_program<'a>(alloc: Global) -> Command<'a>
 
 /// The program's command line.
 fn program<'a>(alloc: Global) -> Result<Command<'a>, AllocError>
-    ensures { IfOk result (λ command. app_of command ≡ program_app) }
+    ensures { IfOk result (λ command. app_of command ≡ words_spec.program) }
 {
     let check = check_subcommand(alloc)?;
     let zero = bare_program(alloc).subcommand(check)?;
@@ -376,7 +374,7 @@ fn file_of(alloc: Global, found: &ArgMatches) -> Result<String, AllocError>
 
 /// The number that a text is; 1 where it is none that a sample can have.
 fn number_in(text: &str) -> SeqNum
-    ensures { IsNumberGiven (Some text.now) result }
+    ensures { words_spec.IsNumberGiven (Some text.now) result }
 {
     match text.parse::<u64>() {
         Ok(number) if 1 <= number && number <= GREATEST => {
@@ -388,7 +386,7 @@ fn number_in(text: &str) -> SeqNum
 
 /// The number from which on is asked; 1 where none is given.
 pub(crate) fn number_of(found: &ArgMatches) -> SeqNum
-    ensures { IsNumberGiven (first_of (codes "N") (rows_of (found_of found.now))) result }
+    ensures { words_spec.IsNumberGiven (first_of (codes "N") (rows_of (found_of found.now))) result }
 {
     match found.get_str("N") {
         Some(text) => number_in(text),
@@ -398,7 +396,7 @@ pub(crate) fn number_of(found: &ArgMatches) -> SeqNum
 
 /// The number that a text is; the usual one where it is none from 1 to 2^63 - 1.
 fn count_in(text: &str, usually: u64) -> u64
-    ensures { IsGivenOr usually (Some text.now) result }
+    ensures { words_spec.IsGivenOr usually (Some text.now) result }
 {
     match text.parse::<u64>() {
         Ok(number) if 1 <= number && number <= GREATEST => number,
@@ -408,7 +406,7 @@ fn count_in(text: &str, usually: u64) -> u64
 
 /// The number that is called so; the usual one where none is given.
 fn count_of(found: &ArgMatches, called: &str, usually: u64) -> u64
-    ensures { IsGivenOr usually (first_of called.now (rows_of (found_of found.now))) result }
+    ensures { words_spec.IsGivenOr usually (first_of called.now (rows_of (found_of found.now))) result }
 {
     match found.get_str(called) {
         Some(text) => count_in(text, usually),
@@ -418,7 +416,7 @@ fn count_of(found: &ArgMatches, called: &str, usually: u64) -> u64
 
 /// The limits that are given, each the usual one where it is not.
 fn limits_of(found: &ArgMatches) -> Limits
-    ensures { AreLimitsGiven (rows_of (found_of found.now)) result }
+    ensures { words_spec.AreLimitsGiven (rows_of (found_of found.now)) result }
 {
     let usual = Limits::usual();
     Limits {
@@ -429,14 +427,14 @@ fn limits_of(found: &ArgMatches) -> Limits
 
 /// Whether the flag of this name is given.
 pub(crate) fn is_given(found: &ArgMatches, name: &str) -> bool
-    ensures { IsFlagGiven (one_of name.now (rows_of (found_of found.now))) result }
+    ensures { words_spec.IsFlagGiven (one_of name.now (rows_of (found_of found.now))) result }
 {
     found.get_flag(name)
 }
 
 /// The form of an audit that is asked for.
 fn audit_form_of(found: &ArgMatches) -> AuditForm
-    ensures { IsFlagGiven (one_of (codes "json") (rows_of (found_of found.now))) (is_json result) }
+    ensures { words_spec.IsFlagGiven (one_of (codes "json") (rows_of (found_of found.now))) (words_spec.is_json result) }
 {
     if is_given(found, "json") {
         AuditForm::Json
@@ -447,8 +445,8 @@ fn audit_form_of(found: &ArgMatches) -> AuditForm
 
 /// The form of `check` that is asked for.
 fn check_form_of(found: &ArgMatches) -> Form
-    ensures given { IsFormGiven (rows_of (found_of found.now)) result }
-    ensures of_check { form_name result ≡ codes "check" }
+    ensures given { words_spec.IsFormGiven (rows_of (found_of found.now)) result }
+    ensures of_check { words_spec.form_name result ≡ codes "check" }
 {
     if is_given(found, "json") {
         Form::CheckJson
@@ -459,7 +457,7 @@ fn check_form_of(found: &ArgMatches) -> Form
 
 /// What is asked to become of samples in fragments.
 pub(crate) fn fragments_of(found: &ArgMatches) -> Fragments
-    ensures { IsFlagGiven (one_of (codes "fragments") (rows_of (found_of found.now))) (are_read result) }
+    ensures { words_spec.IsFlagGiven (one_of (codes "fragments") (rows_of (found_of found.now))) (asked_spec.are_read result) }
 {
     if is_given(found, "fragments") {
         Fragments::Read
@@ -470,7 +468,7 @@ pub(crate) fn fragments_of(found: &ArgMatches) -> Fragments
 
 /// The captures that are asked for.
 fn captures_of(found: &ArgMatches) -> Captures
-    ensures { IsFlagGiven (one_of (codes "any") (rows_of (found_of found.now))) (is_any result) }
+    ensures { words_spec.IsFlagGiven (one_of (codes "any") (rows_of (found_of found.now))) (words_spec.is_any result) }
 {
     if is_given(found, "any") {
         Captures::Any
@@ -494,8 +492,8 @@ fn arrived_of(alloc: Global, found: &ArgMatches) -> Result<Option<String>, Alloc
 
 /// What the matches of a subcommand that tells a report choose, in a form that is given.
 fn report_of(alloc: Global, found: &ArgMatches, form: Form) -> Result<Choice, AllocError>
-    requires { IsFormGiven (rows_of (found_of found.now)) form }
-    ensures { IfOk result (IsChoice (Some (form_name form, rows_of (found_of found.now)))) }
+    requires { words_spec.IsFormGiven (rows_of (found_of found.now)) form }
+    ensures { IfOk result (words_spec.IsChoice (Some (words_spec.form_name form, rows_of (found_of found.now)))) }
 {
     Ok(Choice::Report {
         file: file_of(alloc, found)?,
@@ -508,14 +506,14 @@ fn report_of(alloc: Global, found: &ArgMatches, form: Form) -> Result<Choice, Al
 
 /// What the matches of `check` choose.
 fn check_of(alloc: Global, check: &ArgMatches) -> Result<Choice, AllocError>
-    ensures { IfOk result (IsChoice (Some (codes "check", rows_of (found_of check.now)))) }
+    ensures { IfOk result (words_spec.IsChoice (Some (codes "check", rows_of (found_of check.now)))) }
 {
     report_of(alloc, check, check_form_of(check))
 }
 
 /// What the matches of `show` choose.
 fn show_of(alloc: Global, show: &ArgMatches) -> Result<Choice, AllocError>
-    ensures { IfOk result (IsChoice (Some (codes "show", rows_of (found_of show.now)))) }
+    ensures { IfOk result (words_spec.IsChoice (Some (codes "show", rows_of (found_of show.now)))) }
 {
     Ok(Choice::Show {
         file: file_of(alloc, show)?,
@@ -527,7 +525,7 @@ fn show_of(alloc: Global, show: &ArgMatches) -> Result<Choice, AllocError>
 
 /// What the matches of `list` choose.
 fn list_of(alloc: Global, list: &ArgMatches) -> Result<Choice, AllocError>
-    ensures { IfOk result (IsChoice (Some (codes "list", rows_of (found_of list.now)))) }
+    ensures { IfOk result (words_spec.IsChoice (Some (codes "list", rows_of (found_of list.now)))) }
 {
     Ok(Choice::List {
         file: file_of(alloc, list)?,
@@ -539,7 +537,7 @@ fn list_of(alloc: Global, list: &ArgMatches) -> Result<Choice, AllocError>
 
 /// What the matches of `audit` choose.
 fn audit_of(alloc: Global, audit: &ArgMatches) -> Result<Choice, AllocError>
-    ensures { IfOk result (IsChoice (Some (codes "audit", rows_of (found_of audit.now)))) }
+    ensures { IfOk result (words_spec.IsChoice (Some (codes "audit", rows_of (found_of audit.now)))) }
 {
     let asked = AskedAudit {
         from: number_of(audit),
@@ -557,8 +555,8 @@ fn audit_of(alloc: Global, audit: &ArgMatches) -> Result<Choice, AllocError>
 /// What the matches choose; None where they have no subcommand that can be chosen.
 fn choice_of(alloc: Global, matches: &ArgMatches) -> Result<Option<Choice>, AllocError>
     ensures { IfOk result (λ choice. MatchOption choice
-        ((chosen : Choice) → ¬ IsChoice (subcommand_rows_of matches.now) chosen)
-        (IsChoice (subcommand_rows_of matches.now))) }
+        ((chosen : Choice) → ¬ words_spec.IsChoice (subcommand_rows_of matches.now) chosen)
+        (words_spec.IsChoice (subcommand_rows_of matches.now))) }
 {
     if let Some(check) = matches.subcommand_matches("check") {
         return Ok(Some(check_of(alloc, check)?));
@@ -590,23 +588,23 @@ fn choice_of(alloc: Global, matches: &ArgMatches) -> Result<Option<Choice>, Allo
 pub fn read_words<'a>(alloc: Global, words: &'a [&'a str]) -> Result<Choice, WordFault>
     // The subcommand, the FILE, the other recording, what is asked, the flags and the limits are those of the matches that `clap` defines for
     // the words.
-    ensures chosen { IfOk result (IsChoice (subcommand_of program_app (map (λ word. word.now) words.now))) }
+    ensures chosen { IfOk result (words_spec.IsChoice (subcommand_of words_spec.program (map (λ word. word.now) words.now))) }
 
     // Words with a fault are refused, and the refusal is of its kind.
-    ensures faultless { OnOk result (fault_of program_app (map (λ word. word.now) words.now) ≡ []) }
-    ensures fault { IfErr result (λ fault. (fault_of program_app (map (λ word. word.now) words.now) ≡ [])
-        ⊎ IsOneOf (fault_of program_app (map (λ word. word.now) words.now)) fault) }
+    ensures faultless { OnOk result (fault_of words_spec.program (map (λ word. word.now) words.now) ≡ []) }
+    ensures fault { IfErr result (λ fault. (fault_of words_spec.program (map (λ word. word.now) words.now) ≡ [])
+        ⊎ words_spec.IsOneOf (fault_of words_spec.program (map (λ word. word.now) words.now)) fault) }
 
     // Words that `clap` takes and that name a subcommand are refused for want of memory, or where both recordings are standard input.
-    ensures taken { IfErr result (λ fault. takes program_app (map (λ word. word.now) words.now) ≡ true
-        → (choice : Choice) → IsChoice (subcommand_of program_app (map (λ word. word.now) words.now)) choice
+    ensures taken { IfErr result (λ fault. takes words_spec.program (map (λ word. word.now) words.now) ≡ true
+        → (choice : Choice) → words_spec.IsChoice (subcommand_of words_spec.program (map (λ word. word.now) words.now)) choice
         → (fault ≡ WordFault.Memory) ⊎ (fault ≡ WordFault.BothInput)) }
 
     // Standard input is read once at most.
-    ensures once { IfOk result (λ choice. ¬ IsReadTwice choice) }
+    ensures once { IfOk result (λ choice. ¬ words_spec.IsReadTwice choice) }
     ensures twice { IfErr result (λ fault. fault ≡ WordFault.BothInput
-        → (choice : Choice) × IsChoice (subcommand_of program_app (map (λ word. word.now) words.now)) choice × IsReadTwice choice) }
-    ensures kind { IfErr result HasItsKind }
+        → (choice : Choice) × words_spec.IsChoice (subcommand_of words_spec.program (map (λ word. word.now) words.now)) choice × words_spec.IsReadTwice choice) }
+    ensures kind { IfErr result words_spec.HasItsKind }
 {
     let mut program = program(alloc)?;
     let matches = program.try_get_matches_from_mut(words)?;
@@ -618,7 +616,7 @@ pub fn read_words<'a>(alloc: Global, words: &'a [&'a str]) -> Result<Choice, Wor
 
 /// Whether FILE and the other recording are both standard input.
 fn is_read_twice(choice: &Choice) -> bool
-    ensures { IsTrue result ↔ IsReadTwice choice.now }
+    ensures { IsTrue result ↔ words_spec.IsReadTwice choice.now }
 {
     match (choice.file(), choice.arrived()) {
         (Some(file), Some(other)) => file == "-" && other == "-",
@@ -628,8 +626,8 @@ fn is_read_twice(choice: &Choice) -> bool
 
 /// The choice, but for one that reads standard input twice.
 fn once(choice: Choice) -> Result<Choice, WordFault>
-    ensures ok { IfOk result (λ chosen. (chosen ≡ choice) × (¬ IsReadTwice chosen)) }
-    ensures err { IfErr result (λ fault. (fault ≡ WordFault.BothInput) × IsReadTwice choice) }
+    ensures ok { IfOk result (λ chosen. (chosen ≡ choice) × (¬ words_spec.IsReadTwice chosen)) }
+    ensures err { IfErr result (λ fault. (fault ≡ WordFault.BothInput) × words_spec.IsReadTwice choice) }
 {
     if is_read_twice(&choice) {
         return Err(WordFault::BothInput);
@@ -639,7 +637,7 @@ fn once(choice: Choice) -> Result<Choice, WordFault>
 
 /// What refuses a subcommand that `clap` takes and the program does not have.
 fn no_such_subcommand(program: &mut Command) -> WordFault
-    ensures kind { HasItsKind result }
+    ensures kind { words_spec.HasItsKind result }
     ensures other { result ≢ WordFault.BothInput }
 {
     match program.error(ErrorKind::InvalidSubcommand, "no such subcommand") {

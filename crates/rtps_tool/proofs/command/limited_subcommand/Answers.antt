@@ -4,12 +4,12 @@ use Rattle.clap.specs.Words.{Rule, rule_of, with_rule}
 use Rattle.clap.specs.Simple.{app_of_fields}
 use Rattle.clap.specs.declared.builder.action.ArgAction.TheVariants.{Set}
 use Rattle.clap.specs.declared.builder.command.Command.TheViews.{out-Command}
-use Rattle.rtps_tool.specs.Words.{file_rule}
+use Rattle.rtps_tool.specs.Words as words
 use Rattle.rtps_tool.proofs.command.limited_subcommand.Goals as goal
 
 pub returns : goal.returns
 returns c =
-    let file_is : rule_of c.help-file.result ≡ file_rule =
+    let file_is : rule_of c.help-file.result ≡ words.file_rule =
     ap rule_of c.help-file.ensures ∙ ap rule_of c.action.ensures
     ∙ ap (λ (r : Rule). record r { action = Some Set }) (ap rule_of c.required.ensures)
     ∙ ap (λ (r : Rule). record r { action = Some Set; required = true }) c.new.ensures.rule in
