@@ -4,7 +4,9 @@ ghost use Rattle.clap.specs.Words.{all_of, app_of, first_of, found_of, rows_of, 
 ghost use Rattle.clap.specs.declared.builder.command.Command.TheViews.{out-Command};
 ghost use Rattle.rtps_tool.specs.Words as words;
 
-use crate::command::{GREATEST, flag, is_given, number_of};
+use crate::command::GREATEST;
+use crate::command::options::{is_given, number_of};
+use crate::command::subcommands::flag;
 use clap::builder::ValueParser;
 use clap::{Arg, ArgAction, ArgMatches, Command};
 use rtps_ids::SeqNum;
