@@ -19,7 +19,7 @@ use Rattle.rtps_report.specs.LateRows as late_rows
 use Rattle.rtps_report.specs.FullReport as full_report
 use Rattle.rtps_report.specs.Talk as talk
 use Rattle.rtps_report.specs.declared.participant.Participant.{Participant}
-pub use Rattle.rtps_json.specs.AddressMembers.{address_json}
+use Rattle.rtps_json.specs.AddressMembers as address_members
 use Rattle.rtps_json.specs.DiscoveryMembers as discovery_members
 use Rattle.rtps_json.specs.EndMembers as end_members
 use Rattle.rtps_json.specs.JsonText as json_text
@@ -134,7 +134,7 @@ named_members talk participant = end_members.process_members (talk.ends particip
 -- where a participant is, and when there is something of it
 abbrev pub placed_members : times.TimesValue → Participant → List json_text.Member
 placed_members times participant =
-    (codes "guid", string (names.guid_text participant.guid)) ∷ (codes "address", address_json participant.host.address)
+    (codes "guid", string (names.guid_text participant.guid)) ∷ (codes "address", address_members.address_json participant.host.address)
     ∷ (codes "domain", json_text.until_json participant.host.domain) ∷ stay_members times participant
 
 -- a participant: that, and by what it is known

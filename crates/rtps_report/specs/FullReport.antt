@@ -17,12 +17,12 @@ use Rattle.rtps_audit.specs.Intake as intake_spec
 use Rattle.rtps_discovery.specs.declared.matching.Pair.{Pair}
 use Rattle.rtps_fragments.specs.declared.fragments.Fragments.{Fragments}
 use Rattle.rtps_fragments.specs.RecordedSamples as recorded_samples
-pub use Rattle.rtps_report.specs.Asked.{AskedValue, asked_value}
+use Rattle.rtps_report.specs.Asked as asked_spec
 use Rattle.rtps_report.specs.BestEfforts as best_efforts
 use Rattle.rtps_report.specs.Findings as findings
 use Rattle.rtps_report.specs.NotTold as not_told
 use Rattle.rtps_report.specs.Order as order
-pub use Rattle.rtps_report.specs.Recording.{RecordingValue}
+use Rattle.rtps_report.specs.Recording as recording
 use Rattle.rtps_report.specs.ReaderSide as reader_side
 use Rattle.rtps_report.specs.RowFacts as row_facts
 use Rattle.rtps_report.specs.RowPairs as row_pairs
@@ -32,7 +32,7 @@ use Rattle.rtps_report.specs.declared.full_report.FullReport.{FullReport}
 use Rattle.rtps_report.specs.declared.order.Order.{Order}
 
 -- a row is what it has to be: clean, and each of its numbers certain where that is asked
-abbrev pub is_met : AskedValue → explanation.EvidenceValue → Bool
+abbrev pub is_met : asked_spec.AskedValue → explanation.EvidenceValue → Bool
 is_met asked evidence = row_facts.is_clean asked.tail evidence && (not asked.certain || row_facts.is_certain asked.from evidence)
 
 -- what is known of who does not talk
@@ -46,7 +46,7 @@ talk_facts talk =
     }
 
 -- what is known of a report with these rows and counts, where this is known of who does not talk, and two recordings were given in this order
-abbrev pub facts_with : TalkFacts → Order → AskedValue → List explanation.ExplanationValue → Counts → RecordingValue → Facts
+abbrev pub facts_with : TalkFacts → Order → asked_spec.AskedValue → List explanation.ExplanationValue → Counts → recording.RecordingValue → Facts
 facts_with talk order asked rows counts recording =
     record {
       rows = length rows;
@@ -59,7 +59,7 @@ facts_with talk order asked rows counts recording =
 
 -- each pair that has a row is explained in its span, by writer and then by reader, and the counts are those of an audit. Another recording
 -- and times may stand beside
-pub record AreRowsOf (asked : AskedValue) (intake : intake_spec.Intake) (beside : other_side.Beside) (traffic : silence.Traffic) (explained : Explained) : Type 0 where
+pub record AreRowsOf (asked : asked_spec.AskedValue) (intake : intake_spec.Intake) (beside : other_side.Beside) (traffic : silence.Traffic) (explained : Explained) : Type 0 where
   pub directory : directory_spec.DirectoryValue
   pub is_map : directory_spec.IsMapOf (intake_spec.acts_together intake.announcing) directory
   pub pairs : List Pair
@@ -70,7 +70,7 @@ pub record AreRowsOf (asked : AskedValue) (intake : intake_spec.Intake) (beside 
 -- what is told of a recording: the other one against which rows are held, the rows that are asked for, who does not talk, in which order
 -- the two recordings were given, and how the run ends
 pub record ReportValue : Type 0 where
-  pub arrived : Option RecordingValue
+  pub arrived : Option recording.RecordingValue
   pub explained : Explained
   pub talk : talk.TalkValue
   pub order : Order
@@ -96,13 +96,13 @@ abbrev pub lost_of : ReportValue → List kinds.LostValue
 lost_of report = map kinds.lost_value report.explained.lost.items
 
 -- what is known of this report
-abbrev pub facts_of : AskedValue → RecordingValue → ReportValue → Facts
+abbrev pub facts_of : asked_spec.AskedValue → recording.RecordingValue → ReportValue → Facts
 facts_of asked recording report =
     facts_with (talk_facts report.talk) report.order asked (rows_of report) report.explained.counts recording
 
 -- What is told of this recording, of what is asked. Samples that come in fragments are read. Rows are held against another recording,
 -- where there is one, and waits are by the times of the recording's own datagrams.
-pub record IsFullReport (asked : AskedValue) (other : Option RecordingValue) (recording : RecordingValue) (report : ReportValue) : Type 0 where
+pub record IsFullReport (asked : asked_spec.AskedValue) (other : Option recording.RecordingValue) (recording : recording.RecordingValue) (report : ReportValue) : Type 0 where
   pub beside : report.arrived ≡ other
   pub talks : talk.IsTalkAs asked (reader_side.other_by other) recording report.talk
   pub rows : AreRowsOf asked (recorded_samples.intake_as Fragments.Read recording.datagrams) (reader_side.beside_of other recording) (talk.traffic_of recording.datagrams) report.explained
@@ -110,14 +110,14 @@ pub record IsFullReport (asked : AskedValue) (other : Option RecordingValue) (re
   pub ends : report.ending ≡ findings.ending_as asked (facts_of asked recording report)
 
 -- the code has it, beside what it is of and the index that it is by
-pub record IsReportOf (asked : AskedValue) (other : Option RecordingValue) (recording : RecordingValue) (report : FullReport) : Type 0 where
-  pub asks : asked_value report.asked.now ≡ asked
+pub record IsReportOf (asked : asked_spec.AskedValue) (other : Option recording.RecordingValue) (recording : recording.RecordingValue) (report : FullReport) : Type 0 where
+  pub asks : asked_spec.asked_value report.asked.now ≡ asked
   pub records : report.recording.now ≡ recording
   pub indexes : index.IsIndexBy (recorded_samples.intake_as Fragments.Read recording.datagrams) report.index
   pub is_report : IsFullReport asked other recording (report_value report)
 
 -- A text of what is asked of a recording, beside another one, if there is one, and how the run ends, by what it is of a report.
-pub record IsTold (IsForm : AskedValue → RecordingValue → ReportValue → List ℕ → Type 0) (asked : AskedValue) (other : Option RecordingValue) (recording : RecordingValue) (text : List ℕ) (ending : Ending) : Type 0 where
+pub record IsTold (IsForm : asked_spec.AskedValue → recording.RecordingValue → ReportValue → List ℕ → Type 0) (asked : asked_spec.AskedValue) (other : Option recording.RecordingValue) (recording : recording.RecordingValue) (text : List ℕ) (ending : Ending) : Type 0 where
   pub report : ReportValue
   pub is_report : IsFullReport asked other recording report
   pub is_text : IsForm asked recording report text

@@ -31,7 +31,6 @@ pub mod OneSides
 pub mod Talk
 pub mod Totals
 pub mod Twice
-pub mod Vocabulary
 pub mod Ways
 pub mod Visits
 pub mod NotTold
