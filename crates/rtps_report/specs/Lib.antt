@@ -1,3 +1,4 @@
+pub mod Acquaintance
 pub mod ActsRead
 pub mod Advice
 pub mod Asked

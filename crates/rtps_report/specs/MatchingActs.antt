@@ -9,7 +9,7 @@ use Rattle.rtps_evidence.specs.Times as times_spec
 use Rattle.rtps_evidence.specs.UnansweredLaw as unanswered_law
 use Rattle.rtps_known.specs.Places as places
 use Rattle.rtps_report.specs.ActsRead as acts_read
-use Rattle.rtps_report.specs.declared.naming_walk.Came.{Came}
+use Rattle.rtps_report.specs.declared.acquaintance.Came.{Came}
 
 -- an act of a datagram that came so
 abbrev pub act_placed : Came → values.ActValue → places.PlacedAct
@@ -47,23 +47,3 @@ acts_placed_in announcements times row = acts_placed announcements (came_as time
 -- those of a recording, of which these are the DATA of built-in writers
 abbrev pub matching_acts : List placed.PlacedValue → List (List ℕ) → List (Option ℕ) → List places.PlacedAct
 matching_acts announcements recording times = flat_map (acts_placed_in announcements times) (enumerate_from 1 recording)
-
--- ---- the same of the code
-
--- it stands in this datagram
-abbrev pub of_datagram : ℕ → placed.PlacedValue → Bool
-of_datagram datagram placed = placed.datagram == datagram
-
--- the samples that an act completes, of these of its datagram
-abbrev pub samples_at : values.ActValue → List placed.PlacedValue → List values.ActValue
-samples_at act samples = map (λ placed. sent_as act placed.act) (filter (λ placed. placed.act.at == act.at) samples)
-
--- the first of these that stand in a datagram
-abbrev pub run_of : ℕ → List placed.PlacedValue → List placed.PlacedValue
-run_of datagram [] = []
-run_of datagram (one ∷ placed) = if of_datagram datagram one then one ∷ run_of datagram placed else []
-
--- those behind them
-abbrev pub run_past : ℕ → List placed.PlacedValue → List placed.PlacedValue
-run_past datagram [] = []
-run_past datagram (one ∷ placed) = if of_datagram datagram one then run_past datagram placed else one ∷ placed

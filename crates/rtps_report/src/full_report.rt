@@ -10,6 +10,7 @@ ghost use Rattle.rtps_report.specs.FullReport as full_report;
 ghost use Rattle.rtps_report.specs.ReaderSide as reader_side;
 ghost use Rattle.rtps_report.specs.Talk as talk_spec;
 
+use crate::acquaintance::Acquaintance;
 use crate::asked::Asked;
 use crate::findings::{Ending, TalkFacts, ending_of};
 use crate::not_told::not_told_counts;
@@ -22,7 +23,7 @@ use crate::talk::{Heard, Talk, talk_in};
 use rtps_audit::{Index, Report, Watch};
 use rtps_discovery::laws::one_map;
 use rtps_evidence::{Explained, OtherSide, Sides, explain_pairs};
-use rtps_fragments::{Fragments, Indexed, Samples, index_as};
+use rtps_fragments::{Fragments, Indexed, Samples, Source, index_told};
 use rtps_ids::Memory;
 use std::alloc::Global;
 
@@ -82,7 +83,12 @@ fn noted_in<'a>(
         ..
     } = subject;
     let datagrams = datagrams_of(alloc, recording)?;
-    let indexed = index_as(alloc, &datagrams, Fragments::Read, samples)?;
+    let source = Source {
+        recording: &datagrams,
+        fragments: Fragments::Read,
+    };
+    let mut acquaintance = Acquaintance::new(alloc, recording.times());
+    let indexed = index_told(alloc, source, samples, &mut acquaintance)?;
     let talk = talk_in(
         alloc,
         &Heard {
@@ -94,6 +100,7 @@ fn noted_in<'a>(
             directory: indexed.index.directory(),
             announcements: &indexed.announcements,
         },
+        acquaintance,
     )?;
     let Indexed {
         index,

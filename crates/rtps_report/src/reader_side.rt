@@ -2,7 +2,7 @@ ghost use Rattle.std.specs.Prelude.{IfOk, Option};
 ghost use Rattle.rtps_evidence.specs.OtherSide as other_side;
 ghost use Rattle.rtps_report.specs.ReaderSide as reader_side;
 
-use crate::naming_walk::namings_of;
+use crate::acquaintance::namings_of;
 use crate::recording::{Recording, datagrams_of};
 use rtps_audit::Index;
 use rtps_evidence::OtherSide;

@@ -11,6 +11,7 @@ ghost use Rattle.rtps_fragments.specs.declared.fragments.Fragments.TheVariants.{
 ghost use Rattle.rtps_policies.specs.Announcing as announcing;
 ghost use Rattle.rtps_policies.specs.Silence as silence;
 ghost use Rattle.rtps_policies.specs.Unmatched as unmatched_spec;
+ghost use Rattle.rtps_report.specs.Acquaintance as acquaintance_spec;
 ghost use Rattle.rtps_report.specs.Asked as asked_spec;
 ghost use Rattle.rtps_report.specs.BestEfforts as best_efforts;
 ghost use Rattle.rtps_report.specs.Ends as ends;
@@ -22,6 +23,7 @@ ghost use Rattle.rtps_who.specs.Samples as samples;
 ghost use Rattle.std.specs.Option.{option_map};
 ghost use Rattle.rtps_report.specs.Talk as talk_spec;
 
+use crate::acquaintance::Acquaintance;
 use crate::asked::Asked;
 use crate::best_effort::{
     BestEffort, Counted, HeldPair, arrived_among, held_among, sums_of, total_of,
@@ -366,8 +368,13 @@ fn unfit_in<'a>(
     Ok(unfit)
 }
 
-/// Who does not talk in a recording, of the topics that are asked for. `Memory` is answered where what is kept cannot grow.
-pub(crate) fn talk_in<'a>(alloc: Global, heard: &Heard<'_, 'a, '_, '_>) -> Result<Talk<'a>, Memory>
+/// Who does not talk in a recording, of the topics that are asked for, by who knows whom. `Memory` is answered where what is kept cannot grow.
+pub(crate) fn talk_in<'a>(
+    alloc: Global,
+    heard: &Heard<'_, 'a, '_, '_>,
+    acquaintance: Acquaintance<'_>,
+) -> Result<Talk<'a>, Memory>
+    requires { acquaintance_spec.IsAcquaintanceOf (map (λ datagram. datagram.now) heard.now.datagrams.now) heard.now.times.now.of_datagrams acquaintance }
     ensures talks { IfOk result (λ talk. (other : Option other_side.OtherRecording)
         → talk_spec.IsHeardIn (recorded_samples.intake_as Read (map (λ datagram. datagram.now) heard.now.datagrams.now)) other heard.now
         → talk_spec.IsTalkOf (asked_spec.asked_value heard.now.asked.now) other (map (λ datagram. datagram.now) heard.now.datagrams.now)
@@ -380,11 +387,15 @@ pub(crate) fn talk_in<'a>(alloc: Global, heard: &Heard<'_, 'a, '_, '_>) -> Resul
     let announced = announced_in(alloc, heard.announcements)?;
     let Discovered {
         participants,
-        namings,
         not_told,
         lives,
+    } = discovered_in(alloc, &announced, heard, &acquaintance.known)?;
+    let Acquaintance {
+        namings,
+        known: _,
         matches,
-    } = discovered_in(alloc, &announced, heard)?;
+        times: _,
+    } = acquaintance;
     let who = who_of(alloc, heard.announcements, heard.index, heard.directory)?;
     let unfit = unfit_in(&announced, &who, heard)?;
     let mut talk = Talk {

@@ -14,6 +14,6 @@ returns-clause-not_told c = λ intake index same announced.
       visits = c.in_ok-participants.field-0.visits;
       are_visits = c.in_ok-participants.ensures.visits intake index same announced;
       untold = c.in_ok-untold.untold.items;
-      are_untold = c.in_ok-untold.ensures acts (intake_spec.acts_together intake.announcing) c.in_ok-namings.ensures.known announced;
+      are_untold = c.in_ok-untold.ensures acts (intake_spec.acts_together intake.announcing) c.requires announced;
       is_found = c.in_ok-not_told.ensures ∙ ap (λ (items : List Untold). map (not_told.not_told_by heard.directory.now.endpoints) items) c.deref.ensures.value;
     }

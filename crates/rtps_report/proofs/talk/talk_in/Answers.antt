@@ -43,7 +43,7 @@ returns-clause-talks c = λ other is.
     let talk : Talk = record {
       announced = c.in_ok-announced.announced;
       who = c.in_ok-who.who;
-      namings = c.in_ok-participants.field-0.namings;
+      namings = c.args.acquaintance.namings;
       unfit = c.in_ok-unfit_of.field-0;
       unmatched = c.in_ok-parted.parted.silent;
       talking = c.in_ok-parted.parted.talking;
@@ -68,12 +68,12 @@ returns-clause-talks c = λ other is.
     ∙ ap (λ (items : List Unmatched). talk_spec.judged_pairs (matching.matches_among (directory.settled_in entries)) (map unmatched.unmatched_value items)) c.deref-3.ensures.value in
     let kept : talk_spec.IsKeptOf asked intake traffic entries talk =
     kept_is asked intake traffic entries talk (map unmatched.unmatched_value unfit) same
-    (subst (λ (items : List Unmatched). talk_spec.AreUnfit (map unmatched.unmatched_value items) c.in_ok-unfit_of.field-0) c.deref.ensures.value c.in_ok-unfit_of.ensures) c.in_ok-participants.ensures.namings parted.1 who in
+    (subst (λ (items : List Unmatched). talk_spec.AreUnfit (map unmatched.unmatched_value items) c.in_ok-unfit_of.field-0) c.deref.ensures.value c.in_ok-unfit_of.ensures) c.requires.namings parted.1 who in
     talk_is asked other recording heard.times.now heard.directory.now talk counted is.directory announced who kept
     (parted.0 ∙ ap (filter (λ (one : unmatched.UnmatchedValue). not (talk_spec.talks intake (unmatched.pair_of one)))) same)
     (c.in_ok-talk-2.ensures ∙ ap (λ (those : List Match). map (talk_spec.left_out_of entries) (filter (talk_spec.is_left_out_of talk.unfit talk.namings (rows.chosen_by asked (recorded.node_in talk.who)) entries) those)) (c.deref-6.ensures.value ∙ c.in_ok-matched.ensures)
     ∙ ap (λ (chosen : rows.Choice). map (talk_spec.left_out_of entries) (filter (talk_spec.is_left_out_of talk.unfit talk.namings chosen entries) (matching.matches_among (directory.settled_in entries)))) choice)
-    (c.in_ok-one_way_namings.ensures traffic announced c.in_ok-participants.ensures.namings)
+    (c.in_ok-one_way_namings.ensures traffic announced c.requires.namings)
     (subst (λ (chosen : rows.Choice). talk_spec.AreCounted asked other intake entries (filter (talk_spec.is_counted_of talk.unfit talk.namings chosen entries) (matching.matches_among (directory.settled_in entries))) counted) choice
     (subst (λ (those : List Match). talk_spec.AreCounted asked other intake entries (filter (talk_spec.is_counted_of talk.unfit talk.namings (rows.chosen_by asked (recorded.node_in talk.who)) entries) those) counted) (c.deref-7.ensures.value ∙ c.in_ok-matched.ensures)
     (c.in_ok-counted.ensures intake other is.index is.beside)))
@@ -85,7 +85,7 @@ returns-clause-talks c = λ other is.
     (c.ways_of_counted-talk.ensures ∙ ap (λ (items : List Counted). ways.ways_of_counted (map best_efforts.counted_value items)) c.deref-9.ensures.value)
     (c.in_ok-participants.ensures.participants intake is.index is.announcements announced) (c.in_ok-participants.ensures.not_told intake is.index is.announcements announced)
     c.in_ok-participants.ensures.lives
-    (λ pair. c.in_ok-talk.ensures acts (c.in_ok-participants.ensures.matches intake is.announcements) pair
+    (λ pair. c.in_ok-talk.ensures acts c.requires.matches pair
     ∙ ap (λ (those : List TwoLives). talk_spec.late_among acts those c.deref-5.result.now pair) c.deref-4.ensures.value
     ∙ ap (λ (pairs : List Pair). talk_spec.late_among acts lives pairs pair) judged)
 
@@ -102,5 +102,5 @@ returns-clause-kept c = λ other is.
     let choice = choice_kept asked intake entries c.in_ok-who.who (node_is (ends.recorded_in intake entries) c.in_ok-who.who who) in
     kept_is asked intake traffic entries _ (map unmatched.unmatched_value c.in_ok-unfit.unfit.items)
     (c.in_ok-unfit.ensures traffic announced ∙ ap (λ (chosen : rows.Choice). talk_spec.unfit_in chosen traffic entries) choice)
-    (subst (λ (items : List Unmatched). talk_spec.AreUnfit (map unmatched.unmatched_value items) c.in_ok-unfit_of.field-0) c.deref.ensures.value c.in_ok-unfit_of.ensures) c.in_ok-participants.ensures.namings
+    (subst (λ (items : List Unmatched). talk_spec.AreUnfit (map unmatched.unmatched_value items) c.in_ok-unfit_of.field-0) c.deref.ensures.value c.in_ok-unfit_of.ensures) c.requires.namings
     (c.in_ok-parted.ensures intake is.index).1 who

@@ -1,36 +1,36 @@
-ghost use Rattle.std.specs.Prelude.{◌≡◌, ◌≤◌, ◌++◌, drop, filter, IfOk, length, List, OnOk, map, take};
-ghost use Rattle.rtps_audit.specs.Intake as intake;
-ghost use Rattle.rtps_audit.specs.Placed as placed_spec;
+ghost use Rattle.std.specs.Prelude.{◌≡◌, ◌++◌, [], IfOk, List, OnOk, map};
+ghost use Rattle.rtps_audit.specs.Placed as placed;
 ghost use Rattle.rtps_evidence.specs.UnansweredLaw as unanswered_law;
-ghost use Rattle.rtps_fragments.specs.Announcements as announcements_spec;
 ghost use Rattle.rtps_known.specs.Matched as matched;
 ghost use Rattle.rtps_known.specs.Places as places;
 ghost use Rattle.rtps_known.specs.Recorded as recorded;
 ghost use Rattle.rtps_known.specs.Tellings as tellings;
 ghost use Rattle.rtps_policies.specs.Namings as namings_spec;
 ghost use Rattle.rtps_receiver.specs.Values as values;
+ghost use Rattle.rtps_report.specs.Acquaintance as acquaintance;
 ghost use Rattle.rtps_report.specs.ActsRead as acts_read;
 ghost use Rattle.rtps_report.specs.MatchingActs as matching_acts;
-ghost use Rattle.rtps_report.specs.Talk as talk;
 
 use rtps_audit::{Placed, place};
 use rtps_evidence::Times;
-use rtps_fragments::FragmentWalk;
+use rtps_fragments::{FragmentWalk, Listen, ReadDatagram};
 use rtps_ids::Memory;
 use rtps_known::{Known, Matches, Place};
 use rtps_policies::Namings;
 use rtps_receiver::{Spoken, SpokenBody};
 use std::alloc::Global;
 
-/// What all acts of a recording say that are read, fragments among them.
+/// Who knows whom in a recording, by what the datagrams say that were heard, fragments among them.
 #[derive(Drop)]
-pub(crate) struct Walked {
+pub(crate) struct Acquaintance<'t> {
     /// Which participants name which.
     pub(crate) namings: Namings,
     /// What discovery has told whom.
     pub(crate) known: Known,
     /// When writers and readers matched.
     pub(crate) matches: Matches,
+    /// When the datagrams of the recording came.
+    pub(crate) times: &'t Times,
 }
 
 /// The number of a datagram, counted from 1, and when it came.
@@ -83,7 +83,7 @@ fn is_data_frag(act: &Spoken<'_>) -> bool
 
 /// A sample, for those to whom the act is sent that completes it.
 fn sent_as<'a>(act: &Spoken<'_>, sample: &Placed<'a>) -> Spoken<'a>
-    ensures { values.spoken_value result ≡ matching_acts.sent_as (values.spoken_value act.now) (placed_spec.placed_value sample.now).act }
+    ensures { values.spoken_value result ≡ matching_acts.sent_as (values.spoken_value act.now) (placed.placed_value sample.now).act }
 {
     let copy = place(sample.datagram, &sample.act);
     Spoken {
@@ -100,7 +100,7 @@ fn note_samples(
     came: Came,
 ) -> Result<(), Memory>
     ensures { OnOk result ((before : List places.PlacedAct) → matched.AreMatchesOf before matches.old
-        → matched.AreMatchesOf (before ++ map (matching_acts.act_placed came) (matching_acts.samples_at (values.spoken_value act.now) (map placed_spec.placed_value samples.now))) matches.new) }
+        → matched.AreMatchesOf (before ++ map (matching_acts.act_placed came) (acquaintance.samples_at (values.spoken_value act.now) (map placed.placed_value samples.now))) matches.new) }
 {
     for sample in samples {
         if sample.act.at == act.at {
@@ -117,8 +117,8 @@ fn note_act(
     samples: &[Placed<'_>],
     came: Came,
 ) -> Result<(), Memory>
-    ensures { OnOk result ((before : List places.PlacedAct) (announcements : List placed_spec.PlacedValue) → map placed_spec.placed_value samples.now ≡ filter (matching_acts.of_datagram came.datagram) announcements
-        → matched.AreMatchesOf before matches.old → matched.AreMatchesOf (before ++ map (matching_acts.act_placed came) (matching_acts.with_samples announcements came.datagram (values.spoken_value act.now))) matches.new) }
+    ensures { OnOk result ((before : List places.PlacedAct) → matched.AreMatchesOf before matches.old
+        → matched.AreMatchesOf (before ++ map (matching_acts.act_placed came) (acquaintance.with_samples_at (map placed.placed_value samples.now) (values.spoken_value act.now))) matches.new) }
 {
     matches.note(act, place_in(came, act))?;
     if is_data_frag(act) {
@@ -134,27 +134,13 @@ fn note_matches(
     samples: &[Placed<'_>],
     came: Came,
 ) -> Result<(), Memory>
-    ensures { OnOk result ((before : List places.PlacedAct) (announcements : List placed_spec.PlacedValue) → map placed_spec.placed_value samples.now ≡ filter (matching_acts.of_datagram came.datagram) announcements
-        → matched.AreMatchesOf before matches.old → matched.AreMatchesOf (before ++ matching_acts.acts_placed announcements came (map values.spoken_value acts.now)) matches.new) }
+    ensures { OnOk result ((before : List places.PlacedAct) → matched.AreMatchesOf before matches.old
+        → matched.AreMatchesOf (before ++ acquaintance.acts_heard came (map placed.placed_value samples.now) (map values.spoken_value acts.now)) matches.new) }
 {
     for act in acts {
         note_act(matches, act, samples, came)?;
     }
     Ok(())
-}
-
-/// How many of these, from the first on, are of this datagram.
-fn run_length(placed: &[Placed<'_>], datagram: usize) -> usize
-    ensures within { result ≤ length placed.now }
-    ensures run { matching_acts.run_of datagram (map placed_spec.placed_value placed.now) ≡ map placed_spec.placed_value (take result placed.now) }
-    ensures past { matching_acts.run_past datagram (map placed_spec.placed_value placed.now) ≡ map placed_spec.placed_value (drop result placed.now) }
-{
-    for at in 0..placed.len() {
-        if placed[at].datagram != datagram {
-            return at;
-        }
-    }
-    placed.len()
 }
 
 /// Which participants of a recording, any datagrams, name which, by all acts that are read. `Memory` is answered where they
@@ -171,36 +157,29 @@ pub(crate) fn namings_of(alloc: Global, recording: &[&[u8]]) -> Result<Namings, 
     Ok(namings)
 }
 
-/// What a recording says, any datagrams, which came then. These are the DATA of its built-in writers. `Memory` is answered where what is kept
-/// cannot grow.
-pub(crate) fn walk_all(
-    alloc: Global,
-    recording: &[&[u8]],
-    announcements: &[Placed<'_>],
-    times: &Times,
-) -> Result<Walked, Memory>
-    ensures namings { IfOk result (λ walked. namings_spec.AreNamingsOf (acts_read.datagrams_read (map (λ datagram. datagram.now) recording.now)) walked.namings) }
-    ensures known { IfOk result (λ walked. recorded.IsKnownOf (acts_read.timed_acts (map (λ datagram. datagram.now) recording.now) times.now.of_datagrams) walked.known) }
-    ensures matches { IfOk result (λ walked. (intake : intake.Intake) → map placed_spec.placed_value announcements.now ≡ announcements_spec.announcements_in intake.announcing
-        → matched.AreMatchesOf (talk.acts_of_matching intake (map (λ datagram. datagram.now) recording.now) times.now.of_datagrams) walked.matches) }
-{
-    let mut namings = Namings::new(alloc);
-    let mut known = Known::new(alloc);
-    let mut matches = Matches::new(alloc);
-    let mut walk = FragmentWalk::new(alloc);
-    let mut first = 0;
-    for place in 0..recording.len() {
-        walk.read(recording[place])?;
-        let came = came_as(times, place as u64 + 1);
-        let last = first + run_length(&announcements[first..], place + 1);
-        namings.note(walk.acts())?;
-        note_known(&mut known, walk.acts(), came.time)?;
-        note_matches(&mut matches, walk.acts(), &announcements[first..last], came)?;
-        first = last;
+impl<'t> Acquaintance<'t> {
+    /// That of no datagrams, of a recording whose datagrams came then. It takes no memory.
+    pub(crate) fn new(alloc: Global, times: &'t Times) -> Acquaintance<'t>
+        ensures heard { acquaintance.HasHeard result [] result }
+        ensures times { result.times.now ≡ times.now }
+    {
+        Acquaintance {
+            namings: Namings::new(alloc),
+            known: Known::new(alloc),
+            matches: Matches::new(alloc),
+            times,
+        }
     }
-    Ok(Walked {
-        namings,
-        known,
-        matches,
-    })
+}
+
+impl Listen for Acquaintance<'_> {
+    ghost has_heard = { acquaintance.HasHeard };
+
+    fn hear(&mut self, read: &ReadDatagram<'_, '_>) -> Result<(), Memory> {
+        let came = came_as(self.times, read.datagram as u64);
+        self.namings.note(read.acts)?;
+        note_known(&mut self.known, read.acts, came.time)?;
+        note_matches(&mut self.matches, read.acts, read.announcements, came)?;
+        Ok(())
+    }
 }

@@ -6,7 +6,7 @@ use Rattle.rtps_known.specs.Recorded as recorded
 use Rattle.rtps_known.specs.Tellings as tellings
 use Rattle.rtps_receiver.specs.Values as values
 use Rattle.rtps_report.proofs.DiscoveryLemmas.{act_more}
-use Rattle.rtps_report.proofs.naming_walk.note_known.Goals as goal
+use Rattle.rtps_report.proofs.acquaintance.note_known.Goals as goal
 
 pub loop-act-preserved : goal.loop-act-preserved
 loop-act-preserved c = λ before known.

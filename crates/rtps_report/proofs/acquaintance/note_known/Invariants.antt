@@ -3,7 +3,7 @@ use Rattle.rtps_known.specs.Recorded as recorded
 use Rattle.rtps_known.specs.Tellings as tellings
 use Rattle.rtps_receiver.specs.Values as values
 use Rattle.rtps_report.specs.ActsRead as acts_read
-use Rattle.rtps_report.proofs.naming_walk.note_known.Given as goal
+use Rattle.rtps_report.proofs.acquaintance.note_known.Given as goal
 
 -- that of the acts so far
 abbrev pub invariant-loop-act : goal.invariant-loop-act

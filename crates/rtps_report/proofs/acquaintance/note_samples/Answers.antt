@@ -6,10 +6,11 @@ use Rattle.rtps_audit.specs.declared.placed.Placed.{Placed}
 use Rattle.rtps_known.specs.Matched as matched
 use Rattle.rtps_known.specs.Places as places
 use Rattle.rtps_receiver.specs.Values as values
+use Rattle.rtps_report.specs.Acquaintance as acquaintance
 use Rattle.rtps_report.specs.MatchingActs as matching_acts
 use Rattle.rtps_report.proofs.MatchingLemmas.{sample_more, sample_skip}
-use Rattle.rtps_report.proofs.naming_walk.note_samples.Goals as goal
-use Rattle.rtps_report.proofs.naming_walk.note_samples.Goals.{then-sample-act+in_ok-note, else-sample-act}
+use Rattle.rtps_report.proofs.acquaintance.note_samples.Goals as goal
+use Rattle.rtps_report.proofs.acquaintance.note_samples.Goals.{then-sample-act+in_ok-note, else-sample-act}
 
 pub loop-sample-preserved : goal.loop-sample-preserved
 loop-sample-preserved c =
@@ -34,5 +35,5 @@ loop-sample-preserved c =
 
 pub returns : goal.returns
 returns c = λ before is.
-    subst (λ (samples : List Placed). matched.AreMatchesOf (before ++ map (matching_acts.act_placed c.args.came) (matching_acts.samples_at (values.spoken_value c.args.act.now) (map placed.placed_value samples))) c.loop-sample.matches)
+    subst (λ (samples : List Placed). matched.AreMatchesOf (before ++ map (matching_acts.act_placed c.args.came) (acquaintance.samples_at (values.spoken_value c.args.act.now) (map placed.placed_value samples))) c.loop-sample.matches)
     (take_all c.loop-sample.sample-index c.args.samples.now c.loop-sample-test.false) (c.loop-sample.invariant before is)

@@ -4,7 +4,7 @@ use Rattle.rtps_receiver.specs.Values as values
 use Rattle.rtps_policies.specs.Namings as namings
 use Rattle.rtps_report.specs.ActsRead as acts_read
 use Rattle.rtps_report.proofs.NamingWalkLemmas.{few_named, read_more}
-use Rattle.rtps_report.proofs.naming_walk.namings_of.Goals as goal
+use Rattle.rtps_report.proofs.acquaintance.namings_of.Goals as goal
 
 pub note-requires : goal.note-requires
 note-requires c = λ naming.

@@ -1,7 +1,7 @@
 use Rattle.std.proofs.Common.{map, take}
 use Rattle.rtps_policies.specs.Namings as namings
 use Rattle.rtps_report.specs.ActsRead as acts_read
-use Rattle.rtps_report.proofs.naming_walk.namings_of.Given as goal
+use Rattle.rtps_report.proofs.acquaintance.namings_of.Given as goal
 
 -- those of the datagrams so far
 abbrev pub invariant-loop-place : goal.invariant-loop-place
