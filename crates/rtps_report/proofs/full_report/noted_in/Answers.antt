@@ -5,15 +5,24 @@ use Rattle.rtps_audit.specs.declared.placed.Placed.{Placed}
 use Rattle.rtps_discovery.specs.Directory as directory
 use Rattle.rtps_evidence.specs.Times as times
 use Rattle.rtps_fragments.specs.Announcements as announcements
+use Rattle.rtps_fragments.specs.ReadDatagrams as read_datagrams
 use Rattle.rtps_fragments.specs.RecordedSamples as recorded_samples
 use Rattle.rtps_fragments.specs.declared.fragments.Fragments.{Fragments}
+use Rattle.rtps_report.specs.Acquaintance as acquaintance
 use Rattle.rtps_report.specs.Asked as asked
 use Rattle.rtps_report.specs.Talk as talk_spec
+use Rattle.rtps_report.proofs.AcquaintanceLemmas.{heard_all}
 use Rattle.rtps_report.proofs.full_report.noted_in.Goals as goal
 
 -- the octets of these datagrams
 abbrev octets_in : List (Bor (List ℕ)) → List (List ℕ)
 octets_in datagrams = map (λ datagram. datagram.now) datagrams
+
+pub talk_in-requires : goal.talk_in-requires
+talk_in-requires c =
+    let then = c.times.ensures in
+    heard_all (octets_in c.deref-2.result.now) c.times-in-talk.result.now.of_datagrams c.new-acquaintance.result c.index_told.new.listener (ap (λ (times : times.TimesValue). times.of_datagrams) (c.new-acquaintance.ensures.times ∙ then))
+    (subst (λ (datagrams : List (List ℕ)). acquaintance.HasHeard c.new-acquaintance.result (read_datagrams.read_of Fragments.Read datagrams) c.index_told.new.listener) (ap octets_in (c.deref.ensures.value ∙ sym c.deref-2.ensures.value)) c.in_ok-indexed.ensures.heard)
 
 pub returns : goal.returns
 returns c = λ theirs held.
@@ -23,7 +32,7 @@ returns c = λ theirs held.
     let talk = c.in_ok-talk.talk in
     let first : octets_in c.deref.result.now ≡ recording.datagrams = ap octets_in c.deref.ensures.value ∙ c.in_ok-datagrams.ensures in
     let second : octets_in c.deref-2.result.now ≡ recording.datagrams = ap octets_in c.deref-2.ensures.value ∙ c.in_ok-datagrams.ensures in
-    let by_own = subst (λ (datagrams : List (List ℕ)). announcements.IsIndexedBy (recorded_samples.intake_as Fragments.Read datagrams) indexed) first c.in_ok-indexed.ensures in
+    let by_own = subst (λ (datagrams : List (List ℕ)). announcements.IsIndexedBy (recorded_samples.intake_as Fragments.Read datagrams) indexed) first c.in_ok-indexed.ensures.index in
     let by_second = subst (λ (datagrams : List (List ℕ)). announcements.IsIndexedBy (recorded_samples.intake_as Fragments.Read datagrams) indexed) (sym second) by_own in
     let intake = recorded_samples.intake_as Fragments.Read recording.datagrams in
     let there = c.directory.ensures (recorded_samples.intake_as Fragments.Read (octets_in c.deref-2.result.now)) by_second.index in
