@@ -15,7 +15,7 @@ use Rattle.rtps_policies.specs.Unmatched as unmatched
 use Rattle.rtps_receiver.specs.Values as values
 use Rattle.rtps_evidence.specs.declared.explanation.Explanation.{Explanation}
 use Rattle.rtps_evidence.specs.Explanation as explanation
-use Rattle.rtps_audit.specs.Intake as intake
+use Rattle.rtps_audit.specs.Intake as intake_spec
 use Rattle.rtps_discovery.specs.declared.matching.Pair.{Pair}
 use Rattle.rtps_fragments.specs.declared.fragments.Fragments.{Fragments}
 use Rattle.rtps_fragments.specs.RecordedSamples as recorded_samples
@@ -81,12 +81,12 @@ both_parts true true is = (refl, refl)
 both_parts false named is = absurd (false≢true is)
 both_parts true false is = absurd (false≢true is)
 
-judged_there : (intake : intake.Intake) (traffic : silence.Traffic) (entries : directory_spec.Entries) (pair : Pair) (reliable unfit : Bool) → (Contains (matching.reliable_pairs (matching.matches_among (directory_spec.settled_in entries))) pair → reliable ≡ true)
+judged_there : (intake : intake_spec.Intake) (traffic : silence.Traffic) (entries : directory_spec.Entries) (pair : Pair) (reliable unfit : Bool) → (Contains (matching.reliable_pairs (matching.matches_among (directory_spec.settled_in entries))) pair → reliable ≡ true)
     → row_pairs.IsJudged unfit intake traffic entries pair → judged unfit (talk.talks intake pair) reliable (talk.is_named traffic pair) ≡ true
 judged_there intake traffic entries pair reliable true listed said = said
 judged_there intake traffic entries pair reliable false listed said = both reliable (talk.is_named traffic pair) (listed said.0) said.1
 
-judged_back : (intake : intake.Intake) (traffic : silence.Traffic) (entries : directory_spec.Entries) (pair : Pair) (reliable unfit : Bool) → (reliable ≡ true → Contains (matching.reliable_pairs (matching.matches_among (directory_spec.settled_in entries))) pair)
+judged_back : (intake : intake_spec.Intake) (traffic : silence.Traffic) (entries : directory_spec.Entries) (pair : Pair) (reliable unfit : Bool) → (reliable ≡ true → Contains (matching.reliable_pairs (matching.matches_among (directory_spec.settled_in entries))) pair)
     → judged unfit (talk.talks intake pair) reliable (talk.is_named traffic pair) ≡ true → row_pairs.IsJudged unfit intake traffic entries pair
 judged_back intake traffic entries pair reliable true listed said = said
 judged_back intake traffic entries pair reliable false listed said = let parts = both_parts reliable (talk.is_named traffic pair) said in (listed parts.0, parts.1)
@@ -96,7 +96,7 @@ module _ (listed : AreListed) (unique : HasOneMap) (asked : asked.AskedValue) (o
   abbrev traffic : silence.Traffic
   traffic = talk.traffic_of recording.datagrams
 
-  abbrev intake : intake.Intake
+  abbrev intake : intake_spec.Intake
   intake = recorded_samples.intake_as Fragments.Read recording.datagrams
 
   abbrev unfit : List unmatched.UnmatchedValue

@@ -20,8 +20,8 @@ octets_in datagrams = map (λ datagram. datagram.now) datagrams
 
 pub talk_in-requires : goal.talk_in-requires
 talk_in-requires c =
-    let then = c.times.ensures in
-    heard_all (octets_in c.deref-2.result.now) c.times-in-talk.result.now.of_datagrams c.new-acquaintance.result c.index_told.new.listener (ap (λ (times : times.TimesValue). times.of_datagrams) (c.new-acquaintance.ensures.times ∙ then))
+    let then = c.times.ensures ∙ sym c.times-2.ensures in
+    heard_all (octets_in c.deref-2.result.now) c.times-2.result.now.of_datagrams c.new-acquaintance.result c.index_told.new.listener (ap (λ (times : times.TimesValue). times.of_datagrams) (c.new-acquaintance.ensures.times ∙ then))
     (subst (λ (datagrams : List (List ℕ)). acquaintance.HasHeard c.new-acquaintance.result (read_datagrams.read_of Fragments.Read datagrams) c.index_told.new.listener) (ap octets_in (c.deref.ensures.value ∙ sym c.deref-2.ensures.value)) c.in_ok-indexed.ensures.heard)
 
 pub returns : goal.returns
@@ -41,7 +41,7 @@ returns c = λ theirs held.
     c.one_map.ensures.unique (intake_spec.acts_together intake.announcing) c.directory.result.now indexed.index.directory (c.directory.ensures intake by_own.index) by_own.index.directory in (
       by_own.index,
       subst (λ (datagrams : List (List ℕ)). talk_spec.IsTalkOf asked theirs datagrams recording.times (talk_spec.talk_value talk)) second
-          (subst (λ (times : times.TimesValue). talk_spec.IsTalkOf asked theirs (octets_in c.deref-2.result.now) times (talk_spec.talk_value talk)) c.times.ensures (c.in_ok-talk.ensures.talks theirs (record { index = by_second.index; beside = held; directory = there; announcements = told }))),
+          (subst (λ (times : times.TimesValue). talk_spec.IsTalkOf asked theirs (octets_in c.deref-2.result.now) times (talk_spec.talk_value talk)) c.times-2.ensures (c.in_ok-talk.ensures.talks theirs (record { index = by_second.index; beside = held; directory = there; announcements = told }))),
       subst (λ (of : directory.DirectoryValue). talk_spec.IsKeptOf asked intake (talk_spec.traffic_of recording.datagrams) of.endpoints talk) same
           (subst (λ (datagrams : List (List ℕ)). talk_spec.IsKeptOf asked (recorded_samples.intake_as Fragments.Read datagrams) (talk_spec.traffic_of datagrams) c.directory.result.now.endpoints talk) second (c.in_ok-talk.ensures.kept theirs (record { index = by_second.index; beside = held; directory = there; announcements = told }))),
     )
