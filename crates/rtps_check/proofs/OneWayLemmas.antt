@@ -5,10 +5,10 @@ use Rattle.std.proofs.lemmas.List.Concat.{flat_map-append}
 use Rattle.std.specs.List.{concat}
 use Rattle.rtps_ids.specs.declared.identity.Guid.{Guid}
 use Rattle.rtps_lines.proofs.Offered.{two_parts}
-use Rattle.rtps_parts.specs.Parts.{amount}
+use Rattle.rtps_parts.specs.Parts as parts
 use Rattle.rtps_policies.specs.declared.one_way.OneWay.{OneWay}
-use Rattle.rtps_report.specs.Ends.{EndValue}
-use Rattle.rtps_check.specs.TalkText.{one_way_by, one_way_lines, remedy_line}
+use Rattle.rtps_report.specs.Ends as ends
+use Rattle.rtps_check.specs.TalkText as talk_text
 use Rattle.rtps_lines.specs.declared.sentences.block.TheConstants as said
 
 -- parts behind others
@@ -27,10 +27,10 @@ lines_more line items i one start told new within so_far more =
     ∙ ap (λ all. start ++ flat_map line all) (sym (take_more items i one within))
 
 -- the lines of some
-pub some_one_way : (ends : Guid → EndValue) (ones : List OneWay) (number : ℕ) → length ones ≡ number → (number == 0) ≡ false
-    → concat (codes "\n" ∷ amount number (record { one = said.ONE_WAY_ONE.now; many = said.ONE_WAY_MANY.now }) ∷ codes "\n" ∷ [])
-    ++ (flat_map (one_way_lines ends) ones ++ remedy_line said.ONE_WAY_REMEDY.now) ≡ one_way_by ends ones
+pub some_one_way : (ends : Guid → ends.EndValue) (ones : List OneWay) (number : ℕ) → length ones ≡ number → (number == 0) ≡ false
+    → concat (codes "\n" ∷ parts.amount number (record { one = said.ONE_WAY_ONE.now; many = said.ONE_WAY_MANY.now }) ∷ codes "\n" ∷ [])
+    ++ (flat_map (talk_text.one_way_lines ends) ones ++ talk_text.remedy_line said.ONE_WAY_REMEDY.now) ≡ talk_text.one_way_by ends ones
 some_one_way ends [] number long some = absurd (true≢false (ap (λ n. n == 0) long ∙ some))
 some_one_way ends (one ∷ more) number long some =
-    ap (λ n. concat (codes "\n" ∷ amount n (record { one = said.ONE_WAY_ONE.now; many = said.ONE_WAY_MANY.now }) ∷ codes "\n" ∷ [])
-    ++ (flat_map (one_way_lines ends) (one ∷ more) ++ remedy_line said.ONE_WAY_REMEDY.now)) (sym long)
+    ap (λ n. concat (codes "\n" ∷ parts.amount n (record { one = said.ONE_WAY_ONE.now; many = said.ONE_WAY_MANY.now }) ∷ codes "\n" ∷ [])
+    ++ (flat_map (talk_text.one_way_lines ends) (one ∷ more) ++ talk_text.remedy_line said.ONE_WAY_REMEDY.now)) (sym long)

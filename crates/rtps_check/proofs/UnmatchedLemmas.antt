@@ -3,30 +3,30 @@ use Rattle.std.proofs.Common.{◌≡◌, ◌∙◌, ◌++◌, ◌==◌, ℕ, tru
 use Rattle.std.proofs.lemmas.List.Sorted.{IsPermutation-refl}
 use Rattle.rtps_ids.specs.declared.identity.Guid.{Guid}
 use Rattle.rtps_lines.proofs.Offered.{three_parts}
-use Rattle.rtps_lines.specs.Causes.{unmatched_words}
-use Rattle.rtps_parts.specs.Parts.{amount}
-use Rattle.rtps_policies.specs.Unmatched.{UnmatchedValue}
-use Rattle.rtps_report.specs.Ends.{EndValue}
-use Rattle.rtps_check.specs.TalkText.{AreByTopic, remedy_line, topic_line, unmatched_lines, unmatched_pair, unmatched_pairs}
+use Rattle.rtps_lines.specs.Causes as causes
+use Rattle.rtps_parts.specs.Parts as parts
+use Rattle.rtps_policies.specs.Unmatched as unmatched
+use Rattle.rtps_report.specs.Ends as ends
+use Rattle.rtps_check.specs.TalkText as talk_text
 use Rattle.rtps_lines.specs.declared.sentences.block.TheConstants as said
 
 -- the lines of one more
-pub pairs_more : (ends : Guid → EndValue) (before : Option (List ℕ)) (one : UnmatchedValue) (more : List UnmatchedValue) (start headed told all : List ℕ)
-    → start ++ unmatched_pairs ends before (one ∷ more) ≡ all → headed ≡ start ++ topic_line before one.writer.endpoint.topic → told ≡ headed ++ unmatched_pair ends one
-    → told ++ unmatched_pairs ends (Some one.writer.endpoint.topic) more ≡ all
+pub pairs_more : (ends : Guid → ends.EndValue) (before : Option (List ℕ)) (one : unmatched.UnmatchedValue) (more : List unmatched.UnmatchedValue) (start headed told all : List ℕ)
+    → start ++ talk_text.unmatched_pairs ends before (one ∷ more) ≡ all → headed ≡ start ++ talk_text.topic_line before one.writer.endpoint.topic → told ≡ headed ++ talk_text.unmatched_pair ends one
+    → told ++ talk_text.unmatched_pairs ends (Some one.writer.endpoint.topic) more ≡ all
 pairs_more ends before one more start headed told all so_far head pair =
-    three_parts start (topic_line before one.writer.endpoint.topic) (unmatched_pair ends one) (unmatched_pairs ends (Some one.writer.endpoint.topic) more) head pair refl ∙ so_far
+    three_parts start (talk_text.topic_line before one.writer.endpoint.topic) (talk_text.unmatched_pair ends one) (talk_text.unmatched_pairs ends (Some one.writer.endpoint.topic) more) head pair refl ∙ so_far
 
 -- there is none
-pub none_by_topic : (unmatched : List UnmatchedValue) → (length unmatched == 0) ≡ true → AreByTopic unmatched []
+pub none_by_topic : (unmatched : List unmatched.UnmatchedValue) → (length unmatched == 0) ≡ true → talk_text.AreByTopic unmatched []
 none_by_topic [] none = record { all = IsPermutation-refl []; by_topic = λ k d from within. absurd (omega arith); in_order = λ one. refl }
 none_by_topic (one ∷ more) none = absurd (omega (arith, eqb-true (length (one ∷ more)) 0 none))
 
 -- the lines of some
-pub some_lines : (ends : Guid → EndValue) (sorted : List UnmatchedValue) (number : ℕ) → length sorted ≡ number → (number == 0) ≡ false
-    → (codes "\n" ++ (amount number unmatched_words ++ (codes "\n" ++ []))) ++ (unmatched_pairs ends None sorted
-    ++ remedy_line said.UNMATCHED_REMEDY.now) ≡ unmatched_lines ends sorted
+pub some_lines : (ends : Guid → ends.EndValue) (sorted : List unmatched.UnmatchedValue) (number : ℕ) → length sorted ≡ number → (number == 0) ≡ false
+    → (codes "\n" ++ (parts.amount number causes.unmatched_words ++ (codes "\n" ++ []))) ++ (talk_text.unmatched_pairs ends None sorted
+    ++ talk_text.remedy_line said.UNMATCHED_REMEDY.now) ≡ talk_text.unmatched_lines ends sorted
 some_lines ends [] number long some = absurd (true≢false (ap (λ n. n == 0) long ∙ some))
 some_lines ends (one ∷ more) number long some =
-    ap (λ n. (codes "\n" ++ (amount n unmatched_words ++ (codes "\n" ++ []))) ++ (unmatched_pairs ends None (one ∷ more)
-    ++ remedy_line said.UNMATCHED_REMEDY.now)) (sym long)
+    ap (λ n. (codes "\n" ++ (parts.amount n causes.unmatched_words ++ (codes "\n" ++ []))) ++ (talk_text.unmatched_pairs ends None (one ∷ more)
+    ++ talk_text.remedy_line said.UNMATCHED_REMEDY.now)) (sym long)

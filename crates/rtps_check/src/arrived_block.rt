@@ -1,8 +1,7 @@
 ghost use Rattle.std.specs.Prelude.{◌≡◌, ◌++◌, IfOk, OnOk, None, filter, flat_map, map, string_bytes, sum_by};
-ghost use Rattle.rtps_parts.specs.Parts.{part_text};
-ghost use Rattle.rtps_report.specs.BestEfforts.{held_value};
-ghost use Rattle.rtps_report.specs.Talk.{talk_value};
-ghost use Rattle.rtps_check.specs.ArrivedText.{AreByTopic, IsArrivedBlock, is_lossy, lossy_pair, lossy_pairs, two_lines};
+ghost use Rattle.rtps_parts.specs.Parts as parts;
+ghost use Rattle.rtps_report.specs.BestEfforts as best_efforts;
+ghost use Rattle.rtps_report.specs.Talk as talk_spec;
 ghost use Rattle.rtps_check.specs.ArrivedText as arrived_text;
 
 use crate::not_arrived::push_listed;
@@ -16,7 +15,7 @@ use std::alloc::{AllocError, Global};
 
 /// How many numbers of a pair did not arrive.
 fn lost_of(one: &HeldPair<'_>) -> u64
-    ensures { result ≡ arrived_text.lost_of (held_value one.now) }
+    ensures { result ≡ arrived_text.lost_of (best_efforts.held_value one.now) }
 {
     one.numbers.saturating_sub(one.arrived.arrived)
 }
@@ -26,7 +25,7 @@ fn lossy_by_topic<'h, 'a>(
     alloc: Global,
     held: &'h [HeldPair<'a>],
 ) -> Result<Vec<&'h HeldPair<'a>>, AllocError>
-    ensures { IfOk result (λ sorted. AreByTopic (filter is_lossy (map held_value held.now)) (map (λ one. held_value one.now) sorted.items)) }
+    ensures { IfOk result (λ sorted. arrived_text.AreByTopic (filter arrived_text.is_lossy (map best_efforts.held_value held.now)) (map (λ one. best_efforts.held_value one.now) sorted.items)) }
 {
     let mut sorted = Vec::new(alloc);
     for one in held {
@@ -40,7 +39,7 @@ fn lossy_by_topic<'h, 'a>(
 
 /// How many numbers of these pairs did not arrive.
 fn lost_among(pairs: &[&HeldPair<'_>]) -> u128
-    ensures { result ≡ sum_by arrived_text.lost_of (map (λ one. held_value one.now) pairs.now) }
+    ensures { result ≡ sum_by arrived_text.lost_of (map (λ one. best_efforts.held_value one.now) pairs.now) }
 {
     let mut lost = 0;
     for one in pairs {
@@ -50,7 +49,7 @@ fn lost_among(pairs: &[&HeldPair<'_>]) -> u128
 }
 
 fn lossy_head(lost: u128, pairs: usize) -> [Part<'static>; 5]
-    ensures { flat_map part_text result ≡ arrived_text.lossy_head lost pairs }
+    ensures { flat_map parts.part_text result ≡ arrived_text.lossy_head lost pairs }
 {
     let words = Words {
         one: "best-effort pair",
@@ -67,7 +66,7 @@ fn lossy_head(lost: u128, pairs: usize) -> [Part<'static>; 5]
 
 /// Appends the lines of a writer and a reader.
 fn push_two(text: &mut String, pair: Pair, talk: &Talk<'_>) -> Result<(), AllocError>
-    ensures { OnOk result (string_bytes text.new ≡ string_bytes text.old ++ two_lines (talk_value talk.now).ends pair) }
+    ensures { OnOk result (string_bytes text.new ≡ string_bytes text.old ++ arrived_text.two_lines (talk_spec.talk_value talk.now).ends pair) }
 {
     let writer = end_by(talk, pair.writer);
     let reader = end_by(talk, pair.reader);
@@ -76,7 +75,7 @@ fn push_two(text: &mut String, pair: Pair, talk: &Talk<'_>) -> Result<(), AllocE
 
 /// How many numbers of a pair arrived, of how many.
 fn arrived_share(one: &HeldPair<'_>) -> [Part<'static>; 3]
-    ensures { flat_map part_text result ≡ arrived_text.arrived_share (held_value one.now) }
+    ensures { flat_map parts.part_text result ≡ arrived_text.arrived_share (best_efforts.held_value one.now) }
 {
     let arrived = u128::from(one.arrived.arrived);
     let numbers = u128::from(one.numbers);
@@ -89,7 +88,7 @@ fn arrived_share(one: &HeldPair<'_>) -> [Part<'static>; 3]
 
 /// Appends the lines of a pair.
 fn push_pair(text: &mut String, one: &HeldPair<'_>, talk: &Talk<'_>) -> Result<(), AllocError>
-    ensures { OnOk result (string_bytes text.new ≡ string_bytes text.old ++ lossy_pair (talk_value talk.now).ends (held_value one.now)) }
+    ensures { OnOk result (string_bytes text.new ≡ string_bytes text.old ++ arrived_text.lossy_pair (talk_spec.talk_value talk.now).ends (best_efforts.held_value one.now)) }
 {
     let first = one.arrived.lacking.as_slice();
     push_two(text, one.pair, talk)?;
@@ -104,7 +103,7 @@ fn push_pairs(
     talk: &Talk<'_>,
 ) -> Result<(), AllocError>
     ensures { OnOk result (string_bytes text.new ≡ string_bytes text.old
-        ++ lossy_pairs (talk_value talk.now).ends None (map (λ one. held_value one.now) sorted.entry.items)) }
+        ++ arrived_text.lossy_pairs (talk_spec.talk_value talk.now).ends None (map (λ one. best_efforts.held_value one.now) sorted.entry.items)) }
 {
     let mut before = None;
     for one in sorted {
@@ -121,7 +120,7 @@ pub(crate) fn push_arrived_block(
     text: &mut String,
     talk: &Talk<'_>,
 ) -> Result<(), AllocError>
-    ensures { OnOk result (IsArrivedBlock (talk_value talk.now) (string_bytes text.old) (string_bytes text.new)) }
+    ensures { OnOk result (arrived_text.IsArrivedBlock (talk_spec.talk_value talk.now) (string_bytes text.old) (string_bytes text.new)) }
 {
     let sorted = lossy_by_topic(alloc, &talk.held)?;
     if sorted.is_empty() {

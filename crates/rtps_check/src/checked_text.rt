@@ -1,13 +1,11 @@
 ghost use Rattle.std.specs.Prelude.{◌≡◌, ◌++◌, OnOk, IfOk, map, flat_map, string_bytes};
-ghost use Rattle.rtps_audit.specs.Index.{IsIndexBy};
-ghost use Rattle.rtps_evidence.specs.Explanation.{explanation_value};
-ghost use Rattle.rtps_fragments.specs.RecordedSamples.{intake_as};
+ghost use Rattle.rtps_audit.specs.Index as index;
+ghost use Rattle.rtps_evidence.specs.Explanation as explanation;
+ghost use Rattle.rtps_fragments.specs.RecordedSamples as recorded_samples;
 ghost use Rattle.rtps_fragments.specs.declared.fragments.Fragments.TheVariants.{Read as ReadFragments};
-ghost use Rattle.rtps_parts.specs.Parts.{part_text};
-ghost use Rattle.rtps_report.specs.Asked.{asked_value};
-ghost use Rattle.rtps_report.specs.FullReport.{report_value};
-ghost use Rattle.rtps_report.specs.Talk.{left_out_value, talk_value};
-ghost use Rattle.rtps_check.specs.CheckText.{IsCheckJson, IsCheckText, IsRemedyIn, IsTextBy, arrived_text, beside_value, clean_lines, discovery_text, ending_text, first_lines, notes_block, told_beside, topics_text};
+ghost use Rattle.rtps_parts.specs.Parts as parts;
+ghost use Rattle.rtps_report.specs.Asked as asked;
+ghost use Rattle.rtps_report.specs.FullReport as full_report;
 ghost use Rattle.rtps_check.specs.CheckText as check_text_spec;
 
 use crate::arrived_block::push_arrived_block;
@@ -57,7 +55,7 @@ struct Told<'r, 'a> {
 
 /// How many of the pairs are clean, and how many of the numbers are received.
 fn clean_line(totals: &Totals) -> [Part<'static>; 4]
-    ensures { flat_map part_text result ≡ check_text_spec.clean_line totals.now }
+    ensures { flat_map parts.part_text result ≡ check_text_spec.clean_line totals.now }
 {
     let pairs = u128::from(totals.pairs);
     let pair_words = Words {
@@ -82,7 +80,7 @@ fn push_arrived(
     side: Option<SideFacts>,
     totals: &Totals,
 ) -> Result<(), AllocError>
-    ensures { OnOk result (string_bytes text.new ≡ string_bytes text.old ++ arrived_text side totals.now) }
+    ensures { OnOk result (string_bytes text.new ≡ string_bytes text.old ++ check_text_spec.arrived_text side totals.now) }
 {
     match side {
         None => Ok(()),
@@ -98,7 +96,7 @@ fn push_arrived(
 }
 
 fn push_clean(text: &mut String, side: Option<SideFacts>, totals: &Totals) -> Result<(), AllocError>
-    ensures { OnOk result (string_bytes text.new ≡ string_bytes text.old ++ clean_lines side totals.now) }
+    ensures { OnOk result (string_bytes text.new ≡ string_bytes text.old ++ check_text_spec.clean_lines side totals.now) }
 {
     render(text, &clean_line(totals))?;
     push_arrived(text, side, totals)?;
@@ -106,7 +104,7 @@ fn push_clean(text: &mut String, side: Option<SideFacts>, totals: &Totals) -> Re
 }
 
 fn push_first(text: &mut String, totals: &Totals, told: &Told<'_, '_>) -> Result<(), AllocError>
-    ensures { OnOk result (string_bytes text.new ≡ string_bytes text.old ++ first_lines totals.now (beside_value told.now)) }
+    ensures { OnOk result (string_bytes text.new ≡ string_bytes text.old ++ check_text_spec.first_lines totals.now (check_text_spec.beside_value told.now)) }
 {
     if totals.pairs == 0 {
         let parts = [
@@ -122,7 +120,7 @@ fn push_first(text: &mut String, totals: &Totals, told: &Told<'_, '_>) -> Result
 }
 
 fn push_notes(text: &mut String, notes: &[String]) -> Result<(), AllocError>
-    ensures { OnOk result (string_bytes text.new ≡ string_bytes text.old ++ notes_block (map string_bytes notes.now)) }
+    ensures { OnOk result (string_bytes text.new ≡ string_bytes text.old ++ check_text_spec.notes_block (map string_bytes notes.now)) }
 {
     if notes.is_empty() {
         return Ok(());
@@ -140,7 +138,7 @@ fn push_topics(
     told: &Told<'_, '_>,
     totals: &Totals,
 ) -> Result<(), AllocError>
-    ensures { OnOk result (string_bytes text.new ≡ string_bytes text.old ++ topics_text (told_beside told.now.scope (beside_value told.now)) (beside_value told.now).events totals.now (map explanation_value told.now.rows.now)) }
+    ensures { OnOk result (string_bytes text.new ≡ string_bytes text.old ++ check_text_spec.topics_text (check_text_spec.told_beside told.now.scope (check_text_spec.beside_value told.now)) (check_text_spec.beside_value told.now).events totals.now (map explanation.explanation_value told.now.rows.now)) }
 {
     let telling = RowTelling {
         scope: told.scope,
@@ -155,7 +153,7 @@ fn push_topics(
 
 fn told_notes(alloc: Global, told: &Told<'_, '_>) -> Result<Vec<String>, AllocError>
     ensures { IfOk result (λ notes. map string_bytes notes.items
-        ≡ check_text_spec.told_notes told.now.scope (beside_value told.now) (map explanation_value told.now.rows.now)) }
+        ≡ check_text_spec.told_notes told.now.scope (check_text_spec.beside_value told.now) (map explanation.explanation_value told.now.rows.now)) }
 {
     let late = late_among(alloc, told.talk, told.scope.from, told.rows)?;
     let matched_late = late_rows(alloc, told.talk, told.rows)?;
@@ -183,7 +181,7 @@ fn push_ending(
     totals: &Totals,
 ) -> Result<(), AllocError>
     ensures { OnOk result (string_bytes text.new
-        ≡ string_bytes text.old ++ ending_text told.now.scope (beside_value told.now) totals.now (map explanation_value told.now.rows.now)) }
+        ≡ string_bytes text.old ++ check_text_spec.ending_text told.now.scope (check_text_spec.beside_value told.now) totals.now (map explanation.explanation_value told.now.rows.now)) }
 {
     let judged = Judged {
         totals,
@@ -199,7 +197,7 @@ fn push_ending(
 
 /// Appends who was never told of what, who has two lives, and who talks one way.
 fn push_discovery(text: &mut String, told: &Told<'_, '_>) -> Result<(), AllocError>
-    ensures { OnOk result (string_bytes text.new ≡ string_bytes text.old ++ discovery_text (beside_value told.now)) }
+    ensures { OnOk result (string_bytes text.new ≡ string_bytes text.old ++ check_text_spec.discovery_text (check_text_spec.beside_value told.now)) }
 {
     push_not_told_block(text, told.talk)?;
     push_lives_block(text, told.talk, told.lost.times)?;
@@ -207,7 +205,7 @@ fn push_discovery(text: &mut String, told: &Told<'_, '_>) -> Result<(), AllocErr
 }
 
 fn text_of(alloc: Global, told: &Told<'_, '_>) -> Result<String, AllocError>
-    ensures { IfOk result (λ text. IsTextBy told.now.scope (beside_value told.now) (map explanation_value told.now.rows.now) (string_bytes text)) }
+    ensures { IfOk result (λ text. check_text_spec.IsTextBy told.now.scope (check_text_spec.beside_value told.now) (map explanation.explanation_value told.now.rows.now) (string_bytes text)) }
 {
     let totals = totals_of(told.rows, told.scope);
     let mut text = String::new(alloc);
@@ -222,8 +220,8 @@ fn text_of(alloc: Global, told: &Told<'_, '_>) -> Result<String, AllocError>
 
 /// What to do where a report has no pair to judge; nothing where it has some.
 fn remedy_of(alloc: Global, report: &FullReport<'_>) -> Result<String, AllocError>
-    requires { IsIndexBy (intake_as ReadFragments report.now.recording.now.datagrams) report.now.index }
-    ensures { IfOk result (λ text. IsRemedyIn (asked_value report.now.asked.now) report.now.recording.now (report_value report.now) (string_bytes text)) }
+    requires { index.IsIndexBy (recorded_samples.intake_as ReadFragments report.now.recording.now.datagrams) report.now.index }
+    ensures { IfOk result (λ text. check_text_spec.IsRemedyIn (asked.asked_value report.now.asked.now) report.now.recording.now (full_report.report_value report.now) (string_bytes text)) }
 {
     if report.explained.rows.is_empty() {
         no_pair_remedy(alloc, report)
@@ -234,8 +232,8 @@ fn remedy_of(alloc: Global, report: &FullReport<'_>) -> Result<String, AllocErro
 
 /// What `check` prints of a report.
 pub fn check_text(alloc: Global, report: &FullReport<'_>) -> Result<String, AllocError>
-    requires { IsIndexBy (intake_as ReadFragments report.now.recording.now.datagrams) report.now.index }
-    ensures { IfOk result (λ text. IsCheckText (asked_value report.now.asked.now) report.now.recording.now (report_value report.now) (string_bytes text)) }
+    requires { index.IsIndexBy (recorded_samples.intake_as ReadFragments report.now.recording.now.datagrams) report.now.index }
+    ensures { IfOk result (λ text. check_text_spec.IsCheckText (asked.asked_value report.now.asked.now) report.now.recording.now (full_report.report_value report.now) (string_bytes text)) }
 {
     let rows = by_topic(alloc, &report.explained.rows)?;
     let remedy = remedy_of(alloc, report)?;
@@ -266,7 +264,7 @@ pub fn check_text(alloc: Global, report: &FullReport<'_>) -> Result<String, Allo
 
 /// What `check --json` prints of a report.
 pub fn check_json(alloc: Global, report: &FullReport<'_>) -> Result<String, AllocError>
-    ensures { IfOk result (λ text. IsCheckJson (asked_value report.now.asked.now) report.now.recording.now (report_value report.now) (string_bytes text)) }
+    ensures { IfOk result (λ text. check_text_spec.IsCheckJson (asked.asked_value report.now.asked.now) report.now.recording.now (full_report.report_value report.now) (string_bytes text)) }
 {
     let mut writer = Writer::new(Vec::new(alloc));
     writer.begin_object()?;

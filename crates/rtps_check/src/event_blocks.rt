@@ -1,8 +1,7 @@
 ghost use Rattle.std.specs.Prelude.{◌≡◌, ◌++◌, IfOk, OnOk, flat_map, map, string_bytes};
-ghost use Rattle.rtps_evidence.specs.Explanation.{explanation_value};
-ghost use Rattle.rtps_report.specs.Events.{AreEventRows, event_value, rows_value};
-ghost use Rattle.rtps_report.specs.Talk.{talk_value};
-ghost use Rattle.rtps_check.specs.CheckText.{event_block, event_head, event_lines, row_told};
+ghost use Rattle.rtps_evidence.specs.Explanation as explanation;
+ghost use Rattle.rtps_report.specs.Events as events_spec;
+ghost use Rattle.rtps_check.specs.CheckText as check_text;
 
 use crate::sections::{RowTelling, push_sections};
 use rtps_evidence::Explanation;
@@ -16,7 +15,7 @@ fn push_event_head(
     event: &Event,
     told: RowTelling<'_, '_>,
 ) -> Result<(), AllocError>
-    ensures { OnOk result (string_bytes text.new ≡ string_bytes text.old ++ event_head (row_told told.entry) (event_value event.now)) }
+    ensures { OnOk result (string_bytes text.new ≡ string_bytes text.old ++ check_text.event_head (check_text.row_told told.entry) (events_spec.event_value event.now)) }
 {
     text.push_str("\n")?;
     push_event_text(text, event, told.talk, told.lost.times)?;
@@ -25,7 +24,7 @@ fn push_event_head(
 
 /// Rows that are borrowed, one after another.
 fn copied<'a>(alloc: Global, rows: &[&Explanation<'a>]) -> Result<Vec<Explanation<'a>>, AllocError>
-    ensures { IfOk result (λ copies. map explanation_value copies.items ≡ rows_value rows.now) }
+    ensures { IfOk result (λ copies. map explanation.explanation_value copies.items ≡ events_spec.rows_value rows.now) }
 {
     let mut copies = Vec::with_capacity(alloc, rows.len())?;
     for row in rows {
@@ -42,7 +41,7 @@ fn push_event(
     rows: &[&Explanation<'_>],
     told: RowTelling<'_, '_>,
 ) -> Result<(), AllocError>
-    ensures { OnOk result (string_bytes text.new ≡ string_bytes text.old ++ event_lines (row_told told.entry) (event_value event.now) (rows_value rows.now)) }
+    ensures { OnOk result (string_bytes text.new ≡ string_bytes text.old ++ check_text.event_lines (check_text.row_told told.entry) (events_spec.event_value event.now) (events_spec.rows_value rows.now)) }
 {
     push_event_head(text, event, told)?;
     let rows = copied(alloc, rows)?;
@@ -59,7 +58,7 @@ pub(crate) fn push_events(
     told: RowTelling<'_, '_>,
 ) -> Result<(), AllocError>
     ensures { OnOk result (string_bytes text.new
-        ≡ string_bytes text.old ++ flat_map (event_block (row_told told.entry) (map explanation_value rows.now)) (map event_value events.now)) }
+        ≡ string_bytes text.old ++ flat_map (check_text.event_block (check_text.row_told told.entry) (map explanation.explanation_value rows.now)) (map events_spec.event_value events.now)) }
 {
     let kept = EventRows::of(alloc, told.talk, told.scope.tail, rows)?;
     for event in events {

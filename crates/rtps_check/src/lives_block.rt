@@ -1,6 +1,6 @@
 ghost use Rattle.std.specs.Prelude.{◌≡◌, ◌++◌, OnOk, string_bytes};
-ghost use Rattle.rtps_report.specs.Talk.{talk_value};
-ghost use Rattle.rtps_check.specs.DiscoveryText.{lives_block, lives_line};
+ghost use Rattle.rtps_report.specs.Talk as talk_spec;
+ghost use Rattle.rtps_check.specs.DiscoveryText as discovery_text;
 
 use crate::unmatched_block::end_by;
 use rtps_evidence::Times;
@@ -17,7 +17,7 @@ fn push_lives(
     talk: &Talk<'_>,
     times: &Times,
 ) -> Result<(), AllocError>
-    ensures { OnOk result (string_bytes text.new ≡ string_bytes text.old ++ lives_line times.now (talk_value talk.now) one) }
+    ensures { OnOk result (string_bytes text.new ≡ string_bytes text.old ++ discovery_text.lives_line times.now (talk_spec.talk_value talk.now) one) }
 {
     let participant = end_by(talk, one.participant);
     let first = SecondsText(sent_second(times, one.sent.0));
@@ -34,7 +34,7 @@ pub(crate) fn push_lives_block(
     talk: &Talk<'_>,
     times: &Times,
 ) -> Result<(), AllocError>
-    ensures { OnOk result (string_bytes text.new ≡ string_bytes text.old ++ lives_block times.now (talk_value talk.now)) }
+    ensures { OnOk result (string_bytes text.new ≡ string_bytes text.old ++ discovery_text.lives_block times.now (talk_spec.talk_value talk.now)) }
 {
     if talk.lives.is_empty() {
         return Ok(());

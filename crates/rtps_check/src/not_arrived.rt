@@ -1,6 +1,6 @@
 ghost use Rattle.std.specs.Prelude.{◌≡◌, ◌++◌, OnOk, codes, decimal, string_bytes};
 ghost use Rattle.std.specs.List.{join_by};
-ghost use Rattle.rtps_check.specs.ArrivedText.{listed};
+ghost use Rattle.rtps_check.specs.ArrivedText as arrived_text;
 
 use rtps_lines::{push_decimal, push_field, push_more};
 use std::alloc::AllocError;
@@ -21,7 +21,7 @@ fn push_numbers(text: &mut String, numbers: &[u64]) -> Result<(), AllocError>
 
 /// Appends the first of so many numbers, and how many more there are.
 pub(crate) fn push_listed(text: &mut String, first: &[u64], count: u128) -> Result<(), AllocError>
-    ensures { OnOk result (string_bytes text.new ≡ string_bytes text.old ++ listed first.now count) }
+    ensures { OnOk result (string_bytes text.new ≡ string_bytes text.old ++ arrived_text.listed first.now count) }
 {
     push_numbers(text, first)?;
     push_more(text, count.saturating_sub(first.len() as u128))

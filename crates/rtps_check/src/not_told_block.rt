@@ -1,7 +1,7 @@
 ghost use Rattle.std.specs.Prelude.{◌≡◌, ◌++◌, OnOk, map, string_bytes};
-ghost use Rattle.rtps_report.specs.NotTold.{not_told_value, topic_end_value};
-ghost use Rattle.rtps_report.specs.Talk.{talk_value};
-ghost use Rattle.rtps_check.specs.DiscoveryText.{end_line, end_lines, not_told_block, not_told_lines, unnamed_line};
+ghost use Rattle.rtps_report.specs.NotTold as not_told;
+ghost use Rattle.rtps_report.specs.Talk as talk_spec;
+ghost use Rattle.rtps_check.specs.DiscoveryText as discovery_text;
 
 use crate::unmatched_block::end_by;
 use rtps_lines::sentences::block as said;
@@ -18,7 +18,7 @@ fn push_end(
     by: (TopicEnd<'_>, &Talk<'_>),
 ) -> Result<(), AllocError>
     ensures { OnOk result (string_bytes text.new ≡ string_bytes text.old
-        ++ end_line (talk_value by.entry.1.now) (not_told_value one.now) side.now (topic_end_value by.entry.0)) }
+        ++ discovery_text.end_line (talk_spec.talk_value by.entry.1.now) (not_told.not_told_value one.now) side.now (not_told.topic_end_value by.entry.0)) }
 {
     let (end, talk) = by;
     let told = called(talk, one.to.prefix);
@@ -35,7 +35,7 @@ fn push_ends(
     by: (&[TopicEnd<'_>], &Talk<'_>),
 ) -> Result<(), AllocError>
     ensures { OnOk result (string_bytes text.new ≡ string_bytes text.old
-        ++ end_lines (talk_value by.entry.1.now) (not_told_value one.now) side.now (map topic_end_value by.entry.0.now)) }
+        ++ discovery_text.end_lines (talk_spec.talk_value by.entry.1.now) (not_told.not_told_value one.now) side.now (map not_told.topic_end_value by.entry.0.now)) }
 {
     let (ends, talk) = by;
     for end in ends {
@@ -46,7 +46,7 @@ fn push_ends(
 
 /// Appends how many more a participant was never told of; nothing where there are none.
 fn push_unnamed(text: &mut String, one: &NotTold<'_>, talk: &Talk<'_>) -> Result<(), AllocError>
-    ensures { OnOk result (string_bytes text.new ≡ string_bytes text.old ++ unnamed_line (talk_value talk.now) (not_told_value one.now)) }
+    ensures { OnOk result (string_bytes text.new ≡ string_bytes text.old ++ discovery_text.unnamed_line (talk_spec.talk_value talk.now) (not_told.not_told_value one.now)) }
 {
     if one.unnamed == 0 {
         return Ok(());
@@ -63,7 +63,7 @@ fn push_unnamed(text: &mut String, one: &NotTold<'_>, talk: &Talk<'_>) -> Result
 
 /// Appends what a participant was never told of another, and what to do.
 fn push_not_told(text: &mut String, one: &NotTold<'_>, talk: &Talk<'_>) -> Result<(), AllocError>
-    ensures { OnOk result (string_bytes text.new ≡ string_bytes text.old ++ not_told_lines (talk_value talk.now) (not_told_value one.now)) }
+    ensures { OnOk result (string_bytes text.new ≡ string_bytes text.old ++ discovery_text.not_told_lines (talk_spec.talk_value talk.now) (not_told.not_told_value one.now)) }
 {
     let writer = said::NOT_TOLD_WRITER;
     let reader = said::NOT_TOLD_READER;
@@ -76,7 +76,7 @@ fn push_not_told(text: &mut String, one: &NotTold<'_>, talk: &Talk<'_>) -> Resul
 
 /// Appends who was never told of which endpoints, if someone was not.
 pub(crate) fn push_not_told_block(text: &mut String, talk: &Talk<'_>) -> Result<(), AllocError>
-    ensures { OnOk result (string_bytes text.new ≡ string_bytes text.old ++ not_told_block (talk_value talk.now)) }
+    ensures { OnOk result (string_bytes text.new ≡ string_bytes text.old ++ discovery_text.not_told_block (talk_spec.talk_value talk.now)) }
 {
     if talk.not_told.is_empty() {
         return Ok(());

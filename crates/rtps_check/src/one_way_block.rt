@@ -1,6 +1,6 @@
 ghost use Rattle.std.specs.Prelude.{◌≡◌, ◌++◌, OnOk, string_bytes};
-ghost use Rattle.rtps_report.specs.Talk.{talk_value};
-ghost use Rattle.rtps_check.specs.TalkText.{one_way_block, one_way_lines};
+ghost use Rattle.rtps_report.specs.Talk as talk_spec;
+ghost use Rattle.rtps_check.specs.TalkText as talk_text;
 
 use crate::unmatched_block::end_by;
 use rtps_lines::sentences::block as said;
@@ -11,7 +11,7 @@ use std::alloc::AllocError;
 
 /// Appends the lines of a participant that never answers, and of the one that names it.
 fn push_one_way(text: &mut String, one: OneWay, talk: &Talk<'_>) -> Result<(), AllocError>
-    ensures { OnOk result (string_bytes text.new ≡ string_bytes text.old ++ one_way_lines (talk_value talk.now).ends one) }
+    ensures { OnOk result (string_bytes text.new ≡ string_bytes text.old ++ talk_text.one_way_lines (talk_spec.talk_value talk.now).ends one) }
 {
     let silent = end_by(talk, participant_of(one.naming.dest));
     let talking = end_by(talk, participant_of(one.naming.source));
@@ -31,7 +31,7 @@ fn push_one_way(text: &mut String, one: OneWay, talk: &Talk<'_>) -> Result<(), A
 
 /// Appends who talks one way, if someone does.
 pub(crate) fn push_one_way_block(text: &mut String, talk: &Talk<'_>) -> Result<(), AllocError>
-    ensures { OnOk result (string_bytes text.new ≡ string_bytes text.old ++ one_way_block (talk_value talk.now)) }
+    ensures { OnOk result (string_bytes text.new ≡ string_bytes text.old ++ talk_text.one_way_block (talk_spec.talk_value talk.now)) }
 {
     if talk.one_way.is_empty() {
         return Ok(());

@@ -1,9 +1,8 @@
 ghost use Rattle.std.specs.Prelude.{◌≡◌, ◌++◌, OnOk, IfOk, map, flat_map, option_copied, option_map, string_bytes};
-ghost use Rattle.rtps_evidence.specs.Explanation.{evidence_value, explanation_value};
-ghost use Rattle.rtps_evidence.specs.Locations.{sent_value};
+ghost use Rattle.rtps_evidence.specs.Explanation as explanation;
+ghost use Rattle.rtps_evidence.specs.Locations as locations;
 ghost use Rattle.rtps_lines.specs.Lines as lines_spec;
-ghost use Rattle.rtps_parts.specs.Parts.{part_text};
-ghost use Rattle.rtps_check.specs.CheckText.{advice_line, headed, kind_text, kinds_text, left_text, missed_line, noted_lines, pair_lines, payload_line, reason_lines, row_head, row_lines, row_told, section, sentence_line, verdict_lines, wait_line};
+ghost use Rattle.rtps_parts.specs.Parts as parts;
 ghost use Rattle.rtps_check.specs.CheckText as check_text;
 
 use crate::unmatched_block::end_by;
@@ -30,7 +29,7 @@ pub(crate) struct RowTelling<'t, 'a> {
 }
 
 fn push_kind(text: &mut String, name: &str, count: u64) -> Result<(), AllocError>
-    ensures { OnOk result (string_bytes text.new ≡ string_bytes text.old ++ kind_text name.now count) }
+    ensures { OnOk result (string_bytes text.new ≡ string_bytes text.old ++ check_text.kind_text name.now count) }
 {
     if count == 0 {
         return Ok(());
@@ -39,7 +38,7 @@ fn push_kind(text: &mut String, name: &str, count: u64) -> Result<(), AllocError
 }
 
 fn push_kinds(text: &mut String, outcomes: Outcomes) -> Result<(), AllocError>
-    ensures { OnOk result (string_bytes text.new ≡ string_bytes text.old ++ kinds_text outcomes) }
+    ensures { OnOk result (string_bytes text.new ≡ string_bytes text.old ++ check_text.kinds_text outcomes) }
 {
     push_field(text, ", received ", outcomes.received)?;
     push_kind(text, ", arrived ", outcomes.arrived)?;
@@ -52,7 +51,7 @@ fn push_kinds(text: &mut String, outcomes: Outcomes) -> Result<(), AllocError>
 }
 
 fn push_missed(text: &mut String, evidence: &Evidence<'_>, times: &Times) -> Result<(), AllocError>
-    ensures { OnOk result (string_bytes text.new ≡ string_bytes text.old ++ missed_line times.now (evidence_value evidence.now)) }
+    ensures { OnOk result (string_bytes text.new ≡ string_bytes text.old ++ check_text.missed_line times.now (explanation.evidence_value evidence.now)) }
 {
     match evidence.first_missed {
         Some(first) => write!(text, "{}", AskedLine(times, first)),
@@ -67,7 +66,7 @@ fn push_payload(
     times: &Times,
 ) -> Result<(), AllocError>
     ensures { OnOk result (string_bytes text.new
-        ≡ string_bytes text.old ++ payload_line times.now number (option_map sent_value sent.entry)) }
+        ≡ string_bytes text.old ++ check_text.payload_line times.now number (option_map locations.sent_value sent.entry)) }
 {
     if sent.is_none() {
         return Ok(());
@@ -77,7 +76,7 @@ fn push_payload(
 }
 
 fn push_verdict(text: &mut String, evidence: &Evidence<'_>, times: &Times) -> Result<(), AllocError>
-    ensures { OnOk result (string_bytes text.new ≡ string_bytes text.old ++ verdict_lines times.now (evidence_value evidence.now)) }
+    ensures { OnOk result (string_bytes text.new ≡ string_bytes text.old ++ check_text.verdict_lines times.now (explanation.evidence_value evidence.now)) }
 {
     let number = number_of(&evidence.verdict);
     match evidence.grounds {
@@ -113,7 +112,7 @@ fn push_verdict(text: &mut String, evidence: &Evidence<'_>, times: &Times) -> Re
 }
 
 fn push_left(text: &mut String, left: Option<u64>, times: &Times) -> Result<(), AllocError>
-    ensures { OnOk result (string_bytes text.new ≡ string_bytes text.old ++ left_text times.now left) }
+    ensures { OnOk result (string_bytes text.new ≡ string_bytes text.old ++ check_text.left_text times.now left) }
 {
     match left {
         Some(datagram) => {
@@ -129,7 +128,7 @@ fn push_pair(
     row: &Explanation<'_>,
     told: RowTelling<'_, '_>,
 ) -> Result<(), AllocError>
-    ensures { OnOk result (string_bytes text.new ≡ string_bytes text.old ++ pair_lines (row_told told.entry) (explanation_value row.now)) }
+    ensures { OnOk result (string_bytes text.new ≡ string_bytes text.old ++ check_text.pair_lines (check_text.row_told told.entry) (explanation.explanation_value row.now)) }
 {
     let first = row_from(told.scope.from, &row.evidence);
     let writer = end_by(told.talk, row.pair.writer);
@@ -144,7 +143,7 @@ fn push_head(
     row: &Explanation<'_>,
     told: RowTelling<'_, '_>,
 ) -> Result<(), AllocError>
-    ensures { OnOk result (string_bytes text.new ≡ string_bytes text.old ++ row_head (row_told told.entry) (explanation_value row.now)) }
+    ensures { OnOk result (string_bytes text.new ≡ string_bytes text.old ++ check_text.row_head (check_text.row_told told.entry) (explanation.explanation_value row.now)) }
 {
     push_pair(text, row, told)?;
     write!(text, "  {}", VerdictText(row.evidence.verdict))?;
@@ -153,7 +152,7 @@ fn push_head(
 
 /// Appends the longest that the reader of a row let the writer wait, where that is told.
 fn push_wait(text: &mut String, in_span: Option<&InSpan>, times: &Times) -> Result<(), AllocError>
-    ensures { OnOk result (string_bytes text.new ≡ string_bytes text.old ++ wait_line times.now (option_copied in_span.entry)) }
+    ensures { OnOk result (string_bytes text.new ≡ string_bytes text.old ++ check_text.wait_line times.now (option_copied in_span.entry)) }
 {
     match in_span {
         Some(
@@ -168,7 +167,7 @@ fn push_wait(text: &mut String, in_span: Option<&InSpan>, times: &Times) -> Resu
 
 /// Appends sentences, each in a line of its own.
 fn push_sentences(text: &mut String, sentences: &[String]) -> Result<(), AllocError>
-    ensures { OnOk result (string_bytes text.new ≡ string_bytes text.old ++ flat_map sentence_line (map string_bytes sentences.now)) }
+    ensures { OnOk result (string_bytes text.new ≡ string_bytes text.old ++ flat_map check_text.sentence_line (map string_bytes sentences.now)) }
 {
     for sentence in sentences {
         let parts = [Part::Text("    "), Part::Text(sentence), Part::Text("\n")];
@@ -184,7 +183,7 @@ fn push_silences(
     silences: Silences,
     times: &Times,
 ) -> Result<(), AllocError>
-    ensures { OnOk result (string_bytes text.new ≡ string_bytes text.old ++ flat_map sentence_line (lines_spec.silence_lines times.now silences)) }
+    ensures { OnOk result (string_bytes text.new ≡ string_bytes text.old ++ flat_map check_text.sentence_line (lines_spec.silence_lines times.now silences)) }
 {
     let sentences = silence_lines(alloc, times, silences)?;
     push_sentences(text, &sentences)
@@ -197,7 +196,7 @@ fn push_reasons(
     row: &Explanation<'_>,
     told: RowTelling<'_, '_>,
 ) -> Result<(), AllocError>
-    ensures { OnOk result (string_bytes text.new ≡ string_bytes text.old ++ reason_lines (row_told told.entry) (explanation_value row.now)) }
+    ensures { OnOk result (string_bytes text.new ≡ string_bytes text.old ++ check_text.reason_lines (check_text.row_told told.entry) (explanation.explanation_value row.now)) }
 {
     push_lost_lines(text, told.lost, row.place)?;
     push_missed(text, &row.evidence, told.lost.times)?;
@@ -211,7 +210,7 @@ fn push_advice(
     row: &Explanation<'_>,
     told: RowTelling<'_, '_>,
 ) -> Result<(), AllocError>
-    ensures { OnOk result (string_bytes text.new ≡ string_bytes text.old ++ advice_line (row_told told.entry) (explanation_value row.now)) }
+    ensures { OnOk result (string_bytes text.new ≡ string_bytes text.old ++ check_text.advice_line (check_text.row_told told.entry) (explanation.explanation_value row.now)) }
 {
     let silences = told.talk.silences(row.pair);
     let advice = advice_of(told.scope, &row.evidence, silences, told.lost.times);
@@ -224,7 +223,7 @@ fn push_row(
     row: &Explanation<'_>,
     told: RowTelling<'_, '_>,
 ) -> Result<(), AllocError>
-    ensures { OnOk result (string_bytes text.new ≡ string_bytes text.old ++ row_lines (row_told told.entry) (explanation_value row.now)) }
+    ensures { OnOk result (string_bytes text.new ≡ string_bytes text.old ++ check_text.row_lines (check_text.row_told told.entry) (explanation.explanation_value row.now)) }
 {
     push_head(text, row, told)?;
     push_reasons(alloc, text, row, told)?;
@@ -237,7 +236,7 @@ fn lines_of(
     rows: &[Explanation<'_>],
     told: RowTelling<'_, '_>,
 ) -> Result<String, AllocError>
-    ensures { IfOk result (λ lines. string_bytes lines ≡ flat_map (noted_lines (row_told told.entry)) (map explanation_value rows.now)) }
+    ensures { IfOk result (λ lines. string_bytes lines ≡ flat_map (check_text.noted_lines (check_text.row_told told.entry)) (map explanation.explanation_value rows.now)) }
 {
     let mut lines = String::new(alloc);
     for row in rows {
@@ -250,7 +249,7 @@ fn lines_of(
 
 /// The line of a topic: its name and its type; nothing where there is no row.
 fn topic_head<'a>(rows: &[Explanation<'a>]) -> [Part<'a>; 4]
-    ensures { flat_map part_text result ≡ check_text.topic_head (map explanation_value rows.now) }
+    ensures { flat_map parts.part_text result ≡ check_text.topic_head (map explanation.explanation_value rows.now) }
 {
     match rows.first() {
         Some(row) => [
@@ -264,7 +263,7 @@ fn topic_head<'a>(rows: &[Explanation<'a>]) -> [Part<'a>; 4]
 }
 
 fn push_headed(text: &mut String, head: &[Part<'_>], lines: &str) -> Result<(), AllocError>
-    ensures { OnOk result (string_bytes text.new ≡ string_bytes text.old ++ headed (flat_map part_text head.now) lines.now) }
+    ensures { OnOk result (string_bytes text.new ≡ string_bytes text.old ++ check_text.headed (flat_map parts.part_text head.now) lines.now) }
 {
     if lines.is_empty() {
         return Ok(());
@@ -280,7 +279,7 @@ fn push_section(
     rows: &[Explanation<'_>],
     told: RowTelling<'_, '_>,
 ) -> Result<(), AllocError>
-    ensures { OnOk result (string_bytes text.new ≡ string_bytes text.old ++ section (row_told told.entry) (map explanation_value rows.now)) }
+    ensures { OnOk result (string_bytes text.new ≡ string_bytes text.old ++ check_text.section (check_text.row_told told.entry) (map explanation.explanation_value rows.now)) }
 {
     let lines = lines_of(alloc, rows, told)?;
     push_headed(text, &topic_head(rows), &lines)
@@ -293,7 +292,7 @@ pub(crate) fn push_sections(
     told: RowTelling<'_, '_>,
 ) -> Result<(), AllocError>
     ensures { OnOk result (string_bytes text.new
-        ≡ string_bytes text.old ++ flat_map (section (row_told told.entry)) (map (λ topic. map explanation_value topic.now) topics.now)) }
+        ≡ string_bytes text.old ++ flat_map (check_text.section (check_text.row_told told.entry)) (map (λ topic. map explanation.explanation_value topic.now) topics.now)) }
 {
     for rows in topics {
         push_section(alloc, text, rows, told)?;

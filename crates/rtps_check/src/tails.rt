@@ -1,9 +1,9 @@
 ghost use Rattle.std.specs.Prelude.{◌≡◌, ◌++◌, IfOk, OnOk, filter, map, string_bytes};
-ghost use Rattle.rtps_evidence.specs.Explanation.{explanation_value};
+ghost use Rattle.rtps_evidence.specs.Explanation as explanation;
 ghost use Rattle.rtps_report.specs.RowFacts as row_facts;
 ghost use Rattle.rtps_report.specs.LateRows as late_rows;
-ghost use Rattle.rtps_report.specs.Talk.{talk_value};
-ghost use Rattle.rtps_check.specs.CheckText.{lacks_tail_alone, row_told, tail_block, tails_text};
+ghost use Rattle.rtps_report.specs.Talk as talk_spec;
+ghost use Rattle.rtps_check.specs.CheckText as check_text;
 
 use crate::sections::RowTelling;
 use rtps_evidence::Explanation;
@@ -18,7 +18,7 @@ fn tails_among<'a>(
     rows: &[Explanation<'a>],
     told: RowTelling<'_, '_>,
 ) -> Result<Vec<Explanation<'a>>, AllocError>
-    ensures { IfOk result (λ alone. map explanation_value alone.items ≡ filter (lacks_tail_alone (row_told told.entry)) (map explanation_value rows.now)) }
+    ensures { IfOk result (λ alone. map explanation.explanation_value alone.items ≡ filter (check_text.lacks_tail_alone (check_text.row_told told.entry)) (map explanation.explanation_value rows.now)) }
 {
     let mut alone = Vec::new(alloc);
     for row in rows {
@@ -36,7 +36,7 @@ pub(crate) fn late_among<'a>(
     from: u64,
     rows: &[Explanation<'a>],
 ) -> Result<Vec<Explanation<'a>>, AllocError>
-    ensures { IfOk result (λ late. map explanation_value late.items ≡ filter (late_rows.is_late_alone (talk_value talk.now) from) (map explanation_value rows.now)) }
+    ensures { IfOk result (λ late. map explanation.explanation_value late.items ≡ filter (late_rows.is_late_alone (talk_spec.talk_value talk.now) from) (map explanation.explanation_value rows.now)) }
 {
     let mut late = Vec::new(alloc);
     for row in rows {
@@ -53,7 +53,7 @@ pub(crate) fn clean_tails_among<'a>(
     rows: &[Explanation<'a>],
     tail: u64,
 ) -> Result<Vec<Explanation<'a>>, AllocError>
-    ensures { IfOk result (λ tails. map explanation_value tails.items ≡ filter (λ row. row_facts.is_clean_tail tail row.evidence) (map explanation_value rows.now)) }
+    ensures { IfOk result (λ tails. map explanation.explanation_value tails.items ≡ filter (λ row. row_facts.is_clean_tail tail row.evidence) (map explanation.explanation_value rows.now)) }
 {
     let mut tails = Vec::new(alloc);
     for row in rows {
@@ -65,7 +65,7 @@ pub(crate) fn clean_tails_among<'a>(
 }
 
 fn push_tails(text: &mut String, pairs: usize, longest: u64, names: &str) -> Result<(), AllocError>
-    ensures { OnOk result (string_bytes text.new ≡ string_bytes text.old ++ tails_text pairs longest names.now) }
+    ensures { OnOk result (string_bytes text.new ≡ string_bytes text.old ++ check_text.tails_text pairs longest names.now) }
 {
     let words = Words {
         one: said::TAIL_ONE,
@@ -96,7 +96,7 @@ pub(crate) fn push_tail_block(
     rows: &[Explanation<'_>],
     told: RowTelling<'_, '_>,
 ) -> Result<(), AllocError>
-    ensures { OnOk result (string_bytes text.new ≡ string_bytes text.old ++ tail_block (row_told told.entry) (map explanation_value rows.now)) }
+    ensures { OnOk result (string_bytes text.new ≡ string_bytes text.old ++ check_text.tail_block (check_text.row_told told.entry) (map explanation.explanation_value rows.now)) }
 {
     let alone = tails_among(alloc, rows, told)?;
     if alone.is_empty() {

@@ -1,7 +1,6 @@
 ghost use Rattle.std.specs.Prelude.{◌≡◌, ◌++◌, ◌∷◌, IfOk, OnOk, map, string_bytes};
-ghost use Rattle.rtps_evidence.specs.Explanation.{explanation_value};
-ghost use Rattle.rtps_parts.specs.Parts.{part_text};
-ghost use Rattle.rtps_check.specs.CheckText.{shown_where, topic_table};
+ghost use Rattle.rtps_evidence.specs.Explanation as explanation;
+ghost use Rattle.rtps_parts.specs.Parts as parts;
 ghost use Rattle.rtps_check.specs.CheckText as check_text;
 
 use rtps_evidence::Explanation;
@@ -11,7 +10,7 @@ use rtps_report::{Scope, Totals, totals_of};
 use std::alloc::{AllocError, Global};
 
 fn table_head<'a>() -> [Part<'a>; 11]
-    ensures { map part_text result ≡ check_text.table_head }
+    ensures { map parts.part_text result ≡ check_text.table_head }
 {
     [
         Part::Text("topic"),
@@ -29,7 +28,7 @@ fn table_head<'a>() -> [Part<'a>; 11]
 }
 
 fn topic_row<'a>(rows: &[Explanation<'a>], scope: Scope) -> [Part<'a>; 11]
-    ensures { map part_text result ≡ check_text.topic_row scope (map explanation_value rows.now) }
+    ensures { map parts.part_text result ≡ check_text.topic_row scope (map explanation.explanation_value rows.now) }
 {
     let totals = totals_of(rows, scope);
     [
@@ -52,8 +51,8 @@ fn table_rows<'a>(
     topics: &[&[Explanation<'a>]],
     scope: Scope,
 ) -> Result<Vec<Vec<Part<'a>>>, AllocError>
-    ensures { IfOk result (λ rows. map (λ row. map part_text row.items) rows.items
-        ≡ check_text.table_head ∷ map (check_text.topic_row scope) (map (λ topic. map explanation_value topic.now) topics.now)) }
+    ensures { IfOk result (λ rows. map (λ row. map parts.part_text row.items) rows.items
+        ≡ check_text.table_head ∷ map (check_text.topic_row scope) (map (λ topic. map explanation.explanation_value topic.now) topics.now)) }
 {
     let mut rows = Vec::new(alloc);
     rows.push(Vec::from_array(alloc, table_head())?)?;
@@ -65,7 +64,7 @@ fn table_rows<'a>(
 
 /// Appends the place of a column, if some entry of it is above 0.
 fn push_place(places: &mut Vec<usize>, place: usize, sum: u128) -> Result<(), AllocError>
-    ensures { OnOk result (places.new.items ≡ places.old.items ++ shown_where place sum) }
+    ensures { OnOk result (places.new.items ≡ places.old.items ++ check_text.shown_where place sum) }
 {
     if sum > 0 {
         places.push(place)?;
@@ -96,7 +95,7 @@ pub(crate) fn push_topic_table(
     counted: (&Totals, Scope),
 ) -> Result<(), AllocError>
     ensures { OnOk result (string_bytes text.new
-        ≡ string_bytes text.old ++ topic_table counted.entry.1 counted.entry.0.now (map (λ topic. map explanation_value topic.now) topics.now)) }
+        ≡ string_bytes text.old ++ check_text.topic_table counted.entry.1 counted.entry.0.now (map (λ topic. map explanation.explanation_value topic.now) topics.now)) }
 {
     if topics.is_empty() {
         return Ok(());

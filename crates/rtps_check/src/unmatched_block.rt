@@ -1,8 +1,8 @@
 ghost use Rattle.std.specs.Prelude.{◌≡◌, ◌++◌, IfOk, OnOk, None, map, option_copied, string_bytes};
-ghost use Rattle.rtps_policies.specs.Unmatched.{unmatched_value};
-ghost use Rattle.rtps_report.specs.Ends.{end_value};
-ghost use Rattle.rtps_report.specs.Talk.{left_out_value, talk_value};
-ghost use Rattle.rtps_check.specs.TalkText.{AreByTopic, AreLeftByTopic, IsUnmatchedBlock, policy_line, topic_line, unmatched_pair, unmatched_pairs};
+ghost use Rattle.rtps_policies.specs.Unmatched as unmatched_spec;
+ghost use Rattle.rtps_report.specs.Ends as ends;
+ghost use Rattle.rtps_report.specs.Talk as talk_spec;
+ghost use Rattle.rtps_check.specs.TalkText as talk_text;
 
 use rtps_ids::Guid;
 use rtps_lines::sentences::block as said;
@@ -15,7 +15,7 @@ use std::alloc::{AllocError, Global};
 /// An end, by what people know it.
 pub(crate) fn end_by<'a>(talk: &Talk<'a>, guid: Guid) -> EndText<'a>
     ensures guid { result.0 ≡ guid }
-    ensures end { end_value result.1 ≡ (talk_value talk.now).ends guid }
+    ensures end { ends.end_value result.1 ≡ (talk_spec.talk_value talk.now).ends guid }
 {
     EndText(guid, talk.end(guid))
 }
@@ -25,7 +25,7 @@ pub(crate) fn unmatched_by_topic<'u, 'a>(
     alloc: Global,
     unmatched: &'u [Unmatched<'a>],
 ) -> Result<Vec<&'u Unmatched<'a>>, AllocError>
-    ensures { IfOk result (λ sorted. AreByTopic (map unmatched_value unmatched.now) (map (λ one. unmatched_value one.now) sorted.items)) }
+    ensures { IfOk result (λ sorted. talk_text.AreByTopic (map unmatched_spec.unmatched_value unmatched.now) (map (λ one. unmatched_spec.unmatched_value one.now) sorted.items)) }
 {
     let mut sorted = Vec::with_capacity(alloc, unmatched.len())?;
     for one in unmatched {
@@ -40,7 +40,7 @@ pub(crate) fn left_by_topic<'a>(
     alloc: Global,
     left: &[LeftOut<'a>],
 ) -> Result<Vec<LeftOut<'a>>, AllocError>
-    ensures { IfOk result (λ sorted. AreLeftByTopic (map left_out_value left.now) (map left_out_value sorted.items)) }
+    ensures { IfOk result (λ sorted. talk_text.AreLeftByTopic (map talk_spec.left_out_value left.now) (map talk_spec.left_out_value sorted.items)) }
 {
     let mut sorted = Vec::from_slice(alloc, left)?;
     sorted.sort_by_key(|one| one.topic)?;
@@ -49,7 +49,7 @@ pub(crate) fn left_by_topic<'a>(
 
 /// Appends what is offered of a policy, and what is asked for.
 fn push_policy(text: &mut String, one: &Unmatched<'_>, policy: Policy) -> Result<(), AllocError>
-    ensures { OnOk result (string_bytes text.new ≡ string_bytes text.old ++ policy_line (unmatched_value one.now) policy) }
+    ensures { OnOk result (string_bytes text.new ≡ string_bytes text.old ++ talk_text.policy_line (unmatched_spec.unmatched_value one.now) policy) }
 {
     let naming = Naming::Ros;
     let offered = PolicyValue {
@@ -68,7 +68,7 @@ fn push_policy(text: &mut String, one: &Unmatched<'_>, policy: Policy) -> Result
 
 /// Appends the lines of a writer and a reader.
 fn push_pair(text: &mut String, one: &Unmatched<'_>, talk: &Talk<'_>) -> Result<(), AllocError>
-    ensures { OnOk result (string_bytes text.new ≡ string_bytes text.old ++ unmatched_pair (talk_value talk.now).ends (unmatched_value one.now)) }
+    ensures { OnOk result (string_bytes text.new ≡ string_bytes text.old ++ talk_text.unmatched_pair (talk_spec.talk_value talk.now).ends (unmatched_spec.unmatched_value one.now)) }
 {
     let writer = end_by(talk, one.writer.endpoint.guid);
     let reader = end_by(talk, one.reader.endpoint.guid);
@@ -85,7 +85,7 @@ pub(crate) fn push_topic(
     before: Option<&[u8]>,
     topic: &[u8],
 ) -> Result<(), AllocError>
-    ensures { OnOk result (string_bytes text.new ≡ string_bytes text.old ++ topic_line (option_copied before.entry) topic.now) }
+    ensures { OnOk result (string_bytes text.new ≡ string_bytes text.old ++ talk_text.topic_line (option_copied before.entry) topic.now) }
 {
     match before {
         Some(before) if before == topic => Ok(()),
@@ -99,7 +99,7 @@ fn push_pairs(
     talk: &Talk<'_>,
 ) -> Result<(), AllocError>
     ensures { OnOk result (string_bytes text.new ≡ string_bytes text.old
-        ++ unmatched_pairs (talk_value talk.now).ends None (map (λ one. unmatched_value one.now) sorted.entry.items)) }
+        ++ talk_text.unmatched_pairs (talk_spec.talk_value talk.now).ends None (map (λ one. unmatched_spec.unmatched_value one.now) sorted.entry.items)) }
 {
     let mut before = None;
     for one in sorted {
@@ -117,7 +117,7 @@ pub(crate) fn push_unmatched_block(
     text: &mut String,
     talk: &Talk<'_>,
 ) -> Result<(), AllocError>
-    ensures { OnOk result (IsUnmatchedBlock (talk_value talk.now) (string_bytes text.old) (string_bytes text.new)) }
+    ensures { OnOk result (talk_text.IsUnmatchedBlock (talk_spec.talk_value talk.now) (string_bytes text.old) (string_bytes text.new)) }
 {
     if talk.unmatched.is_empty() {
         return Ok(());

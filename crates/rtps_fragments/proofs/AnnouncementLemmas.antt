@@ -1,13 +1,14 @@
 -- The acts of a recording that may announce something, with one datagram more.
 use Rattle.std.proofs.lemmas.Grind.{common_steps}
 use Rattle.std.proofs.lemmas.Bool.Decides.{nat_tests}
-use Rattle.std.proofs.Common.{◌≡◌, ◌∙◌, ℕ, ◌+◌, List, [], ◌∷◌, ◌++◌, filter, length, map, sym, ap, arith}
+use Rattle.std.proofs.Common.{◌≡◌, ◌∙◌, ℕ, ◌+◌, List, [], ◌∷◌, ◌++◌, drop, filter, length, map, sym, ap, arith}
 use Rattle.std.proofs.lemmas.List.Elements.{filter-append}
 use Rattle.rtps_wire.specs.declared.counts.Tally.{Tally}
 use Rattle.rtps_receiver.specs.Values.{ActValue}
 use Rattle.rtps_audit.specs.Index.{IsIndexBy}
 use Rattle.rtps_audit.specs.Intake.{Intake, intake_more}
 use Rattle.rtps_audit.specs.Placed.{PlacedValue, placed_at, placed_in, placed_value}
+use Rattle.rtps_audit.specs.declared.placed.Placed.{Placed}
 use Rattle.rtps_audit.proofs.Offered.{placed_push}
 use Rattle.rtps_fragments.specs.Announcements.{IsIndexedBy, announcements_in, is_announcement}
 use Rattle.rtps_fragments.specs.declared.announcements.Indexed.{Indexed}
@@ -25,3 +26,9 @@ pub indexed_more : (intake : Intake) (tally : Tally) (acts announcing : List Act
     → IsIndexBy (intake_more intake tally acts announcing) new.index → map placed_value new.announcements.items ≡ map placed_value old.announcements.items ++ announcements_at datagram announcing
     → IsIndexedBy (intake_more intake tally acts announcing) new
 indexed_more intake tally acts announcing old new datagram number was is found = grind (arith, nat_tests, common_steps, datagram_next)
+
+-- what was found is what stands behind what was there
+pub found_behind : (old new : List Placed) (found : List PlacedValue) → map placed_value new ≡ map placed_value old ++ found → map placed_value (drop (length old) new) ≡ found
+found_behind [] new found grown = grown
+found_behind (one ∷ old) [] found grown = absurd (let clash = ap length grown in omega (arith, clash))
+found_behind (one ∷ old) (other ∷ new) found grown = found_behind old new found (ap (drop 1) grown)

@@ -170,7 +170,7 @@ module _ (xs : List (Bor (List ℕ))) (i : ℕ) (d : Bor (List ℕ)) (lt : i < l
       ap (λ n. tally_with_fragments (tally_of (reading_of octets)) (unusable_in octets + n))
       (left_alike (piece_acts_in sending) (sents_in sending) heard (λ number. all_alike (piece_acts_in sending) (sents_in sending) heard number sending frags) 0 (piece_acts_of octets))
 
-  read_next : {Y : Type 0} (f : List ℕ → Y) → map f (octets_of (take (i + 1) xs)) ≡ map f (octets_of (take i xs)) ++ f (get_or xs i d).now ∷ []
+  pub read_next : {Y : Type 0} (f : List ℕ → Y) → map f (octets_of (take (i + 1) xs)) ≡ map f (octets_of (take i xs)) ++ f (get_or xs i d).now ∷ []
   read_next f =
       ap (λ ys. map f (octets_of ys)) (take_more xs i d lt) ∙ ap (map f) (map-append (λ (datagram : Bor (List ℕ)). datagram.now) (take i xs) (get_or xs i d ∷ [])) ∙ map-append f (octets_of (take i xs)) (octets ∷ [])
 

@@ -39,3 +39,4 @@ pub mod FragmentCounts
 pub mod WithoutFragments
 pub mod PlainStarts
 pub mod AnnouncementLemmas
+pub mod ReadDatagramLemmas

@@ -77,7 +77,7 @@ acts_of_plain (act ∷ acts) = ap (λ rest. act ∷ rest) (acts_of_plain acts)
 abbrev pub EachWithout : List (List ℕ) → Type 0
 EachWithout recording = (octets : List ℕ) → Contains recording octets → (tally_of (reading_of octets)).fragments ≡ 0
 
-acts_plain : (recording : List (List ℕ)) → EachWithout recording → map (map (λ one. one.act)) (sending_of recording) ≡ acts_by_datagram recording
+pub acts_plain : (recording : List (List ℕ)) → EachWithout recording → map (map (λ one. one.act)) (sending_of recording) ≡ acts_by_datagram recording
 acts_plain [] none = refl
 acts_plain (octets ∷ recording) none =
     ap (λ acts. acts ∷ map (map (λ (one : PieceAct). one.act)) (sending_of recording)) (ap (map (λ (one : PieceAct). one.act)) (datagram_plain octets (none octets (contains_head octets recording))) ∙ acts_of_plain (acts_of (reading_of octets)))

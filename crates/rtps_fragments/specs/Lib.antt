@@ -14,3 +14,4 @@ pub mod RecordedSamples
 pub mod Listeners
 pub mod Whole
 pub mod Making
+pub mod ReadDatagrams

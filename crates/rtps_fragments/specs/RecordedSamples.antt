@@ -64,4 +64,4 @@ pub record IsPlainStart (choice : Fragments) (recording : List (List ℕ)) (star
   pub all : choice ≡ fragments.Skipped → start.datagrams ≡ length recording
   pub without : choice ≡ fragments.Read → IsWithoutFragments (take start.datagrams recording)
   pub ends : choice ≡ fragments.Read → (octets : List ℕ) → slice_get recording start.datagrams ≡ Some octets → 0 < (tally_of (reading_of octets)).fragments
-  pub indexed : IsIndexedBy (intake_of (take start.datagrams recording)) start.indexed
+  pub indexed : IsIndexedBy (intake_of (take start.datagrams recording)) start.reading.indexed

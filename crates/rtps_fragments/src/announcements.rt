@@ -1,11 +1,13 @@
-ghost use Rattle.std.specs.Prelude.{◌≡◌, ◌+◌, ◌<◌, ◌^◌, ◌++◌, filter, length, map, OnOk};
+ghost use Rattle.std.specs.Prelude.{◌≡◌, ◌+◌, ◌<◌, ◌^◌, ◌++◌, ◌∷◌, [], filter, length, List, map, OnOk};
 ghost use Rattle.rtps_receiver.specs.Values.{spoken_body_value, spoken_value};
 ghost use Rattle.rtps_audit.specs.Intake.{Intake, intake_more, no_intake};
 ghost use Rattle.rtps_audit.specs.Placed.{placed_at, placed_value};
 ghost use Rattle.rtps_fragments.specs.Announcing as announcing_spec;
 ghost use Rattle.rtps_fragments.specs.Announcements.{IsIndexedBy, is_announcement};
 ghost use Rattle.rtps_fragments.specs.Announcements as announcements_spec;
+ghost use Rattle.rtps_fragments.specs.ReadDatagrams.{ReadDatagramValue, datagram_read};
 
+use crate::listen::{Listen, ReadDatagram};
 use rtps_audit::{Index, Placed, place};
 use rtps_ids::{EntityId, Memory};
 use rtps_receiver::{ActBody, Spoken, SpokenBody};
@@ -25,6 +27,8 @@ pub struct Indexed<'s> {
 pub(crate) struct DatagramActs<'r, 's> {
     /// The number of the datagram, counted from 1.
     pub(crate) datagram: usize,
+    /// Those that it has itself.
+    pub(crate) own: &'r [Spoken<'s>],
     /// Those that verdicts are by.
     pub(crate) acts: &'r [Spoken<'s>],
     /// Those of which it is noted what they announce.
@@ -84,14 +88,29 @@ impl<'s> Indexed<'s> {
         }
     }
 
-    /// Takes in one datagram more, the next in the order of sending. After `Memory` it is of no use.
-    pub(crate) fn note(&mut self, tally: Tally, noted: &DatagramActs<'_, 's>) -> Result<(), Memory>
-        requires { self.old.index.tallies.datagrams + 1 < 2 ^ 64 }
-        ensures { OnOk result ((intake : Intake) → noted.now.datagram ≡ length intake.announcing + 1 → IsIndexedBy intake self.old
+    /// Takes in one datagram more, the next in the order of sending, and tells a listener what is read of it. After `Memory` both are of no
+    /// use.
+    pub(crate) fn note<L: Listen>(
+        &mut self,
+        tally: Tally,
+        noted: &DatagramActs<'_, 's>,
+        listener: &mut L,
+    ) -> Result<(), Memory>
+        requires few { self.old.index.tallies.datagrams + 1 < 2 ^ 64 }
+        requires next { (start : L) × (before : List ReadDatagramValue) × L.has_heard start before listener.old × (length before + 1 ≡ noted.now.datagram) }
+        ensures heard { OnOk result ((start : L) (before : List ReadDatagramValue) → L.has_heard start before listener.old
+            → L.has_heard start (before ++ datagram_read noted.now.datagram (map spoken_value noted.now.own.now) (map spoken_value noted.now.announcing.now) ∷ []) listener.new) }
+        ensures index { OnOk result ((intake : Intake) → noted.now.datagram ≡ length intake.announcing + 1 → IsIndexedBy intake self.old
             → IsIndexedBy (intake_more intake tally (map spoken_value noted.now.acts.now) (map spoken_value noted.now.announcing.now)) self.new) }
     {
+        let first = self.announcements.len();
         self.index.note(tally, noted.acts, noted.announcing)?;
         push_announcements(&mut self.announcements, noted.datagram, noted.announcing)?;
+        listener.hear(&ReadDatagram {
+            datagram: noted.datagram,
+            acts: noted.own,
+            announcements: &self.announcements[first..],
+        })?;
         Ok(())
     }
 }

@@ -1,21 +1,23 @@
-ghost use Rattle.std.specs.Prelude.{ℕ, ◌≡◌, ◌+◌, ◌<◌, ◌^◌, drop, length, map, IfOk, List, OnOk};
+ghost use Rattle.std.specs.Prelude.{ℕ, ◌≡◌, ◌+◌, ◌<◌, ◌^◌, ◌++◌, ◌∷◌, [], drop, length, map, take, IfOk, List, OnOk};
 ghost use Rattle.rtps_audit.specs.Index.{IsIndexBy};
-ghost use Rattle.rtps_audit.specs.Intake.{Intake, intake_more};
+ghost use Rattle.rtps_audit.specs.Intake.{Intake, intake_more, no_intake};
 ghost use Rattle.rtps_fragments.specs.Announcements.{IsIndexedBy};
 ghost use Rattle.rtps_fragments.specs.Merging.{merged_from};
+ghost use Rattle.rtps_fragments.specs.ReadDatagrams.{ReadDatagramValue, datagram_read, read_of};
 ghost use Rattle.rtps_fragments.specs.RecordedSamples.{AreSamplesOf, IsPlainStart, intake_as, intake_with};
 ghost use Rattle.rtps_fragments.specs.FragmentVerdict.{IsFragmentVerdictFrom};
 ghost use Rattle.rtps_fragments.specs.SampleActs.{fragment_speech_of};
 ghost use Rattle.rtps_fragments.specs.FragmentWalk.{piece_acts_of, sending_of};
 ghost use Rattle.rtps_fragments.specs.ToldSamples.{SentValue, told_value};
 ghost use Rattle.rtps_fragments.specs.Whole.{AreWholeIn, tally_left};
-ghost use Rattle.rtps_fragments.specs.declared.fragments.Fragments.TheVariants.{Read};
+ghost use Rattle.rtps_fragments.specs.declared.fragments.Fragments.TheVariants.{Read, Skipped};
 ghost use Rattle.rtps_fragments.specs.declared.merging.SampleForm.TheVariants.{ForAudience, ForEveryone};
 
 use crate::announcements::{DatagramActs, Indexed};
 use crate::fragment_walk::FragmentWalk;
 use crate::fragments::Fragments;
 use crate::laws::recorded_verdict_is_of_runs;
+use crate::listen::{Deaf, Listen};
 use crate::merging::{SampleForm, merge};
 use crate::samples::Samples;
 use crate::told_sample::ToldSample;
@@ -39,9 +41,11 @@ struct DatagramSamples<'s> {
     whole: &'s WholeNumbers,
 }
 
-/// What a datagram is read into, one after another.
+/// What datagrams are read into, one after another.
 #[derive(Drop)]
 struct Reading<'s> {
+    /// What they are all taken in to.
+    indexed: Indexed<'s>,
     walk: FragmentWalk<'s>,
     /// Its acts, and behind each the samples that it tells.
     acts: Vec<Spoken<'s>>,
@@ -49,20 +53,53 @@ struct Reading<'s> {
     announcing: Vec<Spoken<'s>>,
 }
 
-/// Takes in one datagram more, and behind each of its acts the samples that it tells. After `Memory` the index is of no use.
-fn note_datagram<'s>(
-    indexed: &mut Indexed<'s>,
+impl<'s> Reading<'s> {
+    /// Nothing is read. It takes no memory.
+    fn new(alloc: Global) -> Reading<'s>
+        ensures { IsIndexedBy no_intake result.indexed }
+    {
+        Reading {
+            indexed: Indexed::new(alloc),
+            walk: FragmentWalk::new(alloc),
+            acts: Vec::new(alloc),
+            announcing: Vec::new(alloc),
+        }
+    }
+
+    /// The index of what is read.
+    fn into_index(self) -> Indexed<'s>
+        ensures { result ≡ self.entry.indexed }
+    {
+        let Reading {
+            indexed,
+            walk: _,
+            acts: _,
+            announcing: _,
+        } = self;
+        indexed
+    }
+}
+
+/// Takes in one datagram more, and behind each of its acts the samples that it tells. A listener is told what is read of it. After `Memory`
+/// the index and the listener are of no use.
+fn note_datagram<'s, L: Listen>(
     reading: &mut Reading<'s>,
     octets: &'s [u8],
     samples: &DatagramSamples<'s>,
+    listener: &mut L,
 ) -> Result<(), Memory>
-    requires { indexed.old.index.tallies.datagrams + 1 < 2 ^ 64 }
-    ensures { OnOk result ((intake : Intake) (all : List SentValue) → AreWholeIn all samples.now.whole.now
-        → samples.now.datagram ≡ length intake.announcing + 1 → IsIndexedBy intake indexed.old
+    requires few { reading.old.indexed.index.tallies.datagrams + 1 < 2 ^ 64 }
+    requires next { (start : L) × (before : List ReadDatagramValue) × L.has_heard start before listener.old × (length before + 1 ≡ samples.now.datagram) }
+    ensures heard { OnOk result ((start : L) (before : List ReadDatagramValue) → L.has_heard start before listener.old
+        → L.has_heard start (before ++ datagram_read samples.now.datagram (map (λ one. one.act) (piece_acts_of octets.now))
+        (merged_from ForEveryone 0 (map (λ one. one.act) (piece_acts_of octets.now)) (map told_value samples.now.overheard.now)) ∷ []) listener.new) }
+    ensures index { OnOk result ((intake : Intake) (all : List SentValue) → AreWholeIn all samples.now.whole.now
+        → samples.now.datagram ≡ length intake.announcing + 1 → IsIndexedBy intake reading.old.indexed
         → IsIndexedBy (intake_more intake (tally_left all octets.now) (merged_from ForAudience 0 (map (λ one. one.act) (piece_acts_of octets.now)) (map told_value samples.now.told.now))
-        (merged_from ForEveryone 0 (map (λ one. one.act) (piece_acts_of octets.now)) (map told_value samples.now.overheard.now))) indexed.new) }
+        (merged_from ForEveryone 0 (map (λ one. one.act) (piece_acts_of octets.now)) (map told_value samples.now.overheard.now))) reading.new.indexed) }
 {
     reading.walk.read(octets)?;
+    let tally = samples.whole.tally(&reading.walk);
     let own = &reading.walk.acts;
     merge(
         &mut reading.acts,
@@ -76,76 +113,89 @@ fn note_datagram<'s>(
         own,
         samples.overheard,
     )?;
-    let tally = samples.whole.tally(&reading.walk);
     let noted = DatagramActs {
         datagram: samples.datagram,
+        own,
         acts: &reading.acts,
         announcing: &reading.announcing,
     };
-    indexed.note(tally, &noted)?;
+    reading.indexed.note(tally, &noted, listener)?;
     Ok(())
+}
+
+/// A recording, any datagrams in the order of sending, and what becomes of samples that come in fragments.
+#[derive(Clone, Copy)]
+pub struct Source<'r, 's> {
+    pub recording: &'r [&'s [u8]],
+    pub fragments: Fragments,
 }
 
 /// The first datagrams of a recording, as they are taken in without samples.
 #[derive(Drop)]
 struct PlainStart<'s> {
-    indexed: Indexed<'s>,
+    reading: Reading<'s>,
     /// How many they are.
     datagrams: usize,
 }
 
 /// The datagrams of a recording up to the first one with a submessage of fragments, where these are to be read; else all of them.
-/// `Memory` is answered where there is none for their index.
-fn plain_start<'s>(
+/// A listener is told what is read of each. `Memory` is answered where there is none for their index, or for the listener.
+fn plain_start<'s, L: Listen>(
     alloc: Global,
-    recording: &[&'s [u8]],
-    fragments: Fragments,
+    source: Source<'_, 's>,
+    listener: &mut L,
 ) -> Result<PlainStart<'s>, Memory>
-    ensures { IfOk result (IsPlainStart fragments (map (λ datagram. datagram.now) recording.now)) }
+    requires { L.has_heard listener.old [] listener.old }
+    ensures start { IfOk result (IsPlainStart source.entry.fragments (map (λ datagram. datagram.now) source.entry.recording.now)) }
+    ensures heard { IfOk result (λ start. L.has_heard listener.old (read_of Skipped (map (λ datagram. datagram.now) (take start.datagrams source.entry.recording.now))) listener.new) }
 {
-    let mut indexed = Indexed::new(alloc);
+    let Source {
+        recording,
+        fragments,
+    } = source;
+    let mut reading = Reading::new(alloc);
     let mut walk = Walk::new(alloc);
     for place in 0..recording.len() {
         let tally = walk.read(recording[place])?;
         if fragments.are_read() && tally.fragments > 0 {
             return Ok(PlainStart {
-                indexed,
+                reading,
                 datagrams: place,
             });
         }
         let noted = DatagramActs {
             datagram: place + 1,
+            own: walk.acts(),
             acts: walk.acts(),
             announcing: walk.acts(),
         };
-        indexed.note(tally, &noted)?;
+        reading.indexed.note(tally, &noted, listener)?;
     }
     Ok(PlainStart {
-        indexed,
+        reading,
         datagrams: recording.len(),
     })
 }
 
-/// Takes in the other datagrams of a recording, of which these are the samples. `Memory` is answered where there is none for the index.
-fn index_behind<'s>(
-    alloc: Global,
+/// Takes in the other datagrams of a recording, of which these are the samples, and tells a listener what is read of each. `Memory` is
+/// answered where there is none for the index, or for the listener.
+fn index_behind<'s, L: Listen>(
     start: PlainStart<'s>,
     recording: &[&'s [u8]],
     samples: &'s Samples,
+    listener: &mut L,
 ) -> Result<Indexed<'s>, Memory>
     requires start { IsPlainStart Read (map (λ datagram. datagram.now) recording.now) start }
     requires samples { AreSamplesOf (drop start.datagrams (map (λ datagram. datagram.now) recording.now)) samples.now }
-    ensures { IfOk result (IsIndexedBy (intake_with (map (λ datagram. datagram.now) recording.now))) }
+    requires heard { (first : L) × L.has_heard first (read_of Skipped (map (λ datagram. datagram.now) (take start.datagrams recording.now))) listener.old }
+    ensures index { IfOk result (IsIndexedBy (intake_with (map (λ datagram. datagram.now) recording.now))) }
+    ensures heard { OnOk result ((first : L) → L.has_heard first (read_of Skipped (map (λ datagram. datagram.now) (take start.entry.datagrams recording.now))) listener.old
+        → L.has_heard first (read_of Read (map (λ datagram. datagram.now) recording.now)) listener.new) }
 {
     let PlainStart {
-        mut indexed,
+        mut reading,
         datagrams,
     } = start;
-    let mut reading = Reading {
-        walk: FragmentWalk::new(alloc),
-        acts: Vec::new(alloc),
-        announcing: Vec::new(alloc),
-    };
     for place in datagrams..recording.len() {
         let told = DatagramSamples {
             datagram: place + 1,
@@ -153,15 +203,39 @@ fn index_behind<'s>(
             overheard: &samples.overheard[place - datagrams],
             whole: &samples.whole,
         };
-        note_datagram(&mut indexed, &mut reading, recording[place], &told)?;
+        note_datagram(&mut reading, recording[place], &told, listener)?;
     }
-    Ok(indexed)
+    Ok(reading.into_index())
 }
 
 /// The index of a recording, with its samples where fragments are read, and its announcements. The samples are put where the index may
-/// borrow them. The octets of each datagram are read once up to the first one with a submessage of fragments, where these are read.
-/// Those behind it are read twice, for the samples and for the index, and that one three times. `Memory` is answered where there is
-/// none for it, and then `samples` is of no use.
+/// borrow them. A listener is told what is read of each datagram, where fragments are read with its fragments.
+///
+/// The octets of each datagram are read once up to the first one with a submessage of fragments, where these are read. Those behind it are
+/// read twice, for the samples and for the index, and that one three times. `Memory` is answered where there is none for it, and then
+/// `samples` and the listener are of no use.
+pub fn index_told<'s, L: Listen>(
+    alloc: Global,
+    source: Source<'_, 's>,
+    samples: &'s mut Samples,
+    listener: &mut L,
+) -> Result<Indexed<'s>, Memory>
+    requires { L.has_heard listener.old [] listener.old }
+    ensures index { IfOk result (IsIndexedBy (intake_as source.entry.fragments (map (λ datagram. datagram.now) source.entry.recording.now))) }
+    ensures heard { OnOk result (L.has_heard listener.old (read_of source.entry.fragments (map (λ datagram. datagram.now) source.entry.recording.now)) listener.new) }
+{
+    let recording = source.recording;
+    let start = plain_start(alloc, source, listener)?;
+    if start.datagrams == recording.len() {
+        return Ok(start.reading.into_index());
+    }
+    *samples = Samples::of(alloc, &recording[start.datagrams..])?;
+    let indexed = index_behind(start, recording, samples, listener)?;
+    Ok(indexed)
+}
+
+/// The index of a recording, as [`index_told`] makes it, with nobody who listens. `Memory` is answered where there is none for it, and then
+/// `samples` is of no use.
 pub fn index_as<'s>(
     alloc: Global,
     recording: &[&'s [u8]],
@@ -170,12 +244,11 @@ pub fn index_as<'s>(
 ) -> Result<Indexed<'s>, Memory>
     ensures { IfOk result (IsIndexedBy (intake_as fragments (map (λ datagram. datagram.now) recording.now))) }
 {
-    let start = plain_start(alloc, recording, fragments)?;
-    if start.datagrams == recording.len() {
-        return Ok(start.indexed);
-    }
-    *samples = Samples::of(alloc, &recording[start.datagrams..])?;
-    index_behind(alloc, start, recording, samples)
+    let source = Source {
+        recording,
+        fragments,
+    };
+    index_told(alloc, source, samples, &mut Deaf)
 }
 
 /// Judges by the index of a recording with its samples what the recording says of a writer and a reader, of the writer's numbers from

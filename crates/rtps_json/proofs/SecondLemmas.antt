@@ -9,7 +9,7 @@ use Rattle.std.specs.List.{prefix_len}
 use Rattle.json.specs.Print.{IsNumber}
 use Rattle.json.specs.Word.{after_digits, after_exponent, after_fraction, after_number, after_whole, head}
 use Rattle.rtps_evidence.specs.declared.times.Seconds.{Seconds}
-use Rattle.rtps_lines.specs.Lines.{seconds_text, three_places}
+use Rattle.rtps_lines.specs.Lines as lines
 use Rattle.rtps_json.proofs.JsonLemmas.{first_digit}
 
 -- digits in front of a point
@@ -51,23 +51,23 @@ three_digits a b c one two three =
     ∙ ap (λ x. 1 + (1 + cond x 1 0)) three in
     ap (λ n. cond (n == 0) None (Some (drop n (a ∷ b ∷ c ∷ [])))) all
 
-places_are : (n : ℕ) → three_places n ≡ (48 + n / 100 % 10) ∷ (48 + n / 10 % 10) ∷ (48 + n % 10) ∷ []
+places_are : (n : ℕ) → lines.three_places n ≡ (48 + n / 100 % 10) ∷ (48 + n / 10 % 10) ∷ (48 + n % 10) ∷ []
 places_are n =
     ap₂ ◌++◌ (decimal_digit (n / 100 % 10) (omega arith)) (ap₂ ◌++◌ (decimal_digit (n / 10 % 10) (omega arith)) (decimal_digit (n % 10) (omega arith)))
 
-after_places : (n : ℕ) → after_digits (three_places n) ≡ Some []
+after_places : (n : ℕ) → after_digits (lines.three_places n) ≡ Some []
 after_places n =
     ap after_digits (places_are n)
     ∙ three_digits (48 + n / 100 % 10) (48 + n / 10 % 10) (48 + n % 10) (is_digit (n / 100 % 10) (omega arith)) (is_digit (n / 10 % 10) (omega arith)) (is_digit (n % 10) (omega arith))
 
 -- ---- the whole text
 
-pub seconds_are_number : (seconds : Seconds) → seconds.milliseconds < 2 ^ 64 → IsNumber (seconds_text seconds)
-unfolding after_number seconds_text
+pub seconds_are_number : (seconds : Seconds) → seconds.milliseconds < 2 ^ 64 → IsNumber (lines.seconds_text seconds)
+unfolding after_number lines.seconds_text
 seconds_are_number seconds h = go seconds.negative
   where
     places : List ℕ
-    places = three_places seconds.milliseconds
+    places = lines.three_places seconds.milliseconds
 
     text : List ℕ
     text = decimal (seconds.milliseconds / 1000) ++ 46 ∷ places

@@ -11,28 +11,40 @@ use Rattle.json.specs.Json.{Json, null, boolean, number, string, array, object, 
 use Rattle.json.specs.Print.{print}
 use Rattle.json.specs.Token.{Token, key}
 use Rattle.json.specs.Tree.{json_tokens}
-use Rattle.rtps_evidence.specs.Explanation.{lost_at}
-use Rattle.rtps_evidence.specs.FirstNumbers.{numbers_of}
-use Rattle.rtps_evidence.specs.Kinds.{KindValue, LostValue, lost_value}
-use Rattle.rtps_evidence.specs.Times.{TimesValue, are_there, frame_of, seconds_of}
+use Rattle.rtps_evidence.specs.Explanation as explanation
+use Rattle.rtps_evidence.specs.FirstNumbers as first_numbers
+use Rattle.rtps_evidence.specs.Kinds as kinds
+use Rattle.rtps_evidence.specs.Times as times_spec
 use Rattle.rtps_evidence.specs.declared.kinds.NumberRange.{NumberRange}
 use Rattle.rtps_evidence.specs.declared.times.Seconds.{Seconds}
 use Rattle.rtps_evidence.specs.declared.waits.Wait.{Wait}
-use Rattle.rtps_report.specs.Vocabulary.{Absent, Announcement, Claim, Complete, CompleteGrounds, Conflict, ConflictGrounds, Counts, EvidenceValue, ExplanationValue, FirstMissed, GroundsValue, InSpan, Key, Location, NotReceived, Open, OpenGrounds, Outcomes, PayloadValue, SentValue, Teller, Unfounded, UnfoundedGrounds, Verdict, Whole}
+use Rattle.rtps_wire.specs.Values as values
+use Rattle.rtps_evidence.specs.declared.last_announcement.Announcement.{Announcement}
+use Rattle.rtps_evidence.specs.declared.acknowledgement.Claim.{Claim}
+use Rattle.rtps_evidence.specs.Grounds as grounds
+use Rattle.rtps_audit.specs.declared.report.Counts.{Counts}
+use Rattle.rtps_evidence.specs.declared.first_missed.FirstMissed.{FirstMissed}
+use Rattle.rtps_evidence.specs.declared.in_span.InSpan.{InSpan}
+use Rattle.rtps_evidence.specs.declared.location.Location.{Location}
+use Rattle.rtps_evidence.specs.declared.not_received.NotReceived.{NotReceived}
+use Rattle.rtps_evidence.specs.declared.outcome.Outcomes.{Outcomes}
+use Rattle.rtps_evidence.specs.Locations as locations
+use Rattle.rtps_evidence.specs.declared.teller.Teller.{Teller}
+use Rattle.rtps_audit.specs.declared.verdict.Verdict.{Verdict}
 use Rattle.rtps_report.specs.declared.recording.Reasons.{Reasons}
 use Rattle.rtps_report.specs.declared.advice.Scope.{Scope}
-use Rattle.rtps_report.specs.Advice.{advice_of}
-use Rattle.rtps_report.specs.RowFacts.{is_clean, row_from}
-use Rattle.rtps_report.specs.Recording.{RecordingValue}
-use Rattle.rtps_report.specs.Silences.{silences_of}
-use Rattle.rtps_report.specs.Talk.{TalkValue, talk_value}
+use Rattle.rtps_report.specs.Advice as advice
+use Rattle.rtps_report.specs.RowFacts as row_facts
+use Rattle.rtps_report.specs.Recording as recording
+use Rattle.rtps_report.specs.Silences as silences
+use Rattle.rtps_report.specs.Talk as talk
 use Rattle.rtps_discovery.specs.declared.matching.Pair.{Pair}
-use Rattle.rtps_who.specs.Samples.{NodeValue}
-use Rattle.rtps_lines.specs.EndText.{node_text}
-use Rattle.rtps_lines.specs.Lines.{advice_text, kind_text, second_in, seconds_text, silence_lines}
+use Rattle.rtps_who.specs.Samples as samples
+use Rattle.rtps_lines.specs.EndText as end_text
+use Rattle.rtps_lines.specs.Lines as lines
 use Rattle.rtps_json.specs.declared.json_members.Clock.{Clock}
 use Rattle.rtps_json.specs.declared.json_object.Telling.{Telling}
-use Rattle.rtps_parts.specs.Names.{guid_text, octet_text}
+use Rattle.rtps_parts.specs.Names as names
 
 -- a name and a value of an object
 abbrev pub Member : Type 0
@@ -67,23 +79,23 @@ number_json n = number (signed_decimal n)
 -- a time in seconds, with three places; null where there is none
 abbrev pub second_json : Option Seconds → Json
 second_json None = null
-second_json (Some second) = number (seconds_text second)
+second_json (Some second) = number (lines.seconds_text second)
 
 -- the second of a datagram, if there is one
-abbrev pub second_at : TimesValue → Option ℕ → Option Seconds
+abbrev pub second_at : times_spec.TimesValue → Option ℕ → Option Seconds
 second_at times None = None
-second_at times (Some datagram) = second_in times datagram
+second_at times (Some datagram) = lines.second_in times datagram
 
 -- members that stand only where some datagram of the recording has a time
-abbrev pub timed_members : TimesValue → List Member → List Member
-timed_members times members = if are_there times.of_datagrams then members else []
+abbrev pub timed_members : times_spec.TimesValue → List Member → List Member
+timed_members times members = if times_spec.are_there times.of_datagrams then members else []
 
 -- the second of a datagram, under a name
-abbrev pub second_member : List ℕ → TimesValue → Option ℕ → Member
+abbrev pub second_member : List ℕ → times_spec.TimesValue → Option ℕ → Member
 second_member name times datagram = (name, second_json (second_at times datagram))
 
 -- what a clock tells: frames, where these are told
-abbrev pub clock_times : Clock → TimesValue
+abbrev pub clock_times : Clock → times_spec.TimesValue
 clock_times clock =
     record {
       start = clock.times.now.start;
@@ -98,38 +110,38 @@ frame_members None = []
 frame_members (Some frame) = (codes "frame", count_json frame) ∷ []
 
 -- where a submessage stands, when its datagram came, and in which frame
-abbrev pub place_members : TimesValue → Location → List Member
+abbrev pub place_members : times_spec.TimesValue → Location → List Member
 place_members times place = (codes "datagram", count_json place.datagram) ∷ (codes "at", count_json place.at)
-    ∷ (timed_members times (second_member (codes "time") times (Some place.datagram) ∷ []) ++ frame_members (frame_of times.frames place.datagram))
+    ∷ (timed_members times (second_member (codes "time") times (Some place.datagram) ∷ []) ++ frame_members (times_spec.frame_of times.frames place.datagram))
 
 -- the last number that the writer announced, and the submessage that did so first; null where there is none
-abbrev pub announcement_json : TimesValue → Option Announcement → Json
+abbrev pub announcement_json : times_spec.TimesValue → Option Announcement → Json
 announcement_json times None = null
 announcement_json times (Some announcement) =
-    object_of ((codes "number", number_json announcement.number) ∷ (codes "by", string (kind_text announcement.kind)) ∷ place_members times announcement.place)
+    object_of ((codes "number", number_json announcement.number) ∷ (codes "by", string (lines.kind_text announcement.kind)) ∷ place_members times announcement.place)
 
 -- an answer of the reader, or null where there is none
-abbrev pub claim_json : TimesValue → Option Claim → Json
+abbrev pub claim_json : times_spec.TimesValue → Option Claim → Json
 claim_json times None = null
 claim_json times (Some claim) = object_of ((codes "below", number_json claim.below) ∷ place_members times claim.place)
 
 -- the submessage that told a number first, or null where none did
-abbrev pub teller_json : TimesValue → Option Teller → Json
+abbrev pub teller_json : times_spec.TimesValue → Option Teller → Json
 teller_json times None = null
-teller_json times (Some teller) = object_of ((codes "by", string (kind_text teller.kind)) ∷ place_members times teller.place)
+teller_json times (Some teller) = object_of ((codes "by", string (lines.kind_text teller.kind)) ∷ place_members times teller.place)
 
 -- where a submessage stands, or null where there is none
-abbrev pub place_json : TimesValue → Option Location → Json
+abbrev pub place_json : times_spec.TimesValue → Option Location → Json
 place_json times None = null
 place_json times (Some place) = object_of (place_members times place)
 
 -- the least number that is not received, and what keeps it; null where all are received
-abbrev pub not_received_json : TimesValue → Option NotReceived → Json
+abbrev pub not_received_json : times_spec.TimesValue → Option NotReceived → Json
 not_received_json times None = null
 not_received_json times (Some kept) = object_of ((codes "number", count_json kept.number) ∷ (codes "gone", teller_json times kept.gone) ∷ (codes "acknowledged", place_json times kept.acknowledged) ∷ [])
 
 -- the least number that is missed, what asks for it last, where it was sent again since, and what told it gone; no member where none is
-abbrev pub first_missed_members : TimesValue → Option FirstMissed → List Member
+abbrev pub first_missed_members : times_spec.TimesValue → Option FirstMissed → List Member
 first_missed_members times None = []
 first_missed_members times (Some first) = (
   codes "first_missed",
@@ -142,67 +154,67 @@ abbrev pub carried_members : List ℕ → ℕ → List Member
 carried_members kind octets = (codes "payload", string kind) ∷ (codes "octets", count_json octets) ∷ []
 
 -- the kind of a payload and how many octets it has; nothing where there is no payload
-abbrev pub payload_members : Option PayloadValue → List Member
+abbrev pub payload_members : Option values.PayloadValue → List Member
 payload_members None = []
-payload_members (Some Absent) = carried_members (codes "absent") 0
-payload_members (Some (Whole octets)) = carried_members (codes "whole") (length octets)
-payload_members (Some (Key octets)) = carried_members (codes "key") (length octets)
+payload_members (Some values.PayloadValue.Absent) = carried_members (codes "absent") 0
+payload_members (Some (values.PayloadValue.Whole octets)) = carried_members (codes "whole") (length octets)
+payload_members (Some (values.PayloadValue.Key octets)) = carried_members (codes "key") (length octets)
 
 -- what was sent for a number, or null where nothing was
-abbrev pub sent_json : TimesValue → Option SentValue → Json
+abbrev pub sent_json : times_spec.TimesValue → Option locations.SentValue → Json
 sent_json times None = null
 sent_json times (Some sent) = object_of (payload_members sent.payload ++ place_members times sent.place)
 
 -- the name of a topic or a type: a string of what `list` writes between the quotes
 abbrev pub name_json : List ℕ → Json
-name_json name = string (flat_map octet_text name)
+name_json name = string (flat_map names.octet_text name)
 
 -- the name of a node
-abbrev pub node_json : NodeValue → Json
-node_json node = string (node_text node)
+abbrev pub node_json : samples.NodeValue → Json
+node_json node = string (end_text.node_text node)
 
 -- the same; null where there is no node
-abbrev pub some_node_json : Option NodeValue → Json
+abbrev pub some_node_json : Option samples.NodeValue → Json
 some_node_json None = null
 some_node_json (Some node) = node_json node
 
 -- the nodes of a pair
-abbrev pub node_members : TalkValue → Pair → List Member
+abbrev pub node_members : talk.TalkValue → Pair → List Member
 node_members talk pair = (codes "writer_node", some_node_json (talk.node pair.writer)) ∷ (codes "reader_node", some_node_json (talk.node pair.reader)) ∷ []
 
 -- whom the row is of: the writer, the reader, the topic and the type
-abbrev pub pair_members : ExplanationValue → List Member
-pair_members row = (codes "writer", string (guid_text row.pair.writer)) ∷ (codes "reader", string (guid_text row.pair.reader))
+abbrev pub pair_members : explanation.ExplanationValue → List Member
+pair_members row = (codes "writer", string (names.guid_text row.pair.writer)) ∷ (codes "reader", string (names.guid_text row.pair.reader))
     ∷ (codes "topic", name_json row.topic) ∷ (codes "type", name_json row.type_name) ∷ []
 
 -- the verdict and its number, as in the report's row
 abbrev pub verdict_members : Verdict → List Member
-verdict_members (Complete last) = (codes "verdict", string (codes "complete")) ∷ (codes "number", number_json last) ∷ []
-verdict_members (Open n) = (codes "verdict", string (codes "open")) ∷ (codes "number", number_json n) ∷ []
-verdict_members (Conflict n) = (codes "verdict", string (codes "conflict")) ∷ (codes "number", number_json n) ∷ []
-verdict_members (Unfounded datagram n) =
+verdict_members (Verdict.Complete last) = (codes "verdict", string (codes "complete")) ∷ (codes "number", number_json last) ∷ []
+verdict_members (Verdict.Open n) = (codes "verdict", string (codes "open")) ∷ (codes "number", number_json n) ∷ []
+verdict_members (Verdict.Conflict n) = (codes "verdict", string (codes "conflict")) ∷ (codes "number", number_json n) ∷ []
+verdict_members (Verdict.Unfounded datagram n) =
     (codes "verdict", string (codes "unfounded")) ∷ (codes "number", number_json n) ∷ (codes "datagram", count_json datagram) ∷ []
 
 -- what is said of each pair, whatever its verdict is
-abbrev pub evidence_members : TimesValue → EvidenceValue → List Member
+abbrev pub evidence_members : times_spec.TimesValue → explanation.EvidenceValue → List Member
 evidence_members times evidence = (codes "announced", announcement_json times evidence.announcement) ∷ (codes "acknowledged", claim_json times evidence.acknowledgement)
     ∷ (codes "payloads", count_json evidence.payloads) ∷ (codes "gone", count_json evidence.gone) ∷ (codes "untold", count_json evidence.untold) ∷ []
 
 -- which numbers are received, and which are missed
-abbrev pub delivery_members : TimesValue → EvidenceValue → List Member
+abbrev pub delivery_members : times_spec.TimesValue → explanation.EvidenceValue → List Member
 delivery_members times evidence = (codes "received", count_json evidence.received) ∷ (codes "not_received", not_received_json times evidence.not_received)
     ∷ (codes "missed", count_json evidence.missed) ∷ first_missed_members times evidence.first_missed
 
 -- how often an answer is asked for since the last one, and where last
-abbrev pub asked_members : TimesValue → ℕ → Option Location → List Member
+abbrev pub asked_members : times_spec.TimesValue → ℕ → Option Location → List Member
 asked_members times count last = (codes "asked_since", count_json count) ∷ (codes "last_asked", place_json times last) ∷ []
 
 -- what the verdict rests on
-abbrev pub shown_members : TimesValue → GroundsValue → List Member
-shown_members times CompleteGrounds = []
-shown_members times (OpenGrounds teller count first last) = (codes "told", teller_json times teller) ∷ asked_members times count last
-shown_members times (ConflictGrounds first other) = (codes "sent", array_of (sent_json times first ∷ sent_json times other ∷ [])) ∷ []
-shown_members times (UnfoundedGrounds teller claim) = (codes "claimed", claim_json times claim) ∷ (codes "told", teller_json times teller) ∷ []
+abbrev pub shown_members : times_spec.TimesValue → grounds.GroundsValue → List Member
+shown_members times grounds.GroundsValue.CompleteGrounds = []
+shown_members times (grounds.GroundsValue.OpenGrounds teller count first last) = (codes "told", teller_json times teller) ∷ asked_members times count last
+shown_members times (grounds.GroundsValue.ConflictGrounds first other) = (codes "sent", array_of (sent_json times first ∷ sent_json times other ∷ [])) ∷ []
+shown_members times (grounds.GroundsValue.UnfoundedGrounds teller claim) = (codes "claimed", claim_json times claim) ∷ (codes "told", teller_json times teller) ∷ []
 
 -- numbers
 abbrev pub numbers_json : List ℕ → Json
@@ -222,7 +234,7 @@ arrived_members has_other in_span = if has_other then arrived_member in_span ∷
 
 -- the first numbers of a row that did not arrive; null where it is not held against another recording
 abbrev pub lacking_json : InSpan → Json
-lacking_json in_span = if in_span.is_held then numbers_json (numbers_of in_span.lacking) else null
+lacking_json in_span = if in_span.is_held then numbers_json (first_numbers.numbers_of in_span.lacking) else null
 
 -- that as a member
 abbrev pub lacking_member : InSpan → Member
@@ -252,122 +264,122 @@ until_json None = null
 until_json (Some datagram) = count_json datagram
 
 -- the frame of a datagram, if there is one
-abbrev pub frame_at : TimesValue → Option ℕ → Option ℕ
+abbrev pub frame_at : times_spec.TimesValue → Option ℕ → Option ℕ
 frame_at times None = None
-frame_at times (Some datagram) = frame_of times.frames datagram
+frame_at times (Some datagram) = times_spec.frame_of times.frames datagram
 
 -- that under a name; null where there is none
-abbrev pub frame_member : List ℕ → TimesValue → Option ℕ → Member
+abbrev pub frame_member : List ℕ → times_spec.TimesValue → Option ℕ → Member
 frame_member name times datagram = (name, until_json (frame_at times datagram))
 
 -- the same as a member, when that datagram came, and in which frame
-abbrev pub until_members : TimesValue → Option ℕ → List Member
+abbrev pub until_members : times_spec.TimesValue → Option ℕ → List Member
 until_members times until = (codes "until", until_json until)
     ∷ timed_members times (second_member (codes "until_time") times until ∷ frame_member (codes "until_frame") times until ∷ [])
 
 -- for how long the reader let the writer wait, where the writer asked, and where the reader answered
-abbrev pub waited_json : TimesValue → Wait → Json
-waited_json times wait = object_of ((codes "seconds", second_json (Some (seconds_of wait.nanoseconds))) ∷ (codes "asked", place_json times (Some wait.asked))
+abbrev pub waited_json : times_spec.TimesValue → Wait → Json
+waited_json times wait = object_of ((codes "seconds", second_json (Some (times_spec.seconds_of wait.nanoseconds))) ∷ (codes "asked", place_json times (Some wait.asked))
     ∷ (codes "answered", place_json times wait.answered) ∷ [])
 
 -- the same of the longest wait that is told; null where there is none
-abbrev pub wait_json : TimesValue → Option Wait → Json
+abbrev pub wait_json : times_spec.TimesValue → Option Wait → Json
 wait_json times None = null
 wait_json times (Some wait) = waited_json times wait
 
 -- that as a member
-abbrev pub wait_member : TimesValue → Option Wait → Member
+abbrev pub wait_member : times_spec.TimesValue → Option Wait → Member
 wait_member times wait = (codes "wait", wait_json times wait)
 
 -- the same, where there are times
-abbrev pub wait_members : TimesValue → Option Wait → List Member
+abbrev pub wait_members : times_spec.TimesValue → Option Wait → List Member
 wait_members times wait = timed_members times (wait_member times wait ∷ [])
 
 -- a range of numbers, and where the first one was sent first
-abbrev pub range_json : TimesValue → NumberRange → Json
+abbrev pub range_json : times_spec.TimesValue → NumberRange → Json
 range_json times range =
     object_of ((codes "first", count_json range.first) ∷ (codes "last", count_json range.last) ∷ (codes "sent", place_json times range.sent) ∷ [])
 
 -- the ranges of a kind, and how many more there are
-abbrev pub kind_json : TimesValue → KindValue → Json
+abbrev pub kind_json : times_spec.TimesValue → kinds.KindValue → Json
 kind_json times kind = object_of ((codes "ranges", array_of (map (range_json times) kind.ranges)) ∷ (codes "more", count_json kind.more) ∷ [])
 
 -- the same under its name; nothing of a kind that has no number
-abbrev pub kind_members : List ℕ → TimesValue → KindValue → List Member
+abbrev pub kind_members : List ℕ → times_spec.TimesValue → kinds.KindValue → List Member
 kind_members name times kind = if length kind.ranges == 0 then [] else (name, kind_json times kind) ∷ []
 
 -- those of a row
-abbrev pub kinds_members : TimesValue → LostValue → List Member
+abbrev pub kinds_members : times_spec.TimesValue → kinds.LostValue → List Member
 kinds_members times lost =
     kind_members (codes "missed") times lost.missed
     ++ (kind_members (codes "unsent") times lost.unsent
     ++ (kind_members (codes "unanswered") times lost.unanswered ++ kind_members (codes "not_arrived") times lost.not_arrived))
 
 -- an object of these
-abbrev pub lost_member : TimesValue → LostValue → Member
+abbrev pub lost_member : times_spec.TimesValue → kinds.LostValue → Member
 lost_member times lost = (codes "numbers", object_of (kinds_members times lost))
 
 -- by what the objects of the rows of a report are told: their scope, who does not talk, which numbers of each are lost, when datagrams came,
 -- and whether there is another recording
 pub record TellingValue : Type 0 where
   pub scope : Scope
-  pub talk : TalkValue
-  pub lost : List LostValue
-  pub times : TimesValue
+  pub talk : talk.TalkValue
+  pub lost : List kinds.LostValue
+  pub times : times_spec.TimesValue
   pub has_other : Bool
 
 -- that of the code, as a value
 abbrev pub telling_value : Telling → TellingValue
 telling_value telling =
-    record { scope = telling.scope; talk = talk_value telling.talk.now; lost = map lost_value telling.lost.now; times = telling.times.now; has_other = telling.has_other }
+    record { scope = telling.scope; talk = talk.talk_value telling.talk.now; lost = map kinds.lost_value telling.lost.now; times = telling.times.now; has_other = telling.has_other }
 
 -- of a row in a span: its first number, the datagram in which its reader leaves, what became of its numbers, the first that did not
 -- arrive, whether it is clean, and the longest wait
-abbrev pub span_by : TellingValue → TimesValue → EvidenceValue → Option InSpan → List Member
+abbrev pub span_by : TellingValue → times_spec.TimesValue → explanation.EvidenceValue → Option InSpan → List Member
 span_by telling times evidence None = []
-span_by telling times evidence (Some in_span) = (codes "from", count_json (row_from telling.scope.from evidence.in_span)) ∷ (until_members times in_span.until
+span_by telling times evidence (Some in_span) = (codes "from", count_json (row_facts.row_from telling.scope.from evidence.in_span)) ∷ (until_members times in_span.until
     ++ (codes "outcomes", outcomes_json telling.has_other in_span) ∷ (lacking_members telling.has_other in_span
-    ++ (codes "clean", boolean (is_clean telling.scope.tail evidence)) ∷ wait_members times in_span.wait))
+    ++ (codes "clean", boolean (row_facts.is_clean telling.scope.tail evidence)) ∷ wait_members times in_span.wait))
 
 -- what is told of a row in a span; nothing of others
-abbrev pub span_members : TellingValue → TimesValue → EvidenceValue → List Member
+abbrev pub span_members : TellingValue → times_spec.TimesValue → explanation.EvidenceValue → List Member
 span_members telling times evidence = span_by telling times evidence evidence.in_span
 
 -- the sentences on who is silent of the two of a row
-abbrev pub silence_member : TellingValue → ExplanationValue → Member
-silence_member telling row = (codes "silence", array_of (map string (silence_lines telling.times (silences_of telling.talk row.pair))))
+abbrev pub silence_member : TellingValue → explanation.ExplanationValue → Member
+silence_member telling row = (codes "silence", array_of (map string (lines.silence_lines telling.times (silences.silences_of telling.talk row.pair))))
 
 -- the same, where there are times
-abbrev pub silence_members : TellingValue → ExplanationValue → List Member
+abbrev pub silence_members : TellingValue → explanation.ExplanationValue → List Member
 silence_members telling row = timed_members telling.times (silence_member telling row ∷ [])
 
 -- what to do for a row that is not clean
-abbrev pub sentence_json : TellingValue → ExplanationValue → Json
-sentence_json telling row = string (advice_text telling.times (advice_of telling.times (silences_of telling.talk row.pair) telling.scope row.evidence))
+abbrev pub sentence_json : TellingValue → explanation.ExplanationValue → Json
+sentence_json telling row = string (lines.advice_text telling.times (advice.advice_of telling.times (silences.silences_of telling.talk row.pair) telling.scope row.evidence))
 
 -- what to do for a row; null for a clean one
-abbrev pub advice_json : TellingValue → ExplanationValue → Json
+abbrev pub advice_json : TellingValue → explanation.ExplanationValue → Json
 advice_json telling row =
-    if is_clean telling.scope.tail row.evidence then null
+    if row_facts.is_clean telling.scope.tail row.evidence then null
     else sentence_json telling row
 
 -- that as a member
-abbrev pub advice_member : TellingValue → ExplanationValue → Member
+abbrev pub advice_member : TellingValue → explanation.ExplanationValue → Member
 advice_member telling row = (codes "advice", advice_json telling row)
 
 -- what is told of a row of a report beside its evidence
-abbrev pub spanned_members : TellingValue → TimesValue → ExplanationValue → List Member
+abbrev pub spanned_members : TellingValue → times_spec.TimesValue → explanation.ExplanationValue → List Member
 spanned_members telling times row =
     span_members telling times row.evidence
-    ++ lost_member times (lost_at telling.lost row.place) ∷ (silence_members telling row ++ advice_member telling row ∷ node_members telling.talk row.pair)
+    ++ lost_member times (explanation.lost_at telling.lost row.place) ∷ (silence_members telling row ++ advice_member telling row ∷ node_members telling.talk row.pair)
 
 -- the same; nothing of a row of an audit, which is in no span
-abbrev pub further_members : Option TellingValue → TimesValue → ExplanationValue → List Member
+abbrev pub further_members : Option TellingValue → times_spec.TimesValue → explanation.ExplanationValue → List Member
 further_members None times row = []
 further_members (Some telling) times row = spanned_members telling times row
 
 -- a row of the report with its evidence
-abbrev pub row_json : Option TellingValue → TimesValue → ExplanationValue → Json
+abbrev pub row_json : Option TellingValue → times_spec.TimesValue → explanation.ExplanationValue → Json
 row_json telling times row =
     object_of (pair_members row
     ++ (verdict_members row.evidence.verdict
@@ -397,20 +409,20 @@ frames_told None frames = []
 frames_told (Some telling) frames = frames
 
 -- times, with these
-abbrev pub times_told : Option TellingValue → TimesValue → TimesValue
+abbrev pub times_told : Option TellingValue → times_spec.TimesValue → times_spec.TimesValue
 times_told telling times = record { start = times.start; end = times.end; of_datagrams = times.of_datagrams; frames = frames_told telling times.frames }
 
 -- the rows, under their name
-abbrev pub pairs_member : Option TellingValue → TimesValue → List ExplanationValue → Member
+abbrev pub pairs_member : Option TellingValue → times_spec.TimesValue → List explanation.ExplanationValue → Member
 pairs_member telling times rows = (codes "pairs", array_of (map (row_json telling times) rows))
 
 -- what is told of these rows and counts, and of the frames of this recording
-abbrev pub rows_members : Option TellingValue → List ExplanationValue → Counts → RecordingValue → List Member
+abbrev pub rows_members : Option TellingValue → List explanation.ExplanationValue → Counts → recording.RecordingValue → List Member
 rows_members telling rows counts recording =
     pairs_member telling (times_told telling recording.times) rows ∷ (counts_members counts ++ (ignored_members recording.ignored ++ reasons_members recording.reasons))
 
 -- the whole report, as an object of `audit --json`
-abbrev pub report_json : List ExplanationValue → Counts → RecordingValue → Json
+abbrev pub report_json : List explanation.ExplanationValue → Counts → recording.RecordingValue → Json
 report_json rows counts recording = object_of (rows_members None rows counts recording)
 
 -- the tokens of a member: its name, and those of its value

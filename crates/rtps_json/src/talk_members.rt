@@ -12,7 +12,8 @@ ghost use Rattle.rtps_report.specs.BestEfforts.{best_effort_value, held_value};
 ghost use Rattle.rtps_report.specs.FullReport.{report_value};
 ghost use Rattle.rtps_report.specs.Talk.{left_out_value, talk_value};
 ghost use Rattle.rtps_json.specs.JsonText.{clock_times};
-ghost use Rattle.rtps_json.specs.TalkMembers.{address_json, best_effort_json, held_json, one_way_json, participant_json, reasons_json, talking_json, unmatched_json, unobserved_json, values_json};
+ghost use Rattle.rtps_json.specs.AddressMembers.{address_json};
+ghost use Rattle.rtps_json.specs.TalkMembers.{best_effort_json, held_json, one_way_json, participant_json, reasons_json, talking_json, unmatched_json, unobserved_json, values_json};
 ghost use Rattle.rtps_json.specs.TalkMembers as of_talk;
 ghost use Rattle.rtps_json.specs.Values.{member_json, members_json, value_json};
 

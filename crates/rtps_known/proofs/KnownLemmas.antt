@@ -5,13 +5,16 @@ use Rattle.std.specs.BTreeSet.{BTreeSet, contains}
 use Rattle.std.specs.Cmp.{both_tied}
 use Rattle.std.specs.Cmp.Lexicographic.{slice_cmp, texts_ties}
 use Rattle.std.specs.Ordering.{is_eq, nat_cmp}
+use Rattle.std.specs.List.{list_any}
+use Rattle.std.proofs.lemmas.Bool.{false≢true}
 use Rattle.std.proofs.lemmas.List.Elements.{filter-append}
 use Rattle.std.proofs.lemmas.Map.Views.{tells_apart}
 use Rattle.rtps_ids.specs.declared.identity.Guid.{Guid}
 use Rattle.rtps_ids.specs.declared.identity.GuidPrefix.{GuidPrefix}
 use Rattle.rtps_receiver.specs.Speech.{is_for, is_prefix}
 use Rattle.rtps_discovery.specs.GuidOrder.{guid_cmp}
-use Rattle.rtps_policies.specs.Namings.{naming_cmp}
+use Rattle.rtps_policies.specs.Namings.{names, naming_cmp}
+use Rattle.rtps_policies.specs.Silence.{reversed}
 use Rattle.rtps_policies.specs.declared.naming.Naming.{Naming}
 use Rattle.rtps_known.specs.Bulletins.{IsBulletinOf}
 use Rattle.rtps_known.specs.Meetings.{AreMetBy, joins}
@@ -20,7 +23,7 @@ use Rattle.rtps_known.specs.Tellings.{TimedAct, holds, is_guid, subject_of}
 use Rattle.rtps_known.specs.declared.bulletin.Bulletin.{Bulletin}
 use Rattle.rtps_known.proofs.BulletinLemmas.{one_more}
 use Rattle.rtps_known.proofs.BoolLemmas.{and_none, or_join, or_none}
-use Rattle.rtps_known.proofs.OrderLemmas.{exact_guids}
+use Rattle.rtps_known.proofs.OrderLemmas.{exact_guids, one_prefix}
 
 -- ---- who names whom
 
@@ -32,6 +35,28 @@ and_swap true true = refl
 and_swap true false = refl
 and_swap false true = refl
 and_swap false false = refl
+
+or_swap : (a b : Bool) → (a || b) ≡ (b || a)
+or_swap true true = refl
+or_swap true false = refl
+or_swap false true = refl
+or_swap false false = refl
+
+always : (b : Bool) → cond b true true ≡ true
+always true = refl
+always false = refl
+
+both_hold : (a b : Bool) → (a && b) ≡ true → (a ≡ true) × (b ≡ true)
+both_hold true b e = (refl, e)
+both_hold false b e = absurd (false≢true e)
+
+-- namings that compare alike are one
+one_naming : (one other : Naming) → is_eq (naming_cmp one other) ≡ true → one ≡ other
+one_naming one other e =
+    let (from, to) = both_hold (is_prefix one.source other.source) (is_prefix one.dest other.dest) (sym (alike one other) ∙ e) in
+    let source : one.source ≡ other.source = one_prefix one.source other.source from in
+    let dest : one.dest ≡ other.dest = one_prefix one.dest other.dest to in
+    λ i. record { source = source i; dest = dest i }
 
 -- an act without a destination joins none
 pub joins_none : (acts : List TimedAct) (timed : TimedAct) (met : BTreeSet Naming) → timed.act.dest ≡ None → AreMetBy acts met → AreMetBy (acts ++ timed ∷ []) met
@@ -72,6 +97,25 @@ joins_more acts timed old between new dest some first second were naming =
     (met_more (contains naming_cmp old naming) (contains naming_cmp between naming) (contains naming_cmp new naming) _ _ (joins naming timed) (first naming) (second naming) (joins_is timed dest naming some))
     (were naming)
 
+joins_back : (naming : Naming) → joins (reversed naming) ≡ joins naming
+joins_back naming = λ i timed. or_swap (names (reversed naming) timed.act) (names naming timed.act) i
+
+-- two that were joined before stay joined
+pub met_before : (acts : List TimedAct) (old between : BTreeSet Naming) (first : Naming) → contains naming_cmp old first ≡ true
+    → ((naming : Naming) → contains naming_cmp between naming ≡ cond (is_eq (naming_cmp first naming)) true (contains naming_cmp old naming)) → AreMetBy acts old
+    → (naming : Naming) → contains naming_cmp between naming ≡ cond (is_eq (naming_cmp (reversed first) naming)) true (contains naming_cmp between naming)
+met_before acts old between first there with were naming = by (is_eq (naming_cmp (reversed first) naming)) refl
+  where
+    back : contains naming_cmp old (reversed first) ≡ true
+    back = were (reversed first) ∙ ap (λ test. list_any test acts) (joins_back first) ∙ sym (were first) ∙ there
+
+    by : (b : Bool) → is_eq (naming_cmp (reversed first) naming) ≡ b → contains naming_cmp between naming ≡ cond b true (contains naming_cmp between naming)
+    by false e = refl
+    by true e =
+        let same : reversed first ≡ naming = one_naming (reversed first) naming e in
+        let kept : contains naming_cmp old naming ≡ true = ap (contains naming_cmp old) (sym same) ∙ back in
+        with naming ∙ ap (λ b. cond (is_eq (naming_cmp first naming)) true b) kept ∙ always (is_eq (naming_cmp first naming))
+
 -- ---- what is kept of each writer
 
 pub guids_alike : (one other : Guid) → is_at (guid_cmp one) other ≡ is_guid one other
@@ -102,25 +146,24 @@ taken_is acts None bulletin new were = let P : List TimedAct → Type 0 = λ l. 
 taken_is acts (Some old) bulletin same were = let P : Bulletin → Type 0 = λ a. IsBulletinOf acts a in subst P (sym same) were
 
 -- an act about this writer
-pub about_one : (acts : List TimedAct) (timed : TimedAct) (old between new : BTreeMap Guid Bulletin) (writer : Guid) (bulletin more : Bulletin) → Some writer ≡ subject_of timed.act
+pub about_one : (acts : List TimedAct) (timed : TimedAct) (old new : BTreeMap Guid Bulletin) (writer : Guid) (bulletin more : Bulletin) → Some writer ≡ subject_of timed.act
     → MatchOption (get guid_cmp old writer) (IsBulletinOf [] bulletin) (λ kept. bulletin ≡ kept)
-    → ((other : Guid) → get guid_cmp between other ≡ cond (is_at (guid_cmp writer) other) None (get guid_cmp old other))
     → ((own : List TimedAct) → IsBulletinOf own bulletin → IsBulletinOf (own ++ timed ∷ []) more)
-    → ((other : Guid) → get guid_cmp new other ≡ cond (is_at (guid_cmp writer) other) (Some more) (get guid_cmp between other))
+    → ((other : Guid) → get guid_cmp new other ≡ cond (is_at (guid_cmp writer) other) (Some more) (get guid_cmp old other))
     → AreBulletinsOf acts old → AreBulletinsOf (acts ++ timed ∷ []) new
-about_one acts timed old between new writer bulletin more some taken without noted with were other = by (is_at (guid_cmp writer) other) refl
+about_one acts timed old new writer bulletin more some taken noted with were other = by (is_at (guid_cmp writer) other) refl
   where
     by : (same : Bool) → is_at (guid_cmp writer) other ≡ same → MatchOption (get guid_cmp new other) (about other (acts ++ timed ∷ []) ≡ []) (IsBulletinOf (about other (acts ++ timed ∷ [])))
     by false e =
         let is : is_about other timed ≡ false = ap (holds (λ subject. is_guid subject other)) (sym some) ∙ sym (guids_alike writer other) ∙ e in
         let kept : get guid_cmp old other ≡ get guid_cmp new other =
-        sym (with other ∙ ap (λ b. cond b (Some more) (get guid_cmp between other)) e ∙ without other ∙ ap (λ b. cond b None (get guid_cmp old other)) e) in
+        sym (with other ∙ ap (λ b. cond b (Some more) (get guid_cmp old other)) e) in
         let P : Option Bulletin → Type 0 = λ o. MatchOption o (about other (acts ++ timed ∷ []) ≡ []) (IsBulletinOf (about other (acts ++ timed ∷ []))) in
         subst P kept (bulletin_stays other acts timed (get guid_cmp old other) is (were other))
     by true e =
         let one : writer ≡ other = tells_apart exact_guids writer other e in
         let is : is_about other timed ≡ true = ap (holds (λ subject. is_guid subject other)) (sym some) ∙ sym (guids_alike writer other) ∙ e in
-        let kept : Some more ≡ get guid_cmp new other = sym (with other ∙ ap (λ b. cond b (Some more) (get guid_cmp between other)) e) in
+        let kept : Some more ≡ get guid_cmp new other = sym (with other ∙ ap (λ b. cond b (Some more) (get guid_cmp old other)) e) in
         let P : Option Bulletin → Type 0 = λ o. MatchOption o (about other (acts ++ timed ∷ []) ≡ []) (IsBulletinOf (about other (acts ++ timed ∷ []))) in
         let T : Guid → Type 0 = λ g. MatchOption (get guid_cmp old g) (IsBulletinOf [] bulletin) (λ kept. bulletin ≡ kept) in
         let R : List TimedAct → Type 0 = λ l. IsBulletinOf l more in

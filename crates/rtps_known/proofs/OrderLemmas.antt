@@ -1,12 +1,15 @@
 -- What compares alike is one.
-use Rattle.std.proofs.Common.{ℕ, List, Option, Some, None, ap, refl}
+use Rattle.std.proofs.Common.{◌≡◌, ◌∙◌, ℕ, true, List, Option, Some, None, ap, refl}
 use Rattle.std.specs.Cmp.Lexicographic.{slice_cmp}
 use Rattle.std.specs.Option.{option_cmp}
 use Rattle.std.specs.Ordering.{nat_cmp, ordering_then}
 use Rattle.std.specs.declared.cmp.Ordering.{Ordering}
 use Rattle.std.proofs.lemmas.Map.Lookups.{CmpEqualImpliesEq, exact_bytes, exact_pairs, exact_unsigned}
+use Rattle.std.proofs.lemmas.Map.Text.{is_eq-slice_cmp}
+use Rattle.std.proofs.lemmas.Map.Views.{tells_apart}
 use Rattle.rtps_ids.specs.declared.identity.Guid.{Guid}
 use Rattle.rtps_ids.specs.declared.identity.GuidPrefix.{GuidPrefix}
+use Rattle.rtps_receiver.specs.Speech.{is_prefix}
 use Rattle.rtps_discovery.specs.GuidOrder.{guid_cmp}
 use Rattle.rtps_known.specs.Bulletins.{prefix_cmp}
 use Rattle.rtps_known.specs.Lives.{birth_cmp}
@@ -22,6 +25,9 @@ prefix_of octets = record { 0 = octets }
 pub exact_prefixes : CmpEqualImpliesEq prefix_cmp
 unfolding prefix_of
 exact_prefixes a b h = ap prefix_of (exact_bytes a.0 b.0 h)
+
+pub one_prefix : (one other : GuidPrefix) → is_prefix one other ≡ true → one ≡ other
+one_prefix one other e = tells_apart exact_prefixes one other (is_eq-slice_cmp one.0 other.0 ∙ e)
 
 guid_of_parts : List ℕ × List ℕ → Guid
 guid_of_parts parts = record { prefix = record { 0 = parts.0 }; entity = record { 0 = parts.1 } }

@@ -20,7 +20,7 @@ use Rattle.rtps_known.specs.Tellings.{is_to}
 use Rattle.rtps_known.specs.declared.place.Place.{Place}
 use Rattle.rtps_known.specs.declared.sending.Sending.{Sending}
 use Rattle.rtps_known.proofs.BoolLemmas.{and_none}
-use Rattle.rtps_known.proofs.OrderLemmas.{exact_prefixes, exact_sendings}
+use Rattle.rtps_known.proofs.OrderLemmas.{exact_prefixes, exact_sendings, one_prefix}
 
 -- ---- keys that are the same
 
@@ -45,9 +45,6 @@ swap m n = grind (arith, nat_tests)
 
 same_number : (m n : ℕ) → (m == n) ≡ true → m ≡ n
 same_number m n e = grind (arith, nat_tests, e)
-
-one_prefix : (a b : GuidPrefix) → is_prefix a b ≡ true → a ≡ b
-one_prefix a b e = tells_apart exact_prefixes a b (is_eq-slice_cmp a.0 b.0 ∙ e)
 
 swap_prefix : (a b : GuidPrefix) → is_prefix a b ≡ is_prefix b a
 swap_prefix a b = by (is_prefix a b) (is_prefix b a) refl refl

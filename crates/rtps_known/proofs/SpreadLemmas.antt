@@ -24,7 +24,7 @@ use Rattle.rtps_known.specs.declared.sending.Hearing.{Hearing}
 use Rattle.rtps_known.specs.declared.spread.Spread.{Spread}
 use Rattle.rtps_known.proofs.BoolLemmas.{and_all, and_none}
 use Rattle.rtps_known.proofs.KnownLemmas.{guids_alike}
-use Rattle.rtps_known.proofs.OrderLemmas.{exact_guids, exact_prefixes}
+use Rattle.rtps_known.proofs.OrderLemmas.{exact_guids, exact_prefixes, one_prefix}
 use Rattle.rtps_known.proofs.HeardLemmas.{again_with, any_more, heard_more, place_any, place_more}
 
 pub nothing_more : {X : Type 0} (kept : Option X) → kept ≡ option_or kept None
@@ -118,34 +118,30 @@ taken_is writer acts None spread new were = spread_same writer [] acts spread we
 taken_is writer acts (Some old) spread same were = let P : Spread → Type 0 = λ a. IsSpreadOf writer acts a in subst P (sym same) were
 
 -- an act about this writer
-pub about_this : (acts : List PlacedAct) (placed : PlacedAct) (old between new : BTreeMap Guid Spread) (writer : Guid) (spread more : Spread) → Some writer ≡ subject_in placed.act
+pub about_this : (acts : List PlacedAct) (placed : PlacedAct) (old new : BTreeMap Guid Spread) (writer : Guid) (spread more : Spread) → Some writer ≡ subject_in placed.act
     → MatchOption (get guid_cmp old writer) ((other : Guid) → IsSpreadOf other [] spread) (λ kept. spread ≡ kept)
-    → ((other : Guid) → get guid_cmp between other ≡ cond (is_at (guid_cmp writer) other) None (get guid_cmp old other))
     → ((other : Guid) (own : List PlacedAct) → is_about other placed.act ≡ true → IsSpreadOf other own spread → IsSpreadOf other (own ++ placed ∷ []) more)
-    → ((other : Guid) → get guid_cmp new other ≡ cond (is_at (guid_cmp writer) other) (Some more) (get guid_cmp between other))
+    → ((other : Guid) → get guid_cmp new other ≡ cond (is_at (guid_cmp writer) other) (Some more) (get guid_cmp old other))
     → AreSpreadsOf acts old → AreSpreadsOf (acts ++ placed ∷ []) new
-about_this acts placed old between new writer spread more some taken without noted with were other = by (is_at (guid_cmp writer) other) refl
+about_this acts placed old new writer spread more some taken noted with were other = by (is_at (guid_cmp writer) other) refl
   where
     by : (same : Bool) → is_at (guid_cmp writer) other ≡ same
         → MatchOption (get guid_cmp new other) (IsQuietIn other (acts ++ placed ∷ [])) (IsSpreadOf other (acts ++ placed ∷ []))
     by false e =
         let is : is_about other placed.act ≡ false = ap (holds (λ subject. is_guid subject other)) (sym some) ∙ sym (guids_alike writer other) ∙ e in
         let kept : get guid_cmp old other ≡ get guid_cmp new other =
-        sym (with other ∙ ap (λ b. cond b (Some more) (get guid_cmp between other)) e ∙ without other ∙ ap (λ b. cond b None (get guid_cmp old other)) e) in
+        sym (with other ∙ ap (λ b. cond b (Some more) (get guid_cmp old other)) e) in
         let P : Option Spread → Type 0 = λ o. MatchOption o (IsQuietIn other (acts ++ placed ∷ [])) (IsSpreadOf other (acts ++ placed ∷ [])) in
         subst P kept (spread_stays other acts placed (get guid_cmp old other) is (were other))
     by true e =
         let one : writer ≡ other = tells_apart exact_guids writer other e in
         let is : is_about other placed.act ≡ true = ap (holds (λ subject. is_guid subject other)) (sym some) ∙ sym (guids_alike writer other) ∙ e in
-        let kept : Some more ≡ get guid_cmp new other = sym (with other ∙ ap (λ b. cond b (Some more) (get guid_cmp between other)) e) in
+        let kept : Some more ≡ get guid_cmp new other = sym (with other ∙ ap (λ b. cond b (Some more) (get guid_cmp old other)) e) in
         let P : Option Spread → Type 0 = λ o. MatchOption o (IsQuietIn other (acts ++ placed ∷ [])) (IsSpreadOf other (acts ++ placed ∷ [])) in
         let T : Guid → Type 0 = λ g. MatchOption (get guid_cmp old g) ((other : Guid) → IsSpreadOf other [] spread) (λ kept. spread ≡ kept) in
         subst P kept (noted other acts is (taken_is other acts (get guid_cmp old other) spread (subst T one taken) (were other)))
 
 -- ---- an act about the writer
-
-pub one_prefix : (one other : GuidPrefix) → is_prefix one other ≡ true → one ≡ other
-one_prefix one other e = tells_apart exact_prefixes one other (is_eq-slice_cmp one.0 other.0 ∙ e)
 
 -- where a participant acknowledges a number first: none was kept
 pub first_new : (old new : GuidPrefix → Option Place) (source : GuidPrefix) (holds : Bool) (place : Place) → holds ≡ true → is_some (old source) ≡ false

@@ -1,9 +1,5 @@
-ghost use Rattle.std.specs.Prelude.{◌≡◌, ◌<◌, ◌++◌, ◌∷◌, [], IfOk, List, MatchOption, None, OnOk, cond};
-ghost use Rattle.std.specs.BTreeMap.{get, is_at};
-ghost use Rattle.rtps_ids.specs.declared.identity.Guid.{Guid as GuidValue};
+ghost use Rattle.std.specs.Prelude.{◌<◌, ◌++◌, ◌∷◌, [], IfOk, List, OnOk};
 ghost use Rattle.rtps_receiver.specs.Values.{spoken_value};
-ghost use Rattle.rtps_discovery.specs.GuidOrder.{guid_cmp};
-ghost use Rattle.rtps_known.specs.Bulletins.{IsBulletinOf};
 ghost use Rattle.rtps_known.specs.Lacking.{IsLackingOf};
 ghost use Rattle.rtps_known.specs.Lives.{AreLivesOf};
 ghost use Rattle.rtps_known.specs.Meetings.{AreMetBy};
@@ -100,11 +96,13 @@ fn note_meeting(
         return Ok(());
     };
     let source = act.source;
-    met.insert(Naming { source, dest })?;
-    met.insert(Naming {
-        source: dest,
-        dest: source,
-    })?;
+    let is_new = met.insert(Naming { source, dest })?;
+    if is_new {
+        met.insert(Naming {
+            source: dest,
+            dest: source,
+        })?;
+    }
     Ok(())
 }
 
@@ -121,19 +119,12 @@ fn note_bulletin(
     let Some(writer) = subject(act) else {
         return Ok(());
     };
-    let mut bulletin = take_bulletin(bulletins, alloc, writer);
+    if let Some(bulletin) = bulletins.get_mut(&writer) {
+        bulletin.note(act, time)?;
+        return Ok(());
+    }
+    let mut bulletin = Bulletin::new(alloc);
     bulletin.note(act, time)?;
     bulletins.insert(writer, bulletin)?;
     Ok(())
-}
-
-/// The bulletin of a writer, which is not kept any more.
-fn take_bulletin(bulletins: &mut BTreeMap<Guid, Bulletin>, alloc: Global, writer: Guid) -> Bulletin
-    ensures taken { MatchOption (get guid_cmp bulletins.old writer) (IsBulletinOf [] result) (λ bulletin. result ≡ bulletin) }
-    ensures others { (other : GuidValue) → get guid_cmp bulletins.new other ≡ cond (is_at (guid_cmp writer) other) None (get guid_cmp bulletins.old other) }
-{
-    match bulletins.remove(&writer) {
-        Some(bulletin) => bulletin,
-        None => Bulletin::new(alloc),
-    }
 }

@@ -1,18 +1,15 @@
-ghost use Rattle.std.specs.Prelude.{◌≡◌, ◌++◌, ◌∷◌, ◌&&◌, ◌||◌, [], List, MatchOption, None, OnOk, cond};
-ghost use Rattle.std.specs.BTreeMap.{get, is_at};
+ghost use Rattle.std.specs.Prelude.{◌≡◌, ◌++◌, ◌∷◌, ◌||◌, [], List, OnOk};
 ghost use Rattle.std.specs.BTreeSet.{contains};
-ghost use Rattle.rtps_ids.specs.declared.identity.Guid.{Guid as GuidValue};
 ghost use Rattle.rtps_ids.specs.declared.identity.GuidPrefix.{GuidPrefix as GuidPrefixValue};
 ghost use Rattle.rtps_receiver.specs.Speech.{is_prefix};
 ghost use Rattle.rtps_receiver.specs.Values.{spoken_value};
-ghost use Rattle.rtps_discovery.specs.GuidOrder.{guid_cmp};
 ghost use Rattle.rtps_known.specs.Bulletins.{prefix_cmp};
 ghost use Rattle.rtps_known.specs.Matched.{AreIssuesOf, AreJoinedIn, AreMatchesOf, both_joined, learned_of};
 ghost use Rattle.rtps_known.specs.Matched as matched_spec;
 ghost use Rattle.rtps_known.specs.Places.{PlacedAct};
 ghost use Rattle.rtps_known.specs.Places as places_spec;
 ghost use Rattle.rtps_known.specs.declared.layout.entity.TheConstants.{PUBLICATIONS, SUBSCRIPTIONS};
-ghost use Rattle.rtps_known.specs.Spreads.{AreSpreadsOf, IsSpreadOf};
+ghost use Rattle.rtps_known.specs.Spreads.{AreSpreadsOf};
 ghost use Rattle.rtps_known.specs.Tellings.{holds};
 
 use crate::asking::subject;
@@ -216,21 +213,14 @@ fn note_spread(
     let Some(writer) = subject(act) else {
         return Ok(());
     };
-    let mut spread = take_spread(spreads, alloc, writer);
+    if let Some(spread) = spreads.get_mut(&writer) {
+        spread.note(act, place)?;
+        return Ok(());
+    }
+    let mut spread = Spread::new(alloc);
     spread.note(act, place)?;
     spreads.insert(writer, spread)?;
     Ok(())
-}
-
-/// What is kept of a writer, which is not kept any more.
-fn take_spread(spreads: &mut BTreeMap<Guid, Spread>, alloc: Global, writer: Guid) -> Spread
-    ensures taken { MatchOption (get guid_cmp spreads.old writer) ((other : GuidValue) → IsSpreadOf other [] result) (λ spread. result ≡ spread) }
-    ensures others { (other : GuidValue) → get guid_cmp spreads.new other ≡ cond (is_at (guid_cmp writer) other) None (get guid_cmp spreads.old other) }
-{
-    match spreads.remove(&writer) {
-        Some(spread) => spread,
-        None => Spread::new(alloc),
-    }
 }
 
 /// Keeps how an act announces an endpoint, unless it was announced before. After `Memory` nothing has changed.

@@ -2,65 +2,64 @@
 -- may keep, and no number is called received that may not be.
 use Rattle.std.specs.Prelude.{ℕ, ◌-◌, ◌++◌, ◌==◌, nat_le, Bool, if◌then◌else◌, List, [], ◌∷◌, codes, Option, None, Some}
 use Rattle.std.specs.List.{concat}
-use Rattle.rtps_parts.specs.Parts.{WordsValue, amount, grouped, joined, share, words_for}
-use Rattle.rtps_report.specs.Findings.{no_findings}
+use Rattle.rtps_parts.specs.Parts as parts
+use Rattle.rtps_report.specs.Findings as findings
 use Rattle.rtps_report.specs.declared.best_effort.BestEffortNumbers.{BestEffortNumbers}
-use Rattle.rtps_report.specs.declared.findings.Ending.TheVariants.{Clean, Unmet}
 use Rattle.rtps_report.specs.declared.findings.Ending.{Ending}
 use Rattle.rtps_report.specs.declared.findings.FewRows.{FewRows}
 use Rattle.rtps_report.specs.declared.findings.Findings.{Findings}
 use Rattle.rtps_report.specs.declared.not_told.NotToldCounts.{NotToldCounts}
 use Rattle.rtps_report.specs.declared.totals.Totals.{Totals}
 use Rattle.rtps_report.specs.declared.recording.Links.{Links as LinksFound}
-use Rattle.rtps_lines.specs.Notes.{detail_of, pair_words, words_of}
-use Rattle.rtps_lines.specs.WayNotes.{swapped_cause, twice_cause}
+use Rattle.rtps_lines.specs.Notes as notes
+use Rattle.rtps_lines.specs.WayNotes as way_notes
 use Rattle.rtps_lines.specs.declared.causes.Lost.{Lost}
-use Rattle.rtps_lines.specs.declared.notes.Weakness.TheVariants.{Cut, Links, Pieces, Unsettled}
+use Rattle.rtps_lines.specs.declared.notes.Weakness.{Weakness}
 use Rattle.rtps_lines.specs.declared.sentences.reason.TheConstants as said
-use Rattle.rtps_lines.specs.declared.sentences.noted.TheConstants.{BEST_EFFORT_MANY, BEST_EFFORT_ONE, RECORDED_MANY, RECORDED_ONE}
+use Rattle.rtps_lines.specs.declared.sentences.noted.TheConstants as noted
 
 -- what is found by an ending
 abbrev pub findings_in : Ending → Findings
-findings_in (Unmet findings) = findings
-findings_in ending = no_findings
+findings_in (Ending.Unmet findings) = findings
+findings_in ending = findings.no_findings
 
 -- the words for pairs that are not complete
-abbrev pub incomplete_words : WordsValue
+abbrev pub incomplete_words : parts.WordsValue
 incomplete_words = record { one = said.INCOMPLETE_ONE.now; many = said.INCOMPLETE_MANY.now }
 
 -- for pairs that do not match
-abbrev pub unmatched_words : WordsValue
+abbrev pub unmatched_words : parts.WordsValue
 unmatched_words = record { one = said.UNMATCHED_ONE.now; many = said.UNMATCHED_MANY.now }
 
 -- for numbers that were missed
-abbrev pub missed_words : WordsValue
+abbrev pub missed_words : parts.WordsValue
 missed_words = record { one = said.MISSED_ONE.now; many = said.MISSED_MANY.now }
 
 -- that were unsent
-abbrev pub unsent_words : WordsValue
+abbrev pub unsent_words : parts.WordsValue
 unsent_words = record { one = said.UNSENT_ONE.now; many = said.UNSENT_MANY.now }
 
 -- that were unanswered
-abbrev pub unanswered_words : WordsValue
+abbrev pub unanswered_words : parts.WordsValue
 unanswered_words = record { one = said.UNANSWERED_ONE.now; many = said.UNANSWERED_MANY.now }
 
 -- that did not arrive
-abbrev pub lost_words : WordsValue
+abbrev pub lost_words : parts.WordsValue
 lost_words = record { one = said.LOST_ONE.now; many = said.LOST_MANY.now }
 
 -- that are not certain
-abbrev pub uncertain_words : WordsValue
+abbrev pub uncertain_words : parts.WordsValue
 uncertain_words = record { one = said.UNCERTAIN_ONE.now; many = said.UNCERTAIN_MANY.now }
 
 -- how many there are of a thing; nothing where there is none
-abbrev pub cause : ℕ → WordsValue → List (List ℕ)
-cause number words = if number == 0 then [] else concat (amount number words ∷ []) ∷ []
+abbrev pub cause : ℕ → parts.WordsValue → List (List ℕ)
+cause number words = if number == 0 then [] else concat (parts.amount number words ∷ []) ∷ []
 
 -- frames of links that are not read
 abbrev pub links_cause : LinksFound → List (List ℕ)
 links_cause links =
     if links.number == 0 then []
-    else concat (amount links.number (words_of (Links links.first)) ∷ detail_of links.number (Links links.first)) ∷ []
+    else concat (parts.amount links.number (notes.words_of (Weakness.Links links.first)) ∷ notes.detail_of links.number (Weakness.Links links.first)) ∷ []
 
 -- there is no pair
 abbrev pub empty_cause : Bool → List (List ℕ)
@@ -69,13 +68,13 @@ empty_cause empty = if empty then said.EMPTY.now ∷ [] else []
 -- there are fewer pairs than were expected
 abbrev pub few_cause : Option FewRows → List (List ℕ)
 few_cause None = []
-few_cause (Some few) = concat (amount few.rows pair_words ∷ codes " of " ∷ grouped few.expected ∷ codes " expected" ∷ []) ∷ []
+few_cause (Some few) = concat (parts.amount few.rows notes.pair_words ∷ codes " of " ∷ parts.grouped few.expected ∷ codes " expected" ∷ []) ∷ []
 
 -- how many numbers pairs of best effort have, and how many of these are recorded
 abbrev pub best_effort_text : BestEffortNumbers → List ℕ
 best_effort_text told =
-    concat (amount told.pairs (record { one = BEST_EFFORT_ONE.now; many = BEST_EFFORT_MANY.now }) ∷ share told.recorded told.numbers
-    ∷ words_for told.numbers (record { one = RECORDED_ONE.now; many = RECORDED_MANY.now }) ∷ [])
+    concat (parts.amount told.pairs (record { one = noted.BEST_EFFORT_ONE.now; many = noted.BEST_EFFORT_MANY.now }) ∷ parts.share told.recorded told.numbers
+    ∷ parts.words_for told.numbers (record { one = noted.RECORDED_ONE.now; many = noted.RECORDED_MANY.now }) ∷ [])
 
 -- there is no row, and not all numbers of pairs of best effort are recorded
 abbrev pub lossy_cause : Option BestEffortNumbers → List (List ℕ)
@@ -83,8 +82,8 @@ lossy_cause None = []
 lossy_cause (Some told) = (said.BEST_EFFORT.now ++ best_effort_text told) ∷ []
 
 -- so many numbers were lost, in so many pairs
-abbrev pub lost_cause : Lost → WordsValue → List (List ℕ)
-lost_cause lost words = if lost.pairs == 0 then [] else concat (amount lost.numbers words ∷ codes " " ∷ amount lost.pairs pair_words ∷ []) ∷ []
+abbrev pub lost_cause : Lost → parts.WordsValue → List (List ℕ)
+lost_cause lost words = if lost.pairs == 0 then [] else concat (parts.amount lost.numbers words ∷ codes " " ∷ parts.amount lost.pairs notes.pair_words ∷ []) ∷ []
 
 -- how many numbers are not received for certain, where that is asked
 abbrev pub uncertain_of : Totals → Bool → Lost
@@ -104,30 +103,30 @@ row_causes totals certain =
 -- something of the recording was not read, or is in no row
 abbrev pub unread_causes : Findings → List (List ℕ)
 unread_causes findings =
-    cause findings.unsettled (words_of Unsettled)
-    ++ (cause findings.pieces (words_of Pieces)
-    ++ (cause findings.cut (words_of Cut) ++ links_cause findings.links))
+    cause findings.unsettled (notes.words_of Weakness.Unsettled)
+    ++ (cause findings.pieces (notes.words_of Weakness.Pieces)
+    ++ (cause findings.cut (notes.words_of Weakness.Cut) ++ links_cause findings.links))
 
 -- two recordings look swapped, or are one
 abbrev pub order_causes : Findings → List (List ℕ)
-order_causes findings = swapped_cause findings.swapped ++ twice_cause findings.twice
+order_causes findings = way_notes.swapped_cause findings.swapped ++ way_notes.twice_cause findings.twice
 
 -- the words for participants that were not told of something
-abbrev pub told_words : WordsValue
+abbrev pub told_words : parts.WordsValue
 told_words = record { one = said.NOT_TOLD_ONE.now; many = said.NOT_TOLD_MANY.now }
 
 -- for endpoints
-abbrev pub endpoint_words : WordsValue
+abbrev pub endpoint_words : parts.WordsValue
 endpoint_words = record { one = codes "endpoint"; many = codes "endpoints" }
 
 -- for participants with two lives
-abbrev pub lives_words : WordsValue
+abbrev pub lives_words : parts.WordsValue
 lives_words = record { one = said.LIVES_ONE.now; many = said.LIVES_MANY.now }
 
 -- so many participants were not told of so many endpoints
 abbrev pub not_told_cause : NotToldCounts → List (List ℕ)
 not_told_cause counts =
-    if counts.participants == 0 then [] else concat (amount counts.participants told_words ∷ amount counts.endpoints endpoint_words ∷ []) ∷ []
+    if counts.participants == 0 then [] else concat (parts.amount counts.participants told_words ∷ parts.amount counts.endpoints endpoint_words ∷ []) ∷ []
 
 -- what discovery did not tell, and who has two lives
 abbrev pub discovery_causes : Findings → List (List ℕ)
@@ -142,7 +141,7 @@ causes_of certain totals findings =
     ++ (discovery_causes findings ++ (order_causes findings ++ (lossy_cause findings.lossy ++ (few_cause findings.few ++ unread_causes findings))))))
 
 -- the words for all numbers, of which so many are received for certain
-abbrev pub certain_words : WordsValue
+abbrev pub certain_words : parts.WordsValue
 certain_words =
     record {
       one = said.CERTAIN_ONE.now;
@@ -153,7 +152,7 @@ certain_words =
 abbrev pub certain_detail : Totals → List ℕ
 certain_detail totals =
     if nat_le (totals.numbers - totals.received) totals.arrived then []
-    else concat (codes ": " ∷ share totals.received totals.numbers ∷ words_for totals.numbers certain_words ∷ [])
+    else concat (codes ": " ∷ parts.share totals.received totals.numbers ∷ parts.words_for totals.numbers certain_words ∷ [])
 
 -- the same, or what pairs of best effort have, where there is no row
 abbrev pub clean_detail : Totals → BestEffortNumbers → List ℕ
@@ -161,5 +160,5 @@ clean_detail totals best_effort = if totals.pairs == 0 then said.CLEAN_BEST_EFFO
 
 -- the last line, of a report of whose rows this is counted, and of whose pairs of best effort that
 abbrev pub last_line : Totals → BestEffortNumbers → Ending → List (List ℕ) → List ℕ
-last_line totals best_effort Clean causes = codes "clean" ++ (clean_detail totals best_effort ++ codes "\n")
-last_line totals best_effort ending causes = concat (codes "not clean: " ∷ joined (codes "; ") causes ∷ codes "\n" ∷ [])
+last_line totals best_effort Ending.Clean causes = codes "clean" ++ (clean_detail totals best_effort ++ codes "\n")
+last_line totals best_effort ending causes = concat (codes "not clean: " ∷ parts.joined (codes "; ") causes ∷ codes "\n" ∷ [])

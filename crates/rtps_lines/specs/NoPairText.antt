@@ -2,23 +2,21 @@
 use Rattle.std.specs.Prelude.{ℕ, ◌≡◌, ◌++◌, ◌-◌, ◌==◌, if◌then◌else◌, List, [], ◌∷◌, codes, decimal, flat_map, length, take}
 use Rattle.std.specs.List.{concat}
 use Rattle.rtps_discovery.specs.declared.endpoint.Side.{Side}
-use Rattle.rtps_discovery.specs.declared.endpoint.Side.TheVariants.{Writer, Reader}
-use Rattle.rtps_parts.specs.Parts.{WordsValue, amount, grouped}
-use Rattle.rtps_parts.specs.RosNames.{topic_text}
-use Rattle.rtps_report.specs.Asked.{AskedValue}
-use Rattle.rtps_report.specs.FullReport.{ReportValue}
-use Rattle.rtps_report.specs.NoPair.{IsNoPairOf}
-use Rattle.rtps_report.specs.OneSides.{OneSidedValue}
-use Rattle.rtps_report.specs.Recording.{RecordingValue}
-use Rattle.rtps_report.specs.Talk.{TalkValue}
+use Rattle.rtps_parts.specs.Parts as parts
+use Rattle.rtps_parts.specs.RosNames as ros_names
+use Rattle.rtps_report.specs.Asked as asked
+use Rattle.rtps_report.specs.FullReport as full_report
+use Rattle.rtps_report.specs.NoPair as report_no_pair
+use Rattle.rtps_report.specs.OneSides as one_sides
+use Rattle.rtps_report.specs.Recording as recording
+use Rattle.rtps_report.specs.Talk as talk
 use Rattle.rtps_report.specs.declared.no_pair.InDomain.{InDomain}
 use Rattle.rtps_report.specs.declared.no_pair.NoPair.{NoPair}
-use Rattle.rtps_report.specs.declared.no_pair.NoPair.TheVariants.{Counted, NoRtps, Early, NoParticipant, OneHost, SharedMemory, TwoDomains, NotTold, OneWay, Unmatched, LeftOut, BestEffort, OneSide, Unknown}
-use Rattle.rtps_lines.specs.EventText.{called}
+use Rattle.rtps_lines.specs.EventText as event_text
 use Rattle.rtps_lines.specs.declared.sentences.no_pair.TheConstants as said
 
 -- the words for participants that speak before they are announced
-abbrev pub early_words : WordsValue
+abbrev pub early_words : parts.WordsValue
 early_words =
     record {
       one = said.EARLY_ONE.now;
@@ -27,27 +25,27 @@ early_words =
 
 -- what is said of so many of them
 abbrev pub early_text : ℕ → List ℕ
-early_text early = concat (said.EARLY.now ∷ amount early early_words ∷ said.NEVER_ANNOUNCED.now ∷ [])
+early_text early = concat (said.EARLY.now ∷ parts.amount early early_words ∷ said.NEVER_ANNOUNCED.now ∷ [])
 
 -- a participant, and its domain
-abbrev pub domain_text : TalkValue → InDomain → List ℕ
-domain_text talk one = called talk one.participant.prefix ++ (codes " is in domain " ++ decimal one.domain)
+abbrev pub domain_text : talk.TalkValue → InDomain → List ℕ
+domain_text talk one = event_text.called talk one.participant.prefix ++ (codes " is in domain " ++ decimal one.domain)
 
 -- the same of another one
-abbrev pub other_text : TalkValue → InDomain → List ℕ
-other_text talk one = codes ", " ++ (called talk one.participant.prefix ++ (codes " in domain " ++ decimal one.domain))
+abbrev pub other_text : talk.TalkValue → InDomain → List ℕ
+other_text talk one = codes ", " ++ (event_text.called talk one.participant.prefix ++ (codes " in domain " ++ decimal one.domain))
 
 -- what a topic has, and what it lacks
 abbrev pub sides_text : Side → List ℕ
-sides_text Writer = said.WRITER_ALONE.now
-sides_text Reader = said.READER_ALONE.now
+sides_text Side.Writer = said.WRITER_ALONE.now
+sides_text Side.Reader = said.READER_ALONE.now
 
 -- a topic that has one side alone, by ROS 2
-abbrev pub side_text : OneSidedValue → List ℕ
-side_text one = topic_text one.topic ++ sides_text one.side
+abbrev pub side_text : one_sides.OneSidedValue → List ℕ
+side_text one = ros_names.topic_text one.topic ++ sides_text one.side
 
 -- the same behind another one
-abbrev pub next_text : OneSidedValue → List ℕ
+abbrev pub next_text : one_sides.OneSidedValue → List ℕ
 next_text one = codes ", " ++ side_text one
 
 -- so many topics are named
@@ -55,45 +53,45 @@ abbrev pub NAMED_SIDES : ℕ
 NAMED_SIDES = 10
 
 -- the first of these, and the others behind a comma
-abbrev pub named_sides : List OneSidedValue → List ℕ
+abbrev pub named_sides : List one_sides.OneSidedValue → List ℕ
 named_sides [] = []
 named_sides (one ∷ others) = side_text one ++ flat_map next_text others
 
 -- how many more there are; nothing where there is none
 abbrev pub more_sides : ℕ → List ℕ
-more_sides more = if more == 0 then [] else concat (codes " and " ∷ grouped more ∷ codes " more" ∷ [])
+more_sides more = if more == 0 then [] else concat (codes " and " ∷ parts.grouped more ∷ codes " more" ∷ [])
 
 -- the topics that have one side alone
-abbrev pub one_sides_text : List OneSidedValue → List ℕ
+abbrev pub one_sides_text : List one_sides.OneSidedValue → List ℕ
 one_sides_text found = named_sides (take NAMED_SIDES found) ++ more_sides (length found - NAMED_SIDES)
 
 -- the sentence of a cause that is told in the same words always; nothing of the others
 unfoldable pub cause_sentence : NoPair → List ℕ
-cause_sentence Counted = said.BEST_EFFORT.now
-cause_sentence NoRtps = said.NO_RTPS.now
-cause_sentence (Early early) = []
-cause_sentence NoParticipant = said.NO_PARTICIPANT.now
-cause_sentence SharedMemory = said.SHARED_MEMORY.now
-cause_sentence OneHost = said.ONE_HOST.now
-cause_sentence (TwoDomains one other) = []
-cause_sentence NotTold = said.NOT_TOLD.now
-cause_sentence OneWay = said.ONE_WAY.now
-cause_sentence Unmatched = said.UNMATCHED.now
-cause_sentence LeftOut = said.LEFT_OUT.now
-cause_sentence BestEffort = said.BEST_EFFORT.now
-cause_sentence OneSide = []
-cause_sentence Unknown = said.UNKNOWN.now
+cause_sentence NoPair.Counted = said.BEST_EFFORT.now
+cause_sentence NoPair.NoRtps = said.NO_RTPS.now
+cause_sentence (NoPair.Early early) = []
+cause_sentence NoPair.NoParticipant = said.NO_PARTICIPANT.now
+cause_sentence NoPair.SharedMemory = said.SHARED_MEMORY.now
+cause_sentence NoPair.OneHost = said.ONE_HOST.now
+cause_sentence (NoPair.TwoDomains one other) = []
+cause_sentence NoPair.NotTold = said.NOT_TOLD.now
+cause_sentence NoPair.OneWay = said.ONE_WAY.now
+cause_sentence NoPair.Unmatched = said.UNMATCHED.now
+cause_sentence NoPair.LeftOut = said.LEFT_OUT.now
+cause_sentence NoPair.BestEffort = said.BEST_EFFORT.now
+cause_sentence NoPair.OneSide = []
+cause_sentence NoPair.Unknown = said.UNKNOWN.now
 
 -- why there is no pair, and what to do
-abbrev pub no_pair_text : TalkValue → NoPair → List OneSidedValue → List ℕ
-no_pair_text talk (Early early) sides = early_text early
-no_pair_text talk (TwoDomains one other) sides = domain_text talk one ++ other_text talk other
-no_pair_text talk OneSide sides = one_sides_text sides
+abbrev pub no_pair_text : talk.TalkValue → NoPair → List one_sides.OneSidedValue → List ℕ
+no_pair_text talk (NoPair.Early early) sides = early_text early
+no_pair_text talk (NoPair.TwoDomains one other) sides = domain_text talk one ++ other_text talk other
+no_pair_text talk NoPair.OneSide sides = one_sides_text sides
 no_pair_text talk cause sides = cause_sentence cause
 
 -- this is why there is no pair in a report, and what to do
-pub record IsRemedyOf (asked : AskedValue) (recording : RecordingValue) (report : ReportValue) (text : List ℕ) : Type 0 where
+pub record IsRemedyOf (asked : asked.AskedValue) (recording : recording.RecordingValue) (report : full_report.ReportValue) (text : List ℕ) : Type 0 where
   pub cause : NoPair
-  pub one_sides : List OneSidedValue
-  pub is_cause : IsNoPairOf asked recording report cause one_sides
+  pub one_sides : List one_sides.OneSidedValue
+  pub is_cause : report_no_pair.IsNoPairOf asked recording report cause one_sides
   pub is_text : text ≡ no_pair_text report.talk cause one_sides

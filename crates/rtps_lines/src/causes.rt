@@ -1,7 +1,6 @@
 ghost use Rattle.std.specs.Prelude.{◌≡◌, ◌++◌, OnOk, IfOk, flat_map, map};
 ghost use Rattle.std.specs.String.{string_bytes};
-ghost use Rattle.rtps_parts.specs.Parts.{part_text, words_value};
-ghost use Rattle.rtps_lines.specs.Causes.{best_effort_text, cause, certain_detail, clean_detail, discovery_causes, empty_cause, few_cause, last_line, links_cause, lossy_cause, lost_cause, not_told_cause, order_causes, row_causes, unread_causes};
+ghost use Rattle.rtps_parts.specs.Parts as parts;
 ghost use Rattle.rtps_lines.specs.Causes as causes_spec;
 
 use crate::notes::{Weakness, pair_words};
@@ -28,7 +27,7 @@ fn push_cause(
     words: Words,
 ) -> Result<(), AllocError>
     ensures { OnOk result (map string_bytes causes.new.items
-        ≡ map string_bytes causes.old.items ++ cause number (words_value words)) }
+        ≡ map string_bytes causes.old.items ++ causes_spec.cause number (parts.words_value words)) }
 {
     if number == 0 {
         Ok(())
@@ -38,7 +37,7 @@ fn push_cause(
 }
 
 fn push_empty(alloc: Global, causes: &mut Vec<String>, empty: bool) -> Result<(), AllocError>
-    ensures { OnOk result (map string_bytes causes.new.items ≡ map string_bytes causes.old.items ++ empty_cause empty) }
+    ensures { OnOk result (map string_bytes causes.new.items ≡ map string_bytes causes.old.items ++ causes_spec.empty_cause empty) }
 {
     if empty {
         push_rendered(alloc, causes, &[Part::Text(said::EMPTY)])
@@ -48,7 +47,7 @@ fn push_empty(alloc: Global, causes: &mut Vec<String>, empty: bool) -> Result<()
 }
 
 fn push_few(alloc: Global, causes: &mut Vec<String>, few: Option<FewRows>) -> Result<(), AllocError>
-    ensures { OnOk result (map string_bytes causes.new.items ≡ map string_bytes causes.old.items ++ few_cause few) }
+    ensures { OnOk result (map string_bytes causes.new.items ≡ map string_bytes causes.old.items ++ causes_spec.few_cause few) }
 {
     let Some(few) = few else {
         return Ok(());
@@ -64,7 +63,7 @@ fn push_few(alloc: Global, causes: &mut Vec<String>, few: Option<FewRows>) -> Re
 
 /// How many numbers pairs of best effort have, and how many of these are recorded.
 fn best_effort_parts(told: BestEffortNumbers) -> [Part<'static>; 3]
-    ensures { flat_map part_text result ≡ best_effort_text told }
+    ensures { flat_map parts.part_text result ≡ causes_spec.best_effort_text told }
 {
     let pairs = Words {
         one: BEST_EFFORT_ONE,
@@ -86,7 +85,7 @@ fn push_lossy(
     causes: &mut Vec<String>,
     lossy: Option<BestEffortNumbers>,
 ) -> Result<(), AllocError>
-    ensures { OnOk result (map string_bytes causes.new.items ≡ map string_bytes causes.old.items ++ lossy_cause lossy) }
+    ensures { OnOk result (map string_bytes causes.new.items ≡ map string_bytes causes.old.items ++ causes_spec.lossy_cause lossy) }
 {
     let Some(told) = lossy else {
         return Ok(());
@@ -111,7 +110,7 @@ fn push_lost(
     lost: Lost,
     words: Words,
 ) -> Result<(), AllocError>
-    ensures { OnOk result (map string_bytes causes.new.items ≡ map string_bytes causes.old.items ++ lost_cause lost (words_value words)) }
+    ensures { OnOk result (map string_bytes causes.new.items ≡ map string_bytes causes.old.items ++ causes_spec.lost_cause lost (parts.words_value words)) }
 {
     if lost.pairs == 0 {
         return Ok(());
@@ -125,7 +124,7 @@ fn push_lost(
 }
 
 fn missed_words() -> Words
-    ensures { words_value result ≡ causes_spec.missed_words }
+    ensures { parts.words_value result ≡ causes_spec.missed_words }
 {
     Words {
         one: said::MISSED_ONE,
@@ -134,7 +133,7 @@ fn missed_words() -> Words
 }
 
 fn unsent_words() -> Words
-    ensures { words_value result ≡ causes_spec.unsent_words }
+    ensures { parts.words_value result ≡ causes_spec.unsent_words }
 {
     Words {
         one: said::UNSENT_ONE,
@@ -143,7 +142,7 @@ fn unsent_words() -> Words
 }
 
 fn unanswered_words() -> Words
-    ensures { words_value result ≡ causes_spec.unanswered_words }
+    ensures { parts.words_value result ≡ causes_spec.unanswered_words }
 {
     Words {
         one: said::UNANSWERED_ONE,
@@ -153,7 +152,7 @@ fn unanswered_words() -> Words
 
 /// The words for likely numbers that did not arrive.
 fn lost_words() -> Words
-    ensures { words_value result ≡ causes_spec.lost_words }
+    ensures { parts.words_value result ≡ causes_spec.lost_words }
 {
     Words {
         one: said::LOST_ONE,
@@ -162,7 +161,7 @@ fn lost_words() -> Words
 }
 
 fn uncertain_words() -> Words
-    ensures { words_value result ≡ causes_spec.uncertain_words }
+    ensures { parts.words_value result ≡ causes_spec.uncertain_words }
 {
     Words {
         one: said::UNCERTAIN_ONE,
@@ -186,7 +185,7 @@ fn uncertain_of(totals: &Totals, certain: bool) -> Lost
 }
 
 fn incomplete_words() -> Words
-    ensures { words_value result ≡ causes_spec.incomplete_words }
+    ensures { parts.words_value result ≡ causes_spec.incomplete_words }
 {
     Words {
         one: said::INCOMPLETE_ONE,
@@ -196,7 +195,7 @@ fn incomplete_words() -> Words
 
 /// The words for pairs that do not match.
 pub fn unmatched_words() -> Words
-    ensures { words_value result ≡ causes_spec.unmatched_words }
+    ensures { parts.words_value result ≡ causes_spec.unmatched_words }
 {
     Words {
         one: said::UNMATCHED_ONE,
@@ -205,7 +204,7 @@ pub fn unmatched_words() -> Words
 }
 
 fn told_words() -> Words
-    ensures { words_value result ≡ causes_spec.told_words }
+    ensures { parts.words_value result ≡ causes_spec.told_words }
 {
     Words {
         one: said::NOT_TOLD_ONE,
@@ -215,7 +214,7 @@ fn told_words() -> Words
 
 /// The words for endpoints.
 pub fn endpoint_words() -> Words
-    ensures { words_value result ≡ causes_spec.endpoint_words }
+    ensures { parts.words_value result ≡ causes_spec.endpoint_words }
 {
     Words {
         one: "endpoint",
@@ -225,7 +224,7 @@ pub fn endpoint_words() -> Words
 
 /// The words for participants with two lives.
 pub fn lives_words() -> Words
-    ensures { words_value result ≡ causes_spec.lives_words }
+    ensures { parts.words_value result ≡ causes_spec.lives_words }
 {
     Words {
         one: said::LIVES_ONE,
@@ -238,7 +237,7 @@ fn push_not_told(
     causes: &mut Vec<String>,
     counts: NotToldCounts,
 ) -> Result<(), AllocError>
-    ensures { OnOk result (map string_bytes causes.new.items ≡ map string_bytes causes.old.items ++ not_told_cause counts) }
+    ensures { OnOk result (map string_bytes causes.new.items ≡ map string_bytes causes.old.items ++ causes_spec.not_told_cause counts) }
 {
     if counts.participants == 0 {
         return Ok(());
@@ -256,7 +255,7 @@ fn push_discovery(
     causes: &mut Vec<String>,
     found: &Findings,
 ) -> Result<(), AllocError>
-    ensures { OnOk result (map string_bytes causes.new.items ≡ map string_bytes causes.old.items ++ discovery_causes found.now) }
+    ensures { OnOk result (map string_bytes causes.new.items ≡ map string_bytes causes.old.items ++ causes_spec.discovery_causes found.now) }
 {
     push_not_told(alloc, causes, found.not_told)?;
     push_cause(alloc, causes, u128::from(found.lives), lives_words())
@@ -268,7 +267,7 @@ fn push_row_causes(
     totals: &Totals,
     certain: bool,
 ) -> Result<(), AllocError>
-    ensures { OnOk result (map string_bytes causes.new.items ≡ map string_bytes causes.old.items ++ row_causes totals.now certain) }
+    ensures { OnOk result (map string_bytes causes.new.items ≡ map string_bytes causes.old.items ++ causes_spec.row_causes totals.now certain) }
 {
     let unclean = u128::from(totals.unclean_pairs);
     let missed = Lost {
@@ -301,7 +300,7 @@ fn push_row_causes(
 }
 
 fn push_links(alloc: Global, causes: &mut Vec<String>, links: Links) -> Result<(), AllocError>
-    ensures { OnOk result (map string_bytes causes.new.items ≡ map string_bytes causes.old.items ++ links_cause links) }
+    ensures { OnOk result (map string_bytes causes.new.items ≡ map string_bytes causes.old.items ++ causes_spec.links_cause links) }
 {
     if links.number == 0 {
         return Ok(());
@@ -314,7 +313,7 @@ fn push_links(alloc: Global, causes: &mut Vec<String>, links: Links) -> Result<(
 }
 
 fn push_unread(alloc: Global, causes: &mut Vec<String>, found: &Findings) -> Result<(), AllocError>
-    ensures { OnOk result (map string_bytes causes.new.items ≡ map string_bytes causes.old.items ++ unread_causes found.now) }
+    ensures { OnOk result (map string_bytes causes.new.items ≡ map string_bytes causes.old.items ++ causes_spec.unread_causes found.now) }
 {
     let unsettled = u128::from(found.unsettled);
     let pieces = u128::from(found.pieces);
@@ -325,7 +324,7 @@ fn push_unread(alloc: Global, causes: &mut Vec<String>, found: &Findings) -> Res
 }
 
 fn push_order(alloc: Global, causes: &mut Vec<String>, found: &Findings) -> Result<(), AllocError>
-    ensures { OnOk result (map string_bytes causes.new.items ≡ map string_bytes causes.old.items ++ order_causes found.now) }
+    ensures { OnOk result (map string_bytes causes.new.items ≡ map string_bytes causes.old.items ++ causes_spec.order_causes found.now) }
 {
     push_swapped_cause(alloc, causes, found.swapped)?;
     push_twice_cause(alloc, causes, found.twice)
@@ -373,7 +372,7 @@ pub fn causes_of(
 }
 
 fn certain_words() -> Words
-    ensures { words_value result ≡ causes_spec.certain_words }
+    ensures { parts.words_value result ≡ causes_spec.certain_words }
 {
     Words {
         one: said::CERTAIN_ONE,
@@ -383,7 +382,7 @@ fn certain_words() -> Words
 
 /// Appends how many numbers are received for certain, where any other did not arrive.
 fn push_certain(text: &mut String, totals: &Totals) -> Result<(), AllocError>
-    ensures { OnOk result (string_bytes text.new ≡ string_bytes text.old ++ certain_detail totals.now) }
+    ensures { OnOk result (string_bytes text.new ≡ string_bytes text.old ++ causes_spec.certain_detail totals.now) }
 {
     if totals.numbers.saturating_sub(totals.received) <= totals.arrived {
         return Ok(());
@@ -398,7 +397,7 @@ fn push_certain(text: &mut String, totals: &Totals) -> Result<(), AllocError>
 
 /// Appends what stands behind `clean`: the same, or what pairs of best effort have, where there is no row.
 fn push_detail(text: &mut String, judged: Judged<'_>) -> Result<(), AllocError>
-    ensures { OnOk result (string_bytes text.new ≡ string_bytes text.old ++ clean_detail judged.entry.totals.now judged.entry.best_effort) }
+    ensures { OnOk result (string_bytes text.new ≡ string_bytes text.old ++ causes_spec.clean_detail judged.entry.totals.now judged.entry.best_effort) }
 {
     if judged.totals.pairs == 0 {
         text.push_str(said::CLEAN_BEST_EFFORT)?;
@@ -416,7 +415,7 @@ pub fn push_last(
     causes: &[String],
 ) -> Result<(), AllocError>
     ensures { OnOk result (string_bytes text.new
-        ≡ string_bytes text.old ++ last_line judged.entry.totals.now judged.entry.best_effort ending.now (map string_bytes causes.now)) }
+        ≡ string_bytes text.old ++ causes_spec.last_line judged.entry.totals.now judged.entry.best_effort ending.now (map string_bytes causes.now)) }
 {
     match ending {
         Ending::Clean => {

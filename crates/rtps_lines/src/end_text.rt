@@ -1,8 +1,7 @@
 ghost use Rattle.std.specs.Prelude.{◌≡◌, Some, option_copied};
-ghost use Rattle.rtps_who.specs.Naming.{title_value};
-ghost use Rattle.rtps_who.specs.Samples.{node_value};
-ghost use Rattle.rtps_report.specs.Ends.{end_value};
-ghost use Rattle.rtps_lines.specs.EndText.{end_text, named_text, node_text, paired_text, process_text, title_text, where_text};
+ghost use Rattle.rtps_who.specs.Naming as naming;
+ghost use Rattle.rtps_who.specs.Samples as samples;
+ghost use Rattle.rtps_report.specs.Ends as ends;
 ghost use Rattle.rtps_lines.specs.EndText as end_text_spec;
 
 use crate::fields::HostedGuid;
@@ -17,7 +16,7 @@ use std::fmt;
 pub struct NodeText<'a>(pub Node<'a>);
 
 impl fmt::Display for NodeText<'_> {
-    ghost output = { λ text. Some (node_text (node_value text.0)) };
+    ghost output = { λ text. Some (end_text_spec.node_text (samples.node_value text.0)) };
 
     #[tactic(auto, unfolding(crate::specs::EndText::node_text))]
     fn fmt<W: fmt::Write>(&self, f: &mut fmt::Formatter<W>) -> fmt::Result {
@@ -35,7 +34,7 @@ impl fmt::Display for NodeText<'_> {
 struct TitleText<'a>(Title<'a>);
 
 impl fmt::Display for TitleText<'_> {
-    ghost output = { λ text. Some (title_text (title_value text.0)) };
+    ghost output = { λ text. Some (end_text_spec.title_text (naming.title_value text.0)) };
 
     #[tactic(auto, unfolding(crate::specs::EndText::title_text))]
     fn fmt<W: fmt::Write>(&self, f: &mut fmt::Formatter<W>) -> fmt::Result {
@@ -53,7 +52,7 @@ impl fmt::Display for TitleText<'_> {
 struct ProcessText<'a>(Option<u32>, Option<&'a [u8]>);
 
 impl fmt::Display for ProcessText<'_> {
-    ghost output = { λ text. Some (process_text text.0 (option_copied text.1)) };
+    ghost output = { λ text. Some (end_text_spec.process_text text.0 (option_copied text.1)) };
 
     #[tactic(auto, unfolding(crate::specs::EndText::process_text))]
     fn fmt<W: fmt::Write>(&self, f: &mut fmt::Formatter<W>) -> fmt::Result {
@@ -78,8 +77,8 @@ fn is_placed(pid: Option<u32>, host: Option<&[u8]>) -> bool
 struct WhereText<'a>(End<'a>);
 
 impl fmt::Display for WhereText<'_> {
-    ghost output = { λ text. Some (where_text (end_text_spec.is_placed (end_value text.0).process.pid (end_value text.0).process.host)
-        (process_text (end_value text.0).process.pid (end_value text.0).process.host) text.0.address) };
+    ghost output = { λ text. Some (end_text_spec.where_text (end_text_spec.is_placed (ends.end_value text.0).process.pid (ends.end_value text.0).process.host)
+        (end_text_spec.process_text (ends.end_value text.0).process.pid (ends.end_value text.0).process.host) text.0.address) };
 
     #[tactic(auto, unfolding(crate::specs::EndText::where_text))]
     fn fmt<W: fmt::Write>(&self, f: &mut fmt::Formatter<W>) -> fmt::Result {
@@ -100,7 +99,7 @@ impl fmt::Display for WhereText<'_> {
 
 /// Whether a title is one.
 fn is_titled(title: Title<'_>) -> bool
-    ensures { result ≡ end_text_spec.is_titled (title_value title.entry) }
+    ensures { result ≡ end_text_spec.is_titled (naming.title_value title.entry) }
 {
     match title {
         Title::Node(_) | Title::Program(_) | Title::Name(_) => true,
@@ -110,7 +109,7 @@ fn is_titled(title: Title<'_>) -> bool
 
 /// Whether more than an address is known of an end.
 fn is_named(end: &End<'_>) -> bool
-    ensures { result ≡ end_text_spec.is_named (end_value end.now) }
+    ensures { result ≡ end_text_spec.is_named (ends.end_value end.now) }
 {
     is_titled(title_by(end.node, &end.process)) || is_placed(end.process.pid, end.process.host)
 }
@@ -120,7 +119,7 @@ fn is_named(end: &End<'_>) -> bool
 struct NamedText<'a>(Guid, End<'a>);
 
 impl fmt::Display for NamedText<'_> {
-    ghost output = { λ text. Some (named_text text.0 (end_value text.1)) };
+    ghost output = { λ text. Some (end_text_spec.named_text text.0 (ends.end_value text.1)) };
 
     fn fmt<W: fmt::Write>(&self, f: &mut fmt::Formatter<W>) -> fmt::Result {
         let guid = self.0;
@@ -135,7 +134,7 @@ impl fmt::Display for NamedText<'_> {
 pub struct EndText<'a>(pub Guid, pub End<'a>);
 
 impl fmt::Display for EndText<'_> {
-    ghost output = { λ text. Some (end_text text.0 (end_value text.1)) };
+    ghost output = { λ text. Some (end_text_spec.end_text text.0 (ends.end_value text.1)) };
 
     fn fmt<W: fmt::Write>(&self, f: &mut fmt::Formatter<W>) -> fmt::Result {
         let guid = self.0;
@@ -153,7 +152,7 @@ impl fmt::Display for EndText<'_> {
 pub struct PairedText<'a>(pub Guid, pub End<'a>);
 
 impl fmt::Display for PairedText<'_> {
-    ghost output = { λ text. Some (paired_text text.0 (end_value text.1)) };
+    ghost output = { λ text. Some (end_text_spec.paired_text text.0 (ends.end_value text.1)) };
 
     fn fmt<W: fmt::Write>(&self, f: &mut fmt::Formatter<W>) -> fmt::Result {
         let guid = self.0;

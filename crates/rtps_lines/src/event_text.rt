@@ -1,8 +1,7 @@
 ghost use Rattle.std.specs.Prelude.{◌≡◌, ◌++◌, OnOk, Some};
 ghost use Rattle.std.specs.String.{string_bytes};
-ghost use Rattle.rtps_report.specs.Events.{event_value};
-ghost use Rattle.rtps_report.specs.Talk.{talk_value};
-ghost use Rattle.rtps_lines.specs.EventText.{about_text, amounts_text, asked_text, between_by, event_text, is_same_second, numbers_text, sent_text, silent_by, told_as};
+ghost use Rattle.rtps_report.specs.Events as events;
+ghost use Rattle.rtps_report.specs.Talk as talk_spec;
 ghost use Rattle.rtps_lines.specs.EventText as event_text_spec;
 
 use crate::fields::{EndedText, SecondsText};
@@ -26,7 +25,7 @@ pub struct ParticipantText<'t> {
 }
 
 impl fmt::Display for ParticipantText<'_> {
-    ghost output = { λ told. Some (told_as told) };
+    ghost output = { λ told. Some (event_text_spec.told_as told) };
 
     #[tactic(auto, unfolding(crate::specs::EventText::participant_text))]
     fn fmt<W: fmt::Write>(&self, f: &mut fmt::Formatter<W>) -> fmt::Result {
@@ -42,7 +41,7 @@ impl fmt::Display for ParticipantText<'_> {
 
 /// What a participant is called, by what is known of it.
 pub fn called<'a>(talk: &Talk<'a>, prefix: GuidPrefix) -> ParticipantText<'a>
-    ensures { told_as result ≡ event_text_spec.called (talk_value talk.now) prefix }
+    ensures { event_text_spec.told_as result ≡ event_text_spec.called (talk_spec.talk_value talk.now) prefix }
 {
     let guid = participant_of(prefix);
     let end = talk.end(guid);
@@ -59,7 +58,7 @@ pub fn called<'a>(talk: &Talk<'a>, prefix: GuidPrefix) -> ParticipantText<'a>
 struct AskedText(Option<Seconds>);
 
 impl fmt::Display for AskedText {
-    ghost output = { λ asked. Some (asked_text asked.0) };
+    ghost output = { λ asked. Some (event_text_spec.asked_text asked.0) };
 
     #[tactic(auto, unfolding(crate::specs::EventText::asked_text))]
     fn fmt<W: fmt::Write>(&self, f: &mut fmt::Formatter<W>) -> fmt::Result {
@@ -72,7 +71,7 @@ impl fmt::Display for AskedText {
 
 /// Whether two times are the same as they are said.
 fn is_same(one: Seconds, other: Seconds) -> bool
-    ensures { result ≡ is_same_second one other }
+    ensures { result ≡ event_text_spec.is_same_second one other }
 {
     one.negative == other.negative && one.milliseconds == other.milliseconds
 }
@@ -82,7 +81,7 @@ fn is_same(one: Seconds, other: Seconds) -> bool
 struct SentText(Option<Seconds>, Option<Seconds>);
 
 impl fmt::Display for SentText {
-    ghost output = { λ sent. Some (sent_text sent.0 sent.1) };
+    ghost output = { λ sent. Some (event_text_spec.sent_text sent.0 sent.1) };
 
     #[tactic(auto, unfolding(crate::specs::EventText::sent_text))]
     fn fmt<W: fmt::Write>(&self, f: &mut fmt::Formatter<W>) -> fmt::Result {
@@ -109,7 +108,7 @@ fn push_silent(
     silent: ParticipantText<'_>,
     times: &Times,
 ) -> Result<(), AllocError>
-    ensures { OnOk result (string_bytes text.new ≡ string_bytes text.old ++ silent_by times.now (told_as silent.entry) (event_value event.now)) }
+    ensures { OnOk result (string_bytes text.new ≡ string_bytes text.old ++ event_text_spec.silent_by times.now (event_text_spec.told_as silent.entry) (events.event_value event.now)) }
 {
     let heard = EndedText(times, event.heard);
     let asked = AskedText(place_second(times, event.asked));
@@ -127,7 +126,7 @@ fn push_between(
     times: &Times,
 ) -> Result<(), AllocError>
     ensures { OnOk result (string_bytes text.new
-        ≡ string_bytes text.old ++ between_by times.now (told_as parties.entry.0) (told_as parties.entry.1) (event_value event.now)) }
+        ≡ string_bytes text.old ++ event_text_spec.between_by times.now (event_text_spec.told_as parties.entry.0) (event_text_spec.told_as parties.entry.1) (events.event_value event.now)) }
 {
     let (writer, reader) = parties;
     let first = place_second(times, event.first);
@@ -143,7 +142,7 @@ fn push_about(
     talk: &Talk<'_>,
     times: &Times,
 ) -> Result<(), AllocError>
-    ensures { OnOk result (string_bytes text.new ≡ string_bytes text.old ++ about_text times.now (talk_value talk.now) (event_value event.now) event.now.key.second) }
+    ensures { OnOk result (string_bytes text.new ≡ string_bytes text.old ++ event_text_spec.about_text times.now (talk_spec.talk_value talk.now) (events.event_value event.now) event.now.key.second) }
 {
     let first = called(talk, event.key.first);
     match event.key.second {
@@ -154,7 +153,7 @@ fn push_about(
 
 /// Appends how many numbers are lost, behind a comma; nothing where none is.
 fn push_numbers(text: &mut String, numbers: u128) -> Result<(), AllocError>
-    ensures { OnOk result (string_bytes text.new ≡ string_bytes text.old ++ numbers_text numbers) }
+    ensures { OnOk result (string_bytes text.new ≡ string_bytes text.old ++ event_text_spec.numbers_text numbers) }
 {
     if numbers == 0 {
         return Ok(());
@@ -167,7 +166,7 @@ fn push_numbers(text: &mut String, numbers: u128) -> Result<(), AllocError>
 
 /// Appends how many pairs an event has, and how many numbers they lost.
 fn push_amounts(text: &mut String, pairs: usize, numbers: u128) -> Result<(), AllocError>
-    ensures { OnOk result (string_bytes text.new ≡ string_bytes text.old ++ amounts_text pairs numbers) }
+    ensures { OnOk result (string_bytes text.new ≡ string_bytes text.old ++ event_text_spec.amounts_text pairs numbers) }
 {
     render(
         text,
@@ -183,7 +182,7 @@ pub fn push_event_text(
     talk: &Talk<'_>,
     times: &Times,
 ) -> Result<(), AllocError>
-    ensures { OnOk result (string_bytes text.new ≡ string_bytes text.old ++ event_text times.now (talk_value talk.now) (event_value event.now)) }
+    ensures { OnOk result (string_bytes text.new ≡ string_bytes text.old ++ event_text_spec.event_text times.now (talk_spec.talk_value talk.now) (events.event_value event.now)) }
 {
     push_about(text, event, talk, times)?;
     push_amounts(text, event.places.len(), event.numbers)

@@ -1,9 +1,8 @@
 ghost use Rattle.std.specs.Prelude.{◌≡◌, ◌++◌, OnOk, Some};
 ghost use Rattle.std.specs.Option.{option_map};
 ghost use Rattle.std.specs.String.{string_bytes};
-ghost use Rattle.rtps_evidence.specs.Locations.{sent_value};
-ghost use Rattle.rtps_parts.specs.Parts.{words_value};
-ghost use Rattle.rtps_lines.specs.Lines.{acknowledged_line, again_text, announced_line, answered_text, asked_line, claimed_line, questions_line, sent_line, since_text, told_line, verdict_text, wait_text};
+ghost use Rattle.rtps_evidence.specs.Locations as locations;
+ghost use Rattle.rtps_parts.specs.Parts as parts;
 ghost use Rattle.rtps_lines.specs.Lines as lines;
 
 use crate::fields::{PlaceComma, PlaceText, SecondsText, kind_name, push_field, push_payload};
@@ -20,7 +19,7 @@ use std::fmt;
 pub struct VerdictText(pub Verdict);
 
 impl fmt::Display for VerdictText {
-    ghost output = { λ text. Some (verdict_text text.0) };
+    ghost output = { λ text. Some (lines.verdict_text text.0) };
 
     #[tactic(auto, unfolding(crate::specs::Lines::verdict_text))]
     fn fmt<W: fmt::Write>(&self, f: &mut fmt::Formatter<W>) -> fmt::Result {
@@ -37,7 +36,7 @@ impl fmt::Display for VerdictText {
 pub struct AnnouncedLine<'t>(pub &'t Times, pub Option<Announcement>);
 
 impl fmt::Display for AnnouncedLine<'_> {
-    ghost output = { λ line. Some (announced_line line.0.now line.1) };
+    ghost output = { λ line. Some (lines.announced_line line.0.now line.1) };
 
     fn fmt<W: fmt::Write>(&self, f: &mut fmt::Formatter<W>) -> fmt::Result {
         let Some(announcement) = self.1 else {
@@ -53,7 +52,7 @@ impl fmt::Display for AnnouncedLine<'_> {
 pub struct AcknowledgedLine<'t>(pub &'t Times, pub Option<Claim>);
 
 impl fmt::Display for AcknowledgedLine<'_> {
-    ghost output = { λ line. Some (acknowledged_line line.0.now line.1) };
+    ghost output = { λ line. Some (lines.acknowledged_line line.0.now line.1) };
 
     fn fmt<W: fmt::Write>(&self, f: &mut fmt::Formatter<W>) -> fmt::Result {
         let Some(claim) = self.1 else {
@@ -68,7 +67,7 @@ impl fmt::Display for AcknowledgedLine<'_> {
 pub struct ToldLine<'t>(pub &'t Times, pub i64, pub Option<Teller>);
 
 impl fmt::Display for ToldLine<'_> {
-    ghost output = { λ line. Some (told_line line.0.now line.1 line.2) };
+    ghost output = { λ line. Some (lines.told_line line.0.now line.1 line.2) };
 
     fn fmt<W: fmt::Write>(&self, f: &mut fmt::Formatter<W>) -> fmt::Result {
         let number = self.1;
@@ -85,7 +84,7 @@ impl fmt::Display for ToldLine<'_> {
 pub struct ClaimedLine<'t>(pub &'t Times, pub Option<Claim>);
 
 impl fmt::Display for ClaimedLine<'_> {
-    ghost output = { λ line. Some (claimed_line line.0.now line.1) };
+    ghost output = { λ line. Some (lines.claimed_line line.0.now line.1) };
 
     fn fmt<W: fmt::Write>(&self, f: &mut fmt::Formatter<W>) -> fmt::Result {
         let Some(claim) = self.1 else {
@@ -100,7 +99,7 @@ impl fmt::Display for ClaimedLine<'_> {
 pub struct AskedLine<'t>(pub &'t Times, pub FirstMissed);
 
 impl fmt::Display for AskedLine<'_> {
-    ghost output = { λ line. Some (asked_line line.0.now line.1) };
+    ghost output = { λ line. Some (lines.asked_line line.0.now line.1) };
 
     fn fmt<W: fmt::Write>(&self, f: &mut fmt::Formatter<W>) -> fmt::Result {
         let first = self.1;
@@ -119,7 +118,7 @@ impl fmt::Display for AskedLine<'_> {
 struct AgainText<'t>(&'t Times, Option<Location>);
 
 impl fmt::Display for AgainText<'_> {
-    ghost output = { λ text. Some (again_text text.0.now text.1) };
+    ghost output = { λ text. Some (lines.again_text text.0.now text.1) };
 
     #[tactic(auto, unfolding(crate::specs::Lines::again_text))]
     fn fmt<W: fmt::Write>(&self, f: &mut fmt::Formatter<W>) -> fmt::Result {
@@ -134,7 +133,7 @@ impl fmt::Display for AgainText<'_> {
 struct SinceText<'t>(&'t Times, Option<Teller>);
 
 impl fmt::Display for SinceText<'_> {
-    ghost output = { λ text. Some (since_text text.0.now text.1) };
+    ghost output = { λ text. Some (lines.since_text text.0.now text.1) };
 
     #[tactic(auto, unfolding(crate::specs::Lines::since_text))]
     fn fmt<W: fmt::Write>(&self, f: &mut fmt::Formatter<W>) -> fmt::Result {
@@ -147,7 +146,7 @@ impl fmt::Display for SinceText<'_> {
 }
 
 fn times_words() -> Words
-    ensures { words_value result ≡ lines.times_words }
+    ensures { parts.words_value result ≡ lines.times_words }
 {
     Words {
         one: "time",
@@ -159,7 +158,7 @@ fn times_words() -> Words
 pub struct QuestionsLine<'t>(pub &'t Times, pub u64, pub Option<Location>);
 
 impl fmt::Display for QuestionsLine<'_> {
-    ghost output = { λ line. Some (questions_line line.0.now line.1 line.2) };
+    ghost output = { λ line. Some (lines.questions_line line.0.now line.1 line.2) };
 
     fn fmt<W: fmt::Write>(&self, f: &mut fmt::Formatter<W>) -> fmt::Result {
         let Some(place) = self.2 else {
@@ -179,7 +178,7 @@ impl fmt::Display for QuestionsLine<'_> {
 pub struct WaitText<'t>(pub &'t Times, pub Wait);
 
 impl fmt::Display for WaitText<'_> {
-    ghost output = { λ text. Some (wait_text text.0.now text.1) };
+    ghost output = { λ text. Some (lines.wait_text text.0.now text.1) };
 
     fn fmt<W: fmt::Write>(&self, f: &mut fmt::Formatter<W>) -> fmt::Result {
         let wait = self.1;
@@ -197,7 +196,7 @@ impl fmt::Display for WaitText<'_> {
 struct AnsweredText<'t>(&'t Times, Option<Location>);
 
 impl fmt::Display for AnsweredText<'_> {
-    ghost output = { λ text. Some (answered_text text.0.now text.1) };
+    ghost output = { λ text. Some (lines.answered_text text.0.now text.1) };
 
     #[tactic(auto, unfolding(crate::specs::Lines::answered_text))]
     fn fmt<W: fmt::Write>(&self, f: &mut fmt::Formatter<W>) -> fmt::Result {
@@ -216,7 +215,7 @@ pub fn push_sent(
     times: &Times,
 ) -> Result<(), AllocError>
     ensures { OnOk result (string_bytes text.new
-        ≡ string_bytes text.old ++ sent_line times.now number (option_map sent_value sent.entry)) }
+        ≡ string_bytes text.old ++ lines.sent_line times.now number (option_map locations.sent_value sent.entry)) }
 {
     let Some(sent) = sent else {
         return Ok(());

@@ -3,10 +3,9 @@
 
 ghost use Rattle.std.specs.Prelude.{◌≡◌, ◌++◌, codes, OnOk, Some};
 ghost use Rattle.std.specs.String.{string_bytes};
-ghost use Rattle.rtps_wire.specs.Values.{payload_value};
-ghost use Rattle.rtps_lines.specs.Lines.{advice_text, not_told_advice, ended_text, hosted_text, kind_text, payload_text, place_comma, place_text, second_text, seconds_text, frame_behind, second_behind};
+ghost use Rattle.rtps_wire.specs.Values as values;
 ghost use Rattle.rtps_lines.specs.Lines as lines;
-ghost use Rattle.rtps_lines.specs.QosNames.{durability_text, reliability_text, side_text};
+ghost use Rattle.rtps_lines.specs.QosNames as qos_names;
 
 use crate::advice_text::sentence_of;
 use crate::sentences::advice as said;
@@ -25,7 +24,7 @@ use std::fmt;
 pub struct SecondsText(pub Seconds);
 
 impl fmt::Display for SecondsText {
-    ghost output = { λ text. Some (seconds_text text.0) };
+    ghost output = { λ text. Some (lines.seconds_text text.0) };
 
     #[tactic(auto, unfolding(crate::specs::Lines::seconds_text))]
     fn fmt<W: fmt::Write>(&self, f: &mut fmt::Formatter<W>) -> fmt::Result {
@@ -57,7 +56,7 @@ pub fn sent_second(times: &Times, time: u64) -> Seconds
 struct SecondBehind(Option<Seconds>);
 
 impl fmt::Display for SecondBehind {
-    ghost output = { λ text. Some (second_behind text.0) };
+    ghost output = { λ text. Some (lines.second_behind text.0) };
 
     #[tactic(auto, unfolding(crate::specs::Lines::second_behind))]
     fn fmt<W: fmt::Write>(&self, f: &mut fmt::Formatter<W>) -> fmt::Result {
@@ -73,7 +72,7 @@ impl fmt::Display for SecondBehind {
 struct FrameBehind(Option<u64>);
 
 impl fmt::Display for FrameBehind {
-    ghost output = { λ text. Some (frame_behind text.0) };
+    ghost output = { λ text. Some (lines.frame_behind text.0) };
 
     #[tactic(auto, unfolding(crate::specs::Lines::frame_behind))]
     fn fmt<W: fmt::Write>(&self, f: &mut fmt::Formatter<W>) -> fmt::Result {
@@ -89,7 +88,7 @@ impl fmt::Display for FrameBehind {
 pub struct SecondText<'t>(pub &'t Times, pub u64);
 
 impl fmt::Display for SecondText<'_> {
-    ghost output = { λ text. Some (second_text text.0.now text.1) };
+    ghost output = { λ text. Some (lines.second_text text.0.now text.1) };
 
     fn fmt<W: fmt::Write>(&self, f: &mut fmt::Formatter<W>) -> fmt::Result {
         let frame = FrameBehind(self.0.frame(self.1));
@@ -103,7 +102,7 @@ impl fmt::Display for SecondText<'_> {
 pub(crate) struct EndedText<'t>(pub(crate) &'t Times, pub(crate) Option<u64>);
 
 impl fmt::Display for EndedText<'_> {
-    ghost output = { λ text. Some (ended_text text.0.now text.1) };
+    ghost output = { λ text. Some (lines.ended_text text.0.now text.1) };
 
     #[tactic(auto, unfolding(crate::specs::Lines::at_second))]
     fn fmt<W: fmt::Write>(&self, f: &mut fmt::Formatter<W>) -> fmt::Result {
@@ -122,7 +121,7 @@ impl fmt::Display for EndedText<'_> {
 pub struct NotToldAdvice(pub Option<Address>);
 
 impl fmt::Display for NotToldAdvice {
-    ghost output = { λ text. Some (not_told_advice text.0) };
+    ghost output = { λ text. Some (lines.not_told_advice text.0) };
 
     #[tactic(auto, unfolding(crate::specs::Lines::not_told_advice))]
     fn fmt<W: fmt::Write>(&self, f: &mut fmt::Formatter<W>) -> fmt::Result {
@@ -138,7 +137,7 @@ impl fmt::Display for NotToldAdvice {
 pub struct AdviceText<'t>(pub &'t Times, pub Advice);
 
 impl fmt::Display for AdviceText<'_> {
-    ghost output = { λ text. Some (advice_text text.0.now text.1) };
+    ghost output = { λ text. Some (lines.advice_text text.0.now text.1) };
 
     fn fmt<W: fmt::Write>(&self, f: &mut fmt::Formatter<W>) -> fmt::Result {
         let ended = EndedText(self.0, self.1.ended_in());
@@ -151,7 +150,7 @@ impl fmt::Display for AdviceText<'_> {
 pub struct PlaceText<'t>(pub &'t Times, pub Location);
 
 impl fmt::Display for PlaceText<'_> {
-    ghost output = { λ text. Some (place_text text.0.now text.1) };
+    ghost output = { λ text. Some (lines.place_text text.0.now text.1) };
 
     #[tactic(auto, unfolding(crate::specs::Lines::place_text))]
     fn fmt<W: fmt::Write>(&self, f: &mut fmt::Formatter<W>) -> fmt::Result {
@@ -164,7 +163,7 @@ impl fmt::Display for PlaceText<'_> {
 /// The name that `show` gives a submessage.
 #[tactic(auto, unfolding(crate::specs::Lines::kind_text))]
 pub fn kind_name(kind: Kind) -> &'static str
-    ensures { result.now ≡ kind_text kind }
+    ensures { result.now ≡ lines.kind_text kind }
 {
     match kind {
         Kind::Data => "data",
@@ -181,7 +180,7 @@ pub fn kind_name(kind: Kind) -> &'static str
 pub struct PlaceComma<'t>(pub &'t Times, pub Location);
 
 impl fmt::Display for PlaceComma<'_> {
-    ghost output = { λ text. Some (place_comma text.0.now text.1) };
+    ghost output = { λ text. Some (lines.place_comma text.0.now text.1) };
 
     fn fmt<W: fmt::Write>(&self, f: &mut fmt::Formatter<W>) -> fmt::Result {
         write!(f, "{},", PlaceText(self.0, self.1))
@@ -193,7 +192,7 @@ impl fmt::Display for PlaceComma<'_> {
 pub(crate) struct HostedGuid(pub(crate) Guid, pub(crate) Option<Address>);
 
 impl fmt::Display for HostedGuid {
-    ghost output = { λ text. Some (hosted_text text.0 text.1) };
+    ghost output = { λ text. Some (lines.hosted_text text.0 text.1) };
 
     fn fmt<W: fmt::Write>(&self, f: &mut fmt::Formatter<W>) -> fmt::Result {
         let guid = self.0;
@@ -223,7 +222,7 @@ pub fn push_field<N: Integer>(text: &mut String, name: &str, number: N) -> Resul
 
 #[tactic(auto, unfolding(crate::specs::Lines::payload_text))]
 pub fn push_payload(text: &mut String, payload: Payload<'_>) -> Result<(), AllocError>
-    ensures { OnOk result (string_bytes text.new ≡ string_bytes text.old ++ (codes " payload " ++ payload_text (payload_value payload.entry))) }
+    ensures { OnOk result (string_bytes text.new ≡ string_bytes text.old ++ (codes " payload " ++ lines.payload_text (values.payload_value payload.entry))) }
 {
     match payload {
         Payload::Absent => text.push_str(" payload absent"),
@@ -235,7 +234,7 @@ pub fn push_payload(text: &mut String, payload: Payload<'_>) -> Result<(), Alloc
 /// What the line of an endpoint calls its side.
 #[tactic(auto, unfolding(crate::specs::QosNames::side_text))]
 pub fn side_name(side: Side) -> &'static str
-    ensures { result.now ≡ side_text side }
+    ensures { result.now ≡ qos_names.side_text side }
 {
     match side {
         Side::Writer => "writer",
@@ -245,7 +244,7 @@ pub fn side_name(side: Side) -> &'static str
 
 #[tactic(auto, unfolding(crate::specs::QosNames::reliability_text))]
 pub fn reliability_name(reliability: Reliability) -> &'static str
-    ensures { result.now ≡ reliability_text reliability }
+    ensures { result.now ≡ qos_names.reliability_text reliability }
 {
     match reliability {
         Reliability::BestEffort => "best-effort",
@@ -255,7 +254,7 @@ pub fn reliability_name(reliability: Reliability) -> &'static str
 
 #[tactic(auto, unfolding(crate::specs::QosNames::durability_text))]
 pub fn durability_name(durability: Durability) -> &'static str
-    ensures { result.now ≡ durability_text durability }
+    ensures { result.now ≡ qos_names.durability_text durability }
 {
     match durability {
         Durability::Volatile => "volatile",

@@ -3,9 +3,8 @@
 ghost use Rattle.std.specs.Prelude.{◌≡◌, ◌≤◌, ◌++◌, IfOk, OnOk, Some, flat_map, length, map, nat_lt};
 ghost use Rattle.std.specs.List.{position_or_len};
 ghost use Rattle.std.specs.String.{string_bytes};
-ghost use Rattle.rtps_parts.specs.Parts.{part_text};
-ghost use Rattle.rtps_report.specs.LateRows.{late_row_value};
-ghost use Rattle.rtps_lines.specs.LateNotes.{delay_text, late_row_text, late_text, matched_note, more_late, with_late};
+ghost use Rattle.rtps_parts.specs.Parts as parts;
+ghost use Rattle.rtps_report.specs.LateRows as late_rows;
 ghost use Rattle.rtps_lines.specs.LateNotes as late_notes;
 
 use crate::advice_text::sentence_of;
@@ -26,7 +25,7 @@ const NAMED_LATE: usize = 5;
 struct DelayText(LateMatch);
 
 impl fmt::Display for DelayText {
-    ghost output = { λ text. Some (delay_text text.0) };
+    ghost output = { λ text. Some (late_notes.delay_text text.0) };
 
     fn fmt<W: fmt::Write>(&self, f: &mut fmt::Formatter<W>) -> fmt::Result {
         let seconds = SecondsText(Seconds::of(self.0.delay));
@@ -39,7 +38,7 @@ impl fmt::Display for DelayText {
 pub struct LateText<'t>(pub &'t Times, pub LateMatch);
 
 impl fmt::Display for LateText<'_> {
-    ghost output = { λ text. Some (late_text text.0.now text.1) };
+    ghost output = { λ text. Some (late_notes.late_text text.0.now text.1) };
 
     fn fmt<W: fmt::Write>(&self, f: &mut fmt::Formatter<W>) -> fmt::Result {
         let delay = DelayText(self.1);
@@ -50,7 +49,7 @@ impl fmt::Display for LateText<'_> {
 
 /// Where a pair stands among others, of which the latest stand first, that is late by so much.
 fn place_among(rows: &[LateRow<'_>], delay: u64) -> usize
-    ensures place { result ≡ position_or_len (λ one. nat_lt one.late.delay delay) (map late_row_value rows.now) }
+    ensures place { result ≡ position_or_len (λ one. nat_lt one.late.delay delay) (map late_rows.late_row_value rows.now) }
     ensures within { result ≤ length rows.now }
 {
     for place in 0..rows.len() {
@@ -63,7 +62,7 @@ fn place_among(rows: &[LateRow<'_>], delay: u64) -> usize
 
 /// Puts a pair among the latest.
 fn keep<'a>(rows: &mut Vec<LateRow<'a>>, row: LateRow<'a>) -> Result<(), AllocError>
-    ensures { OnOk result (map late_row_value rows.new.items ≡ with_late (map late_row_value rows.old.items) (late_row_value row.entry)) }
+    ensures { OnOk result (map late_rows.late_row_value rows.new.items ≡ late_notes.with_late (map late_rows.late_row_value rows.old.items) (late_rows.late_row_value row.entry)) }
 {
     let place = place_among(rows, row.late.delay);
     rows.insert(place, row)?;
@@ -73,7 +72,7 @@ fn keep<'a>(rows: &mut Vec<LateRow<'a>>, row: LateRow<'a>) -> Result<(), AllocEr
 
 /// The latest of these, the latest first.
 fn latest_rows<'a>(alloc: Global, rows: &[LateRow<'a>]) -> Result<Vec<LateRow<'a>>, AllocError>
-    ensures { IfOk result (λ latest. map late_row_value latest.items ≡ late_notes.latest_rows (map late_row_value rows.now)) }
+    ensures { IfOk result (λ latest. map late_rows.late_row_value latest.items ≡ late_notes.latest_rows (map late_rows.late_row_value rows.now)) }
 {
     let mut latest = Vec::new(alloc);
     for row in rows {
@@ -83,7 +82,7 @@ fn latest_rows<'a>(alloc: Global, rows: &[LateRow<'a>]) -> Result<Vec<LateRow<'a
 }
 
 fn push_late_row(text: &mut String, row: &LateRow<'_>, times: &Times) -> Result<(), AllocError>
-    ensures { OnOk result (string_bytes text.new ≡ string_bytes text.old ++ late_row_text times.now (late_row_value row.now)) }
+    ensures { OnOk result (string_bytes text.new ≡ string_bytes text.old ++ late_notes.late_row_text times.now (late_rows.late_row_value row.now)) }
 {
     let datagram = row.late.place.datagram;
     let delay = DelayText(row.late);
@@ -93,7 +92,7 @@ fn push_late_row(text: &mut String, row: &LateRow<'_>, times: &Times) -> Result<
 }
 
 fn push_more_late(text: &mut String, more: usize) -> Result<(), AllocError>
-    ensures { OnOk result (string_bytes text.new ≡ string_bytes text.old ++ more_late more) }
+    ensures { OnOk result (string_bytes text.new ≡ string_bytes text.old ++ late_notes.more_late more) }
 {
     if more == 0 {
         return Ok(());
@@ -108,7 +107,7 @@ fn push_more_late(text: &mut String, more: usize) -> Result<(), AllocError>
 
 /// The latest of these pairs, each in a line of its own, and how many more.
 pub fn late_lines(alloc: Global, rows: &[LateRow<'_>], times: &Times) -> Result<String, AllocError>
-    ensures { IfOk result (λ lines. string_bytes lines ≡ late_notes.late_lines times.now (map late_row_value rows.now)) }
+    ensures { IfOk result (λ lines. string_bytes lines ≡ late_notes.late_lines times.now (map late_rows.late_row_value rows.now)) }
 {
     let latest = latest_rows(alloc, rows)?;
     let mut lines = String::new(alloc);
@@ -121,7 +120,7 @@ pub fn late_lines(alloc: Global, rows: &[LateRow<'_>], times: &Times) -> Result<
 
 /// What to do, behind an arrow, where numbers stand before so many of these pairs.
 fn late_remedy(before: u64, arrow: &str) -> [Part<'_>; 2]
-    ensures text { flat_map part_text result ≡ late_notes.late_remedy arrow.now before }
+    ensures text { flat_map parts.part_text result ≡ late_notes.late_remedy arrow.now before }
     ensures both { length result ≡ 2 }
 {
     if before > 0 {
@@ -150,7 +149,7 @@ pub(crate) fn push_matched<'t>(
     arrow: &'t str,
 ) -> Result<(), AllocError>
     ensures { OnOk result (map string_bytes notes.new.items ≡ map string_bytes notes.old.items
-        ++ matched_note arrow.now told.entry.pairs told.entry.before told.entry.lines.now) }
+        ++ late_notes.matched_note arrow.now told.entry.pairs told.entry.before told.entry.lines.now) }
 {
     if told.pairs == 0 {
         return Ok(());

@@ -1,14 +1,13 @@
-ghost use Rattle.std.specs.Prelude.{◌≡◌, ◌++◌, IfOk, OnOk, decimal, flat_map, map, take};
+ghost use Rattle.std.specs.Prelude.{◌≡◌, ◌++◌, IfOk, OnOk, map, take};
 ghost use Rattle.std.specs.String.{string_bytes};
-ghost use Rattle.rtps_audit.specs.Index.{IsIndexBy};
-ghost use Rattle.rtps_fragments.specs.RecordedSamples.{intake_as};
+ghost use Rattle.rtps_audit.specs.Index as index;
+ghost use Rattle.rtps_fragments.specs.RecordedSamples as recorded_samples;
 ghost use Rattle.rtps_fragments.specs.declared.fragments.Fragments.TheVariants.{Read as ReadFragments};
-ghost use Rattle.rtps_parts.specs.Parts.{part_text, words_value};
-ghost use Rattle.rtps_report.specs.Asked.{asked_value};
-ghost use Rattle.rtps_report.specs.FullReport.{report_value};
-ghost use Rattle.rtps_report.specs.OneSides.{one_sided_value};
-ghost use Rattle.rtps_report.specs.Talk.{talk_value};
-ghost use Rattle.rtps_lines.specs.NoPairText.{IsRemedyOf, cause_sentence, domain_text, early_text, more_sides, named_sides, next_text, no_pair_text, one_sides_text, other_text, side_text, sides_text};
+ghost use Rattle.rtps_parts.specs.Parts as parts;
+ghost use Rattle.rtps_report.specs.Asked as asked;
+ghost use Rattle.rtps_report.specs.FullReport as full_report;
+ghost use Rattle.rtps_report.specs.OneSides as one_sides;
+ghost use Rattle.rtps_report.specs.Talk as talk_spec;
 ghost use Rattle.rtps_lines.specs.NoPairText as no_pair_text_spec;
 
 use crate::event_text::called;
@@ -22,7 +21,7 @@ use std::alloc::{AllocError, Global};
 const NAMED_SIDES: usize = 10;
 
 fn early_words() -> Words
-    ensures { words_value result ≡ no_pair_text_spec.early_words }
+    ensures { parts.words_value result ≡ no_pair_text_spec.early_words }
 {
     Words {
         one: said::EARLY_ONE,
@@ -31,7 +30,7 @@ fn early_words() -> Words
 }
 
 fn push_early(text: &mut String, early: u64) -> Result<(), AllocError>
-    ensures { OnOk result (string_bytes text.new ≡ string_bytes text.old ++ early_text early) }
+    ensures { OnOk result (string_bytes text.new ≡ string_bytes text.old ++ no_pair_text_spec.early_text early) }
 {
     let parts = [
         Part::Text(said::EARLY),
@@ -42,7 +41,7 @@ fn push_early(text: &mut String, early: u64) -> Result<(), AllocError>
 }
 
 fn push_domain(text: &mut String, talk: &Talk<'_>, one: InDomain) -> Result<(), AllocError>
-    ensures { OnOk result (string_bytes text.new ≡ string_bytes text.old ++ domain_text (talk_value talk.now) one) }
+    ensures { OnOk result (string_bytes text.new ≡ string_bytes text.old ++ no_pair_text_spec.domain_text (talk_spec.talk_value talk.now) one) }
 {
     let participant = called(talk, one.participant.prefix);
     let domain = one.domain;
@@ -50,7 +49,7 @@ fn push_domain(text: &mut String, talk: &Talk<'_>, one: InDomain) -> Result<(), 
 }
 
 fn push_other(text: &mut String, talk: &Talk<'_>, one: InDomain) -> Result<(), AllocError>
-    ensures { OnOk result (string_bytes text.new ≡ string_bytes text.old ++ other_text (talk_value talk.now) one) }
+    ensures { OnOk result (string_bytes text.new ≡ string_bytes text.old ++ no_pair_text_spec.other_text (talk_spec.talk_value talk.now) one) }
 {
     let participant = called(talk, one.participant.prefix);
     let domain = one.domain;
@@ -63,14 +62,14 @@ fn push_domains(
     one: InDomain,
     other: InDomain,
 ) -> Result<(), AllocError>
-    ensures { OnOk result (string_bytes text.new ≡ string_bytes text.old ++ (domain_text (talk_value talk.now) one ++ other_text (talk_value talk.now) other)) }
+    ensures { OnOk result (string_bytes text.new ≡ string_bytes text.old ++ (no_pair_text_spec.domain_text (talk_spec.talk_value talk.now) one ++ no_pair_text_spec.other_text (talk_spec.talk_value talk.now) other)) }
 {
     push_domain(text, talk, one)?;
     push_other(text, talk, other)
 }
 
 fn sides_words(side: Side) -> &'static str
-    ensures { result.now ≡ sides_text side }
+    ensures { result.now ≡ no_pair_text_spec.sides_text side }
 {
     match side {
         Side::Writer => said::WRITER_ALONE,
@@ -79,7 +78,7 @@ fn sides_words(side: Side) -> &'static str
 }
 
 fn push_side(text: &mut String, one: &OneSided<'_>) -> Result<(), AllocError>
-    ensures { OnOk result (string_bytes text.new ≡ string_bytes text.old ++ side_text (one_sided_value one.now)) }
+    ensures { OnOk result (string_bytes text.new ≡ string_bytes text.old ++ no_pair_text_spec.side_text (one_sides.one_sided_value one.now)) }
 {
     let parts = [
         Part::TopicName(one.topic),
@@ -89,7 +88,7 @@ fn push_side(text: &mut String, one: &OneSided<'_>) -> Result<(), AllocError>
 }
 
 fn push_next(text: &mut String, one: &OneSided<'_>) -> Result<(), AllocError>
-    ensures { OnOk result (string_bytes text.new ≡ string_bytes text.old ++ next_text (one_sided_value one.now)) }
+    ensures { OnOk result (string_bytes text.new ≡ string_bytes text.old ++ no_pair_text_spec.next_text (one_sides.one_sided_value one.now)) }
 {
     let parts = [
         Part::Text(", "),
@@ -100,7 +99,7 @@ fn push_next(text: &mut String, one: &OneSided<'_>) -> Result<(), AllocError>
 }
 
 fn push_named(text: &mut String, sides: &[OneSided<'_>]) -> Result<(), AllocError>
-    ensures { OnOk result (string_bytes text.new ≡ string_bytes text.old ++ named_sides (map one_sided_value sides.now)) }
+    ensures { OnOk result (string_bytes text.new ≡ string_bytes text.old ++ no_pair_text_spec.named_sides (map one_sides.one_sided_value sides.now)) }
 {
     let Some((first, others)) = sides.split_first() else {
         return Ok(());
@@ -113,7 +112,7 @@ fn push_named(text: &mut String, sides: &[OneSided<'_>]) -> Result<(), AllocErro
 }
 
 fn push_more(text: &mut String, more: usize) -> Result<(), AllocError>
-    ensures { OnOk result (string_bytes text.new ≡ string_bytes text.old ++ more_sides more) }
+    ensures { OnOk result (string_bytes text.new ≡ string_bytes text.old ++ no_pair_text_spec.more_sides more) }
 {
     if more == 0 {
         return Ok(());
@@ -128,14 +127,14 @@ fn push_more(text: &mut String, more: usize) -> Result<(), AllocError>
 
 /// Those that are named.
 fn first_sides<'s, 'a>(sides: &'s [OneSided<'a>]) -> &'s [OneSided<'a>]
-    ensures { map one_sided_value result.now ≡ take NAMED_SIDES (map one_sided_value sides.now) }
+    ensures { map one_sides.one_sided_value result.now ≡ take NAMED_SIDES (map one_sides.one_sided_value sides.now) }
 {
     let count = NAMED_SIDES.min(sides.len());
     &sides[..count]
 }
 
 fn push_one_sides(text: &mut String, sides: &[OneSided<'_>]) -> Result<(), AllocError>
-    ensures { OnOk result (string_bytes text.new ≡ string_bytes text.old ++ one_sides_text (map one_sided_value sides.now)) }
+    ensures { OnOk result (string_bytes text.new ≡ string_bytes text.old ++ no_pair_text_spec.one_sides_text (map one_sides.one_sided_value sides.now)) }
 {
     push_named(text, first_sides(sides))?;
     push_more(text, sides.len().saturating_sub(NAMED_SIDES))
@@ -144,7 +143,7 @@ fn push_one_sides(text: &mut String, sides: &[OneSided<'_>]) -> Result<(), Alloc
 /// The sentence of a cause that is told in the same words always.
 #[tactic(auto, unfolding(crate::specs::NoPairText::cause_sentence))]
 fn sentence(cause: NoPair) -> &'static str
-    ensures { result.now ≡ cause_sentence cause }
+    ensures { result.now ≡ no_pair_text_spec.cause_sentence cause }
 {
     match cause {
         NoPair::Counted | NoPair::BestEffort => said::BEST_EFFORT,
@@ -164,7 +163,7 @@ fn sentence(cause: NoPair) -> &'static str
 /// Appends why there is no pair to judge, and what to do.
 fn push_no_pair(text: &mut String, talk: &Talk<'_>, why: &WhyNoPair<'_>) -> Result<(), AllocError>
     ensures { OnOk result (string_bytes text.new
-        ≡ string_bytes text.old ++ no_pair_text (talk_value talk.now) why.now.cause (map one_sided_value why.now.one_sides.items)) }
+        ≡ string_bytes text.old ++ no_pair_text_spec.no_pair_text (talk_spec.talk_value talk.now) why.now.cause (map one_sides.one_sided_value why.now.one_sides.items)) }
 {
     match why.cause {
         NoPair::Early(early) => push_early(text, early),
@@ -176,8 +175,8 @@ fn push_no_pair(text: &mut String, talk: &Talk<'_>, why: &WhyNoPair<'_>) -> Resu
 
 /// Why there is no pair to judge in a report where there is none, and what to do.
 pub fn no_pair_remedy(alloc: Global, report: &FullReport<'_>) -> Result<String, AllocError>
-    requires { IsIndexBy (intake_as ReadFragments report.now.recording.now.datagrams) report.now.index }
-    ensures { IfOk result (λ text. IsRemedyOf (asked_value report.now.asked.now) report.now.recording.now (report_value report.now) (string_bytes text)) }
+    requires { index.IsIndexBy (recorded_samples.intake_as ReadFragments report.now.recording.now.datagrams) report.now.index }
+    ensures { IfOk result (λ text. no_pair_text_spec.IsRemedyOf (asked.asked_value report.now.asked.now) report.now.recording.now (full_report.report_value report.now) (string_bytes text)) }
 {
     let Ok(why) = no_pair_of(alloc, report) else {
         return Err(AllocError);

@@ -1,12 +1,11 @@
 ghost use Rattle.std.specs.Prelude.{◌≡◌, ◌++◌, OnOk, IfOk, length, map};
 ghost use Rattle.std.specs.List.{flat_map};
 ghost use Rattle.std.specs.String.{string_bytes};
-ghost use Rattle.rtps_evidence.specs.Explanation.{explanation_value};
-ghost use Rattle.rtps_parts.specs.Parts.{part_text, words_value};
+ghost use Rattle.rtps_evidence.specs.Explanation as explanation;
+ghost use Rattle.rtps_parts.specs.Parts as parts;
 ghost use Rattle.rtps_report.specs.ByTopic as by_topic;
-ghost use Rattle.rtps_report.specs.BestEfforts.{best_effort_value};
-ghost use Rattle.rtps_report.specs.Talk.{talk_value};
-ghost use Rattle.rtps_lines.specs.Notes.{best_effort_note, detail_of, host_note, late_note, note, noted_value, order_note, remedy_of, share_text, shares_text, tail_note, words_of};
+ghost use Rattle.rtps_report.specs.BestEfforts as best_efforts;
+ghost use Rattle.rtps_report.specs.Talk as talk_spec;
 ghost use Rattle.rtps_lines.specs.Notes as notes_spec;
 
 use crate::fields::SecondsText;
@@ -40,7 +39,7 @@ pub(crate) enum Weakness {
 impl Weakness {
     #[tactic(auto, unfolding(crate::specs::Notes::words_of))]
     pub(crate) fn words(self) -> Words
-        ensures { words_value result ≡ words_of self }
+        ensures { parts.words_value result ≡ notes_spec.words_of self }
     {
         match self {
             Weakness::Likely => Words {
@@ -81,7 +80,7 @@ impl Weakness {
     /// What is said behind so much of it: the link type of the first frame, where it is known.
     #[tactic(auto, unfolding(crate::specs::Notes::detail_of))]
     pub(crate) fn detail(self, number: u128) -> [Part<'static>; 2]
-        ensures { map part_text result ≡ detail_of number self }
+        ensures { map parts.part_text result ≡ notes_spec.detail_of number self }
     {
         match self {
             Weakness::Links(Some(first)) if number == 1 => {
@@ -97,7 +96,7 @@ impl Weakness {
 
     #[tactic(auto, unfolding(crate::specs::Notes::remedy_of))]
     fn remedy(self) -> &'static str
-        ensures { result.now ≡ remedy_of self }
+        ensures { result.now ≡ notes_spec.remedy_of self }
     {
         match self {
             Weakness::Likely => said::LIKELY_REMEDY,
@@ -113,7 +112,7 @@ impl Weakness {
 }
 
 pub(crate) fn pair_words() -> Words
-    ensures { words_value result ≡ notes_spec.pair_words }
+    ensures { parts.words_value result ≡ notes_spec.pair_words }
 {
     Words {
         one: "pair",
@@ -123,7 +122,7 @@ pub(crate) fn pair_words() -> Words
 
 /// The words for numbers.
 pub fn number_words() -> Words
-    ensures { words_value result ≡ notes_spec.number_words }
+    ensures { parts.words_value result ≡ notes_spec.number_words }
 {
     Words {
         one: "number",
@@ -153,7 +152,7 @@ fn push_note(
     found: (u128, Weakness),
     arrow: &str,
 ) -> Result<(), AllocError>
-    ensures { OnOk result (map string_bytes notes.new.items ≡ map string_bytes notes.old.items ++ note arrow.now found) }
+    ensures { OnOk result (map string_bytes notes.new.items ≡ map string_bytes notes.old.items ++ notes_spec.note arrow.now found) }
 {
     let (number, weakness) = found;
     if number == 0 {
@@ -172,7 +171,7 @@ fn push_note(
 
 /// The name of the topic of rows, by ROS 2; empty where there is no row.
 pub fn topic_name<'a>(rows: &[Explanation<'a>]) -> Part<'a>
-    ensures { part_text result ≡ notes_spec.topic_name (map explanation_value rows.now) }
+    ensures { parts.part_text result ≡ notes_spec.topic_name (map explanation.explanation_value rows.now) }
 {
     match rows.first() {
         Some(row) => Part::TopicName(row.topic),
@@ -181,7 +180,7 @@ pub fn topic_name<'a>(rows: &[Explanation<'a>]) -> Part<'a>
 }
 
 fn joined_names(alloc: Global, topics: &[&[Explanation<'_>]]) -> Result<String, AllocError>
-    ensures { IfOk result (λ names. string_bytes names ≡ notes_spec.joined_names (map (λ topic. map explanation_value topic.now) topics.now)) }
+    ensures { IfOk result (λ names. string_bytes names ≡ notes_spec.joined_names (map (λ topic. map explanation.explanation_value topic.now) topics.now)) }
 {
     let mut names = String::new(alloc);
     let Some((first, others)) = topics.split_first() else {
@@ -196,7 +195,7 @@ fn joined_names(alloc: Global, topics: &[&[Explanation<'_>]]) -> Result<String, 
 
 /// The names of the topics of rows, which stand by topic, behind a colon; empty where there is no row.
 pub fn names_of(alloc: Global, rows: &[Explanation<'_>]) -> Result<String, AllocError>
-    ensures { IfOk result (λ names. string_bytes names ≡ notes_spec.joined_names (by_topic.topics_of (map explanation_value rows.now))) }
+    ensures { IfOk result (λ names. string_bytes names ≡ notes_spec.joined_names (by_topic.topics_of (map explanation.explanation_value rows.now))) }
 {
     let topics = topics_of(alloc, rows)?;
     joined_names(alloc, &topics)
@@ -208,7 +207,7 @@ pub(crate) fn names_if(
     named: bool,
     rows: &[Explanation<'_>],
 ) -> Result<String, AllocError>
-    ensures { IfOk result (λ names. string_bytes names ≡ notes_spec.names_if named (map explanation_value rows.now)) }
+    ensures { IfOk result (λ names. string_bytes names ≡ notes_spec.names_if named (map explanation.explanation_value rows.now)) }
 {
     if named {
         names_of(alloc, rows)
@@ -218,7 +217,7 @@ pub(crate) fn names_if(
 }
 
 fn back_by<'t>(seconds: &'t str, arrow: &'t str) -> [Part<'t>; 5]
-    ensures { flat_map part_text result ≡ notes_spec.back_by seconds.now arrow.now }
+    ensures { flat_map parts.part_text result ≡ notes_spec.back_by seconds.now arrow.now }
 {
     [
         Part::Text(said::BACK),
@@ -236,7 +235,7 @@ fn push_order(
     back: u64,
     arrow: &str,
 ) -> Result<(), AllocError>
-    ensures { OnOk result (map string_bytes notes.new.items ≡ map string_bytes notes.old.items ++ order_note arrow.now back) }
+    ensures { OnOk result (map string_bytes notes.new.items ≡ map string_bytes notes.old.items ++ notes_spec.order_note arrow.now back) }
 {
     if back == 0 {
         return Ok(());
@@ -252,7 +251,7 @@ fn push_hosts(
     talk: &Talk<'_>,
     arrow: &str,
 ) -> Result<(), AllocError>
-    ensures { OnOk result (map string_bytes notes.new.items ≡ map string_bytes notes.old.items ++ host_note arrow.now (talk_value talk.now).participants) }
+    ensures { OnOk result (map string_bytes notes.new.items ≡ map string_bytes notes.old.items ++ notes_spec.host_note arrow.now (talk_spec.talk_value talk.now).participants) }
 {
     if !are_on_one_host(&talk.participants) {
         return Ok(());
@@ -267,7 +266,7 @@ fn push_hosts(
 
 /// The topics of pairs of best effort behind a colon, each with how many of its numbers are recorded; empty where there is none.
 fn shares_of(alloc: Global, sums: &[BestEffort<'_>]) -> Result<String, AllocError>
-    ensures { IfOk result (λ shares. string_bytes shares ≡ shares_text (map best_effort_value sums.now)) }
+    ensures { IfOk result (λ shares. string_bytes shares ≡ notes_spec.shares_text (map best_efforts.best_effort_value sums.now)) }
 {
     let mut shares = String::new(alloc);
     let Some((first, others)) = sums.split_first() else {
@@ -286,7 +285,7 @@ pub(crate) fn shares_if(
     named: bool,
     sums: &[BestEffort<'_>],
 ) -> Result<String, AllocError>
-    ensures { IfOk result (λ shares. string_bytes shares ≡ notes_spec.shares_if named (map best_effort_value sums.now)) }
+    ensures { IfOk result (λ shares. string_bytes shares ≡ notes_spec.shares_if named (map best_efforts.best_effort_value sums.now)) }
 {
     if named {
         shares_of(alloc, sums)
@@ -296,7 +295,7 @@ pub(crate) fn shares_if(
 }
 
 fn share_parts<'a>(separator: &'static str, sum: &BestEffort<'a>) -> [Part<'a>; 4]
-    ensures { flat_map part_text result ≡ share_text separator.now (best_effort_value sum.now) }
+    ensures { flat_map parts.part_text result ≡ notes_spec.share_text separator.now (best_efforts.best_effort_value sum.now) }
 {
     [
         Part::Text(separator),
@@ -308,7 +307,7 @@ fn share_parts<'a>(separator: &'static str, sum: &BestEffort<'a>) -> [Part<'a>; 
 
 /// What is to be done where not all numbers are recorded, behind an arrow.
 fn best_effort_remedy<'t>(total: &BestEffort<'_>, arrow: &'t str) -> [Part<'t>; 2]
-    ensures text { flat_map part_text result ≡ notes_spec.best_effort_remedy arrow.now (best_effort_value total.now) }
+    ensures text { flat_map parts.part_text result ≡ notes_spec.best_effort_remedy arrow.now (best_efforts.best_effort_value total.now) }
     ensures both { length result ≡ 2 }
 {
     if total.recorded < total.numbers {
@@ -326,7 +325,7 @@ fn push_best_effort<'t>(
     arrow: &'t str,
 ) -> Result<(), AllocError>
     ensures { OnOk result (map string_bytes notes.new.items ≡ map string_bytes notes.old.items
-        ++ best_effort_note arrow.now (best_effort_value told.entry.0.now) told.entry.1.now) }
+        ++ notes_spec.best_effort_note arrow.now (best_efforts.best_effort_value told.entry.0.now) told.entry.1.now) }
 {
     let (total, shares) = told;
     if total.pairs == 0 {
@@ -358,7 +357,7 @@ fn push_weaknesses(
     facts: &NoteFacts,
     arrow: &str,
 ) -> Result<(), AllocError>
-    ensures { OnOk result (map string_bytes notes.new.items ≡ map string_bytes notes.old.items ++ flat_map (note arrow.now) (notes_spec.weaknesses facts.now)) }
+    ensures { OnOk result (map string_bytes notes.new.items ≡ map string_bytes notes.old.items ++ flat_map (notes_spec.note arrow.now) (notes_spec.weaknesses facts.now)) }
 {
     for found in &weaknesses(facts) {
         push_note(alloc, notes, *found, arrow)?;
@@ -367,7 +366,7 @@ fn push_weaknesses(
 }
 
 fn late_by<'t>(pairs: u64, names: &'t str, arrow: &'t str) -> [Part<'t>; 5]
-    ensures { flat_map part_text result ≡ notes_spec.late_by pairs names.now arrow.now }
+    ensures { flat_map parts.part_text result ≡ notes_spec.late_by pairs names.now arrow.now }
 {
     [
         Part::Text(said::LATE),
@@ -385,7 +384,7 @@ fn push_late<'t>(
     told: (u64, &'t str),
     arrow: &'t str,
 ) -> Result<(), AllocError>
-    ensures { OnOk result (map string_bytes notes.new.items ≡ map string_bytes notes.old.items ++ late_note arrow.now told.entry.0 told.entry.1.now) }
+    ensures { OnOk result (map string_bytes notes.new.items ≡ map string_bytes notes.old.items ++ notes_spec.late_note arrow.now told.entry.0 told.entry.1.now) }
 {
     let (pairs, names) = told;
     if pairs == 0 {
@@ -396,7 +395,7 @@ fn push_late<'t>(
 
 /// The topics of rows with tails, where topics are named; empty where they are not.
 fn tail_names_if(alloc: Global, named: bool, rows: &[Explanation<'_>]) -> Result<String, AllocError>
-    ensures { IfOk result (λ names. string_bytes names ≡ notes_spec.tail_names_if named (map explanation_value rows.now)) }
+    ensures { IfOk result (λ names. string_bytes names ≡ notes_spec.tail_names_if named (map explanation.explanation_value rows.now)) }
 {
     if named {
         tail_names(alloc, rows)
@@ -412,7 +411,7 @@ fn push_tails(
     facts: &NoteFacts,
     names: &str,
 ) -> Result<(), AllocError>
-    ensures { OnOk result (map string_bytes notes.new.items ≡ map string_bytes notes.old.items ++ tail_note facts.now names.now) }
+    ensures { OnOk result (map string_bytes notes.new.items ≡ map string_bytes notes.old.items ++ notes_spec.tail_note facts.now names.now) }
 {
     if facts.tails == 0 {
         return Ok(());
@@ -457,7 +456,7 @@ pub struct NotedRows<'r, 'a> {
 
 /// What is told of the pairs that matched late.
 fn matched_in<'r>(facts: &NoteFacts, rows: NotedRows<'r, '_>) -> MatchedLate<'r>
-    ensures pairs { result.pairs ≡ length (noted_value rows.entry).matched_late }
+    ensures pairs { result.pairs ≡ length (notes_spec.noted_value rows.entry).matched_late }
     ensures before { result.before ≡ facts.now.late_before }
     ensures lines { result.lines.now ≡ rows.entry.late_lines.now }
 {
@@ -475,7 +474,7 @@ pub fn notes_of(
     rows: NotedRows<'_, '_>,
     arrow: &str,
 ) -> Result<Vec<String>, AllocError>
-    ensures { IfOk result (λ notes. map string_bytes notes.items ≡ notes_spec.notes arrow.now facts.now (noted_value rows.entry)) }
+    ensures { IfOk result (λ notes. map string_bytes notes.items ≡ notes_spec.notes arrow.now facts.now (notes_spec.noted_value rows.entry)) }
 {
     let talk = rows.talk;
     let shares = shares_if(alloc, rows.named, &talk.best_effort)?;

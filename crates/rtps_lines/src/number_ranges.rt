@@ -1,8 +1,7 @@
 ghost use Rattle.std.specs.Prelude.{◌≡◌, ◌++◌, OnOk, Some, map, take};
 ghost use Rattle.std.specs.String.{string_bytes};
-ghost use Rattle.rtps_evidence.specs.Explanation.{lost_at};
-ghost use Rattle.rtps_evidence.specs.Kinds.{kind_value, lost_value};
-ghost use Rattle.rtps_lines.specs.NumberRanges.{bracketed, kind_line, more_text, ranges_text, range_text, to_text};
+ghost use Rattle.rtps_evidence.specs.Explanation as explanation;
+ghost use Rattle.rtps_evidence.specs.Kinds as kinds;
 ghost use Rattle.rtps_lines.specs.NumberRanges as number_ranges;
 
 use crate::fields::{SecondsText, push_decimal, push_field};
@@ -16,7 +15,7 @@ const TOLD: usize = 10;
 
 /// Appends that there are so many more, where there are some.
 pub fn push_more(text: &mut String, more: u128) -> Result<(), AllocError>
-    ensures { OnOk result (string_bytes text.new ≡ string_bytes text.old ++ more_text more) }
+    ensures { OnOk result (string_bytes text.new ≡ string_bytes text.old ++ number_ranges.more_text more) }
 {
     if more == 0 {
         return Ok(());
@@ -34,7 +33,7 @@ pub fn push_more(text: &mut String, more: u128) -> Result<(), AllocError>
 pub(crate) struct Bracketed(pub(crate) Option<Seconds>, pub(crate) Option<u64>);
 
 impl fmt::Display for Bracketed {
-    ghost output = { λ text. Some (bracketed text.0 text.1) };
+    ghost output = { λ text. Some (number_ranges.bracketed text.0 text.1) };
 
     #[tactic(auto, unfolding(crate::specs::NumberRanges::bracketed))]
     fn fmt<W: fmt::Write>(&self, f: &mut fmt::Formatter<W>) -> fmt::Result {
@@ -70,7 +69,7 @@ fn place_frame(times: &Times, place: Option<Location>) -> Option<u64>
 }
 
 fn push_to(text: &mut String, first: u64, last: u64) -> Result<(), AllocError>
-    ensures { OnOk result (string_bytes text.new ≡ string_bytes text.old ++ to_text first last) }
+    ensures { OnOk result (string_bytes text.new ≡ string_bytes text.old ++ number_ranges.to_text first last) }
 {
     if first == last {
         return Ok(());
@@ -79,7 +78,7 @@ fn push_to(text: &mut String, first: u64, last: u64) -> Result<(), AllocError>
 }
 
 fn push_range(text: &mut String, range: NumberRange, times: &Times) -> Result<(), AllocError>
-    ensures { OnOk result (string_bytes text.new ≡ string_bytes text.old ++ range_text times.now range) }
+    ensures { OnOk result (string_bytes text.new ≡ string_bytes text.old ++ number_ranges.range_text times.now range) }
 {
     push_decimal(text, range.first)?;
     push_to(text, range.first, range.last)?;
@@ -90,7 +89,7 @@ fn push_range(text: &mut String, range: NumberRange, times: &Times) -> Result<()
 
 /// Appends ranges, with a comma between each two.
 fn push_ranges(text: &mut String, ranges: &[NumberRange], times: &Times) -> Result<(), AllocError>
-    ensures { OnOk result (string_bytes text.new ≡ string_bytes text.old ++ ranges_text times.now ranges.now) }
+    ensures { OnOk result (string_bytes text.new ≡ string_bytes text.old ++ number_ranges.ranges_text times.now ranges.now) }
 {
     let Some((first, others)) = ranges.split_first() else {
         return Ok(());
@@ -105,7 +104,7 @@ fn push_ranges(text: &mut String, ranges: &[NumberRange], times: &Times) -> Resu
 
 /// The ranges of a kind that are told.
 fn first_ranges(kind: &KindNumbers) -> &[NumberRange]
-    ensures { result.now ≡ take 10 (kind_value kind.now).ranges }
+    ensures { result.now ≡ take 10 (kinds.kind_value kind.now).ranges }
 {
     let count = TOLD.min(kind.ranges.len());
     &kind.ranges[..count]
@@ -113,7 +112,7 @@ fn first_ranges(kind: &KindNumbers) -> &[NumberRange]
 
 /// How many more there are.
 fn more_ranges(kind: &KindNumbers) -> u128
-    ensures { result ≡ number_ranges.more_ranges (kind_value kind.now) }
+    ensures { result ≡ number_ranges.more_ranges (kinds.kind_value kind.now) }
 {
     let count = kind.ranges.len() as u128 + kind.more as u128;
     count.saturating_sub(TOLD as u128)
@@ -126,7 +125,7 @@ fn push_kind(
     kind: &KindNumbers,
     times: &Times,
 ) -> Result<(), AllocError>
-    ensures { OnOk result (string_bytes text.new ≡ string_bytes text.old ++ kind_line name.now times.now (kind_value kind.now)) }
+    ensures { OnOk result (string_bytes text.new ≡ string_bytes text.old ++ number_ranges.kind_line name.now times.now (kinds.kind_value kind.now)) }
 {
     if kind.ranges.is_empty() {
         return Ok(());
@@ -139,7 +138,7 @@ fn push_kind(
 
 /// Appends the lines of numbers that are lost, or look so, a kind in each.
 fn push_lost(text: &mut String, lost: &LostNumbers, times: &Times) -> Result<(), AllocError>
-    ensures { OnOk result (string_bytes text.new ≡ string_bytes text.old ++ number_ranges.lost_lines times.now (lost_value lost.now)) }
+    ensures { OnOk result (string_bytes text.new ≡ string_bytes text.old ++ number_ranges.lost_lines times.now (kinds.lost_value lost.now)) }
 {
     push_kind(text, "    missed ", &lost.missed, times)?;
     push_kind(text, "    unsent ", &lost.unsent, times)?;
@@ -161,7 +160,7 @@ pub fn push_lost_lines(
     place: usize,
 ) -> Result<(), AllocError>
     ensures { OnOk result (string_bytes text.new
-        ≡ string_bytes text.old ++ number_ranges.lost_lines lost.entry.times.now (lost_at (map lost_value lost.entry.rows.now) place)) }
+        ≡ string_bytes text.old ++ number_ranges.lost_lines lost.entry.times.now (explanation.lost_at (map kinds.lost_value lost.entry.rows.now) place)) }
 {
     match lost.rows.get(place) {
         Some(numbers) => push_lost(text, numbers, lost.times),

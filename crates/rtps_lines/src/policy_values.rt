@@ -3,10 +3,10 @@
 ghost use Rattle.std.specs.Prelude.{◌≡◌, ◌==◌, ◌||◌, Some, codes, length};
 ghost use Rattle.std.specs.Fmt.{WritesOnOk};
 ghost use Rattle.std.specs.List.{join_by};
-ghost use Rattle.rtps_discovery.specs.Matching.{is_writer};
-ghost use Rattle.rtps_parts.specs.Names.{name_text};
-ghost use Rattle.rtps_policies.specs.Fitting.{profile_value};
-ghost use Rattle.rtps_lines.specs.PolicyValues.{destination_order_word, durability_word, id_text, liveliness_text, liveliness_word, ownership_word, policy_words, presentation_text, reliability_word, representations_text, scope_word, type_name_text, value_text};
+ghost use Rattle.rtps_discovery.specs.Matching as matching;
+ghost use Rattle.rtps_parts.specs.Names as names_spec;
+ghost use Rattle.rtps_policies.specs.Fitting as fitting;
+ghost use Rattle.rtps_lines.specs.PolicyValues as policy_values;
 
 use rtps_discovery::{Durability, Reliability, Side};
 use rtps_parts::{NameOctets, NameText, TypeText};
@@ -27,7 +27,7 @@ pub enum Naming {
 
 #[tactic(auto, unfolding(crate::specs::PolicyValues::reliability_word))]
 fn reliability_of(reliability: Reliability) -> &'static str
-    ensures { result.now ≡ reliability_word reliability }
+    ensures { result.now ≡ policy_values.reliability_word reliability }
 {
     match reliability {
         Reliability::BestEffort => "best effort",
@@ -37,7 +37,7 @@ fn reliability_of(reliability: Reliability) -> &'static str
 
 #[tactic(auto, unfolding(crate::specs::PolicyValues::durability_word))]
 fn durability_of(durability: Durability) -> &'static str
-    ensures { result.now ≡ durability_word durability }
+    ensures { result.now ≡ policy_values.durability_word durability }
 {
     match durability {
         Durability::Volatile => "volatile",
@@ -49,7 +49,7 @@ fn durability_of(durability: Durability) -> &'static str
 
 #[tactic(auto, unfolding(crate::specs::PolicyValues::liveliness_word))]
 fn liveliness_of(kind: LivelinessKind) -> &'static str
-    ensures { result.now ≡ liveliness_word kind }
+    ensures { result.now ≡ policy_values.liveliness_word kind }
 {
     match kind {
         LivelinessKind::Automatic => "automatic",
@@ -60,7 +60,7 @@ fn liveliness_of(kind: LivelinessKind) -> &'static str
 
 #[tactic(auto, unfolding(crate::specs::PolicyValues::ownership_word))]
 fn ownership_of(ownership: Ownership) -> &'static str
-    ensures { result.now ≡ ownership_word ownership }
+    ensures { result.now ≡ policy_values.ownership_word ownership }
 {
     match ownership {
         Ownership::Shared => "shared",
@@ -70,7 +70,7 @@ fn ownership_of(ownership: Ownership) -> &'static str
 
 #[tactic(auto, unfolding(crate::specs::PolicyValues::destination_order_word))]
 fn order_of(order: DestinationOrder) -> &'static str
-    ensures { result.now ≡ destination_order_word order }
+    ensures { result.now ≡ policy_values.destination_order_word order }
 {
     match order {
         DestinationOrder::ByReception => "reception time",
@@ -80,7 +80,7 @@ fn order_of(order: DestinationOrder) -> &'static str
 
 #[tactic(auto, unfolding(crate::specs::PolicyValues::scope_word))]
 fn scope_of(scope: AccessScope) -> &'static str
-    ensures { result.now ≡ scope_word scope }
+    ensures { result.now ≡ policy_values.scope_word scope }
 {
     match scope {
         AccessScope::Instance => "instance",
@@ -93,7 +93,7 @@ fn scope_of(scope: AccessScope) -> &'static str
 struct PresentationText(Presentation);
 
 impl fmt::Display for PresentationText {
-    ghost output = { λ text. Some (presentation_text text.0) };
+    ghost output = { λ text. Some (policy_values.presentation_text text.0) };
 
     fn fmt<W: fmt::Write>(&self, f: &mut fmt::Formatter<W>) -> fmt::Result {
         let coherent = if self.0.coherent { ", coherent" } else { "" };
@@ -107,7 +107,7 @@ impl fmt::Display for PresentationText {
 struct IdText(u16);
 
 impl fmt::Display for IdText {
-    ghost output = { λ text. Some (id_text text.0) };
+    ghost output = { λ text. Some (policy_values.id_text text.0) };
 
     #[tactic(auto, unfolding(crate::specs::PolicyValues::id_text))]
     fn fmt<W: fmt::Write>(&self, f: &mut fmt::Formatter<W>) -> fmt::Result {
@@ -122,7 +122,7 @@ impl fmt::Display for IdText {
 
 /// Writes ids with a comma between each two.
 fn write_ids<W: fmt::Write>(ids: Ids<'_>, f: &mut fmt::Formatter<W>) -> fmt::Result
-    ensures { WritesOnOk W.write_str_gives f.old result (join_by id_text (codes ", ") ids.entry) f.new }
+    ensures { WritesOnOk W.write_str_gives f.old result (join_by policy_values.id_text (codes ", ") ids.entry) f.new }
 {
     let mut comma = "";
     for id in ids {
@@ -134,7 +134,7 @@ fn write_ids<W: fmt::Write>(ids: Ids<'_>, f: &mut fmt::Formatter<W>) -> fmt::Res
 
 /// Writes the names of partitions, each between quotes, with a comma between each two.
 fn write_partitions<W: fmt::Write>(names: Names<'_>, f: &mut fmt::Formatter<W>) -> fmt::Result
-    ensures { WritesOnOk W.write_str_gives f.old result (join_by name_text (codes ", ") names.entry) f.new }
+    ensures { WritesOnOk W.write_str_gives f.old result (join_by names_spec.name_text (codes ", ") names.entry) f.new }
 {
     let mut comma = "";
     for name in names {
@@ -146,7 +146,7 @@ fn write_partitions<W: fmt::Write>(names: Names<'_>, f: &mut fmt::Formatter<W>) 
 
 /// Whether one representation is told: the one that a writer sends, or the only one that a reader takes that announces none.
 fn tells_one(profile: &Profile<'_>) -> bool
-    ensures { result ≡ (is_writer (profile_value profile.now).endpoint.side || (length (profile_value profile.now).policies.representations == 0)) }
+    ensures { result ≡ (matching.is_writer (fitting.profile_value profile.now).endpoint.side || (length (fitting.profile_value profile.now).policies.representations == 0)) }
 {
     profile.endpoint.side == Side::Writer || profile.policies.representations.is_empty()
 }
@@ -156,7 +156,7 @@ fn write_representations<W: fmt::Write>(
     profile: &Profile<'_>,
     f: &mut fmt::Formatter<W>,
 ) -> fmt::Result
-    ensures { WritesOnOk W.write_str_gives f.old result (representations_text (profile_value profile.now)) f.new }
+    ensures { WritesOnOk W.write_str_gives f.old result (policy_values.representations_text (fitting.profile_value profile.now)) f.new }
 {
     let representations = &profile.policies.representations;
     if tells_one(profile) {
@@ -170,7 +170,7 @@ fn write_representations<W: fmt::Write>(
 struct LivelinessText(Liveliness);
 
 impl fmt::Display for LivelinessText {
-    ghost output = { λ text. Some (liveliness_text text.0) };
+    ghost output = { λ text. Some (policy_values.liveliness_text text.0) };
 
     fn fmt<W: fmt::Write>(&self, f: &mut fmt::Formatter<W>) -> fmt::Result {
         let (kind, lease) = (liveliness_of(self.0.kind), self.0.lease);
@@ -183,7 +183,7 @@ impl fmt::Display for LivelinessText {
 struct TypeNameText<'a>(&'a [u8], Naming);
 
 impl fmt::Display for TypeNameText<'_> {
-    ghost output = { λ text. Some (type_name_text text.1 text.0.now) };
+    ghost output = { λ text. Some (policy_values.type_name_text text.1 text.0.now) };
 
     fn fmt<W: fmt::Write>(&self, f: &mut fmt::Formatter<W>) -> fmt::Result {
         match self.1 {
@@ -202,7 +202,7 @@ pub struct PolicyValue<'p, 'a> {
 }
 
 impl fmt::Display for PolicyValue<'_, '_> {
-    ghost output = { λ value. Some (value_text value.naming value.policy (profile_value value.profile.now)) };
+    ghost output = { λ value. Some (policy_values.value_text value.naming value.policy (fitting.profile_value value.profile.now)) };
 
     fn fmt<W: fmt::Write>(&self, f: &mut fmt::Formatter<W>) -> fmt::Result {
         let endpoint = &self.profile.endpoint;
@@ -226,7 +226,7 @@ impl fmt::Display for PolicyValue<'_, '_> {
 /// The name of a policy in words.
 #[tactic(auto, unfolding(crate::specs::PolicyValues::policy_words))]
 pub fn words_of_policy(policy: Policy) -> &'static str
-    ensures { result.now ≡ policy_words policy }
+    ensures { result.now ≡ policy_values.policy_words policy }
 {
     match policy {
         Policy::Reliability => "reliability",

@@ -1,9 +1,8 @@
 ghost use Rattle.std.specs.Prelude.{◌≡◌, ◌++◌, OnOk, IfOk, map};
 ghost use Rattle.std.specs.List.{flat_map};
 ghost use Rattle.std.specs.String.{string_bytes};
-ghost use Rattle.rtps_evidence.specs.Explanation.{explanation_value};
-ghost use Rattle.rtps_report.specs.BestEfforts.{best_effort_value};
-ghost use Rattle.rtps_lines.specs.Notes.{absent_note, absent_rows, alone_in, alone_note, held_note, noted_value, side_notes, unread_note, unread_value};
+ghost use Rattle.rtps_evidence.specs.Explanation as explanation;
+ghost use Rattle.rtps_report.specs.BestEfforts as best_efforts;
 ghost use Rattle.rtps_lines.specs.Notes as notes_spec;
 
 use crate::notes::{NotedRows, Weakness, names_if, number_words, pair_words, shares_if};
@@ -21,7 +20,7 @@ fn push_held(
     total: &BestEffort<'_>,
     shares: &str,
 ) -> Result<(), AllocError>
-    ensures { OnOk result (map string_bytes notes.new.items ≡ map string_bytes notes.old.items ++ held_note (best_effort_value total.now) shares.now) }
+    ensures { OnOk result (map string_bytes notes.new.items ≡ map string_bytes notes.old.items ++ notes_spec.held_note (best_efforts.best_effort_value total.now) shares.now) }
 {
     if total.pairs == 0 {
         return Ok(());
@@ -48,7 +47,7 @@ fn alone_among<'a>(
     alloc: Global,
     rows: &[Explanation<'a>],
 ) -> Result<Vec<Explanation<'a>>, AllocError>
-    ensures { IfOk result (λ alone. map explanation_value alone.items ≡ alone_in (map explanation_value rows.now)) }
+    ensures { IfOk result (λ alone. map explanation.explanation_value alone.items ≡ notes_spec.alone_in (map explanation.explanation_value rows.now)) }
 {
     let mut alone = Vec::new(alloc);
     for row in rows {
@@ -64,7 +63,7 @@ fn absent_among<'a>(
     alloc: Global,
     rows: &[Explanation<'a>],
 ) -> Result<Vec<Explanation<'a>>, AllocError>
-    ensures { IfOk result (λ absent. map explanation_value absent.items ≡ absent_rows (map explanation_value rows.now)) }
+    ensures { IfOk result (λ absent. map explanation.explanation_value absent.items ≡ notes_spec.absent_rows (map explanation.explanation_value rows.now)) }
 {
     let mut absent = Vec::new(alloc);
     for row in rows {
@@ -82,7 +81,7 @@ fn push_alone<'t>(
     told: (u64, &'t str),
     arrow: &'t str,
 ) -> Result<(), AllocError>
-    ensures { OnOk result (map string_bytes notes.new.items ≡ map string_bytes notes.old.items ++ alone_note arrow.now told.entry.0 told.entry.1.now) }
+    ensures { OnOk result (map string_bytes notes.new.items ≡ map string_bytes notes.old.items ++ notes_spec.alone_note arrow.now told.entry.0 told.entry.1.now) }
 {
     let (alone, names) = told;
     if alone == 0 {
@@ -109,7 +108,7 @@ fn push_absent<'t>(
     told: (&SideFacts, &'t str),
     arrow: &'t str,
 ) -> Result<(), AllocError>
-    ensures { OnOk result (map string_bytes notes.new.items ≡ map string_bytes notes.old.items ++ absent_note arrow.now told.entry.0.now told.entry.1.now) }
+    ensures { OnOk result (map string_bytes notes.new.items ≡ map string_bytes notes.old.items ++ notes_spec.absent_note arrow.now told.entry.0.now told.entry.1.now) }
 {
     let (side, names) = told;
     if side.absent_pairs == 0 {
@@ -141,7 +140,7 @@ struct Unread {
 
 /// Frames of the other recording that gave no datagram.
 fn unread_there(side: &SideFacts) -> [Unread; 3]
-    ensures { map unread_value result ≡ notes_spec.unread_there side.now }
+    ensures { map notes_spec.unread_value result ≡ notes_spec.unread_there side.now }
 {
     [
         Unread {
@@ -168,7 +167,7 @@ fn push_unread(
     unread: Unread,
     arrow: &str,
 ) -> Result<(), AllocError>
-    ensures { OnOk result (map string_bytes notes.new.items ≡ map string_bytes notes.old.items ++ unread_note arrow.now (unread_value unread)) }
+    ensures { OnOk result (map string_bytes notes.new.items ≡ map string_bytes notes.old.items ++ notes_spec.unread_note arrow.now (notes_spec.unread_value unread)) }
 {
     if unread.number == 0 {
         return Ok(());
@@ -188,7 +187,7 @@ fn push_all_unread(
     side: &SideFacts,
     arrow: &str,
 ) -> Result<(), AllocError>
-    ensures { OnOk result (map string_bytes notes.new.items ≡ map string_bytes notes.old.items ++ flat_map (unread_note arrow.now) (notes_spec.unread_there side.now)) }
+    ensures { OnOk result (map string_bytes notes.new.items ≡ map string_bytes notes.old.items ++ flat_map (notes_spec.unread_note arrow.now) (notes_spec.unread_there side.now)) }
 {
     for unread in &unread_there(side) {
         push_unread(alloc, notes, *unread, arrow)?;
@@ -198,7 +197,7 @@ fn push_all_unread(
 
 /// The names of the topics of rows of which the other recording has nothing, where topics are named.
 fn alone_names(alloc: Global, told: NotedRows<'_, '_>) -> Result<String, AllocError>
-    ensures { IfOk result (λ names. string_bytes names ≡ notes_spec.names_if told.entry.named (alone_in (map explanation_value told.entry.rows.now))) }
+    ensures { IfOk result (λ names. string_bytes names ≡ notes_spec.names_if told.entry.named (notes_spec.alone_in (map explanation.explanation_value told.entry.rows.now))) }
 {
     let alone = alone_among(alloc, told.rows)?;
     names_if(alloc, told.named, &alone)
@@ -206,7 +205,7 @@ fn alone_names(alloc: Global, told: NotedRows<'_, '_>) -> Result<String, AllocEr
 
 /// The names of the topics of rows of which numbers are received for certain though the other recording has none of them.
 fn absent_names(alloc: Global, told: NotedRows<'_, '_>) -> Result<String, AllocError>
-    ensures { IfOk result (λ names. string_bytes names ≡ notes_spec.names_if told.entry.named (absent_rows (map explanation_value told.entry.rows.now))) }
+    ensures { IfOk result (λ names. string_bytes names ≡ notes_spec.names_if told.entry.named (notes_spec.absent_rows (map explanation.explanation_value told.entry.rows.now))) }
 {
     let absent = absent_among(alloc, told.rows)?;
     names_if(alloc, told.named, &absent)
@@ -219,7 +218,7 @@ pub(crate) fn push_beside(
     told: NotedRows<'_, '_>,
     arrow: &str,
 ) -> Result<(), AllocError>
-    ensures { OnOk result (map string_bytes notes.new.items ≡ map string_bytes notes.old.items ++ side_notes arrow.now (noted_value told.entry) told.entry.side) }
+    ensures { OnOk result (map string_bytes notes.new.items ≡ map string_bytes notes.old.items ++ notes_spec.side_notes arrow.now (notes_spec.noted_value told.entry) told.entry.side) }
 {
     let Some(side) = told.side else {
         return Ok(());

@@ -3,9 +3,8 @@
 ghost use Rattle.std.specs.Prelude.{◌≡◌, ◌≤◌, ◌++◌, flat_map, IfOk, OnOk, length, map, nat_lt};
 ghost use Rattle.std.specs.List.{position_or_len};
 ghost use Rattle.std.specs.String.{string_bytes};
-ghost use Rattle.rtps_evidence.specs.Explanation.{explanation_value};
-ghost use Rattle.rtps_parts.specs.Parts.{part_text};
-ghost use Rattle.rtps_lines.specs.TailNames.{more_text, tail_text, tail_value, tails_text, with_tail};
+ghost use Rattle.rtps_evidence.specs.Explanation as explanation;
+ghost use Rattle.rtps_parts.specs.Parts as parts;
 ghost use Rattle.rtps_lines.specs.TailNames as tail_names_spec;
 
 use rtps_evidence::Explanation;
@@ -25,7 +24,7 @@ pub(crate) struct TopicTail<'a> {
 
 /// How many numbers the longest tail of these rows has.
 pub fn longest_tail(rows: &[Explanation<'_>]) -> u64
-    ensures { result ≡ tail_names_spec.longest_tail (map explanation_value rows.now) }
+    ensures { result ≡ tail_names_spec.longest_tail (map explanation.explanation_value rows.now) }
 {
     let mut longest = 0u64;
     for row in rows {
@@ -36,7 +35,7 @@ pub fn longest_tail(rows: &[Explanation<'_>]) -> u64
 
 /// The tail of a topic's rows.
 fn tail_in<'a>(rows: &[Explanation<'a>]) -> TopicTail<'a>
-    ensures { tail_value result ≡ tail_names_spec.tail_in (map explanation_value rows.now) }
+    ensures { tail_names_spec.tail_value result ≡ tail_names_spec.tail_in (map explanation.explanation_value rows.now) }
 {
     let topic = match rows.first() {
         Some(row) => row.topic,
@@ -50,7 +49,7 @@ fn tail_in<'a>(rows: &[Explanation<'a>]) -> TopicTail<'a>
 
 /// Where a tail of this length stands among others, of which the longest stand first.
 fn place_among(tails: &[TopicTail<'_>], longest: u64) -> usize
-    ensures place { result ≡ position_or_len (λ one. nat_lt one.longest longest) (map tail_value tails.now) }
+    ensures place { result ≡ position_or_len (λ one. nat_lt one.longest longest) (map tail_names_spec.tail_value tails.now) }
     ensures within { result ≤ length tails.now }
 {
     for place in 0..tails.len() {
@@ -63,7 +62,7 @@ fn place_among(tails: &[TopicTail<'_>], longest: u64) -> usize
 
 /// Puts a tail among the longest.
 fn keep<'a>(tails: &mut Vec<TopicTail<'a>>, tail: TopicTail<'a>) -> Result<(), AllocError>
-    ensures { OnOk result (map tail_value tails.new.items ≡ with_tail (map tail_value tails.old.items) (tail_value tail.entry)) }
+    ensures { OnOk result (map tail_names_spec.tail_value tails.new.items ≡ tail_names_spec.with_tail (map tail_names_spec.tail_value tails.old.items) (tail_names_spec.tail_value tail.entry)) }
 {
     let place = place_among(tails, tail.longest);
     tails.insert(place, tail)?;
@@ -76,7 +75,7 @@ fn longest_tails<'a>(
     alloc: Global,
     topics: &[&[Explanation<'a>]],
 ) -> Result<Vec<TopicTail<'a>>, AllocError>
-    ensures { IfOk result (λ tails. map tail_value tails.items ≡ tail_names_spec.longest_tails (map (λ topic. map explanation_value topic.now) topics.now)) }
+    ensures { IfOk result (λ tails. map tail_names_spec.tail_value tails.items ≡ tail_names_spec.longest_tails (map (λ topic. map explanation.explanation_value topic.now) topics.now)) }
 {
     let mut tails = Vec::new(alloc);
     for rows in topics {
@@ -86,7 +85,7 @@ fn longest_tails<'a>(
 }
 
 fn tail_parts<'a>(separator: &'static str, tail: &TopicTail<'a>) -> [Part<'a>; 4]
-    ensures { flat_map part_text result ≡ tail_text separator.now (tail_value tail.now) }
+    ensures { flat_map parts.part_text result ≡ tail_names_spec.tail_text separator.now (tail_names_spec.tail_value tail.now) }
 {
     [
         Part::Text(separator),
@@ -97,7 +96,7 @@ fn tail_parts<'a>(separator: &'static str, tail: &TopicTail<'a>) -> [Part<'a>; 4
 }
 
 fn push_tails(text: &mut String, tails: &[TopicTail<'_>]) -> Result<(), AllocError>
-    ensures { OnOk result (string_bytes text.new ≡ string_bytes text.old ++ tails_text (map tail_value tails.now)) }
+    ensures { OnOk result (string_bytes text.new ≡ string_bytes text.old ++ tail_names_spec.tails_text (map tail_names_spec.tail_value tails.now)) }
 {
     let Some((first, others)) = tails.split_first() else {
         return Ok(());
@@ -110,7 +109,7 @@ fn push_tails(text: &mut String, tails: &[TopicTail<'_>]) -> Result<(), AllocErr
 }
 
 fn push_more(text: &mut String, more: usize) -> Result<(), AllocError>
-    ensures { OnOk result (string_bytes text.new ≡ string_bytes text.old ++ more_text more) }
+    ensures { OnOk result (string_bytes text.new ≡ string_bytes text.old ++ tail_names_spec.more_text more) }
 {
     if more == 0 {
         return Ok(());
@@ -125,7 +124,7 @@ fn push_more(text: &mut String, more: usize) -> Result<(), AllocError>
 
 /// The topics of rows with tails, which stand by topic: the longest, and how many more.
 pub(crate) fn tail_names(alloc: Global, rows: &[Explanation<'_>]) -> Result<String, AllocError>
-    ensures { IfOk result (λ names. string_bytes names ≡ tail_names_spec.tail_names (map explanation_value rows.now)) }
+    ensures { IfOk result (λ names. string_bytes names ≡ tail_names_spec.tail_names (map explanation.explanation_value rows.now)) }
 {
     let topics = topics_of(alloc, rows)?;
     let tails = longest_tails(alloc, &topics)?;

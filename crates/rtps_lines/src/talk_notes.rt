@@ -1,9 +1,8 @@
-ghost use Rattle.std.specs.Prelude.{◌≡◌, ◌++◌, OnOk, IfOk, None, [], flat_map, if◌then◌else◌, length, map, option_copied};
+ghost use Rattle.std.specs.Prelude.{◌≡◌, ◌++◌, OnOk, IfOk, None, flat_map, length, map, option_copied};
 ghost use Rattle.std.specs.String.{string_bytes};
-ghost use Rattle.rtps_parts.specs.Parts.{part_text};
-ghost use Rattle.rtps_policies.specs.Unmatched.{unmatched_value};
-ghost use Rattle.rtps_report.specs.Talk.{left_out_value, talk_value};
-ghost use Rattle.rtps_lines.specs.Notes.{is_silence, left_out_notes, name_behind, policies_text, silent_in, silent_note, talking_note, talking_text};
+ghost use Rattle.rtps_parts.specs.Parts as parts;
+ghost use Rattle.rtps_policies.specs.Unmatched as unmatched;
+ghost use Rattle.rtps_report.specs.Talk as talk_spec;
 ghost use Rattle.rtps_lines.specs.Notes as notes_spec;
 
 use crate::notes::NotedRows;
@@ -28,7 +27,7 @@ fn silence_words(silence: Silence) -> &'static str
 }
 
 fn left_out_by(silence: Silence, pairs: usize, names: &str) -> [Part<'_>; 3]
-    ensures { flat_map part_text result ≡ notes_spec.left_out_by silence pairs names.now }
+    ensures { flat_map parts.part_text result ≡ notes_spec.left_out_by silence pairs names.now }
 {
     let words = Words {
         one: said::LEFT_OUT_ONE,
@@ -43,7 +42,7 @@ fn left_out_by(silence: Silence, pairs: usize, names: &str) -> [Part<'_>; 3]
 
 /// Whether two reasons are the same.
 fn is_same(one: Silence, other: Silence) -> bool
-    ensures { result ≡ is_silence one other }
+    ensures { result ≡ notes_spec.is_silence one other }
 {
     one == other
 }
@@ -55,8 +54,8 @@ fn silent_among<'a>(
     talk: &Talk<'_>,
     silence: Silence,
 ) -> Result<Vec<LeftOut<'a>>, AllocError>
-    ensures { IfOk result (λ found. map left_out_value found.items
-        ≡ silent_in (talk_value talk.now).silence silence (map left_out_value pairs.now)) }
+    ensures { IfOk result (λ found. map talk_spec.left_out_value found.items
+        ≡ notes_spec.silent_in (talk_spec.talk_value talk.now).silence silence (map talk_spec.left_out_value pairs.now)) }
 {
     let mut found = Vec::new(alloc);
     for one in pairs {
@@ -69,7 +68,7 @@ fn silent_among<'a>(
 
 /// Appends the name of a topic, if it is not that of the pair before.
 fn push_name(names: &mut String, before: Option<&[u8]>, topic: &[u8]) -> Result<(), AllocError>
-    ensures { OnOk result (string_bytes names.new ≡ string_bytes names.old ++ name_behind (option_copied before.entry) topic.now) }
+    ensures { OnOk result (string_bytes names.new ≡ string_bytes names.old ++ notes_spec.name_behind (option_copied before.entry) topic.now) }
 {
     match before {
         None => render(names, &[Part::Text(": "), Part::TopicName(topic)]),
@@ -80,7 +79,7 @@ fn push_name(names: &mut String, before: Option<&[u8]>, topic: &[u8]) -> Result<
 
 /// The names of the topics of pairs, which stand by topic, behind a colon; empty where there is no pair.
 fn names_behind(alloc: Global, pairs: Vec<LeftOut<'_>>) -> Result<String, AllocError>
-    ensures { IfOk result (λ names. string_bytes names ≡ notes_spec.names_behind None (map left_out_value pairs.entry.items)) }
+    ensures { IfOk result (λ names. string_bytes names ≡ notes_spec.names_behind None (map talk_spec.left_out_value pairs.entry.items)) }
 {
     let mut names = String::new(alloc);
     let mut before = None;
@@ -93,7 +92,7 @@ fn names_behind(alloc: Global, pairs: Vec<LeftOut<'_>>) -> Result<String, AllocE
 
 /// The same where topics are named; empty where they are not.
 fn left_names(alloc: Global, named: bool, pairs: Vec<LeftOut<'_>>) -> Result<String, AllocError>
-    ensures { IfOk result (λ names. string_bytes names ≡ notes_spec.left_names named (map left_out_value pairs.entry.items)) }
+    ensures { IfOk result (λ names. string_bytes names ≡ notes_spec.left_names named (map talk_spec.left_out_value pairs.entry.items)) }
 {
     if named {
         names_behind(alloc, pairs)
@@ -110,7 +109,7 @@ fn push_silent(
     silence: Silence,
 ) -> Result<(), AllocError>
     ensures { OnOk result (map string_bytes notes.new.items ≡ map string_bytes notes.old.items
-        ++ silent_note told.entry.named (talk_value told.entry.talk.now).silence (map left_out_value told.entry.left_out.now) silence) }
+        ++ notes_spec.silent_note told.entry.named (talk_spec.talk_value told.entry.talk.now).silence (map talk_spec.left_out_value told.entry.left_out.now) silence) }
 {
     let pairs = silent_among(alloc, told.left_out, told.talk, silence)?;
     if pairs.is_empty() {
@@ -135,7 +134,7 @@ pub(crate) fn push_left_out(
     told: NotedRows<'_, '_>,
 ) -> Result<(), AllocError>
     ensures { OnOk result (map string_bytes notes.new.items ≡ map string_bytes notes.old.items
-        ++ left_out_notes told.entry.named (talk_value told.entry.talk.now).silence (map left_out_value told.entry.left_out.now)) }
+        ++ notes_spec.left_out_notes told.entry.named (talk_spec.talk_value told.entry.talk.now).silence (map talk_spec.left_out_value told.entry.left_out.now)) }
 {
     for silence in &SILENCES {
         push_silent(alloc, notes, told, *silence)?;
@@ -145,7 +144,7 @@ pub(crate) fn push_left_out(
 
 /// Appends the names of policies.
 fn push_policies(text: &mut String, policies: &[Policy]) -> Result<(), AllocError>
-    ensures { OnOk result (string_bytes text.new ≡ string_bytes text.old ++ policies_text policies.now) }
+    ensures { OnOk result (string_bytes text.new ≡ string_bytes text.old ++ notes_spec.policies_text policies.now) }
 {
     let Some((first, others)) = policies.split_first() else {
         return Ok(());
@@ -166,7 +165,7 @@ fn push_talking_pair<'a>(
     separator: &'a str,
     one: &Unmatched<'a>,
 ) -> Result<(), AllocError>
-    ensures { OnOk result (string_bytes text.new ≡ string_bytes text.old ++ talking_text separator.now (unmatched_value one.now)) }
+    ensures { OnOk result (string_bytes text.new ≡ string_bytes text.old ++ notes_spec.talking_text separator.now (unmatched.unmatched_value one.now)) }
 {
     let head = [
         Part::Text(separator),
@@ -180,7 +179,7 @@ fn push_talking_pair<'a>(
 
 /// The names of those that talk though they do not match, behind a colon; empty where there are none.
 pub fn talking_names(alloc: Global, talking: Vec<&Unmatched<'_>>) -> Result<String, AllocError>
-    ensures { IfOk result (λ names. string_bytes names ≡ notes_spec.talking_names (map (λ one. unmatched_value one.now) talking.entry.items)) }
+    ensures { IfOk result (λ names. string_bytes names ≡ notes_spec.talking_names (map (λ one. unmatched.unmatched_value one.now) talking.entry.items)) }
 {
     let mut names = String::new(alloc);
     let mut separator = ": ";
@@ -199,7 +198,7 @@ pub(crate) fn push_talking(
     names: &str,
 ) -> Result<(), AllocError>
     ensures { OnOk result (map string_bytes notes.new.items ≡ map string_bytes notes.old.items
-        ++ talking_note (length (talk_value talk.now).talking) names.now) }
+        ++ notes_spec.talking_note (length (talk_spec.talk_value talk.now).talking) names.now) }
 {
     if talk.talking.is_empty() {
         return Ok(());

@@ -1,7 +1,6 @@
 ghost use Rattle.std.specs.Prelude.{◌≡◌, ◌++◌, OnOk, map};
 ghost use Rattle.std.specs.String.{string_bytes};
-ghost use Rattle.rtps_parts.specs.Parts.{part_text, words_value};
-ghost use Rattle.rtps_lines.specs.WayNotes.{mixed_note, swapped_cause, swapped_note, twice_cause, untold_note, way_notes};
+ghost use Rattle.rtps_parts.specs.Parts as parts;
 ghost use Rattle.rtps_lines.specs.WayNotes as way_notes_spec;
 
 use crate::sentences::ways as said;
@@ -11,7 +10,7 @@ use std::alloc::{AllocError, Global};
 
 /// The words for pairs that are the wrong way round.
 fn wrong_words() -> Words
-    ensures { words_value result ≡ way_notes_spec.wrong_words }
+    ensures { parts.words_value result ≡ way_notes_spec.wrong_words }
 {
     Words {
         one: said::WRONG_ONE,
@@ -21,7 +20,7 @@ fn wrong_words() -> Words
 
 /// That the two recordings look swapped, by so many pairs.
 fn swapped_parts(pairs: u128) -> [Part<'static>; 2]
-    ensures { map part_text result ≡ way_notes_spec.swapped_parts pairs }
+    ensures { map parts.part_text result ≡ way_notes_spec.swapped_parts pairs }
 {
     [
         Part::Text(said::SWAPPED),
@@ -35,7 +34,7 @@ pub(crate) fn push_swapped_cause(
     causes: &mut Vec<String>,
     pairs: u128,
 ) -> Result<(), AllocError>
-    ensures { OnOk result (map string_bytes causes.new.items ≡ map string_bytes causes.old.items ++ swapped_cause pairs) }
+    ensures { OnOk result (map string_bytes causes.new.items ≡ map string_bytes causes.old.items ++ way_notes_spec.swapped_cause pairs) }
 {
     if pairs == 0 {
         return Ok(());
@@ -50,7 +49,7 @@ pub(crate) fn push_twice_cause(
     causes: &mut Vec<String>,
     twice: bool,
 ) -> Result<(), AllocError>
-    ensures { OnOk result (map string_bytes causes.new.items ≡ map string_bytes causes.old.items ++ twice_cause twice) }
+    ensures { OnOk result (map string_bytes causes.new.items ≡ map string_bytes causes.old.items ++ way_notes_spec.twice_cause twice) }
 {
     if twice {
         push_rendered(alloc, causes, &[Part::Text(said::TWICE)])
@@ -66,7 +65,7 @@ fn push_swapped(
     pairs: u128,
     arrow: &str,
 ) -> Result<(), AllocError>
-    ensures { OnOk result (map string_bytes notes.new.items ≡ map string_bytes notes.old.items ++ swapped_note arrow.now pairs) }
+    ensures { OnOk result (map string_bytes notes.new.items ≡ map string_bytes notes.old.items ++ way_notes_spec.swapped_note arrow.now pairs) }
 {
     if pairs == 0 {
         return Ok(());
@@ -83,7 +82,7 @@ fn push_swapped(
 
 /// The words for pairs that are the wrong way round, where others are the right way round.
 fn mixed_words() -> Words
-    ensures { words_value result ≡ way_notes_spec.mixed_words }
+    ensures { parts.words_value result ≡ way_notes_spec.mixed_words }
 {
     Words {
         one: said::MIXED_ONE,
@@ -98,7 +97,7 @@ fn push_mixed(
     pairs: u128,
     arrow: &str,
 ) -> Result<(), AllocError>
-    ensures { OnOk result (map string_bytes notes.new.items ≡ map string_bytes notes.old.items ++ mixed_note arrow.now pairs) }
+    ensures { OnOk result (map string_bytes notes.new.items ≡ map string_bytes notes.old.items ++ way_notes_spec.mixed_note arrow.now pairs) }
 {
     if pairs == 0 {
         return Ok(());
@@ -113,7 +112,7 @@ fn push_mixed(
 
 /// Appends that nothing tells the two recordings apart, if it is so.
 fn push_untold(alloc: Global, notes: &mut Vec<String>, untold: bool) -> Result<(), AllocError>
-    ensures { OnOk result (map string_bytes notes.new.items ≡ map string_bytes notes.old.items ++ untold_note untold) }
+    ensures { OnOk result (map string_bytes notes.new.items ≡ map string_bytes notes.old.items ++ way_notes_spec.untold_note untold) }
 {
     if !untold {
         return Ok(());
@@ -129,7 +128,7 @@ pub(crate) fn push_ways(
     order: &Order,
     arrow: &str,
 ) -> Result<(), AllocError>
-    ensures { OnOk result (map string_bytes notes.new.items ≡ map string_bytes notes.old.items ++ way_notes arrow.now order.now) }
+    ensures { OnOk result (map string_bytes notes.new.items ≡ map string_bytes notes.old.items ++ way_notes_spec.way_notes arrow.now order.now) }
 {
     push_swapped(alloc, notes, order.swapped(), arrow)?;
     push_mixed(alloc, notes, order.mixed(), arrow)?;

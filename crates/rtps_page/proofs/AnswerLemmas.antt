@@ -6,34 +6,34 @@ use Rattle.std.proofs.lemmas.List.Elements.{filter-append}
 use Rattle.rtps_discovery.specs.declared.matching.Pair.{Pair}
 use Rattle.rtps_ids.specs.declared.identity.Guid.{Guid}
 use Rattle.rtps_ids.specs.declared.identity.GuidPrefix.{GuidPrefix}
-use Rattle.rtps_receiver.specs.Speech.{is_answer, is_for, is_prefix, names_pair}
-use Rattle.rtps_receiver.specs.Values.{ActBodyValue}
-use Rattle.rtps_audit.specs.Placed.{PlacedValue, answer_at, answers_among, placed_value}
-use Rattle.rtps_audit.specs.Speech.{base_for, base_of_body}
+use Rattle.rtps_receiver.specs.Speech as receiver_speech
+use Rattle.rtps_receiver.specs.Values as values
+use Rattle.rtps_audit.specs.Placed as placed
+use Rattle.rtps_audit.specs.Speech as audit_speech
 use Rattle.rtps_audit.specs.declared.answer.Answer.{Answer}
 use Rattle.rtps_audit.specs.declared.placed.Placed.{Placed}
 use Rattle.std.specs.List.{cons_option}
-use Rattle.rtps_page.specs.ChartEntries.{answers_in}
+use Rattle.rtps_page.specs.ChartEntries as chart_entries
 use Rattle.rtps_page.proofs.EntryLemmas.{answers_yes}
 
-pub values_more : (acts : List Placed) (i : ℕ) (x : Placed) → i < length acts → x ≡ get_or acts i x → map placed_value (take (i + 1) acts) ≡ map placed_value (take i acts) ++ placed_value x ∷ []
+pub values_more : (acts : List Placed) (i : ℕ) (x : Placed) → i < length acts → x ≡ get_or acts i x → map placed.placed_value (take (i + 1) acts) ≡ map placed.placed_value (take i acts) ++ placed.placed_value x ∷ []
 values_more acts i x lt at =
-    ap (λ (l : List Placed). map placed_value l) (take_more acts i x lt ∙ ap (λ (y : Placed). take i acts ++ y ∷ []) (sym at)) ∙ map-append placed_value (take i acts) (x ∷ [])
+    ap (λ (l : List Placed). map placed.placed_value l) (take_more acts i x lt ∙ ap (λ (y : Placed). take i acts ++ y ∷ []) (sym at)) ∙ map-append placed.placed_value (take i acts) (x ∷ [])
 
 -- ---- there are as many answers as acts of answers
 
-answer_has_base : (writer reader : Guid) (source : GuidPrefix) (dest : Option GuidPrefix) (body : ActBodyValue)
-    → is_some (if is_prefix source reader.prefix && (is_for dest writer.prefix && names_pair body reader.entity writer.entity) then base_of_body body else None)
-    ≡ (is_prefix source reader.prefix && (is_for dest writer.prefix && names_pair body reader.entity writer.entity))
+answer_has_base : (writer reader : Guid) (source : GuidPrefix) (dest : Option GuidPrefix) (body : values.ActBodyValue)
+    → is_some (if receiver_speech.is_prefix source reader.prefix && (receiver_speech.is_for dest writer.prefix && receiver_speech.names_pair body reader.entity writer.entity) then audit_speech.base_of_body body else None)
+    ≡ (receiver_speech.is_prefix source reader.prefix && (receiver_speech.is_for dest writer.prefix && receiver_speech.names_pair body reader.entity writer.entity))
 answer_has_base writer reader source dest body = grind (arith, nat_tests)
 
-pub as_many : (pair : Pair) (acts : List PlacedValue) → length (answers_among pair acts) ≡ length (answers_in pair acts)
+pub as_many : (pair : Pair) (acts : List placed.PlacedValue) → length (placed.answers_among pair acts) ≡ length (chart_entries.answers_in pair acts)
 as_many pair [] = refl
 as_many pair (x ∷ acts) =
-    by (base_for pair.writer pair.reader x.act) (is_answer x.act pair.reader pair.writer) (answer_has_base pair.writer pair.reader x.act.source x.act.dest x.act.body) (as_many pair acts)
+    by (audit_speech.base_for pair.writer pair.reader x.act) (receiver_speech.is_answer x.act pair.reader pair.writer) (answer_has_base pair.writer pair.reader x.act.source x.act.dest x.act.body) (as_many pair acts)
   where
-    by : (base : Option ℕ) (b : Bool) → is_some base ≡ b → length (answers_among pair acts) ≡ length (answers_in pair acts)
-        → length (cons_option (answer_at x.datagram x.act.at base) (answers_among pair acts)) ≡ length (cond b (x ∷ answers_in pair acts) (answers_in pair acts))
+    by : (base : Option ℕ) (b : Bool) → is_some base ≡ b → length (placed.answers_among pair acts) ≡ length (chart_entries.answers_in pair acts)
+        → length (cons_option (placed.answer_at x.datagram x.act.at base) (placed.answers_among pair acts)) ≡ length (cond b (x ∷ chart_entries.answers_in pair acts) (chart_entries.answers_in pair acts))
     by None true e same = absurd (let clash : false ≡ true = e in cc)
     by None false e same = same
     by (Some base) true e same = ap (λ n. suc n) same
@@ -49,37 +49,37 @@ same_with found front rest few same all =
     same (omega (arith, few, all, length-append front rest)) ∙ sym (append-nil front) ∙ ap (λ l. front ++ l) (sym (nothing_more found front rest few all))
 
 -- the answers among acts up to a place are those up to an earlier one, and others
-abbrev later : Pair → List Placed → ℕ → ℕ → List PlacedValue
-later pair acts n m = answers_in pair (map placed_value (drop n (take m acts)))
+abbrev later : Pair → List Placed → ℕ → ℕ → List placed.PlacedValue
+later pair acts n m = chart_entries.answers_in pair (map placed.placed_value (drop n (take m acts)))
 
-up_to : (pair : Pair) (acts : List Placed) (n m : ℕ) → n ≤ m → answers_in pair (map placed_value (take m acts)) ≡ answers_in pair (map placed_value (take n acts)) ++ later pair acts n m
+up_to : (pair : Pair) (acts : List Placed) (n m : ℕ) → n ≤ m → chart_entries.answers_in pair (map placed.placed_value (take m acts)) ≡ chart_entries.answers_in pair (map placed.placed_value (take n acts)) ++ later pair acts n m
 up_to pair acts n m le =
-    ap (λ (l : List Placed). answers_in pair (map placed_value l)) (sym (take-append-drop n (take m acts)) ∙ ap (λ (l : List Placed). l ++ drop n (take m acts)) (take-take n m acts le))
-    ∙ ap (answers_in pair) (map-append placed_value (take n acts) (drop n (take m acts)))
-    ∙ filter-append (λ placed. is_answer placed.act pair.reader pair.writer) (map placed_value (take n acts)) (map placed_value (drop n (take m acts)))
+    ap (λ (l : List Placed). chart_entries.answers_in pair (map placed.placed_value l)) (sym (take-append-drop n (take m acts)) ∙ ap (λ (l : List Placed). l ++ drop n (take m acts)) (take-take n m acts le))
+    ∙ ap (chart_entries.answers_in pair) (map-append placed.placed_value (take n acts) (drop n (take m acts)))
+    ∙ filter-append (λ placed. receiver_speech.is_answer placed.act pair.reader pair.writer) (map placed.placed_value (take n acts)) (map placed.placed_value (drop n (take m acts)))
 
-all_of : (pair : Pair) (acts : List Placed) (n : ℕ) → answers_in pair (map placed_value acts) ≡ answers_in pair (map placed_value (take n acts)) ++ answers_in pair (map placed_value (drop n acts))
+all_of : (pair : Pair) (acts : List Placed) (n : ℕ) → chart_entries.answers_in pair (map placed.placed_value acts) ≡ chart_entries.answers_in pair (map placed.placed_value (take n acts)) ++ chart_entries.answers_in pair (map placed.placed_value (drop n acts))
 all_of pair acts n =
-    ap (λ (l : List Placed). answers_in pair (map placed_value l)) (sym (take-append-drop n acts))
-    ∙ ap (answers_in pair) (map-append placed_value (take n acts) (drop n acts))
-    ∙ filter-append (λ placed. is_answer placed.act pair.reader pair.writer) (map placed_value (take n acts)) (map placed_value (drop n acts))
+    ap (λ (l : List Placed). chart_entries.answers_in pair (map placed.placed_value l)) (sym (take-append-drop n acts))
+    ∙ ap (chart_entries.answers_in pair) (map-append placed.placed_value (take n acts) (drop n acts))
+    ∙ filter-append (λ placed. receiver_speech.is_answer placed.act pair.reader pair.writer) (map placed.placed_value (take n acts)) (map placed.placed_value (drop n acts))
 
 -- acts of answers that were found in front of a place: no more than there are, and all of them where they are as many
-pub record AreFound (pair : Pair) (acts : List Placed) (next : ℕ) (found : List PlacedValue) : Type 0 where
-  pub few : length found ≤ length (answers_in pair (map placed_value (take next acts)))
-  pub same : length found ≡ length (answers_in pair (map placed_value (take next acts))) → found ≡ answers_in pair (map placed_value (take next acts))
+pub record AreFound (pair : Pair) (acts : List Placed) (next : ℕ) (found : List placed.PlacedValue) : Type 0 where
+  pub few : length found ≤ length (chart_entries.answers_in pair (map placed.placed_value (take next acts)))
+  pub same : length found ≡ length (chart_entries.answers_in pair (map placed.placed_value (take next acts))) → found ≡ chart_entries.answers_in pair (map placed.placed_value (take next acts))
 
 pub none_found : (pair : Pair) (acts : List Placed) → AreFound pair acts 0 []
 none_found pair acts = record { few = omega arith; same = λ e. refl }
 
-pub found_more : (pair : Pair) (acts : List Placed) (next place : ℕ) (x : Placed) (found : List PlacedValue) → AreFound pair acts next found → next ≤ place → place < length acts → x ≡ get_or acts place x
-    → is_answer (placed_value x).act pair.reader pair.writer ≡ true → AreFound pair acts (place + 1) (found ++ placed_value x ∷ [])
+pub found_more : (pair : Pair) (acts : List Placed) (next place : ℕ) (x : Placed) (found : List placed.PlacedValue) → AreFound pair acts next found → next ≤ place → place < length acts → x ≡ get_or acts place x
+    → receiver_speech.is_answer (placed.placed_value x).act pair.reader pair.writer ≡ true → AreFound pair acts (place + 1) (found ++ placed.placed_value x ∷ [])
 found_more pair acts next place x found are le lt at is =
-    let front = answers_in pair (map placed_value (take next acts)) in
+    let front = chart_entries.answers_in pair (map placed.placed_value (take next acts)) in
     let rest = later pair acts next place in
-    let one = placed_value x in
+    let one = placed.placed_value x in
     let before = up_to pair acts next place le in
-    let now : answers_in pair (map placed_value (take (place + 1) acts)) ≡ (front ++ rest) ++ one ∷ [] = answers_yes pair acts place x lt at is ∙ ap (λ l. l ++ one ∷ []) before in
+    let now : chart_entries.answers_in pair (map placed.placed_value (take (place + 1) acts)) ≡ (front ++ rest) ++ one ∷ [] = answers_yes pair acts place x lt at is ∙ ap (λ l. l ++ one ∷ []) before in
     record {
       few = omega (arith, are.few, ap length now, length_push found one, length_push (front ++ rest) one, length-append front rest);
       same = λ e.
@@ -87,9 +87,9 @@ found_more pair acts next place x found are le lt at is =
           ap (λ l. l ++ one ∷ []) (same_with found front rest are.few are.same long) ∙ sym now;
     }
 
-pub all_found : (pair : Pair) (acts : List Placed) (next : ℕ) (found : List PlacedValue) → AreFound pair acts next found → length found ≡ length (answers_in pair (map placed_value acts))
-    → found ≡ answers_in pair (map placed_value acts)
+pub all_found : (pair : Pair) (acts : List Placed) (next : ℕ) (found : List placed.PlacedValue) → AreFound pair acts next found → length found ≡ length (chart_entries.answers_in pair (map placed.placed_value acts))
+    → found ≡ chart_entries.answers_in pair (map placed.placed_value acts)
 all_found pair acts next found are long =
-    let front = answers_in pair (map placed_value (take next acts)) in
-    let rest = answers_in pair (map placed_value (drop next acts)) in
+    let front = chart_entries.answers_in pair (map placed.placed_value (take next acts)) in
+    let rest = chart_entries.answers_in pair (map placed.placed_value (drop next acts)) in
     same_with found front rest are.few are.same (long ∙ ap length (all_of pair acts next)) ∙ sym (all_of pair acts next)

@@ -5,14 +5,15 @@ use Rattle.std.proofs.lemmas.List.Elements.{filter-append}
 use Rattle.std.proofs.lemmas.List.Concat.{flat_map-append}
 use Rattle.std.proofs.lemmas.List.Folds.{flat_map-map}
 use Rattle.json.specs.Json.{Json, string as json_string}
-use Rattle.rtps_report.specs.Vocabulary.{Location, Pair}
+use Rattle.rtps_evidence.specs.declared.location.Location.{Location}
+use Rattle.rtps_discovery.specs.declared.matching.Pair.{Pair}
 use Rattle.rtps_ids.specs.declared.identity.Guid.{Guid}
-use Rattle.rtps_receiver.specs.Speech.{is_answer, is_spoken_by}
-use Rattle.rtps_audit.specs.Placed.{PlacedValue, is_from, placed_value}
+use Rattle.rtps_receiver.specs.Speech as speech
+use Rattle.rtps_audit.specs.Placed as placed_spec
 use Rattle.rtps_audit.specs.declared.placed.Placed.{Placed}
 use Rattle.rtps_audit.proofs.Offered.{speaker_is_origin}
-use Rattle.rtps_page.specs.ChartEntries.{entries_of}
-use Rattle.rtps_page.specs.Page.{answered_json}
+use Rattle.rtps_page.specs.ChartEntries as chart_entries
+use Rattle.rtps_page.specs.Page as page
 use Rattle.rtps_page.proofs.Written.{answer_json, answers_in, array_of, begin_array, begin_object, count_json, end_array, end_object, entries_by, entry_json, guid_text, json_tokens, key, mapped_tokens, named_json, number, number_json, set_items, string, Token, writer_json}
 
 -- the tokens of an array
@@ -35,13 +36,13 @@ entry_tokens place named kind numbers =
 array_last : (values : List Json) → json_tokens (array_of values) ++ end_object ∷ [] ≡ begin_array ∷ (flat_map json_tokens values ++ (end_array ∷ end_object ∷ []))
 array_last values = ap (λ l. l ++ end_object ∷ []) (array_tokens values) ∙ ap (λ l. begin_array ∷ l) (append_assoc (flat_map json_tokens values) (end_array ∷ []) (end_object ∷ []))
 
-pub writer_tokens : (acts : List PlacedValue) (writer : Guid)
+pub writer_tokens : (acts : List placed_spec.PlacedValue) (writer : Guid)
     → json_tokens (writer_json acts writer)
     ≡ begin_object ∷ key (codes "guid") ∷ string (guid_text writer) ∷ key (codes "acts") ∷ begin_array ∷ (flat_map json_tokens (entries_by writer acts) ++ (end_array ∷ end_object ∷ []))
 writer_tokens acts writer = ap (λ l. begin_object ∷ key (codes "guid") ∷ string (guid_text writer) ∷ key (codes "acts") ∷ l) (array_last (entries_by writer acts))
 
-pub answered_tokens : (pair : Pair) (answers : List PlacedValue)
-    → json_tokens (answered_json pair answers)
+pub answered_tokens : (pair : Pair) (answers : List placed_spec.PlacedValue)
+    → json_tokens (page.answered_json pair answers)
     ≡ begin_object ∷ key (codes "writer") ∷ string (guid_text pair.writer) ∷ key (codes "reader") ∷ string (guid_text pair.reader) ∷ key (codes "bases") ∷ begin_array
     ∷ (flat_map (λ placed. json_tokens (answer_json placed)) answers ++ (end_array ∷ end_object ∷ []))
 answered_tokens pair answers =
@@ -50,7 +51,7 @@ answered_tokens pair answers =
     ∙ ap (λ l. start (begin_array ∷ (l ++ (end_array ∷ end_object ∷ [])))) (flat_map-map json_tokens answer_json answers)
 
 -- the tokens of an answer, part by part
-pub answer_tokens : (placed : PlacedValue)
+pub answer_tokens : (placed : placed_spec.PlacedValue)
     → json_tokens (answer_json placed)
     ≡ begin_array ∷ number (decimal placed.datagram) ∷ number (decimal placed.act.at) ∷ (flat_map json_tokens (set_items placed.act.body) ++ end_array ∷ [])
 answer_tokens placed = array_tokens (count_json placed.datagram ∷ count_json placed.act.at ∷ set_items placed.act.body)
@@ -72,33 +73,33 @@ kept_first {X} test keeps all (x ∷ xs) = go (keeps x) (all x) (kept_first test
     go true h rest = ap (λ l. cond (test x) (x ∷ l) l) rest
     go false h rest = rest ∙ sym (ap (λ b. cond b (x ∷ filter test xs) (filter test xs)) (is_false (test x) h))
 
-pub spoken_from : (writer : Guid) (acts : List PlacedValue)
-    → filter (λ placed. is_spoken_by placed.act writer) (filter (is_from writer) acts) ≡ filter (λ placed. is_spoken_by placed.act writer) acts
-spoken_from writer acts = kept_first (λ placed. is_spoken_by placed.act writer) (is_from writer) (speaker_is_origin writer) acts
+pub spoken_from : (writer : Guid) (acts : List placed_spec.PlacedValue)
+    → filter (λ placed. speech.is_spoken_by placed.act writer) (filter (placed_spec.is_from writer) acts) ≡ filter (λ placed. speech.is_spoken_by placed.act writer) acts
+spoken_from writer acts = kept_first (λ placed. speech.is_spoken_by placed.act writer) (placed_spec.is_from writer) (speaker_is_origin writer) acts
 
-pub entries_from : (writer : Guid) (acts : List PlacedValue) → entries_by writer (filter (is_from writer) acts) ≡ entries_by writer acts
-entries_from writer acts = ap (flat_map entries_of) (spoken_from writer acts)
+pub entries_from : (writer : Guid) (acts : List placed_spec.PlacedValue) → entries_by writer (filter (placed_spec.is_from writer) acts) ≡ entries_by writer acts
+entries_from writer acts = ap (flat_map chart_entries.entries_of) (spoken_from writer acts)
 
-answerer_is_origin : (pair : Pair) (placed : PlacedValue) → is_answer placed.act pair.reader pair.writer ≡ true → is_from pair.reader placed ≡ true
+answerer_is_origin : (pair : Pair) (placed : placed_spec.PlacedValue) → speech.is_answer placed.act pair.reader pair.writer ≡ true → placed_spec.is_from pair.reader placed ≡ true
 answerer_is_origin pair placed e = search rules
 
-pub answered_from : (pair : Pair) (acts : List PlacedValue) → answers_in pair (filter (is_from pair.reader) acts) ≡ answers_in pair acts
-answered_from pair acts = kept_first (λ placed. is_answer placed.act pair.reader pair.writer) (is_from pair.reader) (answerer_is_origin pair) acts
+pub answered_from : (pair : Pair) (acts : List placed_spec.PlacedValue) → answers_in pair (filter (placed_spec.is_from pair.reader) acts) ≡ answers_in pair acts
+answered_from pair acts = kept_first (λ placed. speech.is_answer placed.act pair.reader pair.writer) (placed_spec.is_from pair.reader) (answerer_is_origin pair) acts
 
 -- the answers among one act more
 answers_past : (pair : Pair) (acts : List Placed) (i : ℕ) (x : Placed) → i < length acts → x ≡ get_or acts i x
-    → answers_in pair (map placed_value (take (i + 1) acts)) ≡ answers_in pair (map placed_value (take i acts)) ++ cond (is_answer (placed_value x).act pair.reader pair.writer) (placed_value x ∷ []) []
+    → answers_in pair (map placed_spec.placed_value (take (i + 1) acts)) ≡ answers_in pair (map placed_spec.placed_value (take i acts)) ++ cond (speech.is_answer (placed_spec.placed_value x).act pair.reader pair.writer) (placed_spec.placed_value x ∷ []) []
 answers_past pair acts i x lt at =
-    ap (λ (l : List Placed). answers_in pair (map placed_value l)) (take_more acts i x lt ∙ ap (λ (y : Placed). take i acts ++ y ∷ []) (sym at))
-    ∙ ap (answers_in pair) (map-append placed_value (take i acts) (x ∷ []))
-    ∙ filter-append (λ placed. is_answer placed.act pair.reader pair.writer) (map placed_value (take i acts)) (placed_value x ∷ [])
+    ap (λ (l : List Placed). answers_in pair (map placed_spec.placed_value l)) (take_more acts i x lt ∙ ap (λ (y : Placed). take i acts ++ y ∷ []) (sym at))
+    ∙ ap (answers_in pair) (map-append placed_spec.placed_value (take i acts) (x ∷ []))
+    ∙ filter-append (λ placed. speech.is_answer placed.act pair.reader pair.writer) (map placed_spec.placed_value (take i acts)) (placed_spec.placed_value x ∷ [])
 
-pub answers_yes : (pair : Pair) (acts : List Placed) (i : ℕ) (x : Placed) → i < length acts → x ≡ get_or acts i x → is_answer (placed_value x).act pair.reader pair.writer ≡ true
-    → answers_in pair (map placed_value (take (i + 1) acts)) ≡ answers_in pair (map placed_value (take i acts)) ++ placed_value x ∷ []
-answers_yes pair acts i x lt at e = answers_past pair acts i x lt at ∙ ap (λ b. answers_in pair (map placed_value (take i acts)) ++ cond b (placed_value x ∷ []) []) e
+pub answers_yes : (pair : Pair) (acts : List Placed) (i : ℕ) (x : Placed) → i < length acts → x ≡ get_or acts i x → speech.is_answer (placed_spec.placed_value x).act pair.reader pair.writer ≡ true
+    → answers_in pair (map placed_spec.placed_value (take (i + 1) acts)) ≡ answers_in pair (map placed_spec.placed_value (take i acts)) ++ placed_spec.placed_value x ∷ []
+answers_yes pair acts i x lt at e = answers_past pair acts i x lt at ∙ ap (λ b. answers_in pair (map placed_spec.placed_value (take i acts)) ++ cond b (placed_spec.placed_value x ∷ []) []) e
 
-pub answers_no : (pair : Pair) (acts : List Placed) (i : ℕ) (x : Placed) → i < length acts → x ≡ get_or acts i x → is_answer (placed_value x).act pair.reader pair.writer ≡ false
-    → answers_in pair (map placed_value (take (i + 1) acts)) ≡ answers_in pair (map placed_value (take i acts))
+pub answers_no : (pair : Pair) (acts : List Placed) (i : ℕ) (x : Placed) → i < length acts → x ≡ get_or acts i x → speech.is_answer (placed_spec.placed_value x).act pair.reader pair.writer ≡ false
+    → answers_in pair (map placed_spec.placed_value (take (i + 1) acts)) ≡ answers_in pair (map placed_spec.placed_value (take i acts))
 answers_no pair acts i x lt at e =
-    answers_past pair acts i x lt at ∙ ap (λ b. answers_in pair (map placed_value (take i acts)) ++ cond b (placed_value x ∷ []) []) e
-    ∙ append-nil (answers_in pair (map placed_value (take i acts)))
+    answers_past pair acts i x lt at ∙ ap (λ b. answers_in pair (map placed_spec.placed_value (take i acts)) ++ cond b (placed_spec.placed_value x ∷ []) []) e
+    ∙ append-nil (answers_in pair (map placed_spec.placed_value (take i acts)))

@@ -3,46 +3,47 @@ use Rattle.std.proofs.Common.{◌≤◌, ◌++◌, ◌∷◌, [], ℕ, ℤ, List
 use Rattle.std.specs.List.{range_with_len}
 use Rattle.json.specs.Json.{Json, max_depth, string}
 use Rattle.json.specs.Tree.{depth, items_depth, members_depth}
-use Rattle.rtps_report.specs.Vocabulary.{ExplanationValue, Location, Pair}
+use Rattle.rtps_evidence.specs.Explanation as explanation
+use Rattle.rtps_evidence.specs.declared.location.Location.{Location}
+use Rattle.rtps_discovery.specs.declared.matching.Pair.{Pair}
 use Rattle.rtps_ids.specs.declared.identity.Guid.{Guid}
-use Rattle.rtps_receiver.specs.Values.{ActBodyValue, SentPartValue}
-use Rattle.rtps_receiver.specs.Values.ActBodyValue.{Data, Heartbeat, AckNack, Gap, DataFrag, NackFrag}
-use Rattle.rtps_discovery.specs.Directory.{DirectoryValue, settled_in}
-use Rattle.rtps_receiver.specs.Speech.{is_spoken_by}
-use Rattle.rtps_audit.specs.Placed.{PlacedValue}
-use Rattle.rtps_report.specs.Asked.{AskedValue}
-use Rattle.rtps_evidence.specs.Times.{TimesValue, frame_of, time_of}
+use Rattle.rtps_receiver.specs.Values as values
+use Rattle.rtps_discovery.specs.Directory as directory_spec
+use Rattle.rtps_receiver.specs.Speech as speech
+use Rattle.rtps_audit.specs.Placed as placed
+use Rattle.rtps_report.specs.Asked as asked
+use Rattle.rtps_evidence.specs.Times as times_spec
 use Rattle.rtps_evidence.specs.declared.times.Seconds.{Seconds}
-use Rattle.rtps_json.specs.JsonText.{items_of, members_of, second_json}
-use Rattle.rtps_lines.specs.Lines.{second_in}
-use Rattle.rtps_report.specs.FullReport.{ReportValue, rows_of}
-use Rattle.rtps_report.specs.Recording.{RecordingValue}
+use Rattle.rtps_json.specs.JsonText as json_text
+use Rattle.rtps_lines.specs.Lines as lines
+use Rattle.rtps_report.specs.FullReport as full_report
+use Rattle.rtps_report.specs.Recording as recording
 use Rattle.rtps_json.proofs.Offered.{check_depth, joined, timed_within}
-use Rattle.rtps_page.specs.ChartEntries.{entries_of, fragments_in, members_of as numbers_of, piece_json, sample_json}
-use Rattle.rtps_page.specs.ChartTimes.{datagrams_shown, frame_items, is_among, time_json, time_of_json}
-use Rattle.rtps_page.specs.Joining.{joined_in}
-use Rattle.rtps_page.specs.Origin.{OriginValue}
-use Rattle.rtps_page.specs.Page.{page_json, pairs_with_charts}
+use Rattle.rtps_page.specs.ChartEntries as chart_entries
+use Rattle.rtps_page.specs.ChartTimes as chart_times
+use Rattle.rtps_page.specs.Joining as joining
+use Rattle.rtps_page.specs.Origin as origin
+use Rattle.rtps_page.specs.Page as page
 use Rattle.rtps_page.proofs.Written.{acts_judged, answer_json, answers_in, answers_json, chart_members, check_members, count_json, endpoint_json, entries_at, entry_json, expect_json, gone_json, joined_json, joining_json, moment_json, named_json, number_json, object_of, one_gone_json, option_members, own_members, recording_members, set_items, times_member, writer_json, writers_behind}
 
 -- ---- depth
 
-both_within : (most : ℕ) (xs ys : List Json) → items_depth (items_of xs) ≤ most → items_depth (items_of ys) ≤ most → items_depth (items_of (xs ++ ys)) ≤ most
+both_within : (most : ℕ) (xs ys : List Json) → items_depth (json_text.items_of xs) ≤ most → items_depth (json_text.items_of ys) ≤ most → items_depth (json_text.items_of (xs ++ ys)) ≤ most
 both_within most [] ys h k = k
 both_within most (x ∷ xs) ys h k = let rest = both_within most xs ys (omega (arith, h)) k in omega (arith, h, rest)
 
-mapped_within : {X : Type 0} (most : ℕ) (f : X → Json) → ((x : X) → depth (f x) ≤ most) → (xs : List X) → items_depth (items_of (map f xs)) ≤ most
+mapped_within : {X : Type 0} (most : ℕ) (f : X → Json) → ((x : X) → depth (f x) ≤ most) → (xs : List X) → items_depth (json_text.items_of (map f xs)) ≤ most
 mapped_within most f each [] = omega arith
 mapped_within most f each (x ∷ xs) = omega (arith, each x, mapped_within most f each xs)
 
-flat_within : {X : Type 0} (most : ℕ) (f : X → List Json) → ((x : X) → items_depth (items_of (f x)) ≤ most) → (xs : List X) → items_depth (items_of (flat_map f xs)) ≤ most
+flat_within : {X : Type 0} (most : ℕ) (f : X → List Json) → ((x : X) → items_depth (json_text.items_of (f x)) ≤ most) → (xs : List X) → items_depth (json_text.items_of (flat_map f xs)) ≤ most
 flat_within most f each [] = omega arith
 flat_within most f each (x ∷ xs) = both_within most (f x) (flat_map f xs) (each x) (flat_within most f each xs)
 
-named_within : (named : List ℕ) → items_depth (items_of (named_json named)) ≤ 0
+named_within : (named : List ℕ) → items_depth (json_text.items_of (named_json named)) ≤ 0
 named_within named = go (length named == 0)
   where
-    go : (b : Bool) → items_depth (items_of (if b then [] else string named ∷ [])) ≤ 0
+    go : (b : Bool) → items_depth (json_text.items_of (if b then [] else string named ∷ [])) ≤ 0
     go true = omega arith
     go false = omega arith
 
@@ -51,50 +52,50 @@ entry_within place named kind numbers =
     let last = both_within 0 (map number_json numbers) (named_json named) (mapped_within 0 number_json (λ n. omega arith) numbers) (named_within named) in
     omega (arith, last)
 
-gone_within : (place : Location) (named : List ℕ) (from past : ℕ) → items_depth (items_of (gone_json place named from past)) ≤ 1
+gone_within : (place : Location) (named : List ℕ) (from past : ℕ) → items_depth (json_text.items_of (gone_json place named from past)) ≤ 1
 gone_within place named from past = go (nat_lt from past)
   where
-    go : (b : Bool) → items_depth (items_of (if b then entry_json place named (codes "gone") (pos from ∷ pos (past - 1) ∷ []) ∷ [] else [])) ≤ 1
+    go : (b : Bool) → items_depth (json_text.items_of (if b then entry_json place named (codes "gone") (pos from ∷ pos (past - 1) ∷ []) ∷ [] else [])) ≤ 1
     go true = omega (arith, entry_within place named (codes "gone") (pos from ∷ pos (past - 1) ∷ []))
     go false = omega arith
 
-piece_within : (place : Location) (named : List ℕ) (number : ℕ) (sent : Option SentPartValue) → items_depth (items_of (piece_json place named number sent)) ≤ 1
+piece_within : (place : Location) (named : List ℕ) (number : ℕ) (sent : Option values.SentPartValue) → items_depth (json_text.items_of (chart_entries.piece_json place named number sent)) ≤ 1
 piece_within place named number None = omega arith
 piece_within place named number (Some part) =
-    omega (arith, entry_within place named (codes "piece") (pos number ∷ pos part.first ∷ pos (fragments_in part.shape.fragment (length part.octets)) ∷ []))
+    omega (arith, entry_within place named (codes "piece") (pos number ∷ pos part.first ∷ pos (chart_entries.fragments_in part.shape.fragment (length part.octets)) ∷ []))
 
-sample_within : (place : Location) (named : List ℕ) (number : ℕ) (is_told : Bool) → items_depth (items_of (sample_json place named number is_told)) ≤ 1
+sample_within : (place : Location) (named : List ℕ) (number : ℕ) (is_told : Bool) → items_depth (json_text.items_of (chart_entries.sample_json place named number is_told)) ≤ 1
 sample_within place named number true = omega (arith, entry_within place named (codes "sample") (pos number ∷ []))
 sample_within place named number false = omega arith
 
-entries_within : (place : Location) (named : List ℕ) (body : ActBodyValue) → items_depth (items_of (entries_at place named body)) ≤ 1
-entries_within place named (Data value) = omega (arith, entry_within place named (codes "data") (pos value.number ∷ []))
-entries_within place named (Heartbeat value) =
+entries_within : (place : Location) (named : List ℕ) (body : values.ActBodyValue) → items_depth (json_text.items_of (entries_at place named body)) ≤ 1
+entries_within place named (values.ActBodyValue.Data value) = omega (arith, entry_within place named (codes "data") (pos value.number ∷ []))
+entries_within place named (values.ActBodyValue.Heartbeat value) =
     both_within 1 (gone_json place named 1 value.first) (entry_json place named (codes "announced") (value.last ∷ []) ∷ []) (gone_within place named 1 value.first)
     (omega (arith, entry_within place named (codes "announced") (value.last ∷ [])))
-entries_within place named (Gap value) =
-    both_within 1 (gone_json place named value.start value.list.base) (map (one_gone_json place named) (numbers_of value.list)) (gone_within place named value.start value.list.base)
-    (mapped_within 1 (one_gone_json place named) (λ n. entry_within place named (codes "gone") (pos n ∷ pos n ∷ [])) (numbers_of value.list))
-entries_within place named (DataFrag value) =
-    both_within 1 (piece_json place named value.number value.sent) (sample_json place named value.number (is_some value.told)) (piece_within place named value.number value.sent)
+entries_within place named (values.ActBodyValue.Gap value) =
+    both_within 1 (gone_json place named value.start value.list.base) (map (one_gone_json place named) (chart_entries.members_of value.list)) (gone_within place named value.start value.list.base)
+    (mapped_within 1 (one_gone_json place named) (λ n. entry_within place named (codes "gone") (pos n ∷ pos n ∷ [])) (chart_entries.members_of value.list))
+entries_within place named (values.ActBodyValue.DataFrag value) =
+    both_within 1 (chart_entries.piece_json place named value.number value.sent) (chart_entries.sample_json place named value.number (is_some value.told)) (piece_within place named value.number value.sent)
     (sample_within place named value.number (is_some value.told))
-entries_within place named (AckNack value) = omega arith
-entries_within place named (NackFrag value) = omega arith
+entries_within place named (values.ActBodyValue.AckNack value) = omega arith
+entries_within place named (values.ActBodyValue.NackFrag value) = omega arith
 
-writer_within : (acts : List PlacedValue) (writer : Guid) → depth (writer_json acts writer) ≤ 3
+writer_within : (acts : List placed.PlacedValue) (writer : Guid) → depth (writer_json acts writer) ≤ 3
 writer_within acts writer =
-    let entries = flat_within 1 entries_of (λ placed. entries_within _ _ placed.act.body) (filter (λ placed. is_spoken_by placed.act writer) acts) in
+    let entries = flat_within 1 chart_entries.entries_of (λ placed. entries_within _ _ placed.act.body) (filter (λ placed. speech.is_spoken_by placed.act writer) acts) in
     omega (arith, entries)
 
-set_within : (body : ActBodyValue) → items_depth (items_of (set_items body)) ≤ 1
-set_within (AckNack value) = let asked = mapped_within 0 count_json (λ n. omega arith) (numbers_of value.set) in omega (arith, asked)
-set_within (Data value) = omega arith
-set_within (Heartbeat value) = omega arith
-set_within (Gap value) = omega arith
-set_within (DataFrag value) = omega arith
-set_within (NackFrag value) = omega arith
+set_within : (body : values.ActBodyValue) → items_depth (json_text.items_of (set_items body)) ≤ 1
+set_within (values.ActBodyValue.AckNack value) = let asked = mapped_within 0 count_json (λ n. omega arith) (chart_entries.members_of value.set) in omega (arith, asked)
+set_within (values.ActBodyValue.Data value) = omega arith
+set_within (values.ActBodyValue.Heartbeat value) = omega arith
+set_within (values.ActBodyValue.Gap value) = omega arith
+set_within (values.ActBodyValue.DataFrag value) = omega arith
+set_within (values.ActBodyValue.NackFrag value) = omega arith
 
-answers_within : (acts : List PlacedValue) (pair : Pair) → depth (answers_json acts pair) ≤ 4
+answers_within : (acts : List placed.PlacedValue) (pair : Pair) → depth (answers_json acts pair) ≤ 4
 answers_within acts pair =
     let bases = mapped_within 2 answer_json (λ placed. omega (arith, set_within placed.act.body)) (answers_in pair acts) in
     omega (arith, bases)
@@ -103,7 +104,7 @@ expect_within : (expect : Option ℕ) → depth (expect_json expect) ≤ 0
 expect_within None = omega arith
 expect_within (Some rows) = omega arith
 
-options_within : (asked : AskedValue) → depth (object_of (option_members asked)) ≤ 2
+options_within : (asked : asked.AskedValue) → depth (object_of (option_members asked)) ≤ 2
 options_within asked =
     let topics = mapped_within 0 string (λ topic. omega arith) asked.topics in
     let nodes = mapped_within 0 string (λ node. omega arith) asked.nodes in
@@ -113,51 +114,51 @@ moment_within : (moment : Option ℕ) → depth (moment_json moment) ≤ 0
 moment_within None = omega arith
 moment_within (Some nanoseconds) = omega arith
 
-recording_within : (origin : OriginValue) (times : TimesValue) → depth (object_of (recording_members origin times)) ≤ 1
-recording_within origin times = omega (arith, moment_within (time_of times.of_datagrams 1), moment_within times.end)
+recording_within : (origin : origin.OriginValue) (times : times_spec.TimesValue) → depth (object_of (recording_members origin times)) ≤ 1
+recording_within origin times = omega (arith, moment_within (times_spec.time_of times.of_datagrams 1), moment_within times.end)
 
-second_within : (second : Option Seconds) → depth (second_json second) ≤ 0
+second_within : (second : Option Seconds) → depth (json_text.second_json second) ≤ 0
 second_within None = omega arith
 second_within (Some second) = omega arith
 
-joined_within : (times : TimesValue) (place : Option Location) → depth (joined_json times place) ≤ 1
+joined_within : (times : times_spec.TimesValue) (place : Option Location) → depth (joined_json times place) ≤ 1
 joined_within times None = omega arith
-joined_within times (Some place) = omega (arith, second_within (second_in times place.datagram))
+joined_within times (Some place) = omega (arith, second_within (lines.second_in times place.datagram))
 
-joining_within : (times : TimesValue) (rows : List ExplanationValue) → items_depth (items_of (map (joining_json times) rows)) ≤ 1
-joining_within times rows = mapped_within 1 (joining_json times) (λ row. joined_within times (joined_in row.evidence.in_span)) rows
+joining_within : (times : times_spec.TimesValue) (rows : List explanation.ExplanationValue) → items_depth (json_text.items_of (map (joining_json times) rows)) ≤ 1
+joining_within times rows = mapped_within 1 (joining_json times) (λ row. joined_within times (joining.joined_in row.evidence.in_span)) rows
 
-endpoints_within : (directory : DirectoryValue) → items_depth (items_of (map endpoint_json (settled_in directory.endpoints))) ≤ 1
-endpoints_within directory = mapped_within 1 endpoint_json (λ endpoint. omega arith) (settled_in directory.endpoints)
+endpoints_within : (directory : directory_spec.DirectoryValue) → items_depth (json_text.items_of (map endpoint_json (directory_spec.settled_in directory.endpoints))) ≤ 1
+endpoints_within directory = mapped_within 1 endpoint_json (λ endpoint. omega arith) (directory_spec.settled_in directory.endpoints)
 
-frame_within : (frame : Option ℕ) → items_depth (items_of (frame_items frame)) ≤ 0
+frame_within : (frame : Option ℕ) → items_depth (json_text.items_of (chart_times.frame_items frame)) ≤ 0
 frame_within None = omega arith
 frame_within (Some frame) = omega arith
 
-time_within : (datagram : ℕ) (frame : Option ℕ) (second : Option Seconds) → items_depth (items_of (time_json datagram frame second)) ≤ 1
+time_within : (datagram : ℕ) (frame : Option ℕ) (second : Option Seconds) → items_depth (json_text.items_of (chart_times.time_json datagram frame second)) ≤ 1
 time_within datagram frame None = omega arith
 time_within datagram frame (Some second) = omega (arith, frame_within frame)
 
-times_within : (times : TimesValue) (acts : List PlacedValue) (pairs : List Pair) → members_depth (members_of (times_member times acts pairs ∷ [])) ≤ 2
+times_within : (times : times_spec.TimesValue) (acts : List placed.PlacedValue) (pairs : List Pair) → members_depth (json_text.members_of (times_member times acts pairs ∷ [])) ≤ 2
 times_within times acts pairs =
-    let shown = is_among (datagrams_shown acts pairs) in
-    let each = flat_within 1 (time_of_json times) (λ datagram. time_within datagram (frame_of times.frames datagram) (second_in times datagram))
+    let shown = chart_times.is_among (chart_times.datagrams_shown acts pairs) in
+    let each = flat_within 1 (chart_times.time_of_json times) (λ datagram. time_within datagram (times_spec.frame_of times.frames datagram) (lines.second_in times datagram))
     (filter shown (range_with_len 1 (length times.of_datagrams))) in
     omega (arith, each)
 
-chart_part : (times : TimesValue) (acts : List PlacedValue) (pairs : List Pair) → members_depth (members_of (chart_members times acts pairs)) ≤ 6
+chart_part : (times : times_spec.TimesValue) (acts : List placed.PlacedValue) (pairs : List Pair) → members_depth (json_text.members_of (chart_members times acts pairs)) ≤ 6
 chart_part times acts pairs =
     let writers = mapped_within 3 (writer_json acts) (writer_within acts) (writers_behind None pairs) in
     let answers = mapped_within 4 (answers_json acts) (answers_within acts) pairs in
     let seconds = timed_within 2 times (times_member times acts pairs ∷ []) (times_within times acts pairs) in
     omega (arith, writers, answers, seconds)
 
-pub page_within : (origin : OriginValue) (asked : AskedValue) (recording : RecordingValue) (report : ReportValue) (directory : DirectoryValue)
-    → depth (page_json origin asked recording report directory) ≤ max_depth
+pub page_within : (origin : origin.OriginValue) (asked : asked.AskedValue) (recording : recording.RecordingValue) (report : full_report.ReportValue) (directory : directory_spec.DirectoryValue)
+    → depth (page.page_json origin asked recording report directory) ≤ max_depth
 page_within origin asked recording report directory =
-    let pairs = pairs_with_charts asked recording report in
-    let rows = rows_of report in
-    let own : members_depth (members_of (own_members origin asked recording rows directory pairs)) ≤ 6 =
+    let pairs = page.pairs_with_charts asked recording report in
+    let rows = full_report.rows_of report in
+    let own : members_depth (json_text.members_of (own_members origin asked recording rows directory pairs)) ≤ 6 =
     omega (arith, recording_within origin recording.times, joining_within recording.times rows, options_within asked, endpoints_within directory, chart_part recording.times (acts_judged recording) pairs) in
     let all = joined 7 (check_members asked recording report) (own_members origin asked recording rows directory pairs) (check_depth asked recording report) (omega (arith, own)) in
     omega (arith, all)

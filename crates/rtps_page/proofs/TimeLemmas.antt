@@ -10,9 +10,9 @@ use Rattle.std.specs.List.Sorted.{IsStrictlyIncreasing, IsStrictlySortedBy}
 use Rattle.std.specs.Ordering.{MatchOrdering, nat_cmp}
 use Rattle.json.specs.Json.{Json}
 use Rattle.json.specs.Tree.{json_tokens}
-use Rattle.rtps_evidence.specs.Times.{TimesValue, frame_of, second_of, time_of}
-use Rattle.rtps_lines.specs.Lines.{second_in}
-use Rattle.rtps_page.specs.ChartTimes.{is_among, time_json, time_of_json, times_json}
+use Rattle.rtps_evidence.specs.Times as times_spec
+use Rattle.rtps_lines.specs.Lines as lines
+use Rattle.rtps_page.specs.ChartTimes as chart_times
 
 -- ---- what is kept of numbers
 
@@ -21,7 +21,7 @@ twice true b = refl
 twice false b = refl
 
 -- a number is among what is kept of one and what follows
-among_from : (number kept : ℕ) (xs : List ℕ) → is_among (dedup_from (λ a b. a == b) kept xs) number ≡ is_among (kept ∷ xs) number
+among_from : (number kept : ℕ) (xs : List ℕ) → chart_times.is_among (dedup_from (λ a b. a == b) kept xs) number ≡ chart_times.is_among (kept ∷ xs) number
 among_from number kept [] = refl
 among_from number kept (x ∷ xs) = go (cases_eq x kept) (among_from number kept xs) (among_from number x xs)
   where
@@ -29,15 +29,15 @@ among_from number kept (x ∷ xs) = go (cases_eq x kept) (among_from number kept
     equal a b = a == b
 
     chosen : Bool → Bool
-    chosen b = is_among (cond b (dedup_from equal kept xs) (kept ∷ dedup_from equal x xs)) number
+    chosen b = chart_times.is_among (cond b (dedup_from equal kept xs) (kept ∷ dedup_from equal x xs)) number
 
-    go : (x ≡ kept) ⊎ (x ≡ kept → ⊥) → is_among (dedup_from equal kept xs) number ≡ is_among (kept ∷ xs) number → is_among (dedup_from equal x xs) number ≡ is_among (x ∷ xs) number
-        → chosen (x == kept) ≡ is_among (kept ∷ x ∷ xs) number
+    go : (x ≡ kept) ⊎ (x ≡ kept → ⊥) → chart_times.is_among (dedup_from equal kept xs) number ≡ chart_times.is_among (kept ∷ xs) number → chart_times.is_among (dedup_from equal x xs) number ≡ chart_times.is_among (x ∷ xs) number
+        → chosen (x == kept) ≡ chart_times.is_among (kept ∷ x ∷ xs) number
     go (inl e) same other =
-        ap chosen (eq-eqb x kept e) ∙ same ∙ twice (number == kept) (is_among xs number) ∙ ap (λ k. (number == kept) || ((number == k) || is_among xs number)) (sym e)
+        ap chosen (eq-eqb x kept e) ∙ same ∙ twice (number == kept) (chart_times.is_among xs number) ∙ ap (λ k. (number == kept) || ((number == k) || chart_times.is_among xs number)) (sym e)
     go (inr ne) same other = ap chosen (ne_eqb x kept ne) ∙ ap (λ b. (number == kept) || b) other
 
-pub among_dedup : (number : ℕ) (xs : List ℕ) → is_among (dedup (λ a b. a == b) xs) number ≡ is_among xs number
+pub among_dedup : (number : ℕ) (xs : List ℕ) → chart_times.is_among (dedup (λ a b. a == b) xs) number ≡ chart_times.is_among xs number
 among_dedup number [] = refl
 among_dedup number (x ∷ xs) = among_from number x xs
 
@@ -58,7 +58,7 @@ rise_all : (ns : List ℕ) → IsStrictlySortedBy nat_cmp ns → Rise 0 ns
 rise_all [] h = tt
 rise_all (n ∷ ns) h = (omega arith, rise_behind n ns h)
 
-none_below : (n from : ℕ) (ns : List ℕ) → n < from → Rise from ns → is_among ns n ≡ false
+none_below : (n from : ℕ) (ns : List ℕ) → n < from → Rise from ns → chart_times.is_among ns n ≡ false
 none_below n from [] less rise = refl
 none_below n from (m ∷ ms) less rise =
     ap₂ (λ a b. a || b) (ne_eqb n m (λ e. omega (arith, e, less, rise.0))) (none_below n (m + 1) ms (omega (arith, less, rise.0)) rise.1)
@@ -68,7 +68,7 @@ nothing_past f end none from [] low rise = refl
 nothing_past f end none from (m ∷ ms) low rise =
     ap₂ (λ a b. a ++ b) (none m (omega (arith, low, rise.0))) (nothing_past f end none (m + 1) ms (omega (arith, low, rise.0)) rise.1)
 
-rising_give : {A : Type 0} (f : ℕ → List A) (has : ℕ → Bool) (n from : ℕ) (ns : List ℕ) → Rise from ns → ((k : ℕ) → from ≤ k → has k ≡ is_among ns k)
+rising_give : {A : Type 0} (f : ℕ → List A) (has : ℕ → Bool) (n from : ℕ) (ns : List ℕ) → Rise from ns → ((k : ℕ) → from ≤ k → has k ≡ chart_times.is_among ns k)
     → ((k : ℕ) → from + n ≤ k → f k ≡ []) → flat_map f ns ≡ flat_map f (filter has (range_with_len from n))
 rising_give f has zero from ns rise same none = nothing_past f from (λ k low. none k (omega (arith, low))) from ns (omega arith) rise
 rising_give f has (suc n) from [] rise same none =
@@ -81,7 +81,7 @@ rising_give f has (suc n) from (m ∷ ms) rise same none =
     rising_give f has n (from + 1) (m ∷ ms) (omega (arith, less), rise.1) (λ k low. same k (omega (arith, low))) (λ k low. none k (omega (arith, low))))
     (λ e.
     rising_give f has n (from + 1) ms (subst (λ a. Rise (a + 1) ms) (sym e) rise.1)
-    (λ k above. same k (omega (arith, above)) ∙ ap (λ b. b || is_among ms k) (ne_eqb k m (λ is. omega (arith, is, e, above)))) (λ k above. none k (omega (arith, above))))
+    (λ k above. same k (omega (arith, above)) ∙ ap (λ b. b || chart_times.is_among ms k) (ne_eqb k m (λ is. omega (arith, is, e, above)))) (λ k above. none k (omega (arith, above))))
   where
     rest : List ℕ
     rest = filter has (range_with_len (from + 1) n)
@@ -94,21 +94,21 @@ rising_give f has (suc n) from (m ∷ ms) rise same none =
     go (inr low) all behind =
         let e : from ≡ m = omega (arith, low, rise.0) in
         ap₂ (λ a b. f a ++ b) (sym e) (behind e)
-        ∙ ap (λ b. flat_map f (cond b (from ∷ rest) rest)) (sym (same from (omega arith) ∙ ap (λ b. b || is_among ms from) (eq-eqb from m e)))
+        ∙ ap (λ b. flat_map f (cond b (from ∷ rest) rest)) (sym (same from (omega arith) ∙ ap (λ b. b || chart_times.is_among ms from) (eq-eqb from m e)))
 
 -- ---- the seconds of datagrams
 
-no_second : (start time : Option ℕ) → time ≡ None → second_of start time ≡ None
+no_second : (start time : Option ℕ) → time ≡ None → times_spec.second_of start time ≡ None
 no_second None time e = refl
-no_second (Some start) time e = ap (second_of (Some start)) e
+no_second (Some start) time e = ap (times_spec.second_of (Some start)) e
 
 either_none : (b : Bool) (time : Option ℕ) → time ≡ None → cond b time None ≡ None
 either_none true time e = e
 either_none false time e = refl
 
-past_times : (times : TimesValue) (datagram : ℕ) → length times.of_datagrams < datagram → second_in times datagram ≡ None
+past_times : (times : times_spec.TimesValue) (datagram : ℕ) → length times.of_datagrams < datagram → lines.second_in times datagram ≡ None
 past_times times datagram past =
-    no_second times.start (time_of times.of_datagrams datagram)
+    no_second times.start (times_spec.time_of times.of_datagrams datagram)
     (either_none (nat_lt 0 datagram) (get_or times.of_datagrams (datagram - 1) None) (get_or_past times.of_datagrams (datagram - 1) None (omega (arith, past))))
 
 flat_twice : {A B C : Type 0} (f : A → List B) (g : B → List C) (xs : List A) → flat_map (λ x. flat_map g (f x)) xs ≡ flat_map g (flat_map f xs)
@@ -120,13 +120,13 @@ first_none f true xs none = ap (λ l. l ++ flat_map f xs) none
 first_none f false xs none = refl
 
 -- the tokens of the times of datagrams that rise, and that are those that are shown
-pub times_tokens : (times : TimesValue) (shown ns : List ℕ) → IsStrictlyIncreasing ns → ((n : ℕ) → is_among ns n ≡ is_among shown n)
-    → flat_map (λ datagram. flat_map json_tokens (time_of_json times datagram)) ns ≡ flat_map json_tokens (times_json times shown)
+pub times_tokens : (times : times_spec.TimesValue) (shown ns : List ℕ) → IsStrictlyIncreasing ns → ((n : ℕ) → chart_times.is_among ns n ≡ chart_times.is_among shown n)
+    → flat_map (λ datagram. flat_map json_tokens (chart_times.time_of_json times datagram)) ns ≡ flat_map json_tokens (chart_times.times_json times shown)
 times_tokens times shown ns rising same =
-    let f : ℕ → List Json = time_of_json times in
-    let frame : ℕ → Option ℕ = frame_of times.frames in
+    let f : ℕ → List Json = chart_times.time_of_json times in
+    let frame : ℕ → Option ℕ = times_spec.frame_of times.frames in
     let size = length times.of_datagrams in
-    let all = rising_give f (is_among shown) (suc size) 0 ns (rise_all ns (sorted_from_strictly_increasing ns rising)) (λ k low. sym (same k))
-    (λ k past. ap (time_json k (frame k)) (past_times times k (omega (arith, past)))) in
+    let all = rising_give f (chart_times.is_among shown) (suc size) 0 ns (rise_all ns (sorted_from_strictly_increasing ns rising)) (λ k low. sym (same k))
+    (λ k past. ap (chart_times.time_json k (frame k)) (past_times times k (omega (arith, past)))) in
     flat_twice f json_tokens ns
-    ∙ ap (flat_map json_tokens) (all ∙ first_none f (is_among shown 0) (filter (is_among shown) (range_with_len 1 size)) (ap (time_json 0 (frame 0)) (no_second times.start (time_of times.of_datagrams 0) refl)))
+    ∙ ap (flat_map json_tokens) (all ∙ first_none f (chart_times.is_among shown 0) (filter (chart_times.is_among shown) (range_with_len 1 size)) (ap (chart_times.time_json 0 (frame 0)) (no_second times.start (times_spec.time_of times.of_datagrams 0) refl)))

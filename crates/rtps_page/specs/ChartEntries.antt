@@ -10,20 +10,19 @@ use Rattle.std.specs.Prelude.{ℕ, ℤ, pos, Bool, ◌+◌, ◌-◌, ◌/◌, na
 use Rattle.std.specs.List.{range_with_len}
 use Rattle.hex.specs.Hex.{encode_lower}
 use Rattle.json.specs.Json.{Json, string}
-use Rattle.rtps_ids.specs.NumberSet.{NumberSetValue, is_member}
+use Rattle.rtps_ids.specs.NumberSet as number_set
 use Rattle.rtps_ids.specs.declared.identity.EntityId.{EntityId}
 use Rattle.rtps_ids.specs.declared.identity.Guid.{Guid}
 use Rattle.rtps_ids.specs.declared.identity.GuidPrefix.{GuidPrefix}
-use Rattle.rtps_receiver.specs.Audience.{audience_of}
-use Rattle.rtps_receiver.specs.Speech.{is_answer, is_entity, is_spoken_by, unknown_entity}
-use Rattle.rtps_receiver.specs.Values.{ActBodyValue, SentPartValue}
-use Rattle.rtps_receiver.specs.Values.ActBodyValue.{Data, Heartbeat, AckNack, Gap, DataFrag, NackFrag}
+use Rattle.rtps_receiver.specs.Audience as audience
+use Rattle.rtps_receiver.specs.Speech as speech
+use Rattle.rtps_receiver.specs.Values as values
 use Rattle.rtps_receiver.specs.declared.speech.Audience.{Audience}
 use Rattle.rtps_discovery.specs.declared.matching.Pair.{Pair}
-use Rattle.rtps_audit.specs.Placed.{PlacedValue}
-use Rattle.rtps_evidence.specs.Locations.{location_of}
+use Rattle.rtps_audit.specs.Placed as placed
+use Rattle.rtps_evidence.specs.Locations as locations
 use Rattle.rtps_evidence.specs.declared.location.Location.{Location}
-use Rattle.rtps_json.specs.JsonText.{array_of, count_json, number_json}
+use Rattle.rtps_json.specs.JsonText as json_text
 
 -- the participant that an act is sent to; nothing where it is sent to everyone
 abbrev pub prefix_text : Option GuidPrefix → List ℕ
@@ -32,7 +31,7 @@ prefix_text (Some prefix) = encode_lower prefix.0
 
 -- the reader that an act names, behind a dot; nothing where it names every reader
 abbrev pub entity_text : EntityId → List ℕ
-entity_text entity = if is_entity entity unknown_entity then [] else 46 ∷ encode_lower entity.0
+entity_text entity = if speech.is_entity entity speech.unknown_entity then [] else 46 ∷ encode_lower entity.0
 
 -- whom an act names; nothing where that is no one
 unfoldable pub audience_text : Option Audience → List ℕ
@@ -45,7 +44,7 @@ named_json named = if length named == 0 then [] else string named ∷ []
 
 -- an entry: where its act stands, its kind, its numbers, and whom the act names
 abbrev pub entry_json : Location → List ℕ → List ℕ → List ℤ → Json
-entry_json place named kind numbers = array_of (count_json place.datagram ∷ count_json place.at ∷ string kind ∷ (map number_json numbers ++ named_json named))
+entry_json place named kind numbers = json_text.array_of (json_text.count_json place.datagram ∷ json_text.count_json place.at ∷ string kind ∷ (map json_text.number_json numbers ++ named_json named))
 
 -- that the numbers from one on and below another are gone; nothing where there are none
 abbrev pub gone_json : Location → List ℕ → ℕ → ℕ → List Json
@@ -56,15 +55,15 @@ abbrev pub one_gone_json : Location → List ℕ → ℕ → Json
 one_gone_json place named number = entry_json place named (codes "gone") (pos number ∷ pos number ∷ [])
 
 -- the numbers of a set, in their order
-abbrev pub members_of : NumberSetValue → List ℕ
-members_of set = filter (is_member set) (range_with_len set.base set.count)
+abbrev pub members_of : number_set.NumberSetValue → List ℕ
+members_of set = filter (number_set.is_member set) (range_with_len set.base set.count)
 
 -- how many fragments of this size have so many octets; the last one may be shorter
 abbrev pub fragments_in : ℕ → ℕ → ℕ
 fragments_in size octets = (octets + (max 1 size - 1)) / max 1 size
 
 -- that fragments of a number are sent: the first of them, and how many; nothing where the act sends none
-abbrev pub piece_json : Location → List ℕ → ℕ → Option SentPartValue → List Json
+abbrev pub piece_json : Location → List ℕ → ℕ → Option values.SentPartValue → List Json
 piece_json place named number None = []
 piece_json place named number (Some part) =
     entry_json place named (codes "piece") (pos number ∷ pos part.first ∷ pos (fragments_in part.shape.fragment (length part.octets)) ∷ []) ∷ []
@@ -74,48 +73,48 @@ abbrev pub sample_json : Location → List ℕ → ℕ → Bool → List Json
 sample_json place named number is_told = if is_told then entry_json place named (codes "sample") (pos number ∷ []) ∷ [] else []
 
 -- the entries of what an act says there
-abbrev pub entries_at : Location → List ℕ → ActBodyValue → List Json
-entries_at place named (Data value) = entry_json place named (codes "data") (pos value.number ∷ []) ∷ []
-entries_at place named (Heartbeat value) = gone_json place named 1 value.first ++ entry_json place named (codes "announced") (value.last ∷ []) ∷ []
-entries_at place named (Gap value) = gone_json place named value.start value.list.base ++ map (one_gone_json place named) (members_of value.list)
-entries_at place named (DataFrag value) = piece_json place named value.number value.sent ++ sample_json place named value.number (is_some value.told)
-entries_at place named (AckNack value) = []
-entries_at place named (NackFrag value) = []
+abbrev pub entries_at : Location → List ℕ → values.ActBodyValue → List Json
+entries_at place named (values.ActBodyValue.Data value) = entry_json place named (codes "data") (pos value.number ∷ []) ∷ []
+entries_at place named (values.ActBodyValue.Heartbeat value) = gone_json place named 1 value.first ++ entry_json place named (codes "announced") (value.last ∷ []) ∷ []
+entries_at place named (values.ActBodyValue.Gap value) = gone_json place named value.start value.list.base ++ map (one_gone_json place named) (members_of value.list)
+entries_at place named (values.ActBodyValue.DataFrag value) = piece_json place named value.number value.sent ++ sample_json place named value.number (is_some value.told)
+entries_at place named (values.ActBodyValue.AckNack value) = []
+entries_at place named (values.ActBodyValue.NackFrag value) = []
 
 -- the entries of an act
-abbrev pub entries_of : PlacedValue → List Json
-entries_of placed = entries_at (location_of placed) (audience_text (audience_of placed.act)) placed.act.body
+abbrev pub entries_of : placed.PlacedValue → List Json
+entries_of placed = entries_at (locations.location_of placed) (audience_text (audience.audience_of placed.act)) placed.act.body
 
 -- the entries of all that this writer says by these acts, to whichever reader
-abbrev pub entries_by : Guid → List PlacedValue → List Json
-entries_by writer acts = flat_map entries_of (filter (λ placed. is_spoken_by placed.act writer) acts)
+abbrev pub entries_by : Guid → List placed.PlacedValue → List Json
+entries_by writer acts = flat_map entries_of (filter (λ placed. speech.is_spoken_by placed.act writer) acts)
 
 -- the answers of a pair's reader to its writer
-abbrev pub answers_in : Pair → List PlacedValue → List PlacedValue
-answers_in pair acts = filter (λ placed. is_answer placed.act pair.reader pair.writer) acts
+abbrev pub answers_in : Pair → List placed.PlacedValue → List placed.PlacedValue
+answers_in pair acts = filter (λ placed. speech.is_answer placed.act pair.reader pair.writer) acts
 
 -- the numbers of an answer: its base, and those that it asks for
-abbrev pub numbers_in : ActBodyValue → List ℕ
-numbers_in (AckNack value) = value.set.base ∷ members_of value.set
-numbers_in (Data value) = []
-numbers_in (Heartbeat value) = []
-numbers_in (Gap value) = []
-numbers_in (DataFrag value) = []
-numbers_in (NackFrag value) = []
+abbrev pub numbers_in : values.ActBodyValue → List ℕ
+numbers_in (values.ActBodyValue.AckNack value) = value.set.base ∷ members_of value.set
+numbers_in (values.ActBodyValue.Data value) = []
+numbers_in (values.ActBodyValue.Heartbeat value) = []
+numbers_in (values.ActBodyValue.Gap value) = []
+numbers_in (values.ActBodyValue.DataFrag value) = []
+numbers_in (values.ActBodyValue.NackFrag value) = []
 
 -- those of all answers, each of which takes an entry
-abbrev pub numbers_answered : Pair → List PlacedValue → List ℕ
+abbrev pub numbers_answered : Pair → List placed.PlacedValue → List ℕ
 numbers_answered pair acts = flat_map (λ placed. numbers_in placed.act.body) (answers_in pair acts)
 
 -- its base, and an array of those that it asks for
-abbrev pub set_items : ActBodyValue → List Json
-set_items (AckNack value) = number_json (pos value.set.base) ∷ array_of (map count_json (members_of value.set)) ∷ []
-set_items (Data value) = []
-set_items (Heartbeat value) = []
-set_items (Gap value) = []
-set_items (DataFrag value) = []
-set_items (NackFrag value) = []
+abbrev pub set_items : values.ActBodyValue → List Json
+set_items (values.ActBodyValue.AckNack value) = json_text.number_json (pos value.set.base) ∷ json_text.array_of (map json_text.count_json (members_of value.set)) ∷ []
+set_items (values.ActBodyValue.Data value) = []
+set_items (values.ActBodyValue.Heartbeat value) = []
+set_items (values.ActBodyValue.Gap value) = []
+set_items (values.ActBodyValue.DataFrag value) = []
+set_items (values.ActBodyValue.NackFrag value) = []
 
 -- an answer: where it stands, its base, and what it asks for
-abbrev pub answer_json : PlacedValue → Json
-answer_json placed = array_of (count_json placed.datagram ∷ count_json placed.act.at ∷ set_items placed.act.body)
+abbrev pub answer_json : placed.PlacedValue → Json
+answer_json placed = json_text.array_of (json_text.count_json placed.datagram ∷ json_text.count_json placed.act.at ∷ set_items placed.act.body)

@@ -5,36 +5,35 @@
 use Rattle.std.specs.Prelude.{ℕ, ◌+◌, ◌++◌, ◌&&◌, nat_le, Bool, true, false, not, if◌then◌else◌, List, [], ◌∷◌, fold, filter, length, map, Option, None, Some}
 use Rattle.rtps_ids.specs.declared.identity.Guid.{Guid}
 use Rattle.rtps_discovery.specs.declared.matching.Pair.{Pair}
-use Rattle.rtps_audit.specs.Placed.{PlacedValue, is_guid}
-use Rattle.rtps_evidence.specs.Explanation.{ExplanationValue}
-use Rattle.rtps_report.specs.RowFacts.{is_clean}
-use Rattle.rtps_page.specs.ChartEntries.{entries_by, numbers_answered}
+use Rattle.rtps_audit.specs.Placed as placed
+use Rattle.rtps_evidence.specs.Explanation as explanation
+use Rattle.rtps_report.specs.RowFacts as row_facts
+use Rattle.rtps_page.specs.ChartEntries as chart_entries
 use Rattle.rtps_page.specs.declared.chart_room.Need.{Need}
 use Rattle.rtps_page.specs.declared.chart_room.Room.{Room}
-use Rattle.rtps_page.specs.declared.chart_room.TheConstants.{ENTRIES}
+use Rattle.rtps_page.specs.declared.chart_room.TheConstants as chart_room
 use Rattle.rtps_page.specs.declared.chart_room.Turn.{Turn}
-use Rattle.rtps_page.specs.declared.chart_room.Turn.TheVariants.{Unclean, Clean}
 
 -- it is the turn of a row that is clean, or is not
 abbrev pub is_turn : Turn → Bool → Bool
-is_turn Unclean clean = not clean
-is_turn Clean clean = clean
+is_turn Turn.Unclean clean = not clean
+is_turn Turn.Clean clean = clean
 
 -- what a row would take, which is not given room yet, where a tail may have so many numbers
-abbrev pub need_of : ℕ → List PlacedValue → ExplanationValue → Need
+abbrev pub need_of : ℕ → List placed.PlacedValue → explanation.ExplanationValue → Need
 need_of tail acts row =
     record {
       pair = row.pair;
-      clean = is_clean tail row.evidence;
-      acts = length (entries_by row.pair.writer acts);
-      answers = length (numbers_answered row.pair acts);
+      clean = row_facts.is_clean tail row.evidence;
+      acts = length (chart_entries.entries_by row.pair.writer acts);
+      answers = length (chart_entries.numbers_answered row.pair acts);
       charted = false;
     }
 
 -- the writer is the last one
 abbrev pub is_last : Option Guid → Guid → Bool
 is_last None writer = false
-is_last (Some last) writer = is_guid last writer
+is_last (Some last) writer = placed.is_guid last writer
 
 -- how many entries a row takes behind this last writer
 abbrev pub takes : Option Guid → Need → ℕ
@@ -46,11 +45,11 @@ whole_room = record { used = 0; last = None }
 
 -- it is the row's turn, and there is room for it
 abbrev pub is_given : Turn → Room → Need → Bool
-is_given turn room need = is_turn turn need.clean && nat_le (room.used + takes room.last need) ENTRIES
+is_given turn room need = is_turn turn need.clean && nat_le (room.used + takes room.last need) chart_room.ENTRIES
 
 -- how much room is used behind a row; None where there is not so much
 abbrev pub used_behind : Room → Need → Option ℕ
-used_behind room need = if nat_le (room.used + takes room.last need) ENTRIES then Some (room.used + takes room.last need) else None
+used_behind room need = if nat_le (room.used + takes room.last need) chart_room.ENTRIES then Some (room.used + takes room.last need) else None
 
 -- the room behind it
 abbrev pub room_behind : Turn → Room → Need → Room
@@ -77,14 +76,14 @@ given_from turn room needs = fold (give turn) (record { room = room; needs = [] 
 
 -- those that are not clean, and then the others
 abbrev pub given_in_turn : Given → Given
-given_in_turn first = given_from Clean first.room first.needs
+given_in_turn first = given_from Turn.Clean first.room first.needs
 
 -- which rows have a chart
 abbrev pub charted : List Need → List Need
-charted needs = filter (λ need. need.charted) (given_in_turn (given_from Unclean whole_room needs)).needs
+charted needs = filter (λ need. need.charted) (given_in_turn (given_from Turn.Unclean whole_room needs)).needs
 
 -- the pairs of the rows that have one, in the order of the report
-abbrev pub charted_pairs : ℕ → List PlacedValue → List ExplanationValue → List Pair
+abbrev pub charted_pairs : ℕ → List placed.PlacedValue → List explanation.ExplanationValue → List Pair
 charted_pairs tail acts rows = map (λ need. need.pair) (charted (map (need_of tail acts) rows))
 
 -- the writers of these pairs that follow one another, each once, behind this last one

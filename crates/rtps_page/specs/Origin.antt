@@ -5,8 +5,8 @@
 -- holds.
 use Rattle.std.specs.Prelude.{ℕ, List, [], ◌∷◌, codes, Option, None, Some}
 use Rattle.json.specs.Json.{Json, null, string}
-use Rattle.rtps_evidence.specs.Times.{TimesValue, milliseconds_of, time_of}
-use Rattle.rtps_json.specs.JsonText.{Member, count_json, object_of}
+use Rattle.rtps_evidence.specs.Times as times_spec
+use Rattle.rtps_json.specs.JsonText as json_text
 use Rattle.rtps_page.specs.declared.origin.Origin.{Origin}
 
 -- the name of the recording, `-` for standard input, and the version of the program
@@ -21,13 +21,13 @@ origin_value origin = record { name = origin.name.now; version = origin.version.
 -- a moment; null where there is none
 abbrev pub moment_json : Option ℕ → Json
 moment_json None = null
-moment_json (Some nanoseconds) = count_json (milliseconds_of nanoseconds)
+moment_json (Some nanoseconds) = json_text.count_json (times_spec.milliseconds_of nanoseconds)
 
 -- which recording it is, and when it begins and ends
-abbrev pub recording_members : OriginValue → TimesValue → List Member
+abbrev pub recording_members : OriginValue → times_spec.TimesValue → List json_text.Member
 recording_members origin times = (codes "name", string origin.name) ∷ (codes "version", string origin.version)
-    ∷ (codes "begin", moment_json (time_of times.of_datagrams 1)) ∷ (codes "end", moment_json times.end) ∷ []
+    ∷ (codes "begin", moment_json (times_spec.time_of times.of_datagrams 1)) ∷ (codes "end", moment_json times.end) ∷ []
 
 -- the same, as a member
-abbrev pub recording_member : OriginValue → TimesValue → Member
-recording_member origin times = (codes "recording", object_of (recording_members origin times))
+abbrev pub recording_member : OriginValue → times_spec.TimesValue → json_text.Member
+recording_member origin times = (codes "recording", json_text.object_of (recording_members origin times))

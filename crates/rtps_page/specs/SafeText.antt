@@ -4,7 +4,6 @@
 use Rattle.std.specs.Prelude.{ℕ, Bool, false, ◌≡◌, ◌==◌, ◌||◌, ◌++◌, if◌then◌else◌, List, [], ◌∷◌, codes, flat_map}
 use Rattle.std.specs.List.{list_any}
 use Rattle.rtps_page.specs.declared.safe_text.Place.{Place}
-use Rattle.rtps_page.specs.declared.safe_text.Place.TheVariants.{Html, Json}
 
 -- `&`, `<` or `>`
 abbrev pub is_markup : ℕ → Bool
@@ -28,8 +27,8 @@ in_html octet = if octet == 38 then codes "&amp;" else if octet == 60 then codes
 
 -- in a place of the page
 abbrev pub escape_in : Place → ℕ → List ℕ
-escape_in Html = in_html
-escape_in Json = in_json
+escape_in Place.Html = in_html
+escape_in Place.Json = in_json
 
 -- no octet of the text is one of the three
 abbrev pub IsSafe : List ℕ → Type 0

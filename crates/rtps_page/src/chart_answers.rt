@@ -1,13 +1,13 @@
-ghost use Rattle.std.specs.Prelude.{ℕ, ◌≡◌, ◌++◌, ◌∷◌, codes, flat_map, map, List, OnOk};
+ghost use Rattle.std.specs.Prelude.{◌≡◌, ◌++◌, ◌∷◌, codes, flat_map, map, OnOk};
 ghost use Rattle.json.specs.Token.{key};
 ghost use Rattle.json.specs.Tree.{json_tokens};
-ghost use Rattle.rtps_receiver.specs.Values.{spoken_body_value};
-ghost use Rattle.rtps_audit.specs.Index.{IsIndexBy};
-ghost use Rattle.rtps_audit.specs.Intake.{Intake};
-ghost use Rattle.rtps_audit.specs.Placed.{placed_in, placed_value};
-ghost use Rattle.rtps_json.specs.JsonText.{array_of, count_json};
-ghost use Rattle.rtps_page.specs.ChartEntries.{answer_json, members_of, set_items};
-ghost use Rattle.rtps_page.specs.Page.{answered_json, answers_json};
+ghost use Rattle.rtps_receiver.specs.Values as values;
+ghost use Rattle.rtps_audit.specs.Index as index_spec;
+ghost use Rattle.rtps_audit.specs.Intake as intake;
+ghost use Rattle.rtps_audit.specs.Placed as placed_spec;
+ghost use Rattle.rtps_json.specs.JsonText as json_text;
+ghost use Rattle.rtps_page.specs.ChartEntries as chart_entries;
+ghost use Rattle.rtps_page.specs.Page as page;
 
 use crate::entry_counts::has_number;
 use crate::pair_answers::answer_acts;
@@ -21,7 +21,7 @@ use std::alloc::{AllocError, Global};
 
 /// Appends the numbers of a set, one after another.
 fn push_numbers(writer: &mut Writer, set: &NumberSet) -> Result<(), AllocError>
-    ensures tokens { OnOk result (writer.new.tokens ≡ writer.old.tokens ++ flat_map (λ number. json_tokens (count_json number)) (members_of set.now)) }
+    ensures tokens { OnOk result (writer.new.tokens ≡ writer.old.tokens ++ flat_map (λ number. json_tokens (json_text.count_json number)) (chart_entries.members_of set.now)) }
     ensures before { writer.new.before ≡ writer.old.before }
 {
     let base = set.base().cast_unsigned();
@@ -36,7 +36,7 @@ fn push_numbers(writer: &mut Writer, set: &NumberSet) -> Result<(), AllocError>
 
 /// Appends them as an array.
 fn push_list(writer: &mut Writer, set: &NumberSet) -> Result<(), AllocError>
-    ensures tokens { OnOk result (writer.new.tokens ≡ writer.old.tokens ++ json_tokens (array_of (map count_json (members_of set.now)))) }
+    ensures tokens { OnOk result (writer.new.tokens ≡ writer.old.tokens ++ json_tokens (json_text.array_of (map json_text.count_json (chart_entries.members_of set.now)))) }
     ensures before { writer.new.before ≡ writer.old.before }
 {
     writer.begin_array()?;
@@ -46,7 +46,7 @@ fn push_list(writer: &mut Writer, set: &NumberSet) -> Result<(), AllocError>
 
 /// Appends the base of an answer, and what it asks for.
 fn push_set(writer: &mut Writer, body: &SpokenBody<'_>) -> Result<(), AllocError>
-    ensures tokens { OnOk result (writer.new.tokens ≡ writer.old.tokens ++ flat_map json_tokens (set_items (spoken_body_value body.now))) }
+    ensures tokens { OnOk result (writer.new.tokens ≡ writer.old.tokens ++ flat_map json_tokens (chart_entries.set_items (values.spoken_body_value body.now))) }
     ensures before { writer.new.before ≡ writer.old.before }
 {
     match body {
@@ -63,7 +63,7 @@ fn push_set(writer: &mut Writer, body: &SpokenBody<'_>) -> Result<(), AllocError
 }
 
 fn push_answer(writer: &mut Writer, placed: &Placed<'_>) -> Result<(), AllocError>
-    ensures tokens { OnOk result (writer.new.tokens ≡ writer.old.tokens ++ json_tokens (answer_json (placed_value placed.now))) }
+    ensures tokens { OnOk result (writer.new.tokens ≡ writer.old.tokens ++ json_tokens (chart_entries.answer_json (placed_spec.placed_value placed.now))) }
     ensures before { writer.new.before ≡ writer.old.before }
 {
     writer.begin_array()?;
@@ -79,7 +79,7 @@ fn push_answers(
     pair: Pair,
     answers: &[Placed<'_>],
 ) -> Result<(), AllocError>
-    ensures tokens { OnOk result (writer.new.tokens ≡ writer.old.tokens ++ json_tokens (answered_json pair (map placed_value answers.now))) }
+    ensures tokens { OnOk result (writer.new.tokens ≡ writer.old.tokens ++ json_tokens (page.answered_json pair (map placed_spec.placed_value answers.now))) }
     ensures before { writer.new.before ≡ writer.old.before }
 {
     writer.begin_object()?;
@@ -102,9 +102,9 @@ pub(crate) fn push_all_answers(
     index: &Index<'_>,
     pairs: &[Pair],
 ) -> Result<(), AllocError>
-    ensures tokens { (intake : Intake) → IsIndexBy intake index.now
+    ensures tokens { (intake : intake.Intake) → index_spec.IsIndexBy intake index.now
         → OnOk result (writer.new.tokens ≡ writer.old.tokens ++ key (codes "answers")
-        ∷ json_tokens (array_of (map (answers_json (placed_in intake.acts)) pairs.now))) }
+        ∷ json_tokens (json_text.array_of (map (page.answers_json (placed_spec.placed_in intake.acts)) pairs.now))) }
     ensures before { writer.new.before ≡ writer.old.before }
 {
     let mut text = String::new(alloc);

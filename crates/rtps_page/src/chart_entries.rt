@@ -1,9 +1,9 @@
 ghost use Rattle.std.specs.Prelude.{◌≡◌, ◌<◌, ◌^◌, ◌++◌, ◌∷◌, [], codes, is_some, length, OnOk, flat_map, option_map, pos, string_bytes};
 ghost use Rattle.json.specs.Tree.{json_tokens};
-ghost use Rattle.rtps_receiver.specs.Values.{sent_part_value, spoken_body_value};
-ghost use Rattle.rtps_wire.specs.Values.{payload_value};
-ghost use Rattle.rtps_audit.specs.Placed.{placed_value};
-ghost use Rattle.rtps_page.specs.ChartEntries.{audience_text, entries_of, entry_json, entries_at, fragments_in, gone_json, members_of, named_json, one_gone_json, piece_json, sample_json};
+ghost use Rattle.rtps_receiver.specs.Values as receiver_values;
+ghost use Rattle.rtps_wire.specs.Values as wire_values;
+ghost use Rattle.rtps_audit.specs.Placed as placed_spec;
+ghost use Rattle.rtps_page.specs.ChartEntries as chart_entries;
 
 use crate::entry_counts::has_number;
 use json::Writer;
@@ -23,7 +23,7 @@ pub(crate) struct EntryHead<'a> {
 
 #[tactic(auto, unfolding(crate::specs::ChartEntries::audience_text))]
 pub(crate) fn push_audience(text: &mut String, audience: Option<Audience>) -> Result<(), AllocError>
-    ensures { OnOk result (string_bytes text.new ≡ string_bytes text.old ++ audience_text audience) }
+    ensures { OnOk result (string_bytes text.new ≡ string_bytes text.old ++ chart_entries.audience_text audience) }
 {
     let Some(audience) = audience else {
         return Ok(());
@@ -38,7 +38,7 @@ pub(crate) fn push_audience(text: &mut String, audience: Option<Audience>) -> Re
 }
 
 fn push_named(writer: &mut Writer, named: &str) -> Result<(), AllocError>
-    ensures tokens { OnOk result (writer.new.tokens ≡ writer.old.tokens ++ flat_map json_tokens (named_json named.now)) }
+    ensures tokens { OnOk result (writer.new.tokens ≡ writer.old.tokens ++ flat_map json_tokens (chart_entries.named_json named.now)) }
     ensures before { writer.new.before ≡ writer.old.before }
 {
     if named.is_empty() {
@@ -54,7 +54,7 @@ fn push_entry(
     numbers: &[i64],
 ) -> Result<(), AllocError>
     ensures tokens { OnOk result (writer.new.tokens
-        ≡ writer.old.tokens ++ json_tokens (entry_json head.entry.place head.entry.named.now kind.now numbers.now)) }
+        ≡ writer.old.tokens ++ json_tokens (chart_entries.entry_json head.entry.place head.entry.named.now kind.now numbers.now)) }
     ensures before { writer.new.before ≡ writer.old.before }
 {
     writer.begin_array()?;
@@ -74,7 +74,7 @@ fn push_last(
     heartbeat: &HeartbeatBody,
 ) -> Result<(), AllocError>
     ensures tokens { OnOk result (writer.new.tokens
-        ≡ writer.old.tokens ++ json_tokens (entry_json head.entry.place head.entry.named.now (codes "announced") (heartbeat.now.last ∷ []))) }
+        ≡ writer.old.tokens ++ json_tokens (chart_entries.entry_json head.entry.place head.entry.named.now (codes "announced") (heartbeat.now.last ∷ []))) }
     ensures before { writer.new.before ≡ writer.old.before }
 {
     push_entry(writer, head, "announced", &[heartbeat.last])
@@ -88,7 +88,7 @@ fn push_gone(
 ) -> Result<(), AllocError>
     requires { past < 2 ^ 63 }
     ensures tokens { OnOk result (writer.new.tokens
-        ≡ writer.old.tokens ++ flat_map json_tokens (gone_json head.entry.place head.entry.named.now from past)) }
+        ≡ writer.old.tokens ++ flat_map json_tokens (chart_entries.gone_json head.entry.place head.entry.named.now from past)) }
     ensures before { writer.new.before ≡ writer.old.before }
 {
     if from >= past {
@@ -105,7 +105,7 @@ fn push_gone(
 fn push_one_gone(writer: &mut Writer, head: EntryHead<'_>, number: u64) -> Result<(), AllocError>
     requires { number < 2 ^ 63 }
     ensures tokens { OnOk result (writer.new.tokens
-        ≡ writer.old.tokens ++ json_tokens (one_gone_json head.entry.place head.entry.named.now number)) }
+        ≡ writer.old.tokens ++ json_tokens (chart_entries.one_gone_json head.entry.place head.entry.named.now number)) }
     ensures before { writer.new.before ≡ writer.old.before }
 {
     let number = number.cast_signed();
@@ -114,7 +114,7 @@ fn push_one_gone(writer: &mut Writer, head: EntryHead<'_>, number: u64) -> Resul
 
 fn push_members(writer: &mut Writer, head: EntryHead<'_>, set: &NumberSet) -> Result<(), AllocError>
     ensures tokens { OnOk result (writer.new.tokens ≡ writer.old.tokens
-        ++ flat_map (λ number. json_tokens (one_gone_json head.entry.place head.entry.named.now number)) (members_of set.now)) }
+        ++ flat_map (λ number. json_tokens (chart_entries.one_gone_json head.entry.place head.entry.named.now number)) (chart_entries.members_of set.now)) }
     ensures before { writer.new.before ≡ writer.old.before }
 {
     let base = set.base().cast_unsigned();
@@ -129,7 +129,7 @@ fn push_members(writer: &mut Writer, head: EntryHead<'_>, set: &NumberSet) -> Re
 
 /// How many fragments a part has; the last one may be shorter.
 fn fragments_of(part: &SentPart<'_>) -> u64
-    ensures value { result ≡ fragments_in part.now.shape.fragment (length part.now.octets.now) }
+    ensures value { result ≡ chart_entries.fragments_in part.now.shape.fragment (length part.now.octets.now) }
     ensures few { result < 2 ^ 63 }
 {
     let size = u64::from(part.shape.fragment).max(1);
@@ -143,7 +143,7 @@ fn push_sent(
     piece: &FragmentBody<'_>,
 ) -> Result<(), AllocError>
     ensures tokens { OnOk result (writer.new.tokens ≡ writer.old.tokens
-        ++ flat_map json_tokens (piece_json head.entry.place head.entry.named.now piece.now.number (option_map sent_part_value piece.now.sent))) }
+        ++ flat_map json_tokens (chart_entries.piece_json head.entry.place head.entry.named.now piece.now.number (option_map receiver_values.sent_part_value piece.now.sent))) }
     ensures before { writer.new.before ≡ writer.old.before }
 {
     let Some(part) = &piece.sent else {
@@ -163,7 +163,7 @@ fn push_sent(
 
 /// Whether an act tells a sample.
 fn is_told(piece: &FragmentBody<'_>) -> bool
-    ensures { result ≡ is_some (option_map payload_value piece.now.told) }
+    ensures { result ≡ is_some (option_map wire_values.payload_value piece.now.told) }
 {
     match piece.told {
         Some(_) => true,
@@ -177,7 +177,7 @@ fn push_sample(
     piece: &FragmentBody<'_>,
 ) -> Result<(), AllocError>
     ensures tokens { OnOk result (writer.new.tokens
-        ≡ writer.old.tokens ++ json_tokens (entry_json head.entry.place head.entry.named.now (codes "sample") (pos piece.now.number ∷ []))) }
+        ≡ writer.old.tokens ++ json_tokens (chart_entries.entry_json head.entry.place head.entry.named.now (codes "sample") (pos piece.now.number ∷ []))) }
     ensures before { writer.new.before ≡ writer.old.before }
 {
     push_entry(writer, head, "sample", &[piece.number.get()])
@@ -190,7 +190,7 @@ fn push_told(
     piece: &FragmentBody<'_>,
 ) -> Result<(), AllocError>
     ensures tokens { OnOk result (writer.new.tokens ≡ writer.old.tokens
-        ++ flat_map json_tokens (sample_json head.entry.place head.entry.named.now piece.now.number (is_some (option_map payload_value piece.now.told)))) }
+        ++ flat_map json_tokens (chart_entries.sample_json head.entry.place head.entry.named.now piece.now.number (is_some (option_map wire_values.payload_value piece.now.told)))) }
     ensures before { writer.new.before ≡ writer.old.before }
 {
     if !is_told(piece) {
@@ -205,8 +205,8 @@ fn push_piece(
     piece: &FragmentBody<'_>,
 ) -> Result<(), AllocError>
     ensures tokens { OnOk result (writer.new.tokens ≡ writer.old.tokens ++ flat_map json_tokens
-        (piece_json head.entry.place head.entry.named.now piece.now.number (option_map sent_part_value piece.now.sent)
-        ++ sample_json head.entry.place head.entry.named.now piece.now.number (is_some (option_map payload_value piece.now.told)))) }
+        (chart_entries.piece_json head.entry.place head.entry.named.now piece.now.number (option_map receiver_values.sent_part_value piece.now.sent)
+        ++ chart_entries.sample_json head.entry.place head.entry.named.now piece.now.number (is_some (option_map wire_values.payload_value piece.now.told)))) }
     ensures before { writer.new.before ≡ writer.old.before }
 {
     push_sent(writer, head, piece)?;
@@ -218,7 +218,7 @@ pub(crate) fn push_entries(
     text: &mut String,
     placed: &Placed<'_>,
 ) -> Result<(), AllocError>
-    ensures tokens { OnOk result (writer.new.tokens ≡ writer.old.tokens ++ flat_map json_tokens (entries_of (placed_value placed.now))) }
+    ensures tokens { OnOk result (writer.new.tokens ≡ writer.old.tokens ++ flat_map json_tokens (chart_entries.entries_of (placed_spec.placed_value placed.now))) }
     ensures before { writer.new.before ≡ writer.old.before }
 {
     text.clear();
@@ -239,7 +239,7 @@ fn push_said(
     body: &SpokenBody<'_>,
 ) -> Result<(), AllocError>
     ensures tokens { OnOk result (writer.new.tokens
-        ≡ writer.old.tokens ++ flat_map json_tokens (entries_at head.entry.place head.entry.named.now (spoken_body_value body.now))) }
+        ≡ writer.old.tokens ++ flat_map json_tokens (chart_entries.entries_at head.entry.place head.entry.named.now (receiver_values.spoken_body_value body.now))) }
     ensures before { writer.new.before ≡ writer.old.before }
 {
     match body {

@@ -1,10 +1,9 @@
-ghost use Rattle.std.specs.Prelude.{ℕ, ◌≡◌, filter, length, map, IfOk, IfSome, List};
-ghost use Rattle.rtps_evidence.specs.Explanation.{explanation_value};
-ghost use Rattle.rtps_audit.specs.Index.{IsIndexBy};
-ghost use Rattle.rtps_audit.specs.Intake.{Intake};
-ghost use Rattle.rtps_audit.specs.Placed.{placed_in};
-ghost use Rattle.rtps_page.specs.ChartEntries.{entries_by, numbers_answered};
-ghost use Rattle.rtps_page.specs.ChartRoom.{charted_pairs, given_from, need_of};
+ghost use Rattle.std.specs.Prelude.{◌≡◌, filter, length, map, IfOk, IfSome};
+ghost use Rattle.rtps_evidence.specs.Explanation as explanation;
+ghost use Rattle.rtps_audit.specs.Index as index_spec;
+ghost use Rattle.rtps_audit.specs.Intake as intake;
+ghost use Rattle.rtps_audit.specs.Placed as placed;
+ghost use Rattle.rtps_page.specs.ChartEntries as chart_entries;
 ghost use Rattle.rtps_page.specs.ChartRoom as chart_room;
 
 use crate::entry_counts::{entries_of_answers, entries_of_writer};
@@ -64,9 +63,9 @@ struct Known {
 /// How many entries a writer has, where they may be known from the row before.
 fn entries_known(index: &Index<'_>, before: Option<Known>, writer: Guid) -> Known
     ensures writer { result.writer ≡ writer }
-    ensures entries { (intake : Intake) → IsIndexBy intake index.now
-        → IfSome before (λ known. known.entries ≡ length (entries_by known.writer (placed_in intake.acts)))
-        → result.entries ≡ length (entries_by writer (placed_in intake.acts)) }
+    ensures entries { (intake : intake.Intake) → index_spec.IsIndexBy intake index.now
+        → IfSome before (λ known. known.entries ≡ length (chart_entries.entries_by known.writer (placed.placed_in intake.acts)))
+        → result.entries ≡ length (chart_entries.entries_by writer (placed.placed_in intake.acts)) }
 {
     if let Some(known) = before {
         if known.writer == writer {
@@ -81,8 +80,8 @@ fn entries_known(index: &Index<'_>, before: Option<Known>, writer: Guid) -> Know
 
 /// How many entries the answers of a pair's reader to its writer have.
 fn entries_answered(alloc: Global, index: &Index<'_>, pair: Pair) -> Result<u128, AllocError>
-    ensures { (intake : Intake) → IsIndexBy intake index.now
-        → IfOk result (λ entries. entries ≡ length (numbers_answered pair (placed_in intake.acts))) }
+    ensures { (intake : intake.Intake) → index_spec.IsIndexBy intake index.now
+        → IfOk result (λ entries. entries ≡ length (chart_entries.numbers_answered pair (placed.placed_in intake.acts))) }
 {
     let answers = answer_acts(alloc, index, pair)?;
     Ok(entries_of_answers(&answers))
@@ -94,8 +93,8 @@ fn needs_of(
     tail: u64,
     rows: &[Explanation<'_>],
 ) -> Result<Vec<Need>, AllocError>
-    ensures { (intake : Intake) → IsIndexBy intake index.now
-        → IfOk result (λ needs. needs.items ≡ map (λ row. need_of tail (placed_in intake.acts) (explanation_value row)) rows.now) }
+    ensures { (intake : intake.Intake) → index_spec.IsIndexBy intake index.now
+        → IfOk result (λ needs. needs.items ≡ map (λ row. chart_room.need_of tail (placed.placed_in intake.acts) (explanation.explanation_value row)) rows.now) }
 {
     let mut needs = Vec::with_capacity(alloc, rows.len())?;
     let mut before = None;
@@ -167,8 +166,8 @@ fn give_all(
     room: Room,
     needs: &[Need],
 ) -> Result<(Room, Vec<Need>), AllocError>
-    ensures room { IfOk result (λ given. given.0 ≡ (given_from turn room needs.now).room) }
-    ensures needs { IfOk result (λ given. given.1.items ≡ (given_from turn room needs.now).needs) }
+    ensures room { IfOk result (λ given. given.0 ≡ (chart_room.given_from turn room needs.now).room) }
+    ensures needs { IfOk result (λ given. given.1.items ≡ (chart_room.given_from turn room needs.now).needs) }
 {
     let mut left = room;
     let mut given = Vec::with_capacity(alloc, needs.len())?;
@@ -200,8 +199,8 @@ pub(crate) fn pairs_with_charts(
     tail: u64,
     rows: &[Explanation<'_>],
 ) -> Result<Vec<Pair>, AllocError>
-    ensures { (intake : Intake) → IsIndexBy intake index.now
-        → IfOk result (λ pairs. pairs.items ≡ charted_pairs tail (placed_in intake.acts) (map explanation_value rows.now)) }
+    ensures { (intake : intake.Intake) → index_spec.IsIndexBy intake index.now
+        → IfOk result (λ pairs. pairs.items ≡ chart_room.charted_pairs tail (placed.placed_in intake.acts) (map explanation.explanation_value rows.now)) }
 {
     let needs = needs_of(alloc, index, tail, rows)?;
     let room = Room {

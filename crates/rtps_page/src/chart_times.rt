@@ -1,14 +1,13 @@
 ghost use Rattle.std.specs.Prelude.{ℕ, ◌≡◌, ◌++◌, ◌∷◌, [], flat_map, IfOk, OnOk};
 ghost use Rattle.std.specs.List.Sorted.{IsStrictlyIncreasing};
 ghost use Rattle.json.specs.Tree.{json_tokens};
-ghost use Rattle.rtps_audit.specs.Index.{IsIndexBy};
-ghost use Rattle.rtps_audit.specs.Intake.{Intake};
-ghost use Rattle.rtps_audit.specs.Placed.{placed_in};
+ghost use Rattle.rtps_audit.specs.Index as index_spec;
+ghost use Rattle.rtps_audit.specs.Intake as intake;
+ghost use Rattle.rtps_audit.specs.Placed as placed;
 ghost use Rattle.rtps_evidence.specs.Times as times_spec;
-ghost use Rattle.rtps_json.specs.JsonText.{clock_times, timed_members, tokens_of};
-ghost use Rattle.rtps_page.specs.ChartTimes.{answered_in, frame_items, is_among, said_in, time_of_json};
+ghost use Rattle.rtps_json.specs.JsonText as json_text;
 ghost use Rattle.rtps_page.specs.ChartTimes as chart_times;
-ghost use Rattle.rtps_page.specs.Page.{times_member};
+ghost use Rattle.rtps_page.specs.Page as page;
 
 use crate::chart_writers::writers_of;
 use crate::entry_counts::has_entry;
@@ -21,8 +20,8 @@ use std::alloc::{AllocError, Global};
 
 /// Adds the datagrams in which a writer says something that has an entry.
 fn add_said(numbers: &mut Vec<u64>, index: &Index<'_>, writer: Guid) -> Result<(), AllocError>
-    ensures { (intake : Intake) → IsIndexBy intake index.now
-        → OnOk result (numbers.new.items ≡ numbers.old.items ++ said_in (placed_in intake.acts) writer) }
+    ensures { (intake : intake.Intake) → index_spec.IsIndexBy intake index.now
+        → OnOk result (numbers.new.items ≡ numbers.old.items ++ chart_times.said_in (placed.placed_in intake.acts) writer) }
 {
     for placed in index.acts_of(writer) {
         if placed.act.spoken_by(writer) && has_entry(placed) {
@@ -34,8 +33,8 @@ fn add_said(numbers: &mut Vec<u64>, index: &Index<'_>, writer: Guid) -> Result<(
 
 /// Adds the datagrams in which the reader of a pair answers.
 fn add_answered(numbers: &mut Vec<u64>, index: &Index<'_>, pair: Pair) -> Result<(), AllocError>
-    ensures { (intake : Intake) → IsIndexBy intake index.now
-        → OnOk result (numbers.new.items ≡ numbers.old.items ++ answered_in (placed_in intake.acts) pair) }
+    ensures { (intake : intake.Intake) → index_spec.IsIndexBy intake index.now
+        → OnOk result (numbers.new.items ≡ numbers.old.items ++ chart_times.answered_in (placed.placed_in intake.acts) pair) }
 {
     for answer in index.answers_of(pair) {
         numbers.push(answer.datagram as u64)?;
@@ -44,8 +43,8 @@ fn add_answered(numbers: &mut Vec<u64>, index: &Index<'_>, pair: Pair) -> Result
 }
 
 fn all_said(alloc: Global, index: &Index<'_>, writers: &[Guid]) -> Result<Vec<u64>, AllocError>
-    ensures { (intake : Intake) → IsIndexBy intake index.now
-        → IfOk result (λ numbers. numbers.items ≡ flat_map (said_in (placed_in intake.acts)) writers.now) }
+    ensures { (intake : intake.Intake) → index_spec.IsIndexBy intake index.now
+        → IfOk result (λ numbers. numbers.items ≡ flat_map (chart_times.said_in (placed.placed_in intake.acts)) writers.now) }
 {
     let mut numbers = Vec::new(alloc);
     for writer in writers {
@@ -59,8 +58,8 @@ fn add_all_answered(
     index: &Index<'_>,
     pairs: &[Pair],
 ) -> Result<(), AllocError>
-    ensures { (intake : Intake) → IsIndexBy intake index.now
-        → OnOk result (numbers.new.items ≡ numbers.old.items ++ flat_map (answered_in (placed_in intake.acts)) pairs.now) }
+    ensures { (intake : intake.Intake) → index_spec.IsIndexBy intake index.now
+        → OnOk result (numbers.new.items ≡ numbers.old.items ++ flat_map (chart_times.answered_in (placed.placed_in intake.acts)) pairs.now) }
 {
     for pair in pairs {
         add_answered(numbers, index, *pair)?;
@@ -71,7 +70,7 @@ fn add_all_answered(
 /// Puts numbers in rising order, and keeps each once.
 fn sort_once(numbers: &mut Vec<u64>)
     ensures rising { IsStrictlyIncreasing numbers.new.items }
-    ensures same { (number : ℕ) → is_among numbers.new.items number ≡ is_among numbers.old.items number }
+    ensures same { (number : ℕ) → chart_times.is_among numbers.new.items number ≡ chart_times.is_among numbers.old.items number }
 {
     numbers.sort_unstable();
     numbers.dedup();
@@ -80,8 +79,8 @@ fn sort_once(numbers: &mut Vec<u64>)
 /// The datagrams that stand in the charts of these pairs, each once and in rising order.
 fn datagrams_shown(alloc: Global, index: &Index<'_>, pairs: &[Pair]) -> Result<Vec<u64>, AllocError>
     ensures rising { IfOk result (λ numbers. IsStrictlyIncreasing numbers.items) }
-    ensures same { (intake : Intake) → IsIndexBy intake index.now → IfOk result (λ numbers. (number : ℕ)
-        → is_among numbers.items number ≡ is_among (chart_times.datagrams_shown (placed_in intake.acts) pairs.now) number) }
+    ensures same { (intake : intake.Intake) → index_spec.IsIndexBy intake index.now → IfOk result (λ numbers. (number : ℕ)
+        → chart_times.is_among numbers.items number ≡ chart_times.is_among (chart_times.datagrams_shown (placed.placed_in intake.acts) pairs.now) number) }
 {
     let writers = writers_of(alloc, pairs)?;
     let mut numbers = all_said(alloc, index, &writers)?;
@@ -92,7 +91,7 @@ fn datagrams_shown(alloc: Global, index: &Index<'_>, pairs: &[Pair]) -> Result<V
 
 /// The frame of a datagram, if there is one and frames are told.
 fn frame_of(clock: Clock<'_>, datagram: u64) -> Option<u64>
-    ensures { result ≡ times_spec.frame_of (clock_times clock.entry).frames datagram }
+    ensures { result ≡ times_spec.frame_of (json_text.clock_times clock.entry).frames datagram }
 {
     if clock.framed {
         clock.times.frame(datagram)
@@ -103,7 +102,7 @@ fn frame_of(clock: Clock<'_>, datagram: u64) -> Option<u64>
 
 /// Appends a frame, if there is one.
 fn push_frame(writer: &mut Writer, frame: Option<u64>) -> Result<(), AllocError>
-    ensures tokens { OnOk result (writer.new.tokens ≡ writer.old.tokens ++ flat_map json_tokens (frame_items frame)) }
+    ensures tokens { OnOk result (writer.new.tokens ≡ writer.old.tokens ++ flat_map json_tokens (chart_times.frame_items frame)) }
     ensures before { writer.new.before ≡ writer.old.before }
 {
     match frame {
@@ -120,7 +119,7 @@ fn push_time(
     datagram: u64,
 ) -> Result<(), AllocError>
     ensures tokens { OnOk result (writer.new.tokens
-        ≡ writer.old.tokens ++ flat_map json_tokens (time_of_json (clock_times clock.entry) datagram)) }
+        ≡ writer.old.tokens ++ flat_map json_tokens (chart_times.time_of_json (json_text.clock_times clock.entry) datagram)) }
     ensures before { writer.new.before ≡ writer.old.before }
 {
     let Some(second) = clock.times.second(datagram) else {
@@ -140,7 +139,7 @@ fn push_each_time(
     datagrams: &[u64],
 ) -> Result<(), AllocError>
     ensures tokens { OnOk result (writer.new.tokens ≡ writer.old.tokens
-        ++ flat_map (λ datagram. flat_map json_tokens (time_of_json (clock_times clock.entry) datagram)) datagrams.now) }
+        ++ flat_map (λ datagram. flat_map json_tokens (chart_times.time_of_json (json_text.clock_times clock.entry) datagram)) datagrams.now) }
     ensures before { writer.new.before ≡ writer.old.before }
 {
     for datagram in datagrams {
@@ -156,8 +155,8 @@ pub(crate) fn push_times(
     index: &Index<'_>,
     pairs: &[Pair],
 ) -> Result<(), AllocError>
-    ensures tokens { (intake : Intake) → IsIndexBy intake index.now → OnOk result (writer.new.tokens ≡ writer.old.tokens
-        ++ tokens_of (timed_members (clock_times clock.entry) (times_member (clock_times clock.entry) (placed_in intake.acts) pairs.now ∷ []))) }
+    ensures tokens { (intake : intake.Intake) → index_spec.IsIndexBy intake index.now → OnOk result (writer.new.tokens ≡ writer.old.tokens
+        ++ json_text.tokens_of (json_text.timed_members (json_text.clock_times clock.entry) (page.times_member (json_text.clock_times clock.entry) (placed.placed_in intake.acts) pairs.now ∷ []))) }
     ensures before { writer.new.before ≡ writer.old.before }
 {
     if !clock.times.are_there() {

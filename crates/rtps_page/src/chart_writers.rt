@@ -1,12 +1,12 @@
-ghost use Rattle.std.specs.Prelude.{ℕ, ◌≡◌, ◌++◌, ◌∷◌, codes, map, IfOk, List, None, OnOk};
+ghost use Rattle.std.specs.Prelude.{◌≡◌, ◌++◌, ◌∷◌, codes, map, IfOk, None, OnOk};
 ghost use Rattle.json.specs.Token.{key};
 ghost use Rattle.json.specs.Tree.{json_tokens};
-ghost use Rattle.rtps_audit.specs.Index.{IsIndexBy};
-ghost use Rattle.rtps_audit.specs.Intake.{Intake};
-ghost use Rattle.rtps_audit.specs.Placed.{placed_in};
-ghost use Rattle.rtps_json.specs.JsonText.{array_of};
-ghost use Rattle.rtps_page.specs.ChartRoom.{writers_behind};
-ghost use Rattle.rtps_page.specs.Page.{writer_json};
+ghost use Rattle.rtps_audit.specs.Index as index_spec;
+ghost use Rattle.rtps_audit.specs.Intake as intake;
+ghost use Rattle.rtps_audit.specs.Placed as placed;
+ghost use Rattle.rtps_json.specs.JsonText as json_text;
+ghost use Rattle.rtps_page.specs.ChartRoom as chart_room;
+ghost use Rattle.rtps_page.specs.Page as page;
 
 use crate::chart_entries::push_entries;
 use crate::chart_room::is_last;
@@ -19,7 +19,7 @@ use std::alloc::{AllocError, Global};
 
 /// The writers of these pairs that follow one another, each once.
 pub(crate) fn writers_of(alloc: Global, pairs: &[Pair]) -> Result<Vec<Guid>, AllocError>
-    ensures { IfOk result (λ writers. writers.items ≡ writers_behind None pairs.now) }
+    ensures { IfOk result (λ writers. writers.items ≡ chart_room.writers_behind None pairs.now) }
 {
     let mut writers = Vec::new(alloc);
     let mut last = None;
@@ -38,8 +38,8 @@ fn push_writer(
     index: &Index<'_>,
     guid: Guid,
 ) -> Result<(), AllocError>
-    ensures tokens { (intake : Intake) → IsIndexBy intake index.now
-        → OnOk result (writer.new.tokens ≡ writer.old.tokens ++ json_tokens (writer_json (placed_in intake.acts) guid)) }
+    ensures tokens { (intake : intake.Intake) → index_spec.IsIndexBy intake index.now
+        → OnOk result (writer.new.tokens ≡ writer.old.tokens ++ json_tokens (page.writer_json (placed.placed_in intake.acts) guid)) }
     ensures before { writer.new.before ≡ writer.old.before }
 {
     let acts = index.acts_of(guid);
@@ -63,9 +63,9 @@ pub(crate) fn push_writers(
     index: &Index<'_>,
     pairs: &[Pair],
 ) -> Result<(), AllocError>
-    ensures tokens { (intake : Intake) → IsIndexBy intake index.now
+    ensures tokens { (intake : intake.Intake) → index_spec.IsIndexBy intake index.now
         → OnOk result (writer.new.tokens ≡ writer.old.tokens ++ key (codes "writers")
-        ∷ json_tokens (array_of (map (writer_json (placed_in intake.acts)) (writers_behind None pairs.now)))) }
+        ∷ json_tokens (json_text.array_of (map (page.writer_json (placed.placed_in intake.acts)) (chart_room.writers_behind None pairs.now)))) }
     ensures before { writer.new.before ≡ writer.old.before }
 {
     let mut text = String::new(alloc);

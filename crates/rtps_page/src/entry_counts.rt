@@ -1,10 +1,9 @@
 ghost use Rattle.std.specs.Prelude.{ℕ, ◌≡◌, ◌≤◌, ◌<◌, ◌^◌, flat_map, is_some, length, map, List, option_map};
-ghost use Rattle.rtps_ids.specs.NumberSet.{is_member};
-ghost use Rattle.rtps_receiver.specs.Values.{sent_part_value, spoken_body_value};
-ghost use Rattle.rtps_wire.specs.Values.{payload_value};
-ghost use Rattle.rtps_audit.specs.Placed.{placed_value};
+ghost use Rattle.rtps_ids.specs.NumberSet as number_set;
+ghost use Rattle.rtps_receiver.specs.Values as receiver_values;
+ghost use Rattle.rtps_wire.specs.Values as wire_values;
+ghost use Rattle.rtps_audit.specs.Placed as placed_spec;
 ghost use Rattle.rtps_evidence.specs.declared.location.Location.{Location as LocationValue};
-ghost use Rattle.rtps_page.specs.ChartEntries.{entries_at, entries_by, gone_json, members_of, piece_json, sample_json};
 ghost use Rattle.rtps_page.specs.ChartEntries as chart_entries;
 ghost use Rattle.rtps_page.specs.ChartTimes as chart_times;
 
@@ -14,13 +13,13 @@ use rtps_receiver::{ActBody, FragmentBody, SpokenBody};
 
 pub(crate) fn has_number(set: &NumberSet, number: u64) -> bool
     requires { number < 2 ^ 63 }
-    ensures { result ≡ is_member set.now number }
+    ensures { result ≡ number_set.is_member set.now number }
 {
     set.contains(number.cast_signed())
 }
 
 fn members_among(set: &NumberSet) -> u64
-    ensures value { result ≡ length (members_of set.now) }
+    ensures value { result ≡ length (chart_entries.members_of set.now) }
     ensures few { result ≤ 256 }
 {
     let base = set.base().cast_unsigned();
@@ -35,7 +34,7 @@ fn members_among(set: &NumberSet) -> u64
 
 /// 1 where there are numbers from one on and below another, and else 0.
 fn one_if_gone(from: u64, past: u64) -> u64
-    ensures value { (place : LocationValue) (named : List ℕ) → result ≡ length (gone_json place named from past) }
+    ensures value { (place : LocationValue) (named : List ℕ) → result ≡ length (chart_entries.gone_json place named from past) }
     ensures few { result ≤ 1 }
 {
     if from < past { 1 } else { 0 }
@@ -43,7 +42,7 @@ fn one_if_gone(from: u64, past: u64) -> u64
 
 /// 1 where an act sends fragments, and else 0.
 fn one_if_sent(piece: &FragmentBody<'_>) -> u64
-    ensures value { (place : LocationValue) (named : List ℕ) → result ≡ length (piece_json place named piece.now.number (option_map sent_part_value piece.now.sent)) }
+    ensures value { (place : LocationValue) (named : List ℕ) → result ≡ length (chart_entries.piece_json place named piece.now.number (option_map receiver_values.sent_part_value piece.now.sent)) }
     ensures few { result ≤ 1 }
 {
     match piece.sent {
@@ -54,7 +53,7 @@ fn one_if_sent(piece: &FragmentBody<'_>) -> u64
 
 /// 1 where an act tells a sample, and else 0.
 fn one_if_told(piece: &FragmentBody<'_>) -> u64
-    ensures value { (place : LocationValue) (named : List ℕ) → result ≡ length (sample_json place named piece.now.number (is_some (option_map payload_value piece.now.told))) }
+    ensures value { (place : LocationValue) (named : List ℕ) → result ≡ length (chart_entries.sample_json place named piece.now.number (is_some (option_map wire_values.payload_value piece.now.told))) }
     ensures few { result ≤ 1 }
 {
     match piece.told {
@@ -65,7 +64,7 @@ fn one_if_told(piece: &FragmentBody<'_>) -> u64
 
 /// How many entries what an act says has.
 fn entries_in(body: &SpokenBody<'_>) -> u64
-    ensures value { (place : LocationValue) (named : List ℕ) → result ≡ length (entries_at place named (spoken_body_value body.now)) }
+    ensures value { (place : LocationValue) (named : List ℕ) → result ≡ length (chart_entries.entries_at place named (receiver_values.spoken_body_value body.now)) }
     ensures few { result ≤ 257 }
 {
     match body {
@@ -85,14 +84,14 @@ fn entries_in(body: &SpokenBody<'_>) -> u64
 
 /// Whether an act has an entry.
 pub(crate) fn has_entry(placed: &Placed<'_>) -> bool
-    ensures { result ≡ chart_times.has_entry (placed_value placed.now) }
+    ensures { result ≡ chart_times.has_entry (placed_spec.placed_value placed.now) }
 {
     entries_in(&placed.act.body) > 0
 }
 
 /// How many entries a writer has by these acts.
 pub(crate) fn entries_of_writer(acts: &[Placed<'_>], writer: Guid) -> u128
-    ensures { result ≡ length (entries_by writer (map placed_value acts.now)) }
+    ensures { result ≡ length (chart_entries.entries_by writer (map placed_spec.placed_value acts.now)) }
 {
     let mut count = 0u128;
     for placed in acts {
@@ -105,7 +104,7 @@ pub(crate) fn entries_of_writer(acts: &[Placed<'_>], writer: Guid) -> u128
 
 /// How many numbers an answer has: its base, and those that it asks for.
 fn numbers_in(body: &SpokenBody<'_>) -> u64
-    ensures value { result ≡ length (chart_entries.numbers_in (spoken_body_value body.now)) }
+    ensures value { result ≡ length (chart_entries.numbers_in (receiver_values.spoken_body_value body.now)) }
     ensures few { result ≤ 257 }
 {
     match body {
@@ -120,7 +119,7 @@ fn numbers_in(body: &SpokenBody<'_>) -> u64
 
 /// How many entries these answers have.
 pub(crate) fn entries_of_answers(answers: &[Placed<'_>]) -> u128
-    ensures { result ≡ length (flat_map (λ placed. chart_entries.numbers_in placed.act.body) (map placed_value answers.now)) }
+    ensures { result ≡ length (flat_map (λ placed. chart_entries.numbers_in placed.act.body) (map placed_spec.placed_value answers.now)) }
 {
     let mut count = 0u128;
     for placed in answers {

@@ -1,12 +1,12 @@
 ghost use Rattle.std.specs.Prelude.{◌≡◌, ◌++◌, IfOk, IsUtf8, string_bytes};
-ghost use Rattle.rtps_audit.specs.Index.{IsIndexBy};
-ghost use Rattle.rtps_fragments.specs.RecordedSamples.{intake_as};
+ghost use Rattle.rtps_audit.specs.Index as index;
+ghost use Rattle.rtps_fragments.specs.RecordedSamples as recorded_samples;
 ghost use Rattle.rtps_fragments.specs.declared.fragments.Fragments.TheVariants.{Read};
-ghost use Rattle.rtps_report.specs.Asked.{asked_value};
-ghost use Rattle.rtps_report.specs.FullReport.{report_value};
-ghost use Rattle.rtps_page.specs.Origin.{origin_value};
-ghost use Rattle.rtps_page.specs.Page.{IsPageOf};
-ghost use Rattle.rtps_page.specs.SafeText.{in_html, in_json, safe_text};
+ghost use Rattle.rtps_report.specs.Asked as asked;
+ghost use Rattle.rtps_report.specs.FullReport as full_report;
+ghost use Rattle.rtps_page.specs.Origin as origin_spec;
+ghost use Rattle.rtps_page.specs.Page as page_spec;
+ghost use Rattle.rtps_page.specs.SafeText as safe_text;
 ghost use Rattle.rtps_page.specs.declared.page_parts.TheConstants.{HEAD as HEAD_TEXT, MIDDLE as MIDDLE_TEXT, TAIL as TAIL_TEXT};
 
 use crate::origin::Origin;
@@ -25,8 +25,8 @@ pub fn page_text(
     plain: &str,
     origin: Origin<'_>,
 ) -> Result<String, Memory>
-    requires { IsIndexBy (intake_as Read report.now.recording.now.datagrams) report.now.index }
-    ensures { IfOk result (λ page. IsPageOf (origin_value origin.entry) (asked_value report.now.asked.now) report.now.recording.now (report_value report.now) plain.now (string_bytes page)) }
+    requires { index.IsIndexBy (recorded_samples.intake_as Read report.now.recording.now.datagrams) report.now.index }
+    ensures { IfOk result (λ page. page_spec.IsPageOf (origin_spec.origin_value origin.entry) (asked.asked_value report.now.asked.now) report.now.recording.now (full_report.report_value report.now) plain.now (string_bytes page)) }
 {
     let directory = report.index.directory();
     let data = data_of(
@@ -53,7 +53,7 @@ fn joined(alloc: Global, plain: &str, object: &[u8]) -> Result<Vec<u8>, AllocErr
     requires { IsUtf8 object.now }
     ensures utf8 { IfOk result (λ page. IsUtf8 page.items) }
     ensures text { IfOk result (λ page. page.items
-        ≡ HEAD_TEXT.now ++ (safe_text in_html plain.now ++ (MIDDLE_TEXT.now ++ (safe_text in_json object.now ++ TAIL_TEXT.now)))) }
+        ≡ HEAD_TEXT.now ++ (safe_text.safe_text safe_text.in_html plain.now ++ (MIDDLE_TEXT.now ++ (safe_text.safe_text safe_text.in_json object.now ++ TAIL_TEXT.now)))) }
 {
     let mut page = Vec::with_capacity(alloc, least_size(plain, object))?;
     page.extend_from_slice(HEAD.as_bytes())?;

@@ -1,8 +1,8 @@
 ghost use Rattle.std.specs.Prelude.{◌≡◌, ◌≤◌, length, map, IfOk, IfSome};
-ghost use Rattle.rtps_audit.specs.Index.{IsIndexBy};
-ghost use Rattle.rtps_audit.specs.Intake.{Intake};
-ghost use Rattle.rtps_audit.specs.Placed.{placed_in, placed_value};
-ghost use Rattle.rtps_page.specs.ChartEntries.{answers_in};
+ghost use Rattle.rtps_audit.specs.Index as index_spec;
+ghost use Rattle.rtps_audit.specs.Intake as intake;
+ghost use Rattle.rtps_audit.specs.Placed as placed;
+ghost use Rattle.rtps_page.specs.ChartEntries as chart_entries;
 
 use rtps_audit::{Answer, Index, Placed};
 use rtps_discovery::Pair;
@@ -29,8 +29,8 @@ fn acts_found<'a>(
     answers: &[Answer],
     pair: Pair,
 ) -> Result<Option<Vec<Placed<'a>>>, AllocError>
-    ensures { IfOk result (λ found. IfSome found (λ kept. length answers.now ≡ length (answers_in pair (map placed_value acts.now))
-        → map placed_value kept.items ≡ answers_in pair (map placed_value acts.now))) }
+    ensures { IfOk result (λ found. IfSome found (λ kept. length answers.now ≡ length (chart_entries.answers_in pair (map placed.placed_value acts.now))
+        → map placed.placed_value kept.items ≡ chart_entries.answers_in pair (map placed.placed_value acts.now))) }
 {
     let mut found = Vec::with_capacity(alloc, answers.len())?;
     let mut next = 0;
@@ -51,7 +51,7 @@ fn acts_kept<'a>(
     acts: &[Placed<'a>],
     pair: Pair,
 ) -> Result<Vec<Placed<'a>>, AllocError>
-    ensures { IfOk result (λ kept. map placed_value kept.items ≡ answers_in pair (map placed_value acts.now)) }
+    ensures { IfOk result (λ kept. map placed.placed_value kept.items ≡ chart_entries.answers_in pair (map placed.placed_value acts.now)) }
 {
     let mut kept = Vec::new(alloc);
     for placed in acts {
@@ -69,8 +69,8 @@ pub(crate) fn answer_acts<'a>(
     index: &Index<'a>,
     pair: Pair,
 ) -> Result<Vec<Placed<'a>>, AllocError>
-    ensures { (intake : Intake) → IsIndexBy intake index.now
-        → IfOk result (λ acts. map placed_value acts.items ≡ answers_in pair (placed_in intake.acts)) }
+    ensures { (intake : intake.Intake) → index_spec.IsIndexBy intake index.now
+        → IfOk result (λ acts. map placed.placed_value acts.items ≡ chart_entries.answers_in pair (placed.placed_in intake.acts)) }
 {
     let acts = index.acts_of(pair.reader);
     match acts_found(alloc, acts, index.answers_of(pair), pair)? {

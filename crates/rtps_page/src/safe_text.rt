@@ -1,5 +1,5 @@
 ghost use Rattle.std.specs.Prelude.{ℕ, ◌≡◌, ◌≤◌, ◌-◌, ◌++◌, true, drop, length, take, List, OnOk};
-ghost use Rattle.rtps_page.specs.SafeText.{escape_in, is_markup, safe_octet, safe_text};
+ghost use Rattle.rtps_page.specs.SafeText as safe_text;
 
 use memchr::memchr3;
 use std::alloc::AllocError;
@@ -15,8 +15,8 @@ pub(crate) enum Place {
 
 /// What is written there for `&`, `<` or `>`.
 fn escape_of(place: Place, octet: u8) -> &'static str
-    requires { is_markup octet ≡ true }
-    ensures { result.now ≡ escape_in place octet }
+    requires { safe_text.is_markup octet ≡ true }
+    ensures { result.now ≡ safe_text.escape_in place octet }
 {
     match (place, octet) {
         (Place::Html, b'&') => "&amp;",
@@ -30,7 +30,7 @@ fn escape_of(place: Place, octet: u8) -> &'static str
 
 /// Appends a text without its octets `&`, `<` and `>`. After an `Err` some of it is appended.
 pub(crate) fn push_safe(out: &mut Vec<u8>, place: Place, text: &[u8]) -> Result<(), AllocError>
-    ensures { OnOk result (out.new.items ≡ out.old.items ++ safe_text (escape_in place) text.now) }
+    ensures { OnOk result (out.new.items ≡ out.old.items ++ safe_text.safe_text (safe_text.escape_in place) text.now) }
 {
     let mut start = 0;
     'runs: while start < text.len() {
@@ -50,8 +50,8 @@ fn plain_end(text: &[u8], start: usize) -> usize
     requires { start ≤ length text.now }
     ensures onward { start ≤ result }
     ensures within { result ≤ length text.now }
-    ensures plain { (escape : ℕ → List ℕ) → safe_text escape (drop start text.now)
-        ≡ take (result - start) (drop start text.now) ++ safe_text escape (drop result text.now) }
+    ensures plain { (escape : ℕ → List ℕ) → safe_text.safe_text escape (drop start text.now)
+        ≡ take (result - start) (drop start text.now) ++ safe_text.safe_text escape (drop result text.now) }
 {
     match memchr3(b'&', b'<', b'>', &text[start..]) {
         Some(place) => start + place,
@@ -61,7 +61,7 @@ fn plain_end(text: &[u8], start: usize) -> usize
 
 #[tactic(auto, unfolding(crate::specs::SafeText::safe_octet))]
 fn push_octet(out: &mut Vec<u8>, place: Place, octet: u8) -> Result<(), AllocError>
-    ensures { OnOk result (out.new.items ≡ out.old.items ++ safe_octet (escape_in place) octet) }
+    ensures { OnOk result (out.new.items ≡ out.old.items ++ safe_text.safe_octet (safe_text.escape_in place) octet) }
 {
     if octet != b'&' && octet != b'<' && octet != b'>' {
         out.push(octet)?;

@@ -1,42 +1,19 @@
--- What discovery has told, act by act and datagram by datagram.
-use Rattle.std.proofs.Common.{Bor, ◌≡◌, ◌∙◌, ℕ, ◌+◌, ◌<◌, ◌≤◌, List, [], ◌∷◌, ◌++◌, Option, append-nil, append_assoc, ap, arith, get_or, length, map, sym, take}
-use Rattle.std.specs.List.{enumerate_from, flat_map}
-use Rattle.std.proofs.lemmas.Grind.{flat_map-append}
-use Rattle.std.proofs.lemmas.List.{length-map, length-take-le, map_more, map_push}
-use Rattle.std.proofs.lemmas.List.Concat.{flat_map-cons}
-use Rattle.rtps_receiver.specs.Values.{ActValue}
-use Rattle.rtps_evidence.specs.Times.{time_of}
-use Rattle.rtps_known.specs.Tellings.{TimedAct}
-use Rattle.rtps_report.specs.ActsRead.{acts_at, acts_read_in, acts_timed, timed_acts}
-use Rattle.rtps_report.proofs.PresenceLemmas.{enumerate_more}
+-- What discovery has told, act by act.
+use Rattle.std.proofs.Common.{◌≡◌, ◌∙◌, ℕ, ◌+◌, ◌<◌, List, [], ◌∷◌, ◌++◌, Option, append_assoc, ap, get_or, length, map, sym, take}
+use Rattle.std.proofs.lemmas.List.{map_more, map_push}
+use Rattle.rtps_receiver.specs.Values as values
+use Rattle.rtps_known.specs.Tellings as tellings
+use Rattle.rtps_report.specs.ActsRead as acts_read
 
 -- an act with a time
-abbrev pub timed : Option ℕ → ActValue → TimedAct
+abbrev pub timed : Option ℕ → values.ActValue → tellings.TimedAct
 timed time act = record { act = act; time = time }
 
 -- one act more
-pub act_more : {X : Type 0} (value : X → ActValue) (before : List TimedAct) (time : Option ℕ) (acts : List X) (i : ℕ) (act : X) → i < length acts → act ≡ get_or acts i act
-    → (before ++ acts_at time (map value (take i acts))) ++ timed time (value act) ∷ [] ≡ before ++ acts_at time (map value (take (i + 1) acts))
+pub act_more : {X : Type 0} (value : X → values.ActValue) (before : List tellings.TimedAct) (time : Option ℕ) (acts : List X) (i : ℕ) (act : X) → i < length acts → act ≡ get_or acts i act
+    → (before ++ acts_read.acts_at time (map value (take i acts))) ++ timed time (value act) ∷ [] ≡ before ++ acts_read.acts_at time (map value (take (i + 1) acts))
 act_more {X} value before time acts i act within is =
-    append_assoc before (acts_at time (map value (take i acts))) (timed time (value act) ∷ [])
-    ∙ ap (λ (those : List TimedAct). before ++ those)
-    (ap (λ (one : X). acts_at time (map value (take i acts)) ++ timed time (value one) ∷ []) is
+    append_assoc before (acts_read.acts_at time (map value (take i acts))) (timed time (value act) ∷ [])
+    ∙ ap (λ (those : List tellings.TimedAct). before ++ those)
+    (ap (λ (one : X). acts_read.acts_at time (map value (take i acts)) ++ timed time (value one) ∷ []) is
     ∙ sym (ap (map (timed time)) (map_more value acts i act within) ∙ map_push (timed time) (map value (take i acts)) (value (get_or acts i act))))
-
--- one datagram more
-pub timed_more : (recording : List (Bor (List ℕ))) (times : List (Option ℕ)) (place : ℕ) (default : Bor (List ℕ)) (time : Option ℕ) (acts : List ActValue) → place < length recording
-    → time ≡ time_of times (place + 1) → acts ≡ acts_read_in (get_or recording place default).now
-    → timed_acts (map (λ one. one.now) (take place recording)) times ++ acts_at time acts ≡ timed_acts (map (λ one. one.now) (take (place + 1) recording)) times
-timed_more recording times place default time acts within then are =
-    let so_far : List (List ℕ) = map (λ (one : Bor (List ℕ)). one.now) (take place recording) in
-    let datagram : List ℕ = (get_or recording place default).now in
-    let le : place ≤ length recording = omega arith in
-    let size : length so_far ≡ place = length-map (take place recording) (λ (one : Bor (List ℕ)). one.now) ∙ length-take-le place recording le in
-    let number : 1 + length so_far ≡ place + 1 = omega (arith, size) in
-    let last : List (ℕ × List ℕ) = (1 + length so_far, datagram) ∷ [] in
-    let same : acts_timed times (1 + length so_far, datagram) ≡ acts_at time acts =
-    ap (λ (n : ℕ). acts_at (time_of times n) (acts_read_in datagram)) number ∙ (λ i. acts_at (sym then i) (sym are i)) in
-    sym (ap (λ (all : List (List ℕ)). timed_acts all times) (map_more (λ (one : Bor (List ℕ)). one.now) recording place default within)
-    ∙ ap (flat_map (acts_timed times)) (enumerate_more 1 so_far datagram) ∙ flat_map-append (acts_timed times) (enumerate_from 1 so_far) last
-    ∙ ap (λ (rest : List TimedAct). timed_acts so_far times ++ rest)
-    (flat_map-cons (acts_timed times) (1 + length so_far, datagram) [] ∙ append-nil (acts_timed times (1 + length so_far, datagram)) ∙ same))

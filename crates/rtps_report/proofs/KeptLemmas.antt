@@ -1,7 +1,7 @@
 -- Steps of loops that keep the pairs that pass a test.
 use Rattle.std.proofs.Common.{◌≡◌, ◌∙◌, ◌++◌, ◌∷◌, [], Bool, true, false, cond, List, ap, append-nil, append_assoc, filter, sym}
 use Rattle.std.proofs.lemmas.List.Elements.{filter-append}
-use Rattle.rtps_report.specs.Vocabulary.{Pair}
+use Rattle.rtps_discovery.specs.declared.matching.Pair.{Pair}
 
 -- one more that passes
 pub kept_more : (test : Pair → Bool) (start so_far items before after : List Pair) (pair : Pair) → after ≡ before ++ pair ∷ [] → test pair ≡ true → items ≡ so_far ++ pair ∷ []

@@ -38,3 +38,4 @@ mod TalkParts
 mod TopicLemmas
 mod TwoLivesOnce
 mod VisitLemmas
+pub mod AcquaintanceLemmas

@@ -4,13 +4,13 @@ use Rattle.std.specs.Prelude.{count_by}
 use Rattle.std.specs.List.{list_any}
 use Rattle.std.proofs.lemmas.List.Folds.{list_any-append}
 use Rattle.std.proofs.lemmas.List.Sums.{sum_by-cons}
-use Rattle.rtps_fragments.specs.FragmentWalk.{all_acts_in}
-use Rattle.rtps_policies.specs.Namings.{AreNamingsOf, named_in, names}
+use Rattle.rtps_fragments.specs.FragmentWalk as fragment_walk
+use Rattle.rtps_policies.specs.Namings as namings_spec
 use Rattle.rtps_policies.specs.declared.naming.Naming.{Naming}
 use Rattle.rtps_policies.specs.declared.naming.Namings.{Namings}
-use Rattle.rtps_report.specs.Vocabulary.{Pair}
-use Rattle.rtps_report.specs.ActsRead.{acts_read_in, datagrams_read}
-use Rattle.rtps_report.specs.Rows.{AreNamedIn}
+use Rattle.rtps_discovery.specs.declared.matching.Pair.{Pair}
+use Rattle.rtps_report.specs.ActsRead as acts_read
+use Rattle.rtps_report.specs.Rows as rows
 
 any_flat : {X Y : Type 0} (p : Y → Bool) (f : X → List Y) (xs : List X) → list_any p (flat_map f xs) ≡ list_any (λ x. list_any p (f x)) xs
 any_flat p f [] = refl
@@ -32,10 +32,10 @@ some_counted p (x ∷ xs) = ap (nat_lt 0) (sum_by-cons (λ y. cond (p y) 1 0) x 
 abbrev pub answer_of : Pair → Naming
 answer_of pair = record { source = pair.reader.prefix; dest = pair.writer.prefix }
 
-pub named_among : (recording : List (List ℕ)) (naming : Naming) → nat_lt 0 (named_in (datagrams_read recording) naming) ≡ list_any (names naming) (all_acts_in recording)
+pub named_among : (recording : List (List ℕ)) (naming : Naming) → nat_lt 0 (namings_spec.named_in (acts_read.datagrams_read recording) naming) ≡ list_any (namings_spec.names naming) (fragment_walk.all_acts_in recording)
 named_among recording naming =
-    some_counted (list_any (names naming)) (datagrams_read recording) ∙ any_mapped (list_any (names naming)) acts_read_in recording
-    ∙ sym (any_flat (names naming) acts_read_in recording)
+    some_counted (list_any (namings_spec.names naming)) (acts_read.datagrams_read recording) ∙ any_mapped (list_any (namings_spec.names naming)) acts_read.acts_read_in recording
+    ∙ sym (any_flat (namings_spec.names naming) acts_read.acts_read_in recording)
 
-pub named_in_acts : (recording : List (List ℕ)) (namings : Namings) → AreNamingsOf (datagrams_read recording) namings → AreNamedIn (all_acts_in recording) namings
+pub named_in_acts : (recording : List (List ℕ)) (namings : Namings) → namings_spec.AreNamingsOf (acts_read.datagrams_read recording) namings → rows.AreNamedIn (fragment_walk.all_acts_in recording) namings
 named_in_acts recording namings are = λ naming. ap (nat_lt 0) (are naming) ∙ named_among recording naming

@@ -15,23 +15,23 @@ use Rattle.std.proofs.lemmas.List.{map-append}
 use Rattle.std.proofs.lemmas.Map.Lookups.{CmpEqualImpliesEq, btree_set_from_contains, exact_bytes, exact_pairs}
 use Rattle.rtps_ids.specs.declared.identity.Guid.{Guid}
 use Rattle.rtps_ids.specs.declared.identity.GuidPrefix.{GuidPrefix}
-use Rattle.rtps_receiver.specs.Values.{ActValue}
-use Rattle.rtps_discovery.specs.Directory.{DirectoryValue, Entries}
-use Rattle.rtps_discovery.specs.GuidOrder.{guid_cmp}
+use Rattle.rtps_receiver.specs.Values as values
+use Rattle.rtps_discovery.specs.Directory as directory
+use Rattle.rtps_discovery.specs.GuidOrder as guid_order
 use Rattle.rtps_discovery.proofs.Offered.{guids_total}
-use Rattle.rtps_audit.specs.Intake.{Intake, acts_together}
-use Rattle.rtps_audit.specs.Placed.{is_guid}
+use Rattle.rtps_audit.specs.Intake as intake_spec
+use Rattle.rtps_audit.specs.Placed as placed
 use Rattle.rtps_audit.proofs.Offered.{is_eq-guid_cmp}
-use Rattle.rtps_known.specs.Bulletins.{prefix_cmp}
-use Rattle.rtps_known.specs.Tellings.{TimedAct}
-use Rattle.rtps_known.specs.Untold.{AreNeverTogether, AreSaidOf, AreTogether, Attendance, IsAllTold, IsSaidOf, IsUntold, IsUntoldUntil, is_nothing, listed}
-use Rattle.rtps_known.specs.Visits.{IsEndBetween}
+use Rattle.rtps_known.specs.Bulletins as bulletins
+use Rattle.rtps_known.specs.Tellings as tellings
+use Rattle.rtps_known.specs.Untold as untold_spec
+use Rattle.rtps_known.specs.Visits as visits
 use Rattle.rtps_known.specs.declared.untold.Untold.{Untold}
 use Rattle.rtps_known.specs.declared.visit.Visit.{Visit}
-use Rattle.rtps_policies.specs.Namings.{naming_cmp}
+use Rattle.rtps_policies.specs.Namings as namings
 use Rattle.rtps_policies.specs.declared.naming.Naming.{Naming}
-use Rattle.rtps_report.specs.ActsRead.{timed_acts}
-use Rattle.rtps_report.specs.NotTold.{AreNotToldIn, NotToldValue, TopicEndValue, not_told_by, with_topic}
+use Rattle.rtps_report.specs.ActsRead as acts_read
+use Rattle.rtps_report.specs.NotTold as not_told
 
 -- ---- lists in order that have the same members
 
@@ -43,25 +43,25 @@ set_once {K} c total exact xs ys one other same =
 guid_of_parts : List ℕ × List ℕ → Guid
 guid_of_parts parts = record { prefix = record { 0 = parts.0 }; entity = record { 0 = parts.1 } }
 
-exact_guids : CmpEqualImpliesEq guid_cmp
+exact_guids : CmpEqualImpliesEq guid_order.guid_cmp
 unfolding guid_of_parts
 exact_guids a b h =
     ap guid_of_parts (exact_pairs (slice_cmp nat_cmp) (slice_cmp nat_cmp) exact_bytes exact_bytes (a.prefix.0, a.entity.0) (b.prefix.0, b.entity.0) h)
 
-by_guid : (guid : Guid) (those : List Guid) → list_any (eq_by_cmp guid_cmp guid) those ≡ list_any (is_guid guid) those
+by_guid : (guid : Guid) (those : List Guid) → list_any (eq_by_cmp guid_order.guid_cmp guid) those ≡ list_any (placed.is_guid guid) those
 by_guid guid [] = refl
 by_guid guid (one ∷ those) = ap₂ (λ (a b : Bool). a || b) (is_eq-guid_cmp guid one) (by_guid guid those)
 
-guids_once : (xs ys : List Guid) → IsStrictlySortedBy guid_cmp xs → IsStrictlySortedBy guid_cmp ys → ((guid : Guid) → list_any (is_guid guid) xs ≡ list_any (is_guid guid) ys) → xs ≡ ys
-guids_once xs ys one other same = set_once guid_cmp guids_total exact_guids xs ys one other (λ guid. by_guid guid xs ∙ same guid ∙ sym (by_guid guid ys))
+guids_once : (xs ys : List Guid) → IsStrictlySortedBy guid_order.guid_cmp xs → IsStrictlySortedBy guid_order.guid_cmp ys → ((guid : Guid) → list_any (placed.is_guid guid) xs ≡ list_any (placed.is_guid guid) ys) → xs ≡ ys
+guids_once xs ys one other same = set_once guid_order.guid_cmp guids_total exact_guids xs ys one other (λ guid. by_guid guid xs ∙ same guid ∙ sym (by_guid guid ys))
 
-namings_total : IsTotalOrder naming_cmp
+namings_total : IsTotalOrder namings.naming_cmp
 namings_total = then_total (on_total (λ naming. naming.source.0) nat_list_cmp_total) (on_total (λ naming. naming.dest.0) nat_list_cmp_total)
 
 naming_of_parts : List ℕ × List ℕ → Naming
 naming_of_parts parts = record { source = record { 0 = parts.0 }; dest = record { 0 = parts.1 } }
 
-exact_namings : CmpEqualImpliesEq naming_cmp
+exact_namings : CmpEqualImpliesEq namings.naming_cmp
 unfolding naming_of_parts
 exact_namings a b h =
     ap naming_of_parts (exact_pairs (slice_cmp nat_cmp) (slice_cmp nat_cmp) exact_bytes exact_bytes (a.source.0, a.dest.0) (b.source.0, b.dest.0) h)
@@ -78,16 +78,16 @@ some_once x y e = ap (unsome x) e
 
 -- two maps have the same visits
 abbrev Alike : BTreeMap GuidPrefix Visit → BTreeMap GuidPrefix Visit → Type 0
-Alike visits others = (prefix : GuidPrefix) → get prefix_cmp visits prefix ≡ get prefix_cmp others prefix
+Alike visits others = (prefix : GuidPrefix) → get bulletins.prefix_cmp visits prefix ≡ get bulletins.prefix_cmp others prefix
 
-visit_once : (visits others : BTreeMap GuidPrefix Visit) (prefix : GuidPrefix) (one other : Visit) → Alike visits others → get prefix_cmp visits prefix ≡ Some one
-    → get prefix_cmp others prefix ≡ Some other → one ≡ other
+visit_once : (visits others : BTreeMap GuidPrefix Visit) (prefix : GuidPrefix) (one other : Visit) → Alike visits others → get bulletins.prefix_cmp visits prefix ≡ Some one
+    → get bulletins.prefix_cmp others prefix ≡ Some other → one ≡ other
 visit_once visits others prefix one other same is also = some_once one other (sym is ∙ same prefix ∙ also)
 
-end_moved : (one also_one other also_other : Visit) (end : ℕ) → one ≡ also_one → other ≡ also_other → IsEndBetween one other end → IsEndBetween also_one also_other end
-end_moved one also_one other also_other end e f is = subst (λ (v : Visit). IsEndBetween also_one v end) f (subst (λ (v : Visit). IsEndBetween v other end) e is)
+end_moved : (one also_one other also_other : Visit) (end : ℕ) → one ≡ also_one → other ≡ also_other → visits.IsEndBetween one other end → visits.IsEndBetween also_one also_other end
+end_moved one also_one other also_other end e f is = subst (λ (v : Visit). visits.IsEndBetween also_one v end) f (subst (λ (v : Visit). visits.IsEndBetween v other end) e is)
 
-ends_once : (visits others : BTreeMap GuidPrefix Visit) (naming : Naming) (end last : ℕ) → Alike visits others → AreTogether visits naming end → AreTogether others naming last → end ≡ last
+ends_once : (visits others : BTreeMap GuidPrefix Visit) (naming : Naming) (end last : ℕ) → Alike visits others → untold_spec.AreTogether visits naming end → untold_spec.AreTogether others naming last → end ≡ last
 ends_once visits others naming end last same is also =
     let mine =
     end_moved is.one also.one is.other also.other end (visit_once visits others naming.source is.one also.one same is.is_one also.is_one)
@@ -101,7 +101,7 @@ ends_once visits others naming end last same is also =
 none_some : {X : Type 0} (x : X) → None ≡ Some x → ⊥
 none_some x e = false≢true (ap is_some e)
 
-never_once : (visits others : BTreeMap GuidPrefix Visit) (naming : Naming) (end : ℕ) → Alike visits others → AreTogether visits naming end → AreNeverTogether others naming → ⊥
+never_once : (visits others : BTreeMap GuidPrefix Visit) (naming : Naming) (end : ℕ) → Alike visits others → untold_spec.AreTogether visits naming end → untold_spec.AreNeverTogether others naming → ⊥
 never_once visits others naming end same is (inl (inl none)) = none_some is.one (sym none ∙ sym (same naming.source) ∙ is.is_one)
 never_once visits others naming end same is (inl (inr none)) = none_some is.other (sym none ∙ sym (same naming.dest) ∙ is.is_other)
 never_once visits others naming end same is (inr (one, other, is_one, is_other, never)) =
@@ -121,7 +121,7 @@ record Same (one other : Untold) : Type 0 where
   readers : one.readers.items ≡ other.readers.items
   unnamed : one.unnamed ≡ other.unnamed
 
-untold_once : (acts : List TimedAct) (naming : Naming) (end : ℕ) (one other : Untold) → IsUntoldUntil acts naming end one → IsUntoldUntil acts naming end other → Same one other
+untold_once : (acts : List tellings.TimedAct) (naming : Naming) (end : ℕ) (one other : Untold) → untold_spec.IsUntoldUntil acts naming end one → untold_spec.IsUntoldUntil acts naming end other → Same one other
 untold_once acts naming end one other is also =
     let writers = guids_once is.of_writers.endpoints.items also.of_writers.endpoints.items is.are_writers.ordered also.are_writers.ordered (λ guid. is.are_writers.endpoints guid ∙ sym (also.are_writers.endpoints guid)) in
     let readers = guids_once is.of_readers.endpoints.items also.of_readers.endpoints.items is.are_readers.ordered also.are_readers.ordered (λ guid. is.are_readers.endpoints guid ∙ sym (also.are_readers.endpoints guid)) in
@@ -135,65 +135,65 @@ untold_once acts naming end one other is also =
       unnamed = is.unnamed ∙ unnamed ∙ sym also.unnamed;
     }
 
-value_once : (entries : Entries) (one other : Untold) → Same one other → not_told_by entries one ≡ not_told_by entries other
+value_once : (entries : directory.Entries) (one other : Untold) → Same one other → not_told.not_told_by entries one ≡ not_told.not_told_by entries other
 value_once entries one other same =
-    let made : Guid → Guid → List TopicEndValue → List TopicEndValue → ℕ → NotToldValue =
+    let made : Guid → Guid → List not_told.TopicEndValue → List not_told.TopicEndValue → ℕ → not_told.NotToldValue =
     λ from to writers readers unnamed. record { from = from; to = to; writers = writers; readers = readers; unnamed = unnamed } in
-    λ i. made (same.from i) (same.to i) (map (with_topic entries) (same.writers i)) (map (with_topic entries) (same.readers i)) (same.unnamed i)
+    λ i. made (same.from i) (same.to i) (map (not_told.with_topic entries) (same.writers i)) (map (not_told.with_topic entries) (same.readers i)) (same.unnamed i)
 
-nothing_once : (one other : Untold) → Same one other → is_nothing one ≡ is_nothing other
+nothing_once : (one other : Untold) → Same one other → untold_spec.is_nothing one ≡ untold_spec.is_nothing other
 nothing_once one other same = λ i. (length (same.writers i) == 0) && ((length (same.readers i) == 0) && (same.unnamed i == 0))
 
-until_moved : (acts : List TimedAct) (naming : Naming) (end last : ℕ) (untold : Untold) → end ≡ last → IsUntoldUntil acts naming end untold → IsUntoldUntil acts naming last untold
-until_moved acts naming end last untold e is = subst (λ (n : ℕ). IsUntoldUntil acts naming n untold) e is
+until_moved : (acts : List tellings.TimedAct) (naming : Naming) (end last : ℕ) (untold : Untold) → end ≡ last → untold_spec.IsUntoldUntil acts naming end untold → untold_spec.IsUntoldUntil acts naming last untold
+until_moved acts naming end last untold e is = subst (λ (n : ℕ). untold_spec.IsUntoldUntil acts naming n untold) e is
 
-both_untold : (acts : List TimedAct) (visits others : BTreeMap GuidPrefix Visit) (naming : Naming) (one other : Untold) → Alike visits others → IsUntold acts visits naming one
-    → IsUntold acts others naming other → Same one other
+both_untold : (acts : List tellings.TimedAct) (visits others : BTreeMap GuidPrefix Visit) (naming : Naming) (one other : Untold) → Alike visits others → untold_spec.IsUntold acts visits naming one
+    → untold_spec.IsUntold acts others naming other → Same one other
 both_untold acts visits others naming one other same is also =
     untold_once acts naming also.end one other (until_moved acts naming is.end also.end one (ends_once visits others naming is.end also.end same is.together also.together) is.is) also.is
 
-all_or_untold : (acts : List TimedAct) (visits others : BTreeMap GuidPrefix Visit) (naming : Naming) (one : Untold) → Alike visits others → IsUntold acts visits naming one
-    → IsAllTold acts others naming → ⊥
+all_or_untold : (acts : List tellings.TimedAct) (visits others : BTreeMap GuidPrefix Visit) (naming : Naming) (one : Untold) → Alike visits others → untold_spec.IsUntold acts visits naming one
+    → untold_spec.IsAllTold acts others naming → ⊥
 all_or_untold acts visits others naming one same is (inl never) = never_once visits others naming is.end same is.together never
 all_or_untold acts visits others naming one same is (inr (last, other, together, until, nothing)) =
     let alike =
     untold_once acts naming last one other (until_moved acts naming is.end last one (ends_once visits others naming is.end last same is.together together) is.is) until in
     false≢true (sym is.something ∙ nothing_once one other alike ∙ nothing)
 
-said_once : (acts : List TimedAct) (announcing : List ActValue) (visits others : BTreeMap GuidPrefix Visit) (entries : Entries) (naming : Naming) (one other : Option Untold)
-    → Alike visits others → Alike others visits → IsSaidOf acts (record { announcing = announcing; visits = visits }) naming one
-    → IsSaidOf acts (record { announcing = announcing; visits = others }) naming other
-    → map (not_told_by entries) (listed one) ≡ map (not_told_by entries) (listed other)
+said_once : (acts : List tellings.TimedAct) (announcing : List values.ActValue) (visits others : BTreeMap GuidPrefix Visit) (entries : directory.Entries) (naming : Naming) (one other : Option Untold)
+    → Alike visits others → Alike others visits → untold_spec.IsSaidOf acts (record { announcing = announcing; visits = visits }) naming one
+    → untold_spec.IsSaidOf acts (record { announcing = announcing; visits = others }) naming other
+    → map (not_told.not_told_by entries) (untold_spec.listed one) ≡ map (not_told.not_told_by entries) (untold_spec.listed other)
 said_once acts announcing visits others entries naming None None same back is also = refl
 said_once acts announcing visits others entries naming None (Some other) same back (inl barred) also = absurd (barred also.0)
 said_once acts announcing visits others entries naming None (Some other) same back (inr all) also = absurd (all_or_untold acts others visits naming other back also.1 all)
 said_once acts announcing visits others entries naming (Some one) None same back is (inl barred) = absurd (barred is.0)
 said_once acts announcing visits others entries naming (Some one) None same back is (inr all) = absurd (all_or_untold acts visits others naming one same is.1 all)
 said_once acts announcing visits others entries naming (Some one) (Some other) same back is also =
-    ap (λ (value : NotToldValue). let those : List NotToldValue = value ∷ [] in those) (value_once entries one other (both_untold acts visits others naming one other same is.1 also.1))
+    ap (λ (value : not_told.NotToldValue). let those : List not_told.NotToldValue = value ∷ [] in those) (value_once entries one other (both_untold acts visits others naming one other same is.1 also.1))
 
 -- ---- what is said of all
 
-found_once : (acts : List TimedAct) (announcing : List ActValue) (visits others : BTreeMap GuidPrefix Visit) (entries : Entries) (namings : List Naming) (one other : List Untold)
-    → Alike visits others → Alike others visits → AreSaidOf acts (record { announcing = announcing; visits = visits }) namings one
-    → AreSaidOf acts (record { announcing = announcing; visits = others }) namings other → map (not_told_by entries) one ≡ map (not_told_by entries) other
-found_once acts announcing visits others entries [] one other same back is also = ap (map (not_told_by entries)) (is ∙ sym also)
+found_once : (acts : List tellings.TimedAct) (announcing : List values.ActValue) (visits others : BTreeMap GuidPrefix Visit) (entries : directory.Entries) (namings : List Naming) (one other : List Untold)
+    → Alike visits others → Alike others visits → untold_spec.AreSaidOf acts (record { announcing = announcing; visits = visits }) namings one
+    → untold_spec.AreSaidOf acts (record { announcing = announcing; visits = others }) namings other → map (not_told.not_told_by entries) one ≡ map (not_told.not_told_by entries) other
+found_once acts announcing visits others entries [] one other same back is also = ap (map (not_told.not_told_by entries)) (is ∙ sym also)
 found_once acts announcing visits others entries (naming ∷ namings) one other same back (said, behind, e, of, rest) (told, after, f, on, more) =
-    ap (map (not_told_by entries)) e ∙ map-append (not_told_by entries) (listed said) behind
-    ∙ ap₂ (λ (first then : List NotToldValue). first ++ then) (said_once acts announcing visits others entries naming said told same back of on)
-    (found_once acts announcing visits others entries namings behind after same back rest more) ∙ sym (map-append (not_told_by entries) (listed told) after)
-    ∙ sym (ap (map (not_told_by entries)) f)
+    ap (map (not_told.not_told_by entries)) e ∙ map-append (not_told.not_told_by entries) (untold_spec.listed said) behind
+    ∙ ap₂ (λ (first then : List not_told.NotToldValue). first ++ then) (said_once acts announcing visits others entries naming said told same back of on)
+    (found_once acts announcing visits others entries namings behind after same back rest more) ∙ sym (map-append (not_told.not_told_by entries) (untold_spec.listed told) after)
+    ∙ sym (ap (map (not_told.not_told_by entries)) f)
 
-pub not_told_once : (intake : Intake) (recording : List (List ℕ)) (times : List (Option ℕ)) (directory : DirectoryValue) (one other : List NotToldValue)
-    → AreNotToldIn intake recording times directory one → AreNotToldIn intake recording times directory other → one ≡ other
+pub not_told_once : (intake : intake_spec.Intake) (recording : List (List ℕ)) (times : List (Option ℕ)) (directory : directory.DirectoryValue) (one other : List not_told.NotToldValue)
+    → not_told.AreNotToldIn intake recording times directory one → not_told.AreNotToldIn intake recording times directory other → one ≡ other
 not_told_once intake recording times directory one other is also =
-    let acts = timed_acts recording times in
-    let announcing = acts_together intake.announcing in
+    let acts = acts_read.timed_acts recording times in
+    let announcing = intake_spec.acts_together intake.announcing in
     let same : Alike is.visits also.visits = λ prefix. is.are_visits prefix ∙ sym (also.are_visits prefix) in
     let back : Alike also.visits is.visits = λ prefix. sym (same prefix) in
     let namings : is.are_untold.namings ≡ also.are_untold.namings =
-    set_once naming_cmp namings_total exact_namings is.are_untold.namings also.are_untold.namings is.are_untold.ordered also.are_untold.ordered
+    set_once namings.naming_cmp namings_total exact_namings is.are_untold.namings also.are_untold.namings is.are_untold.ordered also.are_untold.ordered
     (λ naming. is.are_untold.all naming ∙ sym (also.are_untold.all naming)) in
-    let mine = subst (λ (those : List Naming). AreSaidOf acts (record { announcing = announcing; visits = is.visits }) those is.untold) namings is.are_untold.said in
+    let mine = subst (λ (those : List Naming). untold_spec.AreSaidOf acts (record { announcing = announcing; visits = is.visits }) those is.untold) namings is.are_untold.said in
     is.is_found
     ∙ found_once acts announcing is.visits also.visits directory.endpoints also.are_untold.namings is.untold also.untold same back mine also.are_untold.said ∙ sym also.is_found

@@ -5,19 +5,27 @@
 -- guide has the cases.
 use Rattle.std.specs.Prelude.{ℕ, ℤ, ◌-◌, ◌^◌, ◌==◌, ◌&&◌, ◌||◌, not, nat_le, nat_lt, int_lt, Bool, true, false, if◌then◌else◌, length, Option, Some, None, is_none, is_some, unwrap_or}
 use Rattle.std.specs.Option.{option_or}
-use Rattle.rtps_receiver.specs.Said.{natural}
-use Rattle.rtps_report.specs.Vocabulary.{Absent, Announcement, Claim, CompleteGrounds, ConflictGrounds, EvidenceValue, FirstMissed, GroundsValue, Key, Location, OpenGrounds, PayloadValue, Scope, SentValue, Teller, UnfoundedGrounds, Whole}
-use Rattle.rtps_evidence.specs.Times.{TimesValue, time_of}
-use Rattle.rtps_report.specs.Reported.{number_of}
-use Rattle.rtps_report.specs.RowFacts.{is_held_in, is_joined_in, is_tail, left_in, outcomes_of, row_from}
+use Rattle.rtps_receiver.specs.Said as said
+use Rattle.rtps_wire.specs.Values as values
+use Rattle.rtps_evidence.specs.declared.last_announcement.Announcement.{Announcement}
+use Rattle.rtps_evidence.specs.declared.acknowledgement.Claim.{Claim}
+use Rattle.rtps_evidence.specs.Grounds as grounds
+use Rattle.rtps_evidence.specs.Explanation as explanation
+use Rattle.rtps_evidence.specs.declared.first_missed.FirstMissed.{FirstMissed}
+use Rattle.rtps_evidence.specs.declared.location.Location.{Location}
+use Rattle.rtps_report.specs.declared.advice.Scope.{Scope}
+use Rattle.rtps_evidence.specs.Locations as locations
+use Rattle.rtps_evidence.specs.declared.teller.Teller.{Teller}
+use Rattle.rtps_evidence.specs.Times as times_spec
+use Rattle.rtps_report.specs.Reported as reported
+use Rattle.rtps_report.specs.RowFacts as row_facts
 use Rattle.rtps_report.specs.declared.advice.Advice.{Advice}
-use Rattle.rtps_report.specs.declared.advice.Advice.TheVariants.{TwoLives, ReaderEnded, WriterEnded, NotAnnounced, Lost, MatchedLate, MissedUnsent, MissedAgain, MissedOnce, Unsent, Unanswered, Tail, OpenUnread, OpenUntold, Left, NotAsked, JustAsked, NeverAnswered, Silent, Alike, Unlike, Relayed, UnfoundedUnread, Late, Unannounced, BeganLate, Lacking}
 use Rattle.rtps_report.specs.declared.silences.Silences.{Silences}
 
 -- of a pair whose participants are silent since these datagrams: first of its reader, then of its writer
 abbrev pub ended_by : Option ℕ → Option ℕ → Option Advice
-ended_by (Some last) writer = Some (ReaderEnded last)
-ended_by None (Some last) = Some (WriterEnded last)
+ended_by (Some last) writer = Some (Advice.ReaderEnded last)
+ended_by None (Some last) = Some (Advice.WriterEnded last)
 ended_by None None = None
 
 -- the same of both participants of a pair
@@ -25,21 +33,21 @@ abbrev pub ended_advice : Silences → Option Advice
 ended_advice silences = ended_by silences.reader silences.writer
 
 -- the reader of a row knows its writer: it acknowledged a number of the row, or all before it
-abbrev pub is_known : EvidenceValue → Bool
-is_known evidence = is_some evidence.acknowledgement || is_tail evidence
+abbrev pub is_known : explanation.EvidenceValue → Bool
+is_known evidence = is_some evidence.acknowledgement || row_facts.is_tail evidence
 
 -- of a pair whose reader does not know the writer, where its participant was not told of endpoints of the writer's
 abbrev pub not_told_advice : Bool → Bool → Option Advice
-not_told_advice is_not_told known = if is_not_told && not known then Some NotAnnounced else None
+not_told_advice is_not_told known = if is_not_told && not known then Some Advice.NotAnnounced else None
 
 -- of a pair by its participants alone: one has two lives, or is silent, or the reader's was not told of endpoints of the writer's
 abbrev pub participant_advice : Silences → Bool → Option Advice
 participant_advice silences known =
-    if silences.is_twice then Some TwoLives else option_or (ended_advice silences) (not_told_advice silences.is_not_told known)
+    if silences.is_twice then Some Advice.TwoLives else option_or (ended_advice silences) (not_told_advice silences.is_not_told known)
 
 -- of a pair with missed numbers, by the least of them
 abbrev pub missed_advice : FirstMissed → Advice
-missed_advice first = if not first.is_sent then MissedUnsent else (if is_some first.again then MissedAgain else MissedOnce)
+missed_advice first = if not first.is_sent then Advice.MissedUnsent else (if is_some first.again then Advice.MissedAgain else Advice.MissedOnce)
 
 -- the first missed number was sent
 abbrev pub is_first_sent : Option FirstMissed → Bool
@@ -47,10 +55,10 @@ is_first_sent None = false
 is_first_sent (Some first) = first.is_sent
 
 -- of a pair that is held: numbers that were sent did not arrive, and not only a tail
-abbrev pub is_lost : EvidenceValue → Bool
+abbrev pub is_lost : explanation.EvidenceValue → Bool
 is_lost evidence =
-    let outcomes = outcomes_of evidence in
-    is_held_in evidence.in_span && (not (is_tail evidence)
+    let outcomes = row_facts.outcomes_of evidence in
+    row_facts.is_held_in evidence.in_span && (not (row_facts.is_tail evidence)
     && (nat_lt 0 outcomes.likely || (nat_lt 0 outcomes.unanswered || (nat_lt 0 outcomes.unconfirmed || (nat_lt 0 outcomes.missed && is_first_sent evidence.first_missed)))))
 
 -- of a pair with missed numbers or without, by the least of them. Where it is held, one may be missed and have arrived
@@ -60,16 +68,16 @@ missed_if true None = None
 missed_if true (Some first) = Some (missed_advice first)
 
 -- of a pair of which numbers are lost or missed
-abbrev pub loss_advice : EvidenceValue → Option Advice
-loss_advice evidence = if is_lost evidence then Some Lost else missed_if (nat_lt 0 (outcomes_of evidence).missed) evidence.first_missed
+abbrev pub loss_advice : explanation.EvidenceValue → Option Advice
+loss_advice evidence = if is_lost evidence then Some Advice.Lost else missed_if (nat_lt 0 (row_facts.outcomes_of evidence).missed) evidence.first_missed
 
 -- of a complete pair
-abbrev pub complete_advice : EvidenceValue → Advice
-complete_advice evidence = unwrap_or (loss_advice evidence) (if nat_lt 0 (outcomes_of evidence).unsent then Unsent else Unanswered)
+abbrev pub complete_advice : explanation.EvidenceValue → Advice
+complete_advice evidence = unwrap_or (loss_advice evidence) (if nat_lt 0 (row_facts.outcomes_of evidence).unsent then Advice.Unsent else Advice.Unanswered)
 
 -- of an open pair whose number nothing tells
 abbrev pub untold_open_advice : Scope → Advice
-untold_open_advice scope = if scope.unread then OpenUnread else OpenUntold
+untold_open_advice scope = if scope.unread then Advice.OpenUnread else Advice.OpenUntold
 
 -- a time is in the last second before the end, where there are both
 abbrev pub is_last_second : Option ℕ → Option ℕ → Bool
@@ -78,43 +86,43 @@ is_last_second (Some time) None = false
 is_last_second (Some time) (Some end) = nat_le (end - time) (10 ^ 9)
 
 -- a datagram came in the last second of the recording
-abbrev pub came_last : TimesValue → ℕ → Bool
-came_last times datagram = is_last_second (time_of times.of_datagrams datagram) times.end
+abbrev pub came_last : times_spec.TimesValue → ℕ → Bool
+came_last times datagram = is_last_second (times_spec.time_of times.of_datagrams datagram) times.end
 
 -- of an open pair whose reader acknowledged nothing, and of another one, by whether the reader left: it was not asked since its last answer
 abbrev pub unasked_advice : Bool → Bool → Advice
-unasked_advice acknowledged left = if not acknowledged && left then Left else NotAsked
+unasked_advice acknowledged left = if not acknowledged && left then Advice.Left else Advice.NotAsked
 
 -- the same of one that was asked, at first in this datagram
-abbrev pub unanswered_advice : TimesValue → Bool → ℕ → Advice
+abbrev pub unanswered_advice : times_spec.TimesValue → Bool → ℕ → Advice
 unanswered_advice times acknowledged datagram =
-    if came_last times datagram then JustAsked else (if acknowledged then Silent else NeverAnswered)
+    if came_last times datagram then Advice.JustAsked else (if acknowledged then Advice.Silent else Advice.NeverAnswered)
 
 -- of an open pair whose number is told, by where its reader was asked first since its last answer
-abbrev pub asked_advice : TimesValue → EvidenceValue → Option Location → Advice
-asked_advice times evidence None = unasked_advice (is_some evidence.acknowledgement) (is_some (left_in evidence.in_span))
+abbrev pub asked_advice : times_spec.TimesValue → explanation.EvidenceValue → Option Location → Advice
+asked_advice times evidence None = unasked_advice (is_some evidence.acknowledgement) (is_some (row_facts.left_in evidence.in_span))
 asked_advice times evidence (Some first) = unanswered_advice times (is_some evidence.acknowledgement) first.datagram
 
 -- two payloads are of one kind and have as many octets
-abbrev pub are_alike : PayloadValue → PayloadValue → Bool
-are_alike Absent Absent = true
-are_alike (Whole one) (Whole other) = length other == length one
-are_alike (Key one) (Key other) = length other == length one
+abbrev pub are_alike : values.PayloadValue → values.PayloadValue → Bool
+are_alike values.PayloadValue.Absent values.PayloadValue.Absent = true
+are_alike (values.PayloadValue.Whole one) (values.PayloadValue.Whole other) = length other == length one
+are_alike (values.PayloadValue.Key one) (values.PayloadValue.Key other) = length other == length one
 are_alike one other = false
 
 -- the same of payloads that may not be there
-abbrev pub are_carried_alike : Option PayloadValue → Option PayloadValue → Bool
+abbrev pub are_carried_alike : Option values.PayloadValue → Option values.PayloadValue → Bool
 are_carried_alike (Some one) (Some other) = are_alike one other
 are_carried_alike one other = false
 
 -- and of what was sent
-abbrev pub are_sent_alike : Option SentValue → Option SentValue → Bool
+abbrev pub are_sent_alike : Option locations.SentValue → Option locations.SentValue → Bool
 are_sent_alike (Some one) (Some other) = are_carried_alike one.payload other.payload
 are_sent_alike one other = false
 
 -- of a pair with two payloads for one number
-abbrev pub conflict_advice : Option SentValue → Option SentValue → Advice
-conflict_advice first other = if are_sent_alike first other then Alike else Unlike
+abbrev pub conflict_advice : Option locations.SentValue → Option locations.SentValue → Advice
+conflict_advice first other = if are_sent_alike first other then Advice.Alike else Advice.Unlike
 
 -- what tells the number stands in the datagram of the answer that claims it
 abbrev pub stand_together : Option Teller → Option Claim → Bool
@@ -127,38 +135,38 @@ is_above None number = true
 is_above (Some announcement) number = int_lt announcement.number number
 
 -- of an unfounded pair, by what told its number, and by the answer that claims it
-abbrev pub unfounded_advice : Scope → EvidenceValue → Option Teller → Option Claim → Advice
+abbrev pub unfounded_advice : Scope → explanation.EvidenceValue → Option Teller → Option Claim → Advice
 unfounded_advice scope evidence teller claim =
-    if stand_together teller claim then Relayed
-    else (if scope.unread then UnfoundedUnread
-    else (if is_none teller then (if is_above evidence.announcement (number_of evidence.verdict) then Unannounced
-    else (if (natural (number_of evidence.verdict) == row_from scope.from evidence.in_span) && not (is_joined_in evidence.in_span) then BeganLate else Lacking)) else Late))
+    if stand_together teller claim then Advice.Relayed
+    else (if scope.unread then Advice.UnfoundedUnread
+    else (if is_none teller then (if is_above evidence.announcement (reported.number_of evidence.verdict) then Advice.Unannounced
+    else (if (said.natural (reported.number_of evidence.verdict) == row_facts.row_from scope.from evidence.in_span) && not (row_facts.is_joined_in evidence.in_span) then Advice.BeganLate else Advice.Lacking)) else Advice.Late))
 
 -- of an open pair, by what told its number, and where its reader was asked first since its last answer
-abbrev pub open_advice : TimesValue → Scope → EvidenceValue → Option Teller → Option Location → Advice
+abbrev pub open_advice : times_spec.TimesValue → Scope → explanation.EvidenceValue → Option Teller → Option Location → Advice
 open_advice times scope evidence teller first =
-    unwrap_or (loss_advice evidence) (if is_tail evidence then Tail else (if is_none teller then untold_open_advice scope else asked_advice times evidence first))
+    unwrap_or (loss_advice evidence) (if row_facts.is_tail evidence then Advice.Tail else (if is_none teller then untold_open_advice scope else asked_advice times evidence first))
 
 -- what to do for a pair whose verdict rests on this, where nobody is silent
-abbrev pub advice_by : TimesValue → Scope → EvidenceValue → GroundsValue → Advice
-advice_by times scope evidence CompleteGrounds = complete_advice evidence
-advice_by times scope evidence (OpenGrounds teller count first last) = open_advice times scope evidence teller first
-advice_by times scope evidence (ConflictGrounds first other) = conflict_advice first other
-advice_by times scope evidence (UnfoundedGrounds teller claim) = unfounded_advice scope evidence teller claim
+abbrev pub advice_by : times_spec.TimesValue → Scope → explanation.EvidenceValue → grounds.GroundsValue → Advice
+advice_by times scope evidence grounds.GroundsValue.CompleteGrounds = complete_advice evidence
+advice_by times scope evidence (grounds.GroundsValue.OpenGrounds teller count first last) = open_advice times scope evidence teller first
+advice_by times scope evidence (grounds.GroundsValue.ConflictGrounds first other) = conflict_advice first other
+advice_by times scope evidence (grounds.GroundsValue.UnfoundedGrounds teller claim) = unfounded_advice scope evidence teller claim
 
 -- what to do where this would be done of a pair whose two did not match late: what lacks was written before they matched
 abbrev pub late_advice : Bool → Advice → Advice
-late_advice true Unsent = MatchedLate
-late_advice true MissedUnsent = MatchedLate
+late_advice true Advice.Unsent = Advice.MatchedLate
+late_advice true Advice.MissedUnsent = Advice.MatchedLate
 late_advice late advice = advice
 
 -- what to do for a pair, of whose participants this is known
-abbrev pub advice_of : TimesValue → Silences → Scope → EvidenceValue → Advice
+abbrev pub advice_of : times_spec.TimesValue → Silences → Scope → explanation.EvidenceValue → Advice
 advice_of times silences scope evidence =
     unwrap_or (participant_advice silences (is_known evidence)) (late_advice silences.matched_late (advice_by times scope evidence evidence.grounds))
 
 -- the last datagram of the participant that ended, where the advice is of one
 abbrev pub ended_in : Advice → Option ℕ
-ended_in (ReaderEnded last) = Some last
-ended_in (WriterEnded last) = Some last
+ended_in (Advice.ReaderEnded last) = Some last
+ended_in (Advice.WriterEnded last) = Some last
 ended_in advice = None

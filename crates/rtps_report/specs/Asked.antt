@@ -3,7 +3,6 @@
 use Rattle.std.specs.Prelude.{ℕ, Bool, false, true, List, map, Option}
 use Rattle.std.specs.String.{string_bytes}
 use Rattle.rtps_fragments.specs.declared.fragments.Fragments.{Fragments}
-use Rattle.rtps_fragments.specs.declared.fragments.Fragments.TheVariants.{Skipped, Read}
 use Rattle.rtps_report.specs.declared.asked.Asked.{Asked}
 use Rattle.rtps_report.specs.declared.audited.AskedAudit.{AskedAudit}
 
@@ -30,9 +29,9 @@ asked_value asked =
 
 -- samples that come in fragments are read
 abbrev pub are_read : Fragments → Bool
-are_read Skipped = false
-are_read Read = true
+are_read Fragments.Skipped = false
+are_read Fragments.Read = true
 
 -- an audit by the numbers from this one on, of which fragments are skipped
 abbrev pub plainly : ℕ → AskedAudit
-plainly from = record { from = from; fragments = Skipped }
+plainly from = record { from = from; fragments = Fragments.Skipped }

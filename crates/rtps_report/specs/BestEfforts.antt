@@ -5,7 +5,7 @@ use Rattle.std.specs.List.Sorted.{IsStrictlySortedBy}
 use Rattle.std.specs.Ordering.{nat_cmp}
 use Rattle.std.specs.Str.{bytes_eq}
 use Rattle.rtps_discovery.specs.declared.matching.Pair.{Pair}
-use Rattle.rtps_evidence.specs.FirstNumbers.{kept}
+use Rattle.rtps_evidence.specs.FirstNumbers as first_numbers
 use Rattle.rtps_evidence.specs.declared.recorded.Arrived.{Arrived}
 use Rattle.rtps_evidence.specs.declared.recorded.ArrivedNumbers.{ArrivedNumbers}
 use Rattle.rtps_evidence.specs.declared.recorded.Recorded.{Recorded}
@@ -81,7 +81,7 @@ held_value one = record { topic = one.topic.now; pair = one.pair; numbers = one.
 
 -- nothing
 abbrev pub none_arrived : ArrivedNumbers
-none_arrived = record { arrived = 0; lacking = kept [] }
+none_arrived = record { arrived = 0; lacking = first_numbers.kept [] }
 
 -- what is told of a pair that is held
 abbrev pub held_of : CountedValue → HeldValue

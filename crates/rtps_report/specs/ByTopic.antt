@@ -5,7 +5,8 @@ use Rattle.std.specs.List.Sorted.{IsStable}
 use Rattle.std.specs.Ordering.{nat_cmp, ordering_then}
 use Rattle.std.specs.Str.{bytes_eq}
 use Rattle.std.specs.declared.cmp.Ordering.{Ordering}
-use Rattle.rtps_report.specs.Vocabulary.{Explanation, ExplanationValue}
+use Rattle.rtps_evidence.specs.declared.explanation.Explanation.{Explanation}
+use Rattle.rtps_evidence.specs.Explanation as explanation
 
 -- by topic, and then by type, octet by octet
 abbrev pub names_cmp : Explanation → Explanation → Ordering
@@ -18,16 +19,16 @@ pub record AreByTopic (rows sorted : List Explanation) : Type 0 where
   pub in_order : IsStable names_cmp rows sorted
 
 -- two rows of one topic and one type
-abbrev pub have_one_topic : ExplanationValue → ExplanationValue → Bool
+abbrev pub have_one_topic : explanation.ExplanationValue → explanation.ExplanationValue → Bool
 have_one_topic one other = bytes_eq one.topic other.topic && bytes_eq one.type_name other.type_name
 
 -- a row before rows that are parted by topic: it joins the first of these where that is of its topic and its type
-abbrev pub joined : ExplanationValue → List (List ExplanationValue) → List (List ExplanationValue)
+abbrev pub joined : explanation.ExplanationValue → List (List explanation.ExplanationValue) → List (List explanation.ExplanationValue)
 joined row [] = (row ∷ []) ∷ []
 joined row ([] ∷ topics) = (row ∷ []) ∷ topics
 joined row ((next ∷ more) ∷ topics) = if have_one_topic row next then (row ∷ next ∷ more) ∷ topics else (row ∷ []) ∷ (next ∷ more) ∷ topics
 
 -- rows in their order, parted where the topic or the type changes
-abbrev pub topics_of : List ExplanationValue → List (List ExplanationValue)
+abbrev pub topics_of : List explanation.ExplanationValue → List (List explanation.ExplanationValue)
 topics_of [] = []
 topics_of (row ∷ rows) = joined row (topics_of rows)

@@ -2,44 +2,51 @@
 -- own: `check`, `why`, `page` and `check --json` tell this one value, so no two of them can disagree.
 use Rattle.std.specs.Prelude.{ℕ, ◌≡◌, ◌&&◌, ◌||◌, Bool, true, not, List, Option, length, map}
 use Rattle.std.specs.List.{list_all}
-use Rattle.rtps_audit.specs.Index.{IsIndexBy}
-use Rattle.rtps_audit.specs.Report.{counts_of}
-use Rattle.rtps_discovery.specs.Directory.{unsettled_in}
-use Rattle.rtps_evidence.specs.Explanation.{AreExplained}
-use Rattle.rtps_evidence.specs.Kinds.{LostValue, lost_value}
-use Rattle.rtps_evidence.specs.OtherSide.{Beside}
-use Rattle.rtps_policies.specs.Silence.{Traffic}
-use Rattle.rtps_report.specs.Vocabulary.{Counts, DirectoryValue, Ending, EvidenceValue, Explained, ExplanationValue, Facts, Intake, IsMapOf, Pair, Read, acts_together, explanation_value, intake_as}
-pub use Rattle.rtps_report.specs.Asked.{AskedValue, asked_value}
-use Rattle.rtps_report.specs.BestEfforts.{numbers_told}
-use Rattle.rtps_report.specs.Findings.{ending_as}
-use Rattle.rtps_report.specs.NotTold.{not_told_counts}
-use Rattle.rtps_report.specs.Order.{order_by}
-pub use Rattle.rtps_report.specs.Recording.{RecordingValue}
-use Rattle.rtps_report.specs.ReaderSide.{arrived_value, beside_of, other_by}
-use Rattle.rtps_report.specs.RowFacts.{is_certain, is_clean}
-use Rattle.rtps_report.specs.RowPairs.{AreRowPairs}
-use Rattle.rtps_report.specs.Talk.{IsTalkAs, TalkValue, talk_value, traffic_of}
+use Rattle.rtps_audit.specs.Index as index
+use Rattle.rtps_audit.specs.Report as report
+use Rattle.rtps_discovery.specs.Directory as directory_spec
+use Rattle.rtps_evidence.specs.Explanation as explanation
+use Rattle.rtps_evidence.specs.Kinds as kinds
+use Rattle.rtps_evidence.specs.OtherSide as other_side
+use Rattle.rtps_policies.specs.Silence as silence
+use Rattle.rtps_audit.specs.declared.report.Counts.{Counts}
+use Rattle.rtps_report.specs.declared.findings.Ending.{Ending}
+use Rattle.rtps_evidence.specs.declared.explanation.Explained.{Explained}
+use Rattle.rtps_report.specs.declared.findings.Facts.{Facts}
+use Rattle.rtps_audit.specs.Intake as intake_spec
+use Rattle.rtps_discovery.specs.declared.matching.Pair.{Pair}
+use Rattle.rtps_fragments.specs.declared.fragments.Fragments.{Fragments}
+use Rattle.rtps_fragments.specs.RecordedSamples as recorded_samples
+use Rattle.rtps_report.specs.Asked as asked_spec
+use Rattle.rtps_report.specs.BestEfforts as best_efforts
+use Rattle.rtps_report.specs.Findings as findings
+use Rattle.rtps_report.specs.NotTold as not_told
+use Rattle.rtps_report.specs.Order as order
+use Rattle.rtps_report.specs.Recording as recording
+use Rattle.rtps_report.specs.ReaderSide as reader_side
+use Rattle.rtps_report.specs.RowFacts as row_facts
+use Rattle.rtps_report.specs.RowPairs as row_pairs
+use Rattle.rtps_report.specs.Talk as talk
 use Rattle.rtps_report.specs.declared.findings.TalkFacts.{TalkFacts}
 use Rattle.rtps_report.specs.declared.full_report.FullReport.{FullReport}
 use Rattle.rtps_report.specs.declared.order.Order.{Order}
 
 -- a row is what it has to be: clean, and each of its numbers certain where that is asked
-abbrev pub is_met : AskedValue → EvidenceValue → Bool
-is_met asked evidence = is_clean asked.tail evidence && (not asked.certain || is_certain asked.from evidence)
+abbrev pub is_met : asked_spec.AskedValue → explanation.EvidenceValue → Bool
+is_met asked evidence = row_facts.is_clean asked.tail evidence && (not asked.certain || row_facts.is_certain asked.from evidence)
 
 -- what is known of who does not talk
-abbrev pub talk_facts : TalkValue → TalkFacts
+abbrev pub talk_facts : talk.TalkValue → TalkFacts
 talk_facts talk =
     record {
       unmatched = length talk.unmatched;
-      not_told = not_told_counts talk.participants talk.not_told;
+      not_told = not_told.not_told_counts talk.participants talk.not_told;
       lives = length talk.lives;
-      best_effort = numbers_told talk.best_effort_total;
+      best_effort = best_efforts.numbers_told talk.best_effort_total;
     }
 
 -- what is known of a report with these rows and counts, where this is known of who does not talk, and two recordings were given in this order
-abbrev pub facts_with : TalkFacts → Order → AskedValue → List ExplanationValue → Counts → RecordingValue → Facts
+abbrev pub facts_with : TalkFacts → Order → asked_spec.AskedValue → List explanation.ExplanationValue → Counts → recording.RecordingValue → Facts
 facts_with talk order asked rows counts recording =
     record {
       rows = length rows;
@@ -52,20 +59,20 @@ facts_with talk order asked rows counts recording =
 
 -- each pair that has a row is explained in its span, by writer and then by reader, and the counts are those of an audit. Another recording
 -- and times may stand beside
-pub record AreRowsOf (asked : AskedValue) (intake : Intake) (beside : Beside) (traffic : Traffic) (explained : Explained) : Type 0 where
-  pub directory : DirectoryValue
-  pub is_map : IsMapOf (acts_together intake.announcing) directory
+pub record AreRowsOf (asked : asked_spec.AskedValue) (intake : intake_spec.Intake) (beside : other_side.Beside) (traffic : silence.Traffic) (explained : Explained) : Type 0 where
+  pub directory : directory_spec.DirectoryValue
+  pub is_map : directory_spec.IsMapOf (intake_spec.acts_together intake.announcing) directory
   pub pairs : List Pair
-  pub are_pairs : AreRowPairs asked intake traffic directory.endpoints pairs
-  pub rows : AreExplained true asked.from beside intake pairs explained.rows.items (map lost_value explained.lost.items)
-  pub counts : explained.counts ≡ counts_of intake (length (unsettled_in directory.endpoints))
+  pub are_pairs : row_pairs.AreRowPairs asked intake traffic directory.endpoints pairs
+  pub rows : explanation.AreExplained true asked.from beside intake pairs explained.rows.items (map kinds.lost_value explained.lost.items)
+  pub counts : explained.counts ≡ report.counts_of intake (length (directory_spec.unsettled_in directory.endpoints))
 
 -- what is told of a recording: the other one against which rows are held, the rows that are asked for, who does not talk, in which order
 -- the two recordings were given, and how the run ends
 pub record ReportValue : Type 0 where
-  pub arrived : Option RecordingValue
+  pub arrived : Option recording.RecordingValue
   pub explained : Explained
-  pub talk : TalkValue
+  pub talk : talk.TalkValue
   pub order : Order
   pub ending : Ending
 
@@ -73,44 +80,44 @@ pub record ReportValue : Type 0 where
 abbrev pub report_value : FullReport → ReportValue
 report_value report =
     record {
-      arrived = arrived_value report.arrived;
+      arrived = reader_side.arrived_value report.arrived;
       explained = report.explained;
-      talk = talk_value report.talk;
+      talk = talk.talk_value report.talk;
       order = report.order;
       ending = report.ending;
     }
 
 -- the rows of a report that are asked for, as values
-abbrev pub rows_of : ReportValue → List ExplanationValue
-rows_of report = map explanation_value report.explained.rows.items
+abbrev pub rows_of : ReportValue → List explanation.ExplanationValue
+rows_of report = map explanation.explanation_value report.explained.rows.items
 
 -- the numbers of each that are lost, or look so
-abbrev pub lost_of : ReportValue → List LostValue
-lost_of report = map lost_value report.explained.lost.items
+abbrev pub lost_of : ReportValue → List kinds.LostValue
+lost_of report = map kinds.lost_value report.explained.lost.items
 
 -- what is known of this report
-abbrev pub facts_of : AskedValue → RecordingValue → ReportValue → Facts
+abbrev pub facts_of : asked_spec.AskedValue → recording.RecordingValue → ReportValue → Facts
 facts_of asked recording report =
     facts_with (talk_facts report.talk) report.order asked (rows_of report) report.explained.counts recording
 
 -- What is told of this recording, of what is asked. Samples that come in fragments are read. Rows are held against another recording,
 -- where there is one, and waits are by the times of the recording's own datagrams.
-pub record IsFullReport (asked : AskedValue) (other : Option RecordingValue) (recording : RecordingValue) (report : ReportValue) : Type 0 where
+pub record IsFullReport (asked : asked_spec.AskedValue) (other : Option recording.RecordingValue) (recording : recording.RecordingValue) (report : ReportValue) : Type 0 where
   pub beside : report.arrived ≡ other
-  pub talks : IsTalkAs asked (other_by other) recording report.talk
-  pub rows : AreRowsOf asked (intake_as Read recording.datagrams) (beside_of other recording) (traffic_of recording.datagrams) report.explained
-  pub order : report.order ≡ order_by other recording (rows_of report) report.talk.ways
-  pub ends : report.ending ≡ ending_as asked (facts_of asked recording report)
+  pub talks : talk.IsTalkAs asked (reader_side.other_by other) recording report.talk
+  pub rows : AreRowsOf asked (recorded_samples.intake_as Fragments.Read recording.datagrams) (reader_side.beside_of other recording) (talk.traffic_of recording.datagrams) report.explained
+  pub order : report.order ≡ order.order_by other recording (rows_of report) report.talk.ways
+  pub ends : report.ending ≡ findings.ending_as asked (facts_of asked recording report)
 
 -- the code has it, beside what it is of and the index that it is by
-pub record IsReportOf (asked : AskedValue) (other : Option RecordingValue) (recording : RecordingValue) (report : FullReport) : Type 0 where
-  pub asks : asked_value report.asked.now ≡ asked
+pub record IsReportOf (asked : asked_spec.AskedValue) (other : Option recording.RecordingValue) (recording : recording.RecordingValue) (report : FullReport) : Type 0 where
+  pub asks : asked_spec.asked_value report.asked.now ≡ asked
   pub records : report.recording.now ≡ recording
-  pub indexes : IsIndexBy (intake_as Read recording.datagrams) report.index
+  pub indexes : index.IsIndexBy (recorded_samples.intake_as Fragments.Read recording.datagrams) report.index
   pub is_report : IsFullReport asked other recording (report_value report)
 
 -- A text of what is asked of a recording, beside another one, if there is one, and how the run ends, by what it is of a report.
-pub record IsTold (IsForm : AskedValue → RecordingValue → ReportValue → List ℕ → Type 0) (asked : AskedValue) (other : Option RecordingValue) (recording : RecordingValue) (text : List ℕ) (ending : Ending) : Type 0 where
+pub record IsTold (IsForm : asked_spec.AskedValue → recording.RecordingValue → ReportValue → List ℕ → Type 0) (asked : asked_spec.AskedValue) (other : Option recording.RecordingValue) (recording : recording.RecordingValue) (text : List ℕ) (ending : Ending) : Type 0 where
   pub report : ReportValue
   pub is_report : IsFullReport asked other recording report
   pub is_text : IsForm asked recording report text

@@ -5,12 +5,12 @@ use Rattle.std.specs.Prelude.{ℕ, ◌^◌, ◌||◌, Bool, if◌then◌else◌,
 use Rattle.std.specs.List.{filter_map}
 use Rattle.rtps_discovery.specs.declared.matching.Pair.{Pair}
 use Rattle.rtps_evidence.specs.declared.location.Location.{Location}
-use Rattle.rtps_known.specs.Matched.{matched}
-use Rattle.rtps_known.specs.Places.{PlacedAct}
+use Rattle.rtps_known.specs.Matched as matched
+use Rattle.rtps_known.specs.Places as places
 use Rattle.rtps_known.specs.declared.matches.Matched.{Matched}
 use Rattle.rtps_known.specs.declared.place.Place.{Place}
-use Rattle.rtps_policies.specs.Announcing.{participant_of}
-use Rattle.rtps_report.specs.TwoLives.{lives_twice}
+use Rattle.rtps_policies.specs.Announcing as announcing
+use Rattle.rtps_report.specs.TwoLives as two_lives
 use Rattle.rtps_report.specs.declared.late_matches.LateMatch.{LateMatch}
 use Rattle.rtps_report.specs.declared.two_lives.TwoLives.{TwoLives}
 
@@ -30,8 +30,8 @@ late_by None = None
 
 -- a participant of the two has two of these lives
 abbrev pub is_mixed : List TwoLives → Pair → Bool
-is_mixed lives pair = lives_twice lives (participant_of pair.writer.prefix) || lives_twice lives (participant_of pair.reader.prefix)
+is_mixed lives pair = two_lives.lives_twice lives (announcing.participant_of pair.writer.prefix) || two_lives.lives_twice lives (announcing.participant_of pair.reader.prefix)
 
 -- where the two of a pair matched late by these acts, if they did
-abbrev pub late_of : List PlacedAct → List TwoLives → Pair → Option LateMatch
-late_of acts lives pair = if is_mixed lives pair then None else late_by (matched acts pair.writer pair.reader)
+abbrev pub late_of : List places.PlacedAct → List TwoLives → Pair → Option LateMatch
+late_of acts lives pair = if is_mixed lives pair then None else late_by (matched.matched acts pair.writer pair.reader)

@@ -1,3 +1,4 @@
+pub mod Acquaintance
 pub mod ActsRead
 pub mod Advice
 pub mod Asked
@@ -31,7 +32,6 @@ pub mod OneSides
 pub mod Talk
 pub mod Totals
 pub mod Twice
-pub mod Vocabulary
 pub mod Ways
 pub mod Visits
 pub mod NotTold

@@ -3,67 +3,47 @@
 -- to whom that is sent.
 use Rattle.std.specs.Prelude.{ℕ, ◌==◌, ◌&&◌, Bool, if◌then◌else◌, List, [], ◌∷◌, filter, flat_map, map, Option}
 use Rattle.std.specs.List.{enumerate_from}
-use Rattle.rtps_receiver.specs.Values.{ActValue}
-use Rattle.rtps_audit.specs.Placed.{PlacedValue}
-use Rattle.rtps_evidence.specs.Times.{time_of}
-use Rattle.rtps_evidence.specs.UnansweredLaw.{is_data_frag}
-use Rattle.rtps_known.specs.Places.{PlacedAct}
-use Rattle.rtps_report.specs.ActsRead.{acts_read_in}
-use Rattle.rtps_report.specs.declared.naming_walk.Came.{Came}
+use Rattle.rtps_receiver.specs.Values as values
+use Rattle.rtps_audit.specs.Placed as placed
+use Rattle.rtps_evidence.specs.Times as times_spec
+use Rattle.rtps_evidence.specs.UnansweredLaw as unanswered_law
+use Rattle.rtps_known.specs.Places as places
+use Rattle.rtps_report.specs.ActsRead as acts_read
+use Rattle.rtps_report.specs.declared.acquaintance.Came.{Came}
 
 -- an act of a datagram that came so
-abbrev pub act_placed : Came → ActValue → PlacedAct
+abbrev pub act_placed : Came → values.ActValue → places.PlacedAct
 act_placed came act = record { act = act; place = record { datagram = came.datagram; at = act.at; time = came.time } }
 
 -- an act stands at this place of a datagram
-abbrev pub stands_at : ℕ → ℕ → PlacedValue → Bool
+abbrev pub stands_at : ℕ → ℕ → placed.PlacedValue → Bool
 stands_at datagram at placed = (placed.datagram == datagram) && (placed.act.at == at)
 
 -- a sample, for those to whom the act is sent that completes it
-abbrev pub sent_as : ActValue → ActValue → ActValue
+abbrev pub sent_as : values.ActValue → values.ActValue → values.ActValue
 sent_as act sample = record sample { dest = act.dest }
 
 -- of these DATA of built-in writers, the samples that an act completes
-abbrev pub samples_by : List PlacedValue → ℕ → ActValue → List ActValue
+abbrev pub samples_by : List placed.PlacedValue → ℕ → values.ActValue → List values.ActValue
 samples_by announcements datagram act =
-    if is_data_frag act.body then map (λ placed. sent_as act placed.act) (filter (stands_at datagram act.at) announcements) else []
+    if unanswered_law.is_data_frag act.body then map (λ placed. sent_as act placed.act) (filter (stands_at datagram act.at) announcements) else []
 
 -- an act, and those behind it
-abbrev pub with_samples : List PlacedValue → ℕ → ActValue → List ActValue
+abbrev pub with_samples : List placed.PlacedValue → ℕ → values.ActValue → List values.ActValue
 with_samples announcements datagram act = act ∷ samples_by announcements datagram act
 
 -- the datagram of this number, where datagrams came then
 abbrev pub came_as : List (Option ℕ) → ℕ → Came
-came_as times datagram = record { datagram = datagram; time = time_of times datagram }
+came_as times datagram = record { datagram = datagram; time = times_spec.time_of times datagram }
 
 -- acts of a datagram that came so, each with those behind it
-abbrev pub acts_placed : List PlacedValue → Came → List ActValue → List PlacedAct
+abbrev pub acts_placed : List placed.PlacedValue → Came → List values.ActValue → List places.PlacedAct
 acts_placed announcements came acts = map (act_placed came) (flat_map (with_samples announcements came.datagram) acts)
 
 -- those of a datagram with its number, where datagrams came then
-abbrev pub acts_placed_in : List PlacedValue → List (Option ℕ) → ℕ × List ℕ → List PlacedAct
-acts_placed_in announcements times row = acts_placed announcements (came_as times row.0) (acts_read_in row.1)
+abbrev pub acts_placed_in : List placed.PlacedValue → List (Option ℕ) → ℕ × List ℕ → List places.PlacedAct
+acts_placed_in announcements times row = acts_placed announcements (came_as times row.0) (acts_read.acts_read_in row.1)
 
 -- those of a recording, of which these are the DATA of built-in writers
-abbrev pub matching_acts : List PlacedValue → List (List ℕ) → List (Option ℕ) → List PlacedAct
+abbrev pub matching_acts : List placed.PlacedValue → List (List ℕ) → List (Option ℕ) → List places.PlacedAct
 matching_acts announcements recording times = flat_map (acts_placed_in announcements times) (enumerate_from 1 recording)
-
--- ---- the same of the code
-
--- it stands in this datagram
-abbrev pub of_datagram : ℕ → PlacedValue → Bool
-of_datagram datagram placed = placed.datagram == datagram
-
--- the samples that an act completes, of these of its datagram
-abbrev pub samples_at : ActValue → List PlacedValue → List ActValue
-samples_at act samples = map (λ placed. sent_as act placed.act) (filter (λ placed. placed.act.at == act.at) samples)
-
--- the first of these that stand in a datagram
-abbrev pub run_of : ℕ → List PlacedValue → List PlacedValue
-run_of datagram [] = []
-run_of datagram (one ∷ placed) = if of_datagram datagram one then one ∷ run_of datagram placed else []
-
--- those behind them
-abbrev pub run_past : ℕ → List PlacedValue → List PlacedValue
-run_past datagram [] = []
-run_past datagram (one ∷ placed) = if of_datagram datagram one then run_past datagram placed else one ∷ placed

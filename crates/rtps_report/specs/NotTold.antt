@@ -5,15 +5,15 @@ use Rattle.std.specs.BTreeMap.{BTreeMap}
 use Rattle.std.specs.List.{list_any}
 use Rattle.rtps_ids.specs.declared.identity.Guid.{Guid}
 use Rattle.rtps_ids.specs.declared.identity.GuidPrefix.{GuidPrefix}
-use Rattle.rtps_audit.specs.Intake.{Intake, acts_together}
-use Rattle.rtps_audit.specs.Placed.{is_guid}
-use Rattle.rtps_discovery.specs.Directory.{DirectoryValue, Entries, settled_at}
-use Rattle.rtps_evidence.specs.Explanation.{topic_of}
-use Rattle.rtps_known.specs.Untold.{AreUntoldIn}
+use Rattle.rtps_audit.specs.Intake as intake_spec
+use Rattle.rtps_audit.specs.Placed as placed
+use Rattle.rtps_discovery.specs.Directory as directory
+use Rattle.rtps_evidence.specs.Explanation as explanation
+use Rattle.rtps_known.specs.Untold as untold_spec
 use Rattle.rtps_known.specs.declared.untold.Untold.{Untold}
 use Rattle.rtps_known.specs.declared.visit.Visit.{Visit}
-use Rattle.rtps_report.specs.ActsRead.{timed_acts}
-use Rattle.rtps_report.specs.Visits.{AreVisitsIn}
+use Rattle.rtps_report.specs.ActsRead as acts_read
+use Rattle.rtps_report.specs.Visits as visits_spec
 use Rattle.rtps_report.specs.declared.not_told.NotTold.{NotTold}
 use Rattle.rtps_report.specs.declared.not_told.NotToldCounts.{NotToldCounts}
 use Rattle.rtps_report.specs.declared.not_told.TopicEnd.{TopicEnd}
@@ -48,11 +48,11 @@ not_told_value one =
     }
 
 -- an endpoint with its topic; it is empty where announcements of the endpoint disagree
-abbrev pub with_topic : Entries → Guid → TopicEndValue
-with_topic entries guid = record { topic = topic_of (settled_at entries guid); guid = guid }
+abbrev pub with_topic : directory.Entries → Guid → TopicEndValue
+with_topic entries guid = record { topic = explanation.topic_of (directory.settled_at entries guid); guid = guid }
 
 -- what is found of two participants, with topics
-abbrev pub not_told_by : Entries → Untold → NotToldValue
+abbrev pub not_told_by : directory.Entries → Untold → NotToldValue
 not_told_by entries untold =
     record {
       from = untold.from;
@@ -64,18 +64,18 @@ not_told_by entries untold =
 
 -- who was never told of what in a recording, of which the datagrams came then: by all its acts, fragments among them, and by when participants
 -- are there
-pub record AreNotToldIn (intake : Intake) (recording : List (List ℕ)) (times : List (Option ℕ)) (directory : DirectoryValue) (found : List NotToldValue) : Type 0 where
+pub record AreNotToldIn (intake : intake_spec.Intake) (recording : List (List ℕ)) (times : List (Option ℕ)) (directory : directory.DirectoryValue) (found : List NotToldValue) : Type 0 where
   pub visits : BTreeMap GuidPrefix Visit
-  pub are_visits : AreVisitsIn intake recording times directory.participants visits
+  pub are_visits : visits_spec.AreVisitsIn intake recording times directory.participants visits
   pub untold : List Untold
-  pub are_untold : AreUntoldIn (timed_acts recording times) (record { announcing = acts_together intake.announcing; visits = visits }) untold
+  pub are_untold : untold_spec.AreUntoldIn (acts_read.timed_acts recording times) (record { announcing = intake_spec.acts_together intake.announcing; visits = visits }) untold
   pub is_found : found ≡ map (not_told_by directory.endpoints) untold
 
 -- ---- how many
 
 -- the participant was not told of something
 abbrev pub is_not_told : List NotToldValue → Participant → Bool
-is_not_told found participant = list_any (λ one. is_guid one.to participant.guid) found
+is_not_told found participant = list_any (λ one. placed.is_guid one.to participant.guid) found
 
 -- how many endpoints that is, as far as a `u64` counts
 abbrev pub endpoints_of : NotToldValue → ℕ
@@ -90,7 +90,7 @@ not_told_counts participants found =
 
 -- the second was not told of something of the first
 abbrev pub is_between : Guid → Guid → NotToldValue → Bool
-is_between from to one = is_guid one.from from && is_guid one.to to
+is_between from to one = placed.is_guid one.from from && placed.is_guid one.to to
 
 -- some of these are of the two
 abbrev pub is_not_told_of : List NotToldValue → Guid → Guid → Bool

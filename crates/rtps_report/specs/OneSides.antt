@@ -8,15 +8,14 @@ use Rattle.std.specs.Ordering.{nat_cmp}
 use Rattle.std.specs.Str.{bytes_eq}
 use Rattle.std.specs.declared.cmp.Ordering.{Ordering}
 use Rattle.rtps_ids.specs.declared.identity.Guid.{Guid}
-use Rattle.rtps_discovery.specs.Directory.{DirectoryValue, IsMapOf, settled_in}
-use Rattle.rtps_discovery.specs.Endpoint.{EndpointValue, endpoint_value}
+use Rattle.rtps_discovery.specs.Directory as directory_spec
+use Rattle.rtps_discovery.specs.Endpoint as endpoint
 use Rattle.rtps_discovery.specs.declared.endpoint.Endpoint.{Endpoint}
 use Rattle.rtps_discovery.specs.declared.endpoint.Side.{Side}
-use Rattle.rtps_discovery.specs.declared.endpoint.Side.TheVariants.{Writer, Reader}
-use Rattle.rtps_who.specs.Samples.{NodeValue}
-use Rattle.rtps_report.specs.Asked.{AskedValue}
-use Rattle.rtps_report.specs.Rows.{fits_one, has_node}
-use Rattle.rtps_report.specs.Talk.{TalkValue, traffic_of}
+use Rattle.rtps_who.specs.Samples as samples
+use Rattle.rtps_report.specs.Asked as asked
+use Rattle.rtps_report.specs.Rows as rows
+use Rattle.rtps_report.specs.Talk as talk_spec
 use Rattle.rtps_report.specs.declared.one_side.OneSided.{OneSided}
 
 -- a topic, and on which side its endpoints are
@@ -41,17 +40,17 @@ pub record AreByTopic (endpoints sorted : List Endpoint) : Type 0 where
   pub in_order : IsStable topic_cmp endpoints sorted
 
 -- two endpoints of one topic
-abbrev pub have_one_topic : EndpointValue → EndpointValue → Bool
+abbrev pub have_one_topic : endpoint.EndpointValue → endpoint.EndpointValue → Bool
 have_one_topic one other = bytes_eq one.topic other.topic
 
 -- an endpoint before endpoints that are parted by topic: it joins the first of these where that is of its topic
-abbrev pub joined : EndpointValue → List (List EndpointValue) → List (List EndpointValue)
+abbrev pub joined : endpoint.EndpointValue → List (List endpoint.EndpointValue) → List (List endpoint.EndpointValue)
 joined one [] = (one ∷ []) ∷ []
 joined one ([] ∷ topics) = (one ∷ []) ∷ topics
 joined one ((next ∷ more) ∷ topics) = if have_one_topic one next then (one ∷ next ∷ more) ∷ topics else (one ∷ []) ∷ (next ∷ more) ∷ topics
 
 -- endpoints in their order, parted where the topic changes
-abbrev pub topics_of : List EndpointValue → List (List EndpointValue)
+abbrev pub topics_of : List endpoint.EndpointValue → List (List endpoint.EndpointValue)
 topics_of [] = []
 topics_of (one ∷ endpoints) = joined one (topics_of endpoints)
 
@@ -59,31 +58,31 @@ topics_of (one ∷ endpoints) = joined one (topics_of endpoints)
 
 -- two sides are the same
 abbrev pub is_side : Side → Side → Bool
-is_side Writer Writer = true
-is_side Reader Reader = true
+is_side Side.Writer Side.Writer = true
+is_side Side.Reader Side.Reader = true
 is_side _ _ = false
 
 -- the endpoints of a topic are asked for: it is, and the node of one of them
-abbrev pub are_asked : AskedValue → (Guid → Option NodeValue) → EndpointValue → List EndpointValue → Bool
+abbrev pub are_asked : asked.AskedValue → (Guid → Option samples.NodeValue) → endpoint.EndpointValue → List endpoint.EndpointValue → Bool
 are_asked asked nodes one endpoints =
-    fits_one asked.topics one.topic && ((length asked.nodes == 0) || list_any (λ end. has_node asked.nodes (nodes end.guid)) endpoints)
+    rows.fits_one asked.topics one.topic && ((length asked.nodes == 0) || list_any (λ end. rows.has_node asked.nodes (nodes end.guid)) endpoints)
 
 -- a topic of which these are all endpoints, if they are asked for and are on one side
-abbrev pub one_side : AskedValue → (Guid → Option NodeValue) → List EndpointValue → Option OneSidedValue
+abbrev pub one_side : asked.AskedValue → (Guid → Option samples.NodeValue) → List endpoint.EndpointValue → Option OneSidedValue
 one_side asked nodes [] = None
 one_side asked nodes (one ∷ endpoints) =
     if are_asked asked nodes one (one ∷ endpoints) && list_all (λ end. is_side end.side one.side) endpoints then Some (record { topic = one.topic; side = one.side }) else None
 
 -- the topics of which endpoints that stand by topic are on one side
-abbrev pub one_sides_among : AskedValue → (Guid → Option NodeValue) → List EndpointValue → List OneSidedValue
+abbrev pub one_sides_among : asked.AskedValue → (Guid → Option samples.NodeValue) → List endpoint.EndpointValue → List OneSidedValue
 one_sides_among asked nodes endpoints = filter_map (one_side asked nodes) (topics_of endpoints)
 
 -- these are the topics of a recording whose endpoints are on one side, octet by octet
-pub record AreOneSidesIn (asked : AskedValue) (recording : List (List ℕ)) (talk : TalkValue) (found : List OneSidedValue) : Type 0 where
-  pub directory : DirectoryValue
-  pub is_map : IsMapOf (traffic_of recording).announcing directory
+pub record AreOneSidesIn (asked : asked.AskedValue) (recording : List (List ℕ)) (talk : talk_spec.TalkValue) (found : List OneSidedValue) : Type 0 where
+  pub directory : directory_spec.DirectoryValue
+  pub is_map : directory_spec.IsMapOf (talk_spec.traffic_of recording).announcing directory
   pub endpoints : List Endpoint
-  pub are_endpoints : map endpoint_value endpoints ≡ settled_in directory.endpoints
+  pub are_endpoints : map endpoint.endpoint_value endpoints ≡ directory_spec.settled_in directory.endpoints
   pub sorted : List Endpoint
   pub by_topic : AreByTopic endpoints sorted
-  pub are : found ≡ one_sides_among asked talk.node (map endpoint_value sorted)
+  pub are : found ≡ one_sides_among asked talk.node (map endpoint.endpoint_value sorted)

@@ -1,18 +1,22 @@
 -- What a row says of its numbers, in a span or by the whole recording.
 -- own: what is not asked for is not told: of a row that is in no span, what is received and what is missed, and no more.
 use Rattle.std.specs.Prelude.{ℕ, ◌+◌, ◌-◌, Bool, false, ◌&&◌, ◌==◌, is_some, nat_le, nat_lt, not, Option, None, Some}
-use Rattle.rtps_evidence.specs.Clean.{is_clean as is_clean_in, is_tail as is_tail_in}
+use Rattle.rtps_evidence.specs.Clean as clean
 use Rattle.rtps_evidence.specs.declared.way.Way.{Way}
-use Rattle.rtps_receiver.specs.Said.{natural}
-use Rattle.rtps_report.specs.Reported.{is_complete}
-use Rattle.rtps_report.specs.Silences.{are_heard}
-use Rattle.rtps_report.specs.Vocabulary.{Announcement, EvidenceValue, InSpan, Outcomes, Verdict}
+use Rattle.rtps_receiver.specs.Said as said
+use Rattle.rtps_report.specs.Reported as reported
+use Rattle.rtps_report.specs.Silences as silences_spec
+use Rattle.rtps_evidence.specs.declared.last_announcement.Announcement.{Announcement}
+use Rattle.rtps_evidence.specs.Explanation as explanation
+use Rattle.rtps_evidence.specs.declared.in_span.InSpan.{InSpan}
+use Rattle.rtps_evidence.specs.declared.outcome.Outcomes.{Outcomes}
+use Rattle.rtps_audit.specs.declared.verdict.Verdict.{Verdict}
 use Rattle.rtps_report.specs.declared.silences.Silences.{Silences}
 
 -- how many numbers are asked about: those from `from` on, up to the last announced one
 abbrev pub asked_about : ℕ → Option Announcement → ℕ
 asked_about from None = 0
-asked_about from (Some announcement) = natural announcement.number + 1 - from
+asked_about from (Some announcement) = said.natural announcement.number + 1 - from
 
 -- the number from which on a row is, where numbers are asked for from `from` on
 abbrev pub row_from : ℕ → Option InSpan → ℕ
@@ -51,37 +55,37 @@ outcomes_by received missed None =
 outcomes_by received missed (Some in_span) = in_span.outcomes
 
 -- those of a row
-abbrev pub outcomes_of : EvidenceValue → Outcomes
+abbrev pub outcomes_of : explanation.EvidenceValue → Outcomes
 outcomes_of evidence = outcomes_by evidence.received evidence.missed evidence.in_span
 
 -- it is clean, where a tail may have so many numbers; in no span, where it is complete and nothing is missed
 abbrev pub is_clean_by : ℕ → Verdict → ℕ → Option InSpan → Bool
-is_clean_by tail verdict missed None = is_complete verdict && (missed == 0)
-is_clean_by tail verdict missed (Some in_span) = is_clean_in tail (is_some in_span.until) in_span.is_held verdict in_span.outcomes in_span.from in_span.base
+is_clean_by tail verdict missed None = reported.is_complete verdict && (missed == 0)
+is_clean_by tail verdict missed (Some in_span) = clean.is_clean tail (is_some in_span.until) in_span.is_held verdict in_span.outcomes in_span.from in_span.base
 
 -- the same of a row
-abbrev pub is_clean : ℕ → EvidenceValue → Bool
+abbrev pub is_clean : ℕ → explanation.EvidenceValue → Bool
 is_clean tail evidence = is_clean_by tail evidence.verdict evidence.missed evidence.in_span
 
 -- what it lacks is a tail alone
 abbrev pub is_tail_by : Verdict → Option InSpan → Bool
 is_tail_by verdict None = false
-is_tail_by verdict (Some in_span) = is_tail_in in_span.is_held verdict in_span.outcomes in_span.from in_span.base
+is_tail_by verdict (Some in_span) = clean.is_tail in_span.is_held verdict in_span.outcomes in_span.from in_span.base
 
 -- the same of a row
-abbrev pub is_tail : EvidenceValue → Bool
+abbrev pub is_tail : explanation.EvidenceValue → Bool
 is_tail evidence = is_tail_by evidence.verdict evidence.in_span
 
 -- it is not clean for that alone, and neither the writer's participant nor the reader's is silent
-abbrev pub is_tail_alone : Silences → ℕ → EvidenceValue → Bool
-is_tail_alone silences tail evidence = not (is_clean tail evidence) && (is_tail evidence && are_heard silences)
+abbrev pub is_tail_alone : Silences → ℕ → explanation.EvidenceValue → Bool
+is_tail_alone silences tail evidence = not (is_clean tail evidence) && (is_tail evidence && silences_spec.are_heard silences)
 
 -- it is clean with a tail, which has numbers: where all of them arrived, nothing is lacking
-abbrev pub is_clean_tail : ℕ → EvidenceValue → Bool
+abbrev pub is_clean_tail : ℕ → explanation.EvidenceValue → Bool
 is_clean_tail tail evidence = is_clean tail evidence && (is_tail evidence && nat_lt 0 (outcomes_of evidence).unconfirmed)
 
 -- someone has to look at it
-abbrev pub is_noted : Silences → ℕ → EvidenceValue → Bool
+abbrev pub is_noted : Silences → ℕ → explanation.EvidenceValue → Bool
 is_noted silences tail evidence = not (is_clean tail evidence) && not (is_tail_alone silences tail evidence)
 
 -- the writer of a row announced numbers, all of them stand before it, and no answer claims a number of it
@@ -90,9 +94,9 @@ wrote_before_in None = false
 wrote_before_in (Some in_span) = in_span.wrote_before && nat_le in_span.base in_span.from
 
 -- the same of a complete row that does not begin with the first number that is asked for
-abbrev pub is_late : ℕ → EvidenceValue → Bool
-is_late from evidence = is_complete evidence.verdict && (wrote_before_in evidence.in_span && nat_lt from (row_from from evidence.in_span))
+abbrev pub is_late : ℕ → explanation.EvidenceValue → Bool
+is_late from evidence = reported.is_complete evidence.verdict && (wrote_before_in evidence.in_span && nat_lt from (row_from from evidence.in_span))
 
 -- each of its numbers is received for certain
-abbrev pub is_certain : ℕ → EvidenceValue → Bool
+abbrev pub is_certain : ℕ → explanation.EvidenceValue → Bool
 is_certain from evidence = nat_le (asked_about (row_from from evidence.in_span) evidence.announcement) (outcomes_of evidence).received

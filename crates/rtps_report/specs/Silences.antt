@@ -4,15 +4,15 @@ use Rattle.std.specs.Prelude.{ℕ, ◌&&◌, Bool, if◌then◌else◌, is_none,
 use Rattle.std.specs.List.{find, list_any}
 use Rattle.rtps_ids.specs.declared.identity.Guid.{Guid}
 use Rattle.rtps_discovery.specs.declared.matching.Pair.{Pair}
-use Rattle.rtps_audit.specs.Placed.{is_guid}
+use Rattle.rtps_audit.specs.Placed as placed
 use Rattle.rtps_ids.specs.declared.identity.GuidPrefix.{GuidPrefix}
-use Rattle.rtps_receiver.specs.Speech.{is_prefix}
-use Rattle.rtps_policies.specs.Announcing.{participant_of}
+use Rattle.rtps_receiver.specs.Speech as speech
+use Rattle.rtps_policies.specs.Announcing as announcing
 use Rattle.rtps_policies.specs.declared.host.Address.{Address}
 use Rattle.rtps_policies.specs.declared.one_way.OneWay.{OneWay}
-use Rattle.rtps_report.specs.LateMatches.{is_mixed}
-use Rattle.rtps_report.specs.NotTold.{is_not_told_of}
-use Rattle.rtps_report.specs.Talk.{TalkValue}
+use Rattle.rtps_report.specs.LateMatches as late_matches
+use Rattle.rtps_report.specs.NotTold as not_told
+use Rattle.rtps_report.specs.Talk as talk
 use Rattle.rtps_report.specs.declared.participant.Participant.{Participant}
 use Rattle.rtps_report.specs.declared.silences.Silences.{Silences}
 use Rattle.rtps_report.specs.declared.presence.Stay.{Stay}
@@ -29,7 +29,7 @@ silent_since (Some participant) = if participant.silent then last_in participant
 
 -- it has this GUID
 abbrev pub has_guid : Guid → Participant → Bool
-has_guid guid participant = is_guid participant.guid guid
+has_guid guid participant = placed.is_guid participant.guid guid
 
 -- since which datagram the first of these participants that has this GUID is silent
 abbrev pub silence_among : List Participant → Guid → Option ℕ
@@ -39,23 +39,23 @@ silence_among participants guid = silent_since (find (has_guid guid) participant
 
 -- the one names the other, and never the other way round
 abbrev pub is_one_way : List OneWay → GuidPrefix → GuidPrefix → Bool
-is_one_way found source dest = list_any (λ one. is_prefix one.naming.source source && is_prefix one.naming.dest dest) found
+is_one_way found source dest = list_any (λ one. speech.is_prefix one.naming.source source && speech.is_prefix one.naming.dest dest) found
 
 -- from where nothing comes back of two participants, of which the one names the other; None where something does
-abbrev pub address_behind : TalkValue → Guid → Guid → Option Address
+abbrev pub address_behind : talk.TalkValue → Guid → Guid → Option Address
 address_behind talk from to = if is_one_way talk.one_way from.prefix to.prefix then (talk.ends to).address else None
 
 -- ---- of a pair
 
 -- since when the participants of the writer and the reader of a pair are silent, whether that of the reader was not told of endpoints of the other,
 -- whether one has two lives, and whether the two matched late
-abbrev pub silences_of : TalkValue → Pair → Silences
+abbrev pub silences_of : talk.TalkValue → Pair → Silences
 silences_of talk pair =
     record {
-      writer = silence_among talk.participants (participant_of pair.writer.prefix);
-      reader = silence_among talk.participants (participant_of pair.reader.prefix);
-      is_not_told = is_not_told_of talk.not_told (participant_of pair.writer.prefix) (participant_of pair.reader.prefix);
-      is_twice = is_mixed talk.lives pair;
+      writer = silence_among talk.participants (announcing.participant_of pair.writer.prefix);
+      reader = silence_among talk.participants (announcing.participant_of pair.reader.prefix);
+      is_not_told = not_told.is_not_told_of talk.not_told (announcing.participant_of pair.writer.prefix) (announcing.participant_of pair.reader.prefix);
+      is_twice = late_matches.is_mixed talk.lives pair;
       matched_late = is_some (talk.late pair);
     }
 

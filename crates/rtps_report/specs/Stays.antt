@@ -9,10 +9,10 @@ use Rattle.std.specs.Option.{option_map}
 use Rattle.std.specs.Ordering.{nat_cmp}
 use Rattle.std.specs.declared.cmp.Ordering.{Ordering}
 use Rattle.rtps_ids.specs.declared.identity.GuidPrefix.{GuidPrefix}
-use Rattle.rtps_wire.specs.Reading.{reading_of}
+use Rattle.rtps_wire.specs.Reading as reading
 use Rattle.rtps_wire.specs.declared.header.Header.{Header}
-use Rattle.rtps_receiver.specs.Speech.{is_prefix}
-use Rattle.rtps_evidence.specs.Times.{end_of, time_of}
+use Rattle.rtps_receiver.specs.Speech as speech
+use Rattle.rtps_evidence.specs.Times as times_spec
 use Rattle.rtps_report.specs.declared.presence.Presence.{Presence}
 use Rattle.rtps_report.specs.declared.presence.Presences.{Presences}
 use Rattle.rtps_report.specs.declared.presence.Stay.{Stay}
@@ -27,12 +27,12 @@ sender_by header = option_map (λ one. one.prefix) header
 
 -- who sent a datagram
 abbrev pub sender_of : List ℕ → Option GuidPrefix
-sender_of datagram = sender_by (reading_of datagram).header
+sender_of datagram = sender_by (reading.reading_of datagram).header
 
 -- a sender is this participant
 abbrev pub is_sender : GuidPrefix → Option GuidPrefix → Bool
 is_sender prefix None = false
-is_sender prefix (Some sender) = is_prefix sender prefix
+is_sender prefix (Some sender) = speech.is_prefix sender prefix
 
 -- the numbers of the datagrams that a participant sent, in order, counted from 1
 abbrev pub numbers_of : GuidPrefix → List (List ℕ) → List ℕ
@@ -56,11 +56,11 @@ stay_of recording prefix = ends_of (numbers_of prefix recording)
 
 -- the greatest of these times; None where one of them is not known
 abbrev pub greatest_known : List (Option ℕ) → Option ℕ
-greatest_known times = if list_all is_some times then end_of times else None
+greatest_known times = if list_all is_some times then times_spec.end_of times else None
 
 -- the greatest time of the datagrams that a participant sent; None where there is none, or one of them has no time
 abbrev pub latest_of : List (List ℕ) → List (Option ℕ) → GuidPrefix → Option ℕ
-latest_of recording times prefix = greatest_known (map (time_of times) (numbers_of prefix recording))
+latest_of recording times prefix = greatest_known (map (times_spec.time_of times) (numbers_of prefix recording))
 
 -- ---- the same of the code
 

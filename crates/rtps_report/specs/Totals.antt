@@ -1,75 +1,77 @@
 -- What is counted of rows. own: a topic with thousands of samples is read at a glance only as sums.
 use Rattle.std.specs.Prelude.{ℕ, ◌+◌, ◌-◌, ◌*◌, ◌≤◌, ◌&&◌, nat_lt, not, Bool, if◌then◌else◌, List, count_by, length, sum_by}
-use Rattle.rtps_report.specs.Reported.{is_complete}
-use Rattle.rtps_report.specs.RowFacts.{asked_about, is_certain, is_clean, is_clean_tail, is_held_in, outcomes_of, row_from}
-use Rattle.rtps_report.specs.Vocabulary.{EvidenceValue, ExplanationValue, Scope, Totals}
+use Rattle.rtps_report.specs.Reported as reported
+use Rattle.rtps_report.specs.RowFacts as row_facts
+use Rattle.rtps_evidence.specs.Explanation as explanation
+use Rattle.rtps_report.specs.declared.advice.Scope.{Scope}
+use Rattle.rtps_report.specs.declared.totals.Totals.{Totals}
 
 -- the row is neither complete nor clean
-abbrev pub is_unclean : ℕ → EvidenceValue → Bool
-is_unclean tail evidence = not (is_complete evidence.verdict) && not (is_clean tail evidence)
+abbrev pub is_unclean : ℕ → explanation.EvidenceValue → Bool
+is_unclean tail evidence = not (reported.is_complete evidence.verdict) && not (row_facts.is_clean tail evidence)
 
 -- how many of the numbers from `from` on stand before the first of a row
-abbrev pub before_of : ℕ → EvidenceValue → ℕ
-before_of from evidence = row_from from evidence.in_span - from
+abbrev pub before_of : ℕ → explanation.EvidenceValue → ℕ
+before_of from evidence = row_facts.row_from from evidence.in_span - from
 
 -- how many numbers a row asks about
-abbrev pub numbers_of : ℕ → EvidenceValue → ℕ
-numbers_of from evidence = asked_about (row_from from evidence.in_span) evidence.announcement
+abbrev pub numbers_of : ℕ → explanation.EvidenceValue → ℕ
+numbers_of from evidence = row_facts.asked_about (row_facts.row_from from evidence.in_span) evidence.announcement
 
 -- how many likely numbers of a row did not arrive: all of them, where it is held
-abbrev pub lost_of : EvidenceValue → ℕ
-lost_of evidence = if is_held_in evidence.in_span then (outcomes_of evidence).likely else 0
+abbrev pub lost_of : explanation.EvidenceValue → ℕ
+lost_of evidence = if row_facts.is_held_in evidence.in_span then (row_facts.outcomes_of evidence).likely else 0
 
 -- what is counted of rows
-abbrev pub totals_of : Scope → List ExplanationValue → Totals
+abbrev pub totals_of : Scope → List explanation.ExplanationValue → Totals
 totals_of scope rows =
     record {
       pairs = length rows;
-      complete_pairs = count_by (λ row. is_complete row.evidence.verdict) rows;
-      clean_pairs = count_by (λ row. is_clean scope.tail row.evidence) rows;
+      complete_pairs = count_by (λ row. reported.is_complete row.evidence.verdict) rows;
+      clean_pairs = count_by (λ row. row_facts.is_clean scope.tail row.evidence) rows;
       unclean_pairs = count_by (λ row. is_unclean scope.tail row.evidence) rows;
-      tail_pairs = count_by (λ row. is_clean_tail scope.tail row.evidence) rows;
-      missed_pairs = count_by (λ row. nat_lt 0 (outcomes_of row.evidence).missed) rows;
-      unsent_pairs = count_by (λ row. nat_lt 0 (outcomes_of row.evidence).unsent) rows;
-      unanswered_pairs = count_by (λ row. nat_lt 0 (outcomes_of row.evidence).unanswered) rows;
-      uncertain_pairs = count_by (λ row. not (is_certain scope.from row.evidence)) rows;
+      tail_pairs = count_by (λ row. row_facts.is_clean_tail scope.tail row.evidence) rows;
+      missed_pairs = count_by (λ row. nat_lt 0 (row_facts.outcomes_of row.evidence).missed) rows;
+      unsent_pairs = count_by (λ row. nat_lt 0 (row_facts.outcomes_of row.evidence).unsent) rows;
+      unanswered_pairs = count_by (λ row. nat_lt 0 (row_facts.outcomes_of row.evidence).unanswered) rows;
+      uncertain_pairs = count_by (λ row. not (row_facts.is_certain scope.from row.evidence)) rows;
       lost_pairs = count_by (λ row. nat_lt 0 (lost_of row.evidence)) rows;
       before = sum_by (λ row. before_of scope.from row.evidence) rows;
       numbers = sum_by (λ row. numbers_of scope.from row.evidence) rows;
-      received = sum_by (λ row. (outcomes_of row.evidence).received) rows;
-      arrived = sum_by (λ row. (outcomes_of row.evidence).arrived) rows;
-      likely = sum_by (λ row. (outcomes_of row.evidence).likely) rows;
+      received = sum_by (λ row. (row_facts.outcomes_of row.evidence).received) rows;
+      arrived = sum_by (λ row. (row_facts.outcomes_of row.evidence).arrived) rows;
+      likely = sum_by (λ row. (row_facts.outcomes_of row.evidence).likely) rows;
       lost = sum_by (λ row. lost_of row.evidence) rows;
-      missed = sum_by (λ row. (outcomes_of row.evidence).missed) rows;
-      unsent = sum_by (λ row. (outcomes_of row.evidence).unsent) rows;
-      unanswered = sum_by (λ row. (outcomes_of row.evidence).unanswered) rows;
-      unconfirmed = sum_by (λ row. (outcomes_of row.evidence).unconfirmed) rows;
+      missed = sum_by (λ row. (row_facts.outcomes_of row.evidence).missed) rows;
+      unsent = sum_by (λ row. (row_facts.outcomes_of row.evidence).unsent) rows;
+      unanswered = sum_by (λ row. (row_facts.outcomes_of row.evidence).unanswered) rows;
+      unconfirmed = sum_by (λ row. (row_facts.outcomes_of row.evidence).unconfirmed) rows;
     }
 
 -- with one more row
-abbrev pub with_row : Scope → Totals → ExplanationValue → Totals
+abbrev pub with_row : Scope → Totals → explanation.ExplanationValue → Totals
 with_row scope totals row =
     record {
       pairs = totals.pairs + 1;
-      complete_pairs = totals.complete_pairs + (if is_complete row.evidence.verdict then 1 else 0);
-      clean_pairs = totals.clean_pairs + (if is_clean scope.tail row.evidence then 1 else 0);
+      complete_pairs = totals.complete_pairs + (if reported.is_complete row.evidence.verdict then 1 else 0);
+      clean_pairs = totals.clean_pairs + (if row_facts.is_clean scope.tail row.evidence then 1 else 0);
       unclean_pairs = totals.unclean_pairs + (if is_unclean scope.tail row.evidence then 1 else 0);
-      tail_pairs = totals.tail_pairs + (if is_clean_tail scope.tail row.evidence then 1 else 0);
-      missed_pairs = totals.missed_pairs + (if nat_lt 0 (outcomes_of row.evidence).missed then 1 else 0);
-      unsent_pairs = totals.unsent_pairs + (if nat_lt 0 (outcomes_of row.evidence).unsent then 1 else 0);
-      unanswered_pairs = totals.unanswered_pairs + (if nat_lt 0 (outcomes_of row.evidence).unanswered then 1 else 0);
-      uncertain_pairs = totals.uncertain_pairs + (if not (is_certain scope.from row.evidence) then 1 else 0);
+      tail_pairs = totals.tail_pairs + (if row_facts.is_clean_tail scope.tail row.evidence then 1 else 0);
+      missed_pairs = totals.missed_pairs + (if nat_lt 0 (row_facts.outcomes_of row.evidence).missed then 1 else 0);
+      unsent_pairs = totals.unsent_pairs + (if nat_lt 0 (row_facts.outcomes_of row.evidence).unsent then 1 else 0);
+      unanswered_pairs = totals.unanswered_pairs + (if nat_lt 0 (row_facts.outcomes_of row.evidence).unanswered then 1 else 0);
+      uncertain_pairs = totals.uncertain_pairs + (if not (row_facts.is_certain scope.from row.evidence) then 1 else 0);
       lost_pairs = totals.lost_pairs + (if nat_lt 0 (lost_of row.evidence) then 1 else 0);
       before = totals.before + before_of scope.from row.evidence;
       numbers = totals.numbers + numbers_of scope.from row.evidence;
-      received = totals.received + (outcomes_of row.evidence).received;
-      arrived = totals.arrived + (outcomes_of row.evidence).arrived;
-      likely = totals.likely + (outcomes_of row.evidence).likely;
+      received = totals.received + (row_facts.outcomes_of row.evidence).received;
+      arrived = totals.arrived + (row_facts.outcomes_of row.evidence).arrived;
+      likely = totals.likely + (row_facts.outcomes_of row.evidence).likely;
       lost = totals.lost + lost_of row.evidence;
-      missed = totals.missed + (outcomes_of row.evidence).missed;
-      unsent = totals.unsent + (outcomes_of row.evidence).unsent;
-      unanswered = totals.unanswered + (outcomes_of row.evidence).unanswered;
-      unconfirmed = totals.unconfirmed + (outcomes_of row.evidence).unconfirmed;
+      missed = totals.missed + (row_facts.outcomes_of row.evidence).missed;
+      unsent = totals.unsent + (row_facts.outcomes_of row.evidence).unsent;
+      unanswered = totals.unanswered + (row_facts.outcomes_of row.evidence).unanswered;
+      unconfirmed = totals.unconfirmed + (row_facts.outcomes_of row.evidence).unconfirmed;
     }
 
 -- no pair counts twice, and each counts fewer than 2 ^ 64 numbers

@@ -5,14 +5,14 @@ use Rattle.std.specs.List.{list_any}
 use Rattle.rtps_ids.specs.declared.identity.Guid.{Guid}
 use Rattle.rtps_ids.specs.declared.identity.GuidPrefix.{GuidPrefix}
 use Rattle.rtps_ids.specs.declared.identity.Stamp.{Stamp}
-use Rattle.rtps_receiver.specs.Speech.{is_prefix}
-use Rattle.rtps_audit.specs.Placed.{is_guid}
-use Rattle.rtps_evidence.specs.Times.{are_there}
-use Rattle.rtps_known.specs.Lives.{AreLivesOf}
-use Rattle.rtps_known.specs.Recorded.{acts_of}
+use Rattle.rtps_receiver.specs.Speech as speech
+use Rattle.rtps_audit.specs.Placed as placed
+use Rattle.rtps_evidence.specs.Times as times_spec
+use Rattle.rtps_known.specs.Lives as lives_spec
+use Rattle.rtps_known.specs.Recorded as recorded
 use Rattle.rtps_known.specs.declared.life.Life.{Life}
-use Rattle.rtps_policies.specs.Announcing.{participant_of}
-use Rattle.rtps_report.specs.ActsRead.{timed_acts}
+use Rattle.rtps_policies.specs.Announcing as announcing
+use Rattle.rtps_report.specs.ActsRead as acts_read
 use Rattle.rtps_report.specs.declared.two_lives.TwoLives.{TwoLives}
 
 -- a source time in nanoseconds since 1970 began: it has whole seconds, and parts of which a second has 2 ^ 32. What is finer is cut off
@@ -22,12 +22,12 @@ nanoseconds_of stamp = stamp.seconds * 10 ^ 9 + stamp.fraction * 10 ^ 9 / 2 ^ 32
 -- the two lives of a participant, by a number that shows them
 abbrev pub two_lives_of : Life → TwoLives
 two_lives_of life =
-    record { participant = participant_of life.participant; sent = (nanoseconds_of life.sent.0, nanoseconds_of life.sent.1) }
+    record { participant = announcing.participant_of life.participant; sent = (nanoseconds_of life.sent.0, nanoseconds_of life.sent.1) }
 
 -- it is of the participant before, if there is one
 abbrev pub is_of : Option GuidPrefix → Life → Bool
 is_of None life = false
-is_of (Some prefix) life = is_prefix life.participant prefix
+is_of (Some prefix) life = speech.is_prefix life.participant prefix
 
 -- of numbers that stand by participant, behind those of this one, the first of each participant
 abbrev pub firsts_behind : Option GuidPrefix → List Life → List Life
@@ -38,9 +38,9 @@ firsts_behind before (life ∷ lives) =
 -- who has two lives in a recording, of which the datagrams came then
 pub record AreTwoLivesIn (recording : List (List ℕ)) (times : List (Option ℕ)) (found : List TwoLives) : Type 0 where
   pub lives : List Life
-  pub are_lives : AreLivesOf (acts_of (timed_acts recording times)) lives
-  pub is_found : found ≡ (if are_there times then map two_lives_of (firsts_behind None lives) else [])
+  pub are_lives : lives_spec.AreLivesOf (recorded.acts_of (acts_read.timed_acts recording times)) lives
+  pub is_found : found ≡ (if times_spec.are_there times then map two_lives_of (firsts_behind None lives) else [])
 
 -- a participant has two of these lives
 abbrev pub lives_twice : List TwoLives → Guid → Bool
-lives_twice found participant = list_any (λ one. is_guid one.participant participant) found
+lives_twice found participant = list_any (λ one. placed.is_guid one.participant participant) found

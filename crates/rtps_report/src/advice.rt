@@ -1,9 +1,8 @@
 ghost use Rattle.std.specs.Prelude.{◌≡◌};
 ghost use Rattle.std.specs.Option.{option_map};
-ghost use Rattle.rtps_evidence.specs.Explanation.{evidence_value};
-ghost use Rattle.rtps_evidence.specs.Locations.{sent_value};
-ghost use Rattle.rtps_wire.specs.Values.{payload_value};
-ghost use Rattle.rtps_report.specs.Advice.{advice_by, ended_advice, participant_advice};
+ghost use Rattle.rtps_evidence.specs.Explanation as explanation;
+ghost use Rattle.rtps_evidence.specs.Locations as locations;
+ghost use Rattle.rtps_wire.specs.Values as values;
 ghost use Rattle.rtps_report.specs.Advice as advice_spec;
 
 use crate::row_facts::{
@@ -112,7 +111,7 @@ fn is_first_sent(first: Option<FirstMissed>) -> bool
 
 /// Whether a pair is held, and numbers that were sent did not arrive, and not only a tail.
 fn is_lost(evidence: &Evidence<'_>) -> bool
-    ensures { result ≡ advice_spec.is_lost (evidence_value evidence.now) }
+    ensures { result ≡ advice_spec.is_lost (explanation.evidence_value evidence.now) }
 {
     let outcomes = outcomes_of(evidence);
     is_held(evidence)
@@ -125,7 +124,7 @@ fn is_lost(evidence: &Evidence<'_>) -> bool
 
 /// What to do for a pair of which numbers are lost or missed. Of a pair that is held all missed ones may have arrived.
 fn loss_advice(evidence: &Evidence<'_>) -> Option<Advice>
-    ensures { result ≡ advice_spec.loss_advice (evidence_value evidence.now) }
+    ensures { result ≡ advice_spec.loss_advice (explanation.evidence_value evidence.now) }
 {
     if is_lost(evidence) {
         return Some(Advice::Lost);
@@ -137,7 +136,7 @@ fn loss_advice(evidence: &Evidence<'_>) -> Option<Advice>
 }
 
 fn complete_advice(evidence: &Evidence<'_>) -> Advice
-    ensures { result ≡ advice_spec.complete_advice (evidence_value evidence.now) }
+    ensures { result ≡ advice_spec.complete_advice (explanation.evidence_value evidence.now) }
 {
     if let Some(advice) = loss_advice(evidence) {
         advice
@@ -191,7 +190,7 @@ fn unanswered_advice(times: &Times, acknowledged: bool, datagram: u64) -> Advice
 
 /// What to do for an open pair whose number is told, by where its reader was asked first since its last answer.
 fn asked_advice(times: &Times, evidence: &Evidence<'_>, first: Option<Location>) -> Advice
-    ensures { result ≡ advice_spec.asked_advice times.now (evidence_value evidence.now) first }
+    ensures { result ≡ advice_spec.asked_advice times.now (explanation.evidence_value evidence.now) first }
 {
     let acknowledged = evidence.acknowledgement.is_some();
     match first {
@@ -211,7 +210,7 @@ fn untold_open_advice(scope: Scope) -> Advice
 }
 
 fn are_alike(one: Payload<'_>, other: Payload<'_>) -> bool
-    ensures { result ≡ advice_spec.are_alike (payload_value one.entry) (payload_value other.entry) }
+    ensures { result ≡ advice_spec.are_alike (values.payload_value one.entry) (values.payload_value other.entry) }
 {
     match (one, other) {
         (Payload::Absent, Payload::Absent) => true,
@@ -222,7 +221,7 @@ fn are_alike(one: Payload<'_>, other: Payload<'_>) -> bool
 }
 
 fn conflict_advice(first: Option<Sent<'_>>, other: Option<Sent<'_>>) -> Advice
-    ensures { result ≡ advice_spec.conflict_advice (option_map sent_value first.entry) (option_map sent_value other.entry) }
+    ensures { result ≡ advice_spec.conflict_advice (option_map locations.sent_value first.entry) (option_map locations.sent_value other.entry) }
 {
     match (first, other) {
         (Some(first), Some(other)) if are_alike(first.payload, other.payload) => Advice::Alike,
@@ -254,7 +253,7 @@ fn unfounded_advice(
     teller: Option<Teller>,
     claim: Option<Claim>,
 ) -> Advice
-    ensures { result ≡ advice_spec.unfounded_advice scope (evidence_value evidence.now) teller claim }
+    ensures { result ≡ advice_spec.unfounded_advice scope (explanation.evidence_value evidence.now) teller claim }
 {
     if stand_together(teller, claim) {
         Advice::Relayed
@@ -276,7 +275,7 @@ fn unfounded_advice(
 
 /// What to do for a pair, where nobody is silent.
 fn heard_advice(scope: Scope, evidence: &Evidence<'_>, times: &Times) -> Advice
-    ensures { result ≡ advice_by times.now scope (evidence_value evidence.now) (evidence_value evidence.now).grounds }
+    ensures { result ≡ advice_spec.advice_by times.now scope (explanation.evidence_value evidence.now) (explanation.evidence_value evidence.now).grounds }
 {
     match evidence.grounds {
         Grounds::Complete => complete_advice(evidence),
@@ -298,7 +297,7 @@ fn heard_advice(scope: Scope, evidence: &Evidence<'_>, times: &Times) -> Advice
 impl Silences {
     /// What to do for a pair of which one of the two participants is silent.
     fn ended(self) -> Option<Advice>
-        ensures { result ≡ ended_advice self }
+        ensures { result ≡ advice_spec.ended_advice self }
     {
         match (self.reader, self.writer) {
             (Some(last), _) => Some(Advice::ReaderEnded(last)),
@@ -309,7 +308,7 @@ impl Silences {
 
     /// What to do for a pair by its participants alone, of which the reader knows the writer or not.
     fn advice(self, known: bool) -> Option<Advice>
-        ensures { result ≡ participant_advice self known }
+        ensures { result ≡ advice_spec.participant_advice self known }
     {
         if self.is_twice {
             return Some(Advice::TwoLives);
@@ -334,14 +333,14 @@ fn late_advice(matched_late: bool, advice: Advice) -> Advice
 
 /// Whether the reader of a row knows its writer: it acknowledged a number of the row, or all before it.
 fn is_known(evidence: &Evidence<'_>) -> bool
-    ensures { result ≡ advice_spec.is_known (evidence_value evidence.now) }
+    ensures { result ≡ advice_spec.is_known (explanation.evidence_value evidence.now) }
 {
     evidence.acknowledgement.is_some() || is_tail(evidence)
 }
 
 /// What to do for a pair, of whose participants this is known.
 pub fn advice_of(scope: Scope, evidence: &Evidence<'_>, silences: Silences, times: &Times) -> Advice
-    ensures { result ≡ advice_spec.advice_of times.now silences scope (evidence_value evidence.now) }
+    ensures { result ≡ advice_spec.advice_of times.now silences scope (explanation.evidence_value evidence.now) }
 {
     match silences.advice(is_known(evidence)) {
         Some(advice) => advice,

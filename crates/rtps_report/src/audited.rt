@@ -1,7 +1,7 @@
 ghost use Rattle.std.specs.Prelude.{◌≡◌, IfOk};
-ghost use Rattle.rtps_audit.specs.Index.{IsIndexBy};
-ghost use Rattle.rtps_fragments.specs.RecordedSamples.{intake_as};
-ghost use Rattle.rtps_report.specs.Reported.{IsAuditExplained, IsReportAs};
+ghost use Rattle.rtps_audit.specs.Index as index;
+ghost use Rattle.rtps_fragments.specs.RecordedSamples as recorded_samples;
+ghost use Rattle.rtps_report.specs.Reported as reported;
 
 use crate::recording::{Recording, datagrams_of};
 use rtps_audit::{Index, Report, Watch};
@@ -40,7 +40,7 @@ fn index_asked<'a>(
     fragments: Fragments,
     samples: &'a mut Samples,
 ) -> Result<Index<'a>, Memory>
-    ensures { IfOk result (IsIndexBy (intake_as fragments recording.now.datagrams)) }
+    ensures { IfOk result (index.IsIndexBy (recorded_samples.intake_as fragments recording.now.datagrams)) }
 {
     let datagrams = datagrams_of(alloc, recording)?;
     let indexed = index_as(alloc, &datagrams, fragments, samples)?;
@@ -54,7 +54,7 @@ pub fn audit_asked<P: Watch>(
     asked: AskedAudit,
     watch: &mut P,
 ) -> Result<Report, Memory>
-    ensures { IfOk result (IsReportAs asked recording.now.datagrams) }
+    ensures { IfOk result (reported.IsReportAs asked recording.now.datagrams) }
 {
     let mut samples = Samples::none(alloc);
     let index = index_asked(alloc, recording, asked.fragments, &mut samples)?;
@@ -69,7 +69,7 @@ pub fn explain_asked<'a, P: Watch>(
     samples: &'a mut Samples,
     watch: &mut P,
 ) -> Result<Explained<'a>, Memory>
-    ensures { IfOk result (IsAuditExplained asked recording.now.datagrams) }
+    ensures { IfOk result (reported.IsAuditExplained asked recording.now.datagrams) }
 {
     let index = index_asked(alloc, recording, asked.fragments, samples)?;
     let sides = Sides {

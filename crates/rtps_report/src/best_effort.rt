@@ -1,5 +1,4 @@
 ghost use Rattle.std.specs.Prelude.{◌≡◌, IfOk, OnOk, map};
-ghost use Rattle.rtps_report.specs.BestEfforts.{AreSumsOf, AreWithin, IsSmall, IsWithin, added_to, best_effort_value, counted_value, held_value};
 ghost use Rattle.rtps_report.specs.BestEfforts as best_efforts;
 
 use rtps_discovery::Pair;
@@ -47,11 +46,9 @@ pub struct BestEffortNumbers {
 }
 
 impl BestEffort<'_> {
-    ghost use Rattle.rtps_report.specs.BestEfforts.{numbers_told};
-
     /// How many pairs there are, how many numbers they have, and how many of these are recorded.
     pub fn told(&self) -> BestEffortNumbers
-        ensures { result ≡ numbers_told (best_effort_value self.now) }
+        ensures { result ≡ best_efforts.numbers_told (best_efforts.best_effort_value self.now) }
     {
         BestEffortNumbers {
             pairs: self.pairs,
@@ -63,9 +60,9 @@ impl BestEffort<'_> {
 
 /// One pair more.
 fn with_counted<'a>(sum: BestEffort<'a>, one: &Counted<'a>) -> BestEffort<'a>
-    requires { IsWithin (best_effort_value sum) }
-    ensures sum { best_effort_value result ≡ best_efforts.with_counted (best_effort_value sum.entry) (counted_value one.now) }
-    ensures small { IsSmall (counted_value one.now) }
+    requires { best_efforts.IsWithin (best_efforts.best_effort_value sum) }
+    ensures sum { best_efforts.best_effort_value result ≡ best_efforts.with_counted (best_efforts.best_effort_value sum.entry) (best_efforts.counted_value one.now) }
+    ensures small { best_efforts.IsSmall (best_efforts.counted_value one.now) }
 {
     BestEffort {
         topic: sum.topic,
@@ -77,7 +74,7 @@ fn with_counted<'a>(sum: BestEffort<'a>, one: &Counted<'a>) -> BestEffort<'a>
 
 /// The sums of a topic of which no pair is counted.
 fn no_pairs(topic: &[u8]) -> BestEffort<'_>
-    ensures { best_effort_value result ≡ record { topic = topic.now; pairs = 0; numbers = 0; recorded = 0 } }
+    ensures { best_efforts.best_effort_value result ≡ record { topic = topic.now; pairs = 0; numbers = 0; recorded = 0 } }
 {
     BestEffort {
         topic,
@@ -89,9 +86,9 @@ fn no_pairs(topic: &[u8]) -> BestEffort<'_>
 
 /// Adds a pair to the last of these topics where it is of that, and else to one of its own.
 fn add_counted<'a>(sums: &mut Vec<BestEffort<'a>>, one: &Counted<'a>) -> Result<(), Memory>
-    requires { AreWithin (map best_effort_value sums.old.items) }
-    ensures added { OnOk result (map best_effort_value sums.new.items ≡ added_to (map best_effort_value sums.old.items) (counted_value one.now)) }
-    ensures small { OnOk result (IsSmall (counted_value one.now)) }
+    requires { best_efforts.AreWithin (map best_efforts.best_effort_value sums.old.items) }
+    ensures added { OnOk result (map best_efforts.best_effort_value sums.new.items ≡ best_efforts.added_to (map best_efforts.best_effort_value sums.old.items) (best_efforts.counted_value one.now)) }
+    ensures small { OnOk result (best_efforts.IsSmall (best_efforts.counted_value one.now)) }
 {
     let Some(last) = sums.pop() else {
         sums.push(with_counted(no_pairs(one.topic), one))?;
@@ -108,7 +105,7 @@ fn add_counted<'a>(sums: &mut Vec<BestEffort<'a>>, one: &Counted<'a>) -> Result<
 
 /// The sums of all these pairs.
 pub(crate) fn total_of(counted: &[Counted<'_>]) -> BestEffort<'static>
-    ensures { best_effort_value result ≡ best_efforts.total_of (map counted_value counted.now) }
+    ensures { best_efforts.best_effort_value result ≡ best_efforts.total_of (map best_efforts.counted_value counted.now) }
 {
     let mut total = no_pairs(&[]);
     for one in counted {
@@ -127,7 +124,7 @@ pub(crate) fn sums_of<'a>(
     alloc: Global,
     counted: &mut Vec<Counted<'a>>,
 ) -> Result<Vec<BestEffort<'a>>, Memory>
-    ensures { IfOk result (λ sums. AreSumsOf (map counted_value counted.old.items) (map best_effort_value sums.items)) }
+    ensures { IfOk result (λ sums. best_efforts.AreSumsOf (map best_efforts.counted_value counted.old.items) (map best_efforts.best_effort_value sums.items)) }
 {
     counted.sort_by_key(|one| one.topic)?;
     let mut sums = Vec::new(alloc);
@@ -142,7 +139,7 @@ pub(crate) fn held_among<'a>(
     alloc: Global,
     counted: &[Counted<'a>],
 ) -> Result<Vec<HeldPair<'a>>, Memory>
-    ensures { IfOk result (λ held. map held_value held.items ≡ best_efforts.held_among (map counted_value counted.now)) }
+    ensures { IfOk result (λ held. map best_efforts.held_value held.items ≡ best_efforts.held_among (map best_efforts.counted_value counted.now)) }
 {
     let mut held = Vec::new(alloc);
     for one in counted {
@@ -163,7 +160,7 @@ pub(crate) fn arrived_among<'a>(
     alloc: Global,
     counted: &[Counted<'a>],
 ) -> Result<Vec<Counted<'a>>, Memory>
-    ensures { IfOk result (λ held. map counted_value held.items ≡ best_efforts.arrived_among (map counted_value counted.now)) }
+    ensures { IfOk result (λ held. map best_efforts.counted_value held.items ≡ best_efforts.arrived_among (map best_efforts.counted_value counted.now)) }
 {
     let mut held = Vec::new(alloc);
     for one in counted {

@@ -1,8 +1,8 @@
 ghost use Rattle.std.specs.Prelude.{◌≡◌, ◌++◌, ◌∷◌, [], ◌+◌, ◌/◌, ◌<◌, ◌^◌, if◌then◌else◌, length, take, drop, is_ok, IfOk, OnErr, IsTrue};
 ghost use Rattle.std.specs.Iterator.{YieldsFirstRef, item_count};
 ghost use Rattle.hex.specs.Hex.{decode_of};
-ghost use Rattle.rtps_digits.specs.Pairs.{octets_of};
-ghost use Rattle.rtps_report.specs.DatagramSpan.{AreSpans, pieces};
+ghost use Rattle.rtps_digits.specs.Pairs as pairs;
+ghost use Rattle.rtps_report.specs.DatagramSpan as datagram_span;
 
 use crate::datagram_span::{DatagramSpan, make_room};
 use std::alloc::{AllocError, Global};
@@ -17,13 +17,13 @@ pub struct DatagramList {
 
 impl Model for DatagramList {
     ghost use Rattle.std.specs.Prelude.{ℕ, List};
-    ghost use Rattle.rtps_report.specs.DatagramSpan.{pieces, AreSpans};
+    ghost use Rattle.rtps_report.specs.DatagramSpan as datagram_span;
 
     ghost Value = { List (List ℕ) };
 
-    ghost view = { λ list. pieces list.octets.items list.spans.items };
+    ghost view = { λ list. datagram_span.pieces list.octets.items list.spans.items };
 
-    ghost invariant = { λ list. AreSpans list.octets.items list.spans.items };
+    ghost invariant = { λ list. datagram_span.AreSpans list.octets.items list.spans.items };
 }
 
 impl DatagramList {
@@ -39,8 +39,8 @@ impl DatagramList {
 
     /// The datagrams that stand so in octets.
     pub fn at_spans(octets: Vec<u8>, spans: Vec<DatagramSpan>) -> DatagramList
-        requires { AreSpans octets.items spans.items }
-        ensures { result ≡ pieces octets.items spans.items }
+        requires { datagram_span.AreSpans octets.items spans.items }
+        ensures { result ≡ datagram_span.pieces octets.items spans.items }
     {
         DatagramList { octets, spans }
     }
@@ -68,7 +68,7 @@ impl DatagramList {
     /// datagram would have more than 65,535 octets or begin behind 2^48 of them.
     pub fn push_hex(&mut self, digits: &[u8]) -> Result<bool, AllocError>
         ensures found { IfOk result (λ found. found ≡ is_ok (decode_of digits.now)) }
-        ensures pushed { IfOk result (λ found. self.new ≡ (if found then self.old ++ octets_of digits.now ∷ [] else self.old)) }
+        ensures pushed { IfOk result (λ found. self.new ≡ (if found then self.old ++ pairs.octets_of digits.now ∷ [] else self.old)) }
         ensures err { OnErr result (self.new ≡ self.old) }
     {
         let from = self.octets.len();
@@ -93,13 +93,13 @@ pub struct Datagrams<'a> {
 
 impl<'a> Model for Datagrams<'a> {
     ghost use Rattle.std.specs.Prelude.{ℕ, List};
-    ghost use Rattle.rtps_report.specs.DatagramSpan.{pieces, AreSpans};
+    ghost use Rattle.rtps_report.specs.DatagramSpan as datagram_span;
 
     ghost Value = { List (List ℕ) };
 
-    ghost view = { λ d. pieces d.octets.now d.spans.now };
+    ghost view = { λ d. datagram_span.pieces d.octets.now d.spans.now };
 
-    ghost invariant = { λ d. AreSpans d.octets.now d.spans.now };
+    ghost invariant = { λ d. datagram_span.AreSpans d.octets.now d.spans.now };
 }
 
 impl<'a> Iterator for Datagrams<'a> {
@@ -125,8 +125,8 @@ impl<'a> Iterator for Datagrams<'a> {
 /// they do not, and after an `Err`.
 fn append_hex(octets: &mut Vec<u8>, digits: &[u8]) -> Result<bool, AllocError>
     ensures found { IfOk result (λ found. found ≡ is_ok (decode_of digits.now)) }
-    ensures appended { IfOk result (λ found. octets.new.items ≡ octets.old.items ++ octets_of digits.now) }
-    ensures size { IfOk result (λ found. IsTrue found → length (octets_of digits.now) ≡ length digits.now / 2) }
+    ensures appended { IfOk result (λ found. octets.new.items ≡ octets.old.items ++ pairs.octets_of digits.now) }
+    ensures size { IfOk result (λ found. IsTrue found → length (pairs.octets_of digits.now) ≡ length digits.now / 2) }
     ensures err { OnErr result (octets.new.items ≡ octets.old.items) }
 {
     let from = octets.len();
@@ -145,7 +145,7 @@ fn decode_behind(octets: &mut [u8], from: usize, digits: &[u8]) -> bool
     requires { length octets.old ≡ from + length digits.now / 2 }
     ensures found { result ≡ is_ok (decode_of digits.now) }
     ensures front { take from octets.new ≡ take from octets.old }
-    ensures back { IsTrue result → drop from octets.new ≡ octets_of digits.now }
+    ensures back { IsTrue result → drop from octets.new ≡ pairs.octets_of digits.now }
 {
     rtps_digits::decode(&mut octets[from..], digits)
 }

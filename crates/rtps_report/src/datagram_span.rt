@@ -1,5 +1,4 @@
 ghost use Rattle.std.specs.Prelude.{◌≡◌, ◌++◌, ◌+◌, ◌≤◌, max, true, false, vec_len, vec_capacity, MatchOption, OnOk, OnErr};
-ghost use Rattle.rtps_report.specs.DatagramSpan.{has_span, roomy_size};
 ghost use Rattle.rtps_report.specs.DatagramSpan as datagram_span;
 
 use std::alloc::AllocError;
@@ -27,8 +26,8 @@ impl DatagramSpan {
     #[tactic(auto, unfolding(crate::specs::DatagramSpan::start_of, crate::specs::DatagramSpan::end_of))]
     pub fn new(from: usize, to: usize) -> Option<DatagramSpan>
         ensures { MatchOption result
-            (has_span from to ≡ false)
-            (λ span. (has_span from to ≡ true) × (datagram_span.start_of span ≡ from) × (datagram_span.end_of span ≡ to)) }
+            (datagram_span.has_span from to ≡ false)
+            (λ span. (datagram_span.has_span from to ≡ true) × (datagram_span.start_of span ≡ from) × (datagram_span.end_of span ≡ to)) }
     {
         if from > to || from >= STARTS {
             return None;
@@ -76,7 +75,7 @@ pub fn push_octets(octets: &mut Vec<u8>, more: &[u8]) -> Result<(), AllocError>
 pub fn make_room<T>(items: &mut Vec<T>, more: usize) -> Result<(), AllocError>
     ensures items { items.new.items ≡ items.old.items }
     ensures room { OnOk result (vec_len items.new + more ≤ vec_capacity items.new) }
-    ensures sparing { vec_capacity items.new ≤ max (vec_capacity items.old) (roomy_size (vec_len items.old) more) }
+    ensures sparing { vec_capacity items.new ≤ max (vec_capacity items.old) (datagram_span.roomy_size (vec_len items.old) more) }
 {
     if more <= items.capacity() - items.len() {
         return Ok(());

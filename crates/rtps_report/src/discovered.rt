@@ -1,20 +1,16 @@
 ghost use Rattle.std.specs.Prelude.{ℕ, ◌≡◌, IfOk, List, map};
-ghost use Rattle.rtps_audit.specs.Index.{IsIndexBy};
-ghost use Rattle.rtps_audit.specs.Intake.{Intake, acts_together};
-ghost use Rattle.rtps_audit.specs.Placed.{placed_value};
-ghost use Rattle.rtps_fragments.specs.Announcements.{announcements_in};
-ghost use Rattle.rtps_policies.specs.Announcing.{IsAnnouncedBy};
-ghost use Rattle.rtps_policies.specs.Namings.{AreNamingsOf};
-ghost use Rattle.rtps_known.specs.Matched.{AreMatchesOf};
-ghost use Rattle.rtps_known.specs.Recorded.{IsKnownOf};
-ghost use Rattle.rtps_report.specs.ActsRead.{datagrams_read, timed_acts};
-ghost use Rattle.rtps_report.specs.NotTold.{AreNotToldIn, not_told_value};
-ghost use Rattle.rtps_report.specs.Participants.{participant_told};
-ghost use Rattle.rtps_report.specs.Talk.{acts_of_matching};
-ghost use Rattle.rtps_report.specs.TwoLives.{AreTwoLivesIn};
-ghost use Rattle.rtps_report.specs.Visits.{AreVisitsIn};
+ghost use Rattle.rtps_audit.specs.Index as index;
+ghost use Rattle.rtps_audit.specs.Intake as intake_spec;
+ghost use Rattle.rtps_audit.specs.Placed as placed;
+ghost use Rattle.rtps_fragments.specs.Announcements as announcements;
+ghost use Rattle.rtps_policies.specs.Announcing as announcing;
+ghost use Rattle.rtps_known.specs.Recorded as recorded;
+ghost use Rattle.rtps_report.specs.ActsRead as acts_read;
+ghost use Rattle.rtps_report.specs.NotTold as not_told_spec;
+ghost use Rattle.rtps_report.specs.Participants as participants_spec;
+ghost use Rattle.rtps_report.specs.TwoLives as two_lives;
+ghost use Rattle.rtps_report.specs.Visits as visits_spec;
 
-use crate::naming_walk::{Walked, walk_all};
 use crate::not_told::{NotTold, all_not_told};
 use crate::participant::{Participant, joined_of};
 use crate::presence::Presences;
@@ -23,20 +19,17 @@ use crate::two_lives::{TwoLives, first_lives};
 use crate::visits::{Seen, visits_of};
 use rtps_evidence::Times;
 use rtps_ids::{GuidPrefix, Memory};
-use rtps_known::{Known, Matches, Visit};
-use rtps_policies::{Announced, Namings};
+use rtps_known::{Known, Visit};
+use rtps_policies::Announced;
 use std::alloc::{AllocError, Global};
 use std::collections::BTreeMap;
 
-/// Who is there, who names whom, and what discovery has told whom.
+/// Who is there, and what discovery has told whom.
 #[derive(Drop)]
 pub(crate) struct Discovered<'a> {
     pub(crate) participants: Vec<Participant>,
-    pub(crate) namings: Namings,
     pub(crate) not_told: Vec<NotTold<'a>>,
     pub(crate) lives: Vec<TwoLives>,
-    /// When writers and readers matched.
-    pub(crate) matches: Matches,
 }
 
 /// Who is there, and when.
@@ -52,15 +45,15 @@ fn attend(
     announced: &Announced<'_>,
     heard: &Heard<'_, '_, '_, '_>,
 ) -> Result<Attending, Memory>
-    ensures participants { IfOk result (λ attending. (intake : Intake) → IsIndexBy intake heard.now.index.now
-        → map placed_value heard.now.announcements.now ≡ announcements_in intake.announcing
-        → IsAnnouncedBy (acts_together intake.announcing) announced.now
+    ensures participants { IfOk result (λ attending. (intake : intake_spec.Intake) → index.IsIndexBy intake heard.now.index.now
+        → map placed.placed_value heard.now.announcements.now ≡ announcements.announcements_in intake.announcing
+        → announcing.IsAnnouncedBy (intake_spec.acts_together intake.announcing) announced.now
         → attending.participants.items
-        ≡ map (participant_told intake (map (λ datagram. datagram.now) heard.now.datagrams.now) heard.now.times.now) heard.now.directory.now.participants) }
-    ensures visits { IfOk result (λ attending. (intake : Intake) → IsIndexBy intake heard.now.index.now
-        → map placed_value heard.now.announcements.now ≡ announcements_in intake.announcing
-        → IsAnnouncedBy (acts_together intake.announcing) announced.now
-        → AreVisitsIn intake (map (λ datagram. datagram.now) heard.now.datagrams.now) heard.now.times.now.of_datagrams heard.now.directory.now.participants attending.visits) }
+        ≡ map (participants_spec.participant_told intake (map (λ datagram. datagram.now) heard.now.datagrams.now) heard.now.times.now) heard.now.directory.now.participants) }
+    ensures visits { IfOk result (λ attending. (intake : intake_spec.Intake) → index.IsIndexBy intake heard.now.index.now
+        → map placed.placed_value heard.now.announcements.now ≡ announcements.announcements_in intake.announcing
+        → announcing.IsAnnouncedBy (intake_spec.acts_together intake.announcing) announced.now
+        → visits_spec.AreVisitsIn intake (map (λ datagram. datagram.now) heard.now.datagrams.now) heard.now.times.now.of_datagrams heard.now.directory.now.participants attending.visits) }
 {
     let joined = joined_of(alloc, heard.announcements)?;
     let presences = Presences::of(alloc, heard.datagrams, heard.times)?;
@@ -79,8 +72,8 @@ fn attend(
 
 /// Who has two lives, where the recording has times.
 fn lives_of(alloc: Global, known: &Known, times: &Times) -> Result<Vec<TwoLives>, Memory>
-    ensures { IfOk result (λ found. (recording : List (List ℕ)) → IsKnownOf (timed_acts recording times.now.of_datagrams) known.now
-        → AreTwoLivesIn recording times.now.of_datagrams found.items) }
+    ensures { IfOk result (λ found. (recording : List (List ℕ)) → recorded.IsKnownOf (acts_read.timed_acts recording times.now.of_datagrams) known.now
+        → two_lives.AreTwoLivesIn recording times.now.of_datagrams found.items) }
 {
     let lives = known.lives()?;
     if !times.are_there() {
@@ -90,44 +83,36 @@ fn lives_of(alloc: Global, known: &Known, times: &Times) -> Result<Vec<TwoLives>
     Ok(found)
 }
 
-/// Who is there, who names whom, and what discovery has told whom.
+/// Who is there, and what discovery has told whom, by what is known of that.
 pub(crate) fn discovered_in<'a>(
     alloc: Global,
     announced: &Announced<'_>,
     heard: &Heard<'_, 'a, '_, '_>,
+    known: &Known,
 ) -> Result<Discovered<'a>, Memory>
-    ensures namings { IfOk result (λ found. AreNamingsOf (datagrams_read (map (λ datagram. datagram.now) heard.now.datagrams.now)) found.namings) }
-    ensures participants { IfOk result (λ found. (intake : Intake) → IsIndexBy intake heard.now.index.now
-        → map placed_value heard.now.announcements.now ≡ announcements_in intake.announcing
-        → IsAnnouncedBy (acts_together intake.announcing) announced.now
+    requires { recorded.IsKnownOf (acts_read.timed_acts (map (λ datagram. datagram.now) heard.now.datagrams.now) heard.now.times.now.of_datagrams) known.now }
+    ensures participants { IfOk result (λ found. (intake : intake_spec.Intake) → index.IsIndexBy intake heard.now.index.now
+        → map placed.placed_value heard.now.announcements.now ≡ announcements.announcements_in intake.announcing
+        → announcing.IsAnnouncedBy (intake_spec.acts_together intake.announcing) announced.now
         → found.participants.items
-        ≡ map (participant_told intake (map (λ datagram. datagram.now) heard.now.datagrams.now) heard.now.times.now) heard.now.directory.now.participants) }
-    ensures not_told { IfOk result (λ found. (intake : Intake) → IsIndexBy intake heard.now.index.now
-        → map placed_value heard.now.announcements.now ≡ announcements_in intake.announcing
-        → IsAnnouncedBy (acts_together intake.announcing) announced.now
-        → AreNotToldIn intake (map (λ datagram. datagram.now) heard.now.datagrams.now) heard.now.times.now.of_datagrams heard.now.directory.now
-        (map not_told_value found.not_told.items)) }
-    ensures lives { IfOk result (λ found. AreTwoLivesIn (map (λ datagram. datagram.now) heard.now.datagrams.now) heard.now.times.now.of_datagrams found.lives.items) }
-    ensures matches { IfOk result (λ found. (intake : Intake) → map placed_value heard.now.announcements.now ≡ announcements_in intake.announcing
-        → AreMatchesOf (acts_of_matching intake (map (λ datagram. datagram.now) heard.now.datagrams.now) heard.now.times.now.of_datagrams) found.matches) }
+        ≡ map (participants_spec.participant_told intake (map (λ datagram. datagram.now) heard.now.datagrams.now) heard.now.times.now) heard.now.directory.now.participants) }
+    ensures not_told { IfOk result (λ found. (intake : intake_spec.Intake) → index.IsIndexBy intake heard.now.index.now
+        → map placed.placed_value heard.now.announcements.now ≡ announcements.announcements_in intake.announcing
+        → announcing.IsAnnouncedBy (intake_spec.acts_together intake.announcing) announced.now
+        → not_told_spec.AreNotToldIn intake (map (λ datagram. datagram.now) heard.now.datagrams.now) heard.now.times.now.of_datagrams heard.now.directory.now
+        (map not_told_spec.not_told_value found.not_told.items)) }
+    ensures lives { IfOk result (λ found. two_lives.AreTwoLivesIn (map (λ datagram. datagram.now) heard.now.datagrams.now) heard.now.times.now.of_datagrams found.lives.items) }
 {
-    let Walked {
-        namings,
-        known,
-        matches,
-    } = walk_all(alloc, heard.datagrams, heard.announcements, heard.times)?;
     let Attending {
         participants,
         visits,
     } = attend(alloc, announced, heard)?;
     let untold = known.untold(&visits, announced)?;
     let not_told = all_not_told(alloc, heard.directory, &untold)?;
-    let lives = lives_of(alloc, &known, heard.times)?;
+    let lives = lives_of(alloc, known, heard.times)?;
     Ok(Discovered {
         participants,
-        namings,
         not_told,
         lives,
-        matches,
     })
 }

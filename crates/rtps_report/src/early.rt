@@ -1,13 +1,12 @@
-ghost use Rattle.std.specs.Prelude.{◌≡◌, List, IfOk, OnOk, filter, fold, length, map};
-ghost use Rattle.rtps_audit.specs.Placed.{PlacedValue, placed_value};
-ghost use Rattle.rtps_fragments.specs.Announcements.{announcements_in};
-ghost use Rattle.rtps_fragments.specs.RecordedSamples.{intake_as};
+ghost use Rattle.std.specs.Prelude.{◌≡◌, List, IfOk, OnOk, filter, fold, map};
+ghost use Rattle.rtps_audit.specs.Placed as placed;
+ghost use Rattle.rtps_fragments.specs.Announcements as announcements_spec;
+ghost use Rattle.rtps_fragments.specs.RecordedSamples as recorded_samples;
 ghost use Rattle.rtps_fragments.specs.declared.fragments.Fragments.TheVariants.{Read as ReadFragments};
-ghost use Rattle.rtps_receiver.specs.Values.{spoken_value};
-ghost use Rattle.rtps_report.specs.ActsRead.{datagrams_read};
-ghost use Rattle.rtps_report.specs.Early.{sources_of, with_source};
+ghost use Rattle.rtps_receiver.specs.Values as values;
+ghost use Rattle.rtps_report.specs.ActsRead as acts_read;
 ghost use Rattle.rtps_report.specs.Early as early_spec;
-ghost use Rattle.rtps_report.specs.Participants.{AreJoined};
+ghost use Rattle.rtps_report.specs.Participants as participants;
 
 use crate::participant::joined_of;
 use crate::recording::{Recording, datagrams_of};
@@ -58,7 +57,7 @@ fn is_before(datagram: u64, place: Option<Location>) -> bool
 
 /// Whether an act of a datagram stands before its participant is announced, or that is never announced.
 fn is_early(joined: &BTreeMap<Guid, Location>, datagram: u64, act: &Spoken<'_>) -> bool
-    ensures { (announcing : List PlacedValue) → AreJoined announcing joined.now → result ≡ early_spec.is_early announcing datagram (spoken_value act.now) }
+    ensures { (announcing : List placed.PlacedValue) → participants.AreJoined announcing joined.now → result ≡ early_spec.is_early announcing datagram (values.spoken_value act.now) }
 {
     let origin = act.origin();
     let place = joined.get(&participant_of(origin.prefix)).copied();
@@ -72,8 +71,8 @@ fn note_early(
     datagram: u64,
     acts: &[Spoken<'_>],
 ) -> Result<(), Memory>
-    ensures { OnOk result ((announcing : List PlacedValue) → AreJoined announcing joined.now
-        → early.new.keys ≡ fold with_source early.old.keys (filter (early_spec.is_early announcing datagram) (map spoken_value acts.now))) }
+    ensures { OnOk result ((announcing : List placed.PlacedValue) → participants.AreJoined announcing joined.now
+        → early.new.keys ≡ fold early_spec.with_source early.old.keys (filter (early_spec.is_early announcing datagram) (map values.spoken_value acts.now))) }
 {
     for act in acts {
         if is_early(joined, datagram, act) {
@@ -89,8 +88,8 @@ fn early_in(
     recording: &[&[u8]],
     joined: &BTreeMap<Guid, Location>,
 ) -> Result<BTreeSet<GuidPrefix>, Memory>
-    ensures { IfOk result (λ early. (announcing : List PlacedValue) → AreJoined announcing joined.now
-        → early.keys ≡ sources_of (early_spec.early_in announcing (datagrams_read (map (λ datagram. datagram.now) recording.now)))) }
+    ensures { IfOk result (λ early. (announcing : List placed.PlacedValue) → participants.AreJoined announcing joined.now
+        → early.keys ≡ early_spec.sources_of (early_spec.early_in announcing (acts_read.datagrams_read (map (λ datagram. datagram.now) recording.now)))) }
 {
     let mut early = BTreeSet::new(alloc);
     let mut walk = FragmentWalk::new(alloc);
@@ -107,7 +106,7 @@ fn announcements_of<'a>(
     recording: &'a Recording,
     samples: &'a mut Samples,
 ) -> Result<Vec<Placed<'a>>, Memory>
-    ensures { IfOk result (λ announcements. map placed_value announcements.items ≡ announcements_in (intake_as ReadFragments recording.entry.now.datagrams).announcing) }
+    ensures { IfOk result (λ announcements. map placed.placed_value announcements.items ≡ announcements_spec.announcements_in (recorded_samples.intake_as ReadFragments recording.entry.now.datagrams).announcing) }
 {
     let datagrams = datagrams_of(alloc, recording)?;
     let indexed = index_as(alloc, &datagrams, Fragments::Read, samples)?;

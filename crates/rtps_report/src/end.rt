@@ -1,13 +1,13 @@
-ghost use Rattle.std.specs.Prelude.{◌≡◌, ◌++◌, ◌∷◌, [], IfOk, List, OnOk, map};
-ghost use Rattle.rtps_receiver.specs.Values.{ActValue};
-ghost use Rattle.rtps_audit.specs.Index.{IsIndexBy};
-ghost use Rattle.rtps_audit.specs.Intake.{Intake};
-ghost use Rattle.rtps_audit.specs.Placed.{placed_value};
-ghost use Rattle.rtps_fragments.specs.Announcements.{announcements_in};
-ghost use Rattle.rtps_who.specs.Introducing.{IsIntroducedBy};
-ghost use Rattle.rtps_who.specs.Recorded.{IsWhoIn};
-ghost use Rattle.rtps_who.specs.Telling.{IsToldBy};
-ghost use Rattle.rtps_report.specs.Ends.{acts_told, recorded_in};
+ghost use Rattle.std.specs.Prelude.{◌≡◌, ◌++◌, IfOk, List, OnOk, map};
+ghost use Rattle.rtps_receiver.specs.Values as values;
+ghost use Rattle.rtps_audit.specs.Index as index_spec;
+ghost use Rattle.rtps_audit.specs.Intake as intake;
+ghost use Rattle.rtps_audit.specs.Placed as placed;
+ghost use Rattle.rtps_fragments.specs.Announcements as announcements_spec;
+ghost use Rattle.rtps_who.specs.Introducing as introducing;
+ghost use Rattle.rtps_who.specs.Recorded as recorded;
+ghost use Rattle.rtps_who.specs.Telling as telling;
+ghost use Rattle.rtps_report.specs.Ends as ends;
 
 use rtps_audit::{Index, Placed};
 use rtps_discovery::Directory;
@@ -31,7 +31,7 @@ fn introductions_of<'a>(
     alloc: Global,
     announcements: &[Placed<'a>],
 ) -> Result<Introductions<'a>, Memory>
-    ensures { IfOk result (IsIntroducedBy (map (λ placed. placed.act) (map placed_value announcements.now))) }
+    ensures { IfOk result (introducing.IsIntroducedBy (map (λ placed. placed.act) (map placed.placed_value announcements.now))) }
 {
     let mut introductions = Introductions::new(alloc);
     for placed in announcements {
@@ -46,8 +46,8 @@ fn note_writer<'a>(
     introductions: &Introductions<'_>,
     acts: &[Placed<'a>],
 ) -> Result<(), Memory>
-    ensures { OnOk result ((announcing before : List ActValue) → IsIntroducedBy announcing introductions.now → IsToldBy announcing before told.old
-        → IsToldBy announcing (before ++ map (λ placed. placed.act) (map placed_value acts.now)) told.new) }
+    ensures { OnOk result ((announcing before : List values.ActValue) → introducing.IsIntroducedBy announcing introductions.now → telling.IsToldBy announcing before told.old
+        → telling.IsToldBy announcing (before ++ map (λ placed. placed.act) (map placed.placed_value acts.now)) told.new) }
 {
     for placed in acts {
         told.note(introductions, &placed.act)?;
@@ -62,8 +62,8 @@ fn told_of<'a>(
     index: &Index<'a>,
     directory: &Directory<'a>,
 ) -> Result<ToldNodes<'a>, Memory>
-    ensures { IfOk result (λ told. (intake : Intake) (announcing : List ActValue) → IsIndexBy intake index.now → IsIntroducedBy announcing introductions.now
-        → IsToldBy announcing (acts_told intake directory.now.endpoints) told) }
+    ensures { IfOk result (λ told. (intake : intake.Intake) (announcing : List values.ActValue) → index_spec.IsIndexBy intake index.now → introducing.IsIntroducedBy announcing introductions.now
+        → telling.IsToldBy announcing (ends.acts_told intake directory.now.endpoints) told) }
 {
     let mut told = ToldNodes::new(alloc);
     for endpoint in &directory.endpoints()? {
@@ -81,8 +81,8 @@ pub(crate) fn who_of<'a>(
     index: &Index<'a>,
     directory: &Directory<'a>,
 ) -> Result<Who<'a>, Memory>
-    ensures { IfOk result (λ who. (intake : Intake) → IsIndexBy intake index.now → map placed_value announcements.now ≡ announcements_in intake.announcing
-        → IsWhoIn (recorded_in intake directory.now.endpoints) who) }
+    ensures { IfOk result (λ who. (intake : intake.Intake) → index_spec.IsIndexBy intake index.now → map placed.placed_value announcements.now ≡ announcements_spec.announcements_in intake.announcing
+        → recorded.IsWhoIn (ends.recorded_in intake directory.now.endpoints) who) }
 {
     let introductions = introductions_of(alloc, announcements)?;
     let told = told_of(alloc, &introductions, index, directory)?;

@@ -1,8 +1,7 @@
 ghost use Rattle.std.specs.Prelude.{ℕ, ◌≡◌, ◌++◌, ◌∷◌, [], if◌then◌else◌, IfOk, List, OnOk, Some, map, not};
-ghost use Rattle.rtps_evidence.specs.Explanation.{ExplanationValue as ExplanationValueOf, explanation_value};
-ghost use Rattle.rtps_report.specs.Events.{AreEventRows, has_none, is_key, key_by, rows_at, rows_value};
+ghost use Rattle.rtps_evidence.specs.Explanation as explanation;
 ghost use Rattle.rtps_report.specs.Events as events_spec;
-ghost use Rattle.rtps_report.specs.Talk.{TalkValue as TalkValueOf, talk_value};
+ghost use Rattle.rtps_report.specs.Talk as talk_spec;
 ghost use Rattle.rtps_report.specs.declared.event_rows.EventKey.{EventKey as EventKeyOf};
 
 use crate::row_facts::is_noted;
@@ -32,7 +31,7 @@ pub struct EventRows<'r, 'a> {
 
 /// The event that a row of this pair belongs to, of which this participant or that one is silent.
 fn key_of(silences: Silences, pair: Pair) -> EventKey
-    ensures { result ≡ key_by silences pair }
+    ensures { result ≡ events_spec.key_by silences pair }
 {
     match (silences.reader, silences.writer) {
         (Some(_), _) => EventKey {
@@ -52,7 +51,7 @@ fn key_of(silences: Silences, pair: Pair) -> EventKey
 
 /// The event that a row belongs to; None of one that nobody has to look at.
 fn noted_key(talk: &Talk<'_>, tail: u64, row: &Explanation<'_>) -> Option<EventKey>
-    ensures { result ≡ events_spec.noted_key (talk_value talk.now) tail (explanation_value row.now) }
+    ensures { result ≡ events_spec.noted_key (talk_spec.talk_value talk.now) tail (explanation.explanation_value row.now) }
 {
     let silences = talk.silences(row.pair);
     if is_noted(tail, &row.evidence, silences) {
@@ -65,7 +64,7 @@ fn noted_key(talk: &Talk<'_>, tail: u64, row: &Explanation<'_>) -> Option<EventK
 impl<'r, 'a> EventRows<'r, 'a> {
     /// No rows.
     fn none(alloc: Global) -> Self
-        ensures { (talk : TalkValueOf) (tail : ℕ) → AreEventRows talk tail [] result }
+        ensures { (talk : talk_spec.TalkValue) (tail : ℕ) → events_spec.AreEventRows talk tail [] result }
     {
         EventRows {
             map: BTreeMap::new(alloc),
@@ -76,7 +75,7 @@ impl<'r, 'a> EventRows<'r, 'a> {
 
     /// Appends a row to those of its event. After an `Err` the rows are of no use.
     fn append(&mut self, key: EventKey, row: &'r Explanation<'a>) -> Result<(), AllocError>
-        ensures rows { OnOk result ((other : EventKeyOf) → rows_at self.new.map other ≡ rows_at self.old.map other ++ (if is_key other key then explanation_value row.entry.now ∷ [] else [])) }
+        ensures rows { OnOk result ((other : EventKeyOf) → events_spec.rows_at self.new.map other ≡ events_spec.rows_at self.old.map other ++ (if events_spec.is_key other key then explanation.explanation_value row.entry.now ∷ [] else [])) }
         ensures keys { self.new.keys ≡ self.old.keys }
     {
         if let Some(found) = self.map.get_mut(&key) {
@@ -91,8 +90,8 @@ impl<'r, 'a> EventRows<'r, 'a> {
 
     /// Appends a row to those of its event, which there may not be yet. After an `Err` the rows are of no use.
     fn note(&mut self, key: EventKey, row: &'r Explanation<'a>) -> Result<(), AllocError>
-        ensures { OnOk result ((talk : TalkValueOf) (tail : ℕ) (rows : List ExplanationValueOf) → events_spec.noted_key talk tail (explanation_value row.entry.now) ≡ Some key
-            → AreEventRows talk tail rows self.old → AreEventRows talk tail (rows ++ explanation_value row.entry.now ∷ []) self.new) }
+        ensures { OnOk result ((talk : talk_spec.TalkValue) (tail : ℕ) (rows : List explanation.ExplanationValue) → events_spec.noted_key talk tail (explanation.explanation_value row.entry.now) ≡ Some key
+            → events_spec.AreEventRows talk tail rows self.old → events_spec.AreEventRows talk tail (rows ++ explanation.explanation_value row.entry.now ∷ []) self.new) }
     {
         if !self.has_rows(key) {
             self.keys.push(key)?;
@@ -107,7 +106,7 @@ impl<'r, 'a> EventRows<'r, 'a> {
         tail: u64,
         rows: &'r [Explanation<'a>],
     ) -> Result<Self, AllocError>
-        ensures { IfOk result (AreEventRows (talk_value talk.now) tail (map explanation_value rows.entry.now)) }
+        ensures { IfOk result (events_spec.AreEventRows (talk_spec.talk_value talk.now) tail (map explanation.explanation_value rows.entry.now)) }
     {
         let mut found = EventRows::none(alloc);
         for row in rows {
@@ -120,7 +119,7 @@ impl<'r, 'a> EventRows<'r, 'a> {
 
     /// Whether an event has some.
     fn has_rows(&self, key: EventKey) -> bool
-        ensures { result ≡ not (has_none (rows_at self.now.map key)) }
+        ensures { result ≡ not (events_spec.has_none (events_spec.rows_at self.now.map key)) }
     {
         match self.map.get(&key) {
             Some(rows) => !rows.is_empty(),
@@ -130,7 +129,7 @@ impl<'r, 'a> EventRows<'r, 'a> {
 
     /// Those of an event, in their order.
     pub fn rows(&self, alloc: Global, key: EventKey) -> Result<Vec<&'r Explanation<'a>>, AllocError>
-        ensures { IfOk result (λ rows. rows_value rows.items ≡ rows_at self.now.map key) }
+        ensures { IfOk result (λ rows. events_spec.rows_value rows.items ≡ events_spec.rows_at self.now.map key) }
     {
         match self.map.get(&key) {
             Some(rows) => Vec::from_slice(alloc, rows),

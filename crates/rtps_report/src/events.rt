@@ -1,12 +1,11 @@
 ghost use Rattle.std.specs.Prelude.{◌≡◌, IfOk, map, sum_by};
-ghost use Rattle.rtps_evidence.specs.Explanation.{evidence_value, explanation_value};
-ghost use Rattle.rtps_evidence.specs.Kinds.{lost_value};
+ghost use Rattle.rtps_evidence.specs.Explanation as explanation;
+ghost use Rattle.rtps_evidence.specs.Kinds as kinds;
 ghost use Rattle.rtps_evidence.specs.Waits as waits;
-ghost use Rattle.rtps_report.specs.Asked.{asked_value};
-ghost use Rattle.rtps_report.specs.Events.{asked_among, event_value, event_with, events_in, first_among, heard_in, last_among, rows_value, sent_in, waiting_in};
+ghost use Rattle.rtps_report.specs.Asked as asked_spec;
 ghost use Rattle.rtps_report.specs.Events as events_spec;
-ghost use Rattle.rtps_report.specs.FullReport.{lost_of as lost_of_report, report_value, rows_of};
-ghost use Rattle.rtps_report.specs.Talk.{talk_value};
+ghost use Rattle.rtps_report.specs.FullReport as full_report;
+ghost use Rattle.rtps_report.specs.Talk as talk_spec;
 
 use crate::event_rows::{EventKey, EventRows};
 use crate::full_report::FullReport;
@@ -45,7 +44,7 @@ struct Losses<'t> {
 /// How many numbers of a row are lost: those that are asked about and are neither received nor arrived, and of a row that is not held
 /// neither likely nor unconfirmed.
 fn numbers_lost(from: u64, evidence: &Evidence<'_>) -> u64
-    ensures { result ≡ events_spec.numbers_lost from (evidence_value evidence.now) }
+    ensures { result ≡ events_spec.numbers_lost from (explanation.evidence_value evidence.now) }
 {
     let numbers = asked_about(row_from(from, evidence), evidence.announcement);
     let outcomes = outcomes_of(evidence);
@@ -91,14 +90,14 @@ fn later(one: Option<Location>, other: Option<Location>) -> Option<Location>
 
 /// Between which places the lost numbers of a row are sent first, those that are sent; None where none is.
 fn sent_of(losses: Losses<'_>, row: &Explanation<'_>) -> Option<SentSpan>
-    ensures { result ≡ sent_in (map lost_value losses.entry.lost.now) (explanation_value row.now) }
+    ensures { result ≡ events_spec.sent_in (map kinds.lost_value losses.entry.lost.now) (explanation.explanation_value row.now) }
 {
     losses.lost.get(row.place)?.sent
 }
 
 /// Where the first of them is sent first.
 fn first_sent(losses: Losses<'_>, row: &Explanation<'_>) -> Option<Location>
-    ensures { result ≡ events_spec.first_sent (map lost_value losses.entry.lost.now) (explanation_value row.now) }
+    ensures { result ≡ events_spec.first_sent (map kinds.lost_value losses.entry.lost.now) (explanation.explanation_value row.now) }
 {
     match sent_of(losses, row) {
         Some(span) => Some(span.first),
@@ -108,7 +107,7 @@ fn first_sent(losses: Losses<'_>, row: &Explanation<'_>) -> Option<Location>
 
 /// Where the last of them is.
 fn last_sent(losses: Losses<'_>, row: &Explanation<'_>) -> Option<Location>
-    ensures { result ≡ events_spec.last_sent (map lost_value losses.entry.lost.now) (explanation_value row.now) }
+    ensures { result ≡ events_spec.last_sent (map kinds.lost_value losses.entry.lost.now) (explanation.explanation_value row.now) }
 {
     match sent_of(losses, row) {
         Some(span) => Some(span.last),
@@ -118,7 +117,7 @@ fn last_sent(losses: Losses<'_>, row: &Explanation<'_>) -> Option<Location>
 
 /// Where the reader of a row was asked first for an answer behind its last one.
 fn waiting_at(evidence: &Evidence<'_>) -> Option<Location>
-    ensures { result ≡ waiting_in evidence.now.in_span }
+    ensures { result ≡ events_spec.waiting_in evidence.now.in_span }
 {
     match &evidence.in_span {
         Some(in_span) => in_span.waiting,
@@ -128,7 +127,7 @@ fn waiting_at(evidence: &Evidence<'_>) -> Option<Location>
 
 /// The same, where the reader's participant is the silent one of an event.
 fn asked_in(key: EventKey, row: &Explanation<'_>) -> Option<Location>
-    ensures { result ≡ events_spec.asked_in key (explanation_value row.now) }
+    ensures { result ≡ events_spec.asked_in key (explanation.explanation_value row.now) }
 {
     if key.second.is_none() && key.first == row.pair.reader.prefix {
         waiting_at(&row.evidence)
@@ -139,7 +138,7 @@ fn asked_in(key: EventKey, row: &Explanation<'_>) -> Option<Location>
 
 /// The places of these rows among those of the report.
 fn places_of(alloc: Global, rows: &[&Explanation<'_>]) -> Result<Vec<u64>, AllocError>
-    ensures { IfOk result (λ places. places.items ≡ map (λ row. row.place) (rows_value rows.now)) }
+    ensures { IfOk result (λ places. places.items ≡ map (λ row. row.place) (events_spec.rows_value rows.now)) }
 {
     let mut places = Vec::with_capacity(alloc, rows.len())?;
     for row in rows {
@@ -150,7 +149,7 @@ fn places_of(alloc: Global, rows: &[&Explanation<'_>]) -> Result<Vec<u64>, Alloc
 
 /// How many numbers of these rows are lost.
 fn numbers_of(losses: Losses<'_>, rows: &[&Explanation<'_>]) -> u128
-    ensures { result ≡ sum_by (λ row. events_spec.numbers_lost losses.entry.from row.evidence) (rows_value rows.now) }
+    ensures { result ≡ sum_by (λ row. events_spec.numbers_lost losses.entry.from row.evidence) (events_spec.rows_value rows.now) }
 {
     let mut numbers = 0u128;
     for row in rows {
@@ -161,7 +160,7 @@ fn numbers_of(losses: Losses<'_>, rows: &[&Explanation<'_>]) -> u128
 
 /// Where the first of the lost numbers of these rows that were sent was sent first.
 fn first_of(losses: Losses<'_>, rows: &[&Explanation<'_>]) -> Option<Location>
-    ensures { result ≡ first_among (map lost_value losses.entry.lost.now) (rows_value rows.now) }
+    ensures { result ≡ events_spec.first_among (map kinds.lost_value losses.entry.lost.now) (events_spec.rows_value rows.now) }
 {
     let mut first = None;
     for row in rows {
@@ -172,7 +171,7 @@ fn first_of(losses: Losses<'_>, rows: &[&Explanation<'_>]) -> Option<Location>
 
 /// Where the last of them was.
 fn last_of(losses: Losses<'_>, rows: &[&Explanation<'_>]) -> Option<Location>
-    ensures { result ≡ last_among (map lost_value losses.entry.lost.now) (rows_value rows.now) }
+    ensures { result ≡ events_spec.last_among (map kinds.lost_value losses.entry.lost.now) (events_spec.rows_value rows.now) }
 {
     let mut last = None;
     for row in rows {
@@ -183,7 +182,7 @@ fn last_of(losses: Losses<'_>, rows: &[&Explanation<'_>]) -> Option<Location>
 
 /// Where the silent participant of an event with these rows was asked first for an answer that it never gave.
 fn asked_of(key: EventKey, rows: &[&Explanation<'_>]) -> Option<Location>
-    ensures { result ≡ asked_among key (rows_value rows.now) }
+    ensures { result ≡ events_spec.asked_among key (events_spec.rows_value rows.now) }
 {
     let mut asked = None;
     for row in rows {
@@ -194,7 +193,7 @@ fn asked_of(key: EventKey, rows: &[&Explanation<'_>]) -> Option<Location>
 
 /// The last datagram of the silent participant of an event.
 fn heard_of(talk: &Talk<'_>, key: EventKey) -> Option<u64>
-    ensures { result ≡ heard_in (talk_value talk.now) key }
+    ensures { result ≡ events_spec.heard_in (talk_spec.talk_value talk.now) key }
 {
     match key.second {
         Some(_) => None,
@@ -210,7 +209,7 @@ impl Event {
         key: EventKey,
         rows: &[&Explanation<'_>],
     ) -> Result<Event, AllocError>
-        ensures { IfOk result (λ event. event_value event ≡ event_with (asked_value report.now.asked.now) (talk_value report.now.talk) (lost_of_report (report_value report.now)) key (rows_value rows.now)) }
+        ensures { IfOk result (λ event. events_spec.event_value event ≡ events_spec.event_with (asked_spec.asked_value report.now.asked.now) (talk_spec.talk_value report.now.talk) (full_report.lost_of (full_report.report_value report.now)) key (events_spec.rows_value rows.now)) }
     {
         let losses = Losses {
             from: report.asked.first_asked(),
@@ -230,7 +229,7 @@ impl Event {
 
 /// The events of a report, by their first rows.
 fn found_in(alloc: Global, report: &FullReport<'_>) -> Result<Vec<Event>, AllocError>
-    ensures { IfOk result (λ events. map event_value events.items ≡ events_in (asked_value report.now.asked.now) (talk_value report.now.talk) (lost_of_report (report_value report.now)) (rows_of (report_value report.now))) }
+    ensures { IfOk result (λ events. map events_spec.event_value events.items ≡ events_spec.events_in (asked_spec.asked_value report.now.asked.now) (talk_spec.talk_value report.now.talk) (full_report.lost_of (full_report.report_value report.now)) (full_report.rows_of (full_report.report_value report.now))) }
 {
     let rows = EventRows::of(
         alloc,
@@ -248,7 +247,7 @@ fn found_in(alloc: Global, report: &FullReport<'_>) -> Result<Vec<Event>, AllocE
 
 /// The events of a report: first that with most numbers; of those with as many, the one with the first row.
 pub fn events_of(alloc: Global, report: &FullReport<'_>) -> Result<Vec<Event>, AllocError>
-    ensures { IfOk result (λ events. map event_value events.items ≡ events_spec.events_of (asked_value report.now.asked.now) (report_value report.now)) }
+    ensures { IfOk result (λ events. map events_spec.event_value events.items ≡ events_spec.events_of (asked_spec.asked_value report.now.asked.now) (full_report.report_value report.now)) }
 {
     let mut events = found_in(alloc, report)?;
     events.sort_by_key(|event| Reverse(event.numbers))?;

@@ -1,6 +1,5 @@
-ghost use Rattle.std.specs.Prelude.{◌≡◌, Option};
-ghost use Rattle.rtps_report.specs.Asked.{asked_value};
-ghost use Rattle.rtps_report.specs.Findings.{are_none, ending_by, no_findings, nobody};
+ghost use Rattle.std.specs.Prelude.{◌≡◌};
+ghost use Rattle.rtps_report.specs.Asked as asked_spec;
 ghost use Rattle.rtps_report.specs.Findings as findings_spec;
 
 use crate::asked::Asked;
@@ -83,7 +82,7 @@ pub struct Facts {
 
 /// Nobody was not told of anything.
 fn none_not_told() -> NotToldCounts
-    ensures { result ≡ nobody }
+    ensures { result ≡ findings_spec.nobody }
 {
     NotToldCounts {
         participants: 0,
@@ -94,7 +93,7 @@ fn none_not_told() -> NotToldCounts
 impl Findings {
     /// Nothing was found.
     pub fn none() -> Findings
-        ensures { result ≡ no_findings }
+        ensures { result ≡ findings_spec.no_findings }
     {
         Findings {
             few: None,
@@ -114,7 +113,7 @@ impl Findings {
 
     /// Whether nothing was found.
     pub fn is_none(&self) -> bool
-        ensures { result ≡ are_none self.now }
+        ensures { result ≡ findings_spec.are_none self.now }
     {
         self.few.is_none()
             && !self.empty
@@ -151,7 +150,7 @@ fn lossy_of(rows: u64, best_effort: BestEffortNumbers) -> Option<BestEffortNumbe
 }
 
 fn findings_of(asked: &Asked<'_>, facts: &Facts) -> Findings
-    ensures { result ≡ findings_spec.findings_of (asked_value asked.now) facts.now }
+    ensures { result ≡ findings_spec.findings_of (asked_spec.asked_value asked.now) facts.now }
 {
     let reasons = known(facts.reasons);
     Findings {
@@ -172,7 +171,7 @@ fn findings_of(asked: &Asked<'_>, facts: &Facts) -> Findings
 
 /// How a run ends that printed a report of which this is known.
 pub fn ending_of(asked: &Asked<'_>, facts: &Facts) -> Ending
-    ensures { result ≡ ending_by (findings_spec.findings_of (asked_value asked.now) facts.now) facts.now.met }
+    ensures { result ≡ findings_spec.ending_by (findings_spec.findings_of (asked_spec.asked_value asked.now) facts.now) facts.now.met }
 {
     let findings = findings_of(asked, facts);
     if !findings.is_none() {

@@ -1,15 +1,16 @@
 ghost use Rattle.std.specs.Prelude.{◌≡◌, IfOk, Option};
-ghost use Rattle.rtps_audit.specs.Index.{IsIndexBy};
-ghost use Rattle.rtps_audit.specs.Intake.{Intake};
-ghost use Rattle.rtps_evidence.specs.OtherSide.{AreSides, Beside, IsOtherSide, OtherRecording};
-ghost use Rattle.rtps_fragments.specs.RecordedSamples.{intake_as};
+ghost use Rattle.rtps_audit.specs.Index as index_spec;
+ghost use Rattle.rtps_audit.specs.Intake as intake;
+ghost use Rattle.rtps_evidence.specs.OtherSide as other_side;
+ghost use Rattle.rtps_fragments.specs.RecordedSamples as recorded_samples;
 ghost use Rattle.rtps_fragments.specs.declared.fragments.Fragments.TheVariants.{Read};
-ghost use Rattle.rtps_policies.specs.Silence.{Traffic};
-ghost use Rattle.rtps_report.specs.Asked.{asked_value};
-ghost use Rattle.rtps_report.specs.FullReport.{AreRowsOf, IsReportOf, talk_facts};
-ghost use Rattle.rtps_report.specs.ReaderSide.{arrived_value};
-ghost use Rattle.rtps_report.specs.Talk.{IsKeptOf, IsTalkAs, talk_value, traffic_of};
+ghost use Rattle.rtps_policies.specs.Silence as silence;
+ghost use Rattle.rtps_report.specs.Asked as asked_spec;
+ghost use Rattle.rtps_report.specs.FullReport as full_report;
+ghost use Rattle.rtps_report.specs.ReaderSide as reader_side;
+ghost use Rattle.rtps_report.specs.Talk as talk_spec;
 
+use crate::acquaintance::Acquaintance;
 use crate::asked::Asked;
 use crate::findings::{Ending, TalkFacts, ending_of};
 use crate::not_told::not_told_counts;
@@ -22,7 +23,7 @@ use crate::talk::{Heard, Talk, talk_in};
 use rtps_audit::{Index, Report, Watch};
 use rtps_discovery::laws::one_map;
 use rtps_evidence::{Explained, OtherSide, Sides, explain_pairs};
-use rtps_fragments::{Fragments, Indexed, Samples, index_as};
+use rtps_fragments::{Fragments, Indexed, Samples, Source, index_told};
 use rtps_ids::Memory;
 use std::alloc::Global;
 
@@ -69,9 +70,9 @@ fn noted_in<'a>(
     samples: &'a mut Samples,
     other: Option<OtherSide<'_, '_>>,
 ) -> Result<Noted<'a>, Memory>
-    ensures { (theirs : Option OtherRecording) → IsOtherSide theirs other.entry → IfOk result (λ noted. IsIndexBy (intake_as Read subject.entry.recording.now.datagrams) noted.index
-        × IsTalkAs (asked_value subject.entry.asked.now) theirs subject.entry.recording.now (talk_value noted.talk)
-        × IsKeptOf (asked_value subject.entry.asked.now) (intake_as Read subject.entry.recording.now.datagrams) (traffic_of subject.entry.recording.now.datagrams)
+    ensures { (theirs : Option other_side.OtherRecording) → other_side.IsOtherSide theirs other.entry → IfOk result (λ noted. index_spec.IsIndexBy (recorded_samples.intake_as Read subject.entry.recording.now.datagrams) noted.index
+        × talk_spec.IsTalkAs (asked_spec.asked_value subject.entry.asked.now) theirs subject.entry.recording.now (talk_spec.talk_value noted.talk)
+        × talk_spec.IsKeptOf (asked_spec.asked_value subject.entry.asked.now) (recorded_samples.intake_as Read subject.entry.recording.now.datagrams) (talk_spec.traffic_of subject.entry.recording.now.datagrams)
         noted.index.directory.endpoints noted.talk) }
 {
     // What an index took in announces one directory.
@@ -82,7 +83,12 @@ fn noted_in<'a>(
         ..
     } = subject;
     let datagrams = datagrams_of(alloc, recording)?;
-    let indexed = index_as(alloc, &datagrams, Fragments::Read, samples)?;
+    let source = Source {
+        recording: &datagrams,
+        fragments: Fragments::Read,
+    };
+    let mut acquaintance = Acquaintance::new(alloc, recording.times());
+    let indexed = index_told(alloc, source, samples, &mut acquaintance)?;
     let talk = talk_in(
         alloc,
         &Heard {
@@ -94,6 +100,7 @@ fn noted_in<'a>(
             directory: indexed.index.directory(),
             announcements: &indexed.announcements,
         },
+        acquaintance,
     )?;
     let Indexed {
         index,
@@ -110,9 +117,9 @@ fn explained_of<'a, P: Watch>(
     talk: &Talk<'a>,
     watch: &mut P,
 ) -> Result<Explained<'a>, Memory>
-    ensures { IfOk result (λ explained. (intake : Intake) (beside : Beside) (traffic : Traffic) → AreSides intake beside sides.now
-        → IsKeptOf (asked_value asked.now) intake traffic sides.now.index.now.directory.endpoints talk.now
-        → AreRowsOf (asked_value asked.now) intake beside traffic explained) }
+    ensures { IfOk result (λ explained. (intake : intake.Intake) (beside : other_side.Beside) (traffic : silence.Traffic) → other_side.AreSides intake beside sides.now
+        → talk_spec.IsKeptOf (asked_spec.asked_value asked.now) intake traffic sides.now.index.now.directory.endpoints talk.now
+        → full_report.AreRowsOf (asked_spec.asked_value asked.now) intake beside traffic explained) }
 {
     // What an index took in announces one directory.
     one_map();
@@ -138,7 +145,7 @@ fn explained_of<'a, P: Watch>(
 
 /// What is known of who does not talk.
 fn talk_facts_of(alloc: Global, talk: &Talk<'_>) -> Result<TalkFacts, Memory>
-    ensures { IfOk result (λ facts. facts ≡ talk_facts (talk_value talk.now)) }
+    ensures { IfOk result (λ facts. facts ≡ full_report.talk_facts (talk_spec.talk_value talk.now)) }
 {
     Ok(TalkFacts {
         unmatched: talk.unmatched.len() as u64,
@@ -156,7 +163,7 @@ pub fn report_on<'a, P: Watch>(
     samples: &'a mut Samples,
     watch: &mut P,
 ) -> Result<FullReport<'a>, Memory>
-    ensures { IfOk result (IsReportOf (asked_value subject.entry.asked.now) (arrived_value subject.entry.arrived) subject.entry.recording.now) }
+    ensures { IfOk result (full_report.IsReportOf (asked_spec.asked_value subject.entry.asked.now) (reader_side.arrived_value subject.entry.arrived) subject.entry.recording.now) }
 {
     let Subject {
         recording,

@@ -1,15 +1,12 @@
-ghost use Rattle.std.specs.Prelude.{◌≡◌, ◌++◌, ◌∷◌, [], IfOk, List, OnOk, cond, filter, map};
+ghost use Rattle.std.specs.Prelude.{◌≡◌, ◌++◌, IfOk, List, OnOk, map};
 ghost use Rattle.std.specs.BTreeMap.{get};
-ghost use Rattle.rtps_discovery.specs.Listings.{pair_cmp};
-ghost use Rattle.rtps_discovery.specs.Matching.{reliable_pairs};
+ghost use Rattle.rtps_discovery.specs.Listings as listings;
+ghost use Rattle.rtps_discovery.specs.Matching as matching;
 ghost use Rattle.rtps_discovery.specs.declared.matching.Pair.{Pair as PairOf};
-ghost use Rattle.rtps_known.specs.Matched.{AreMatchesOf};
-ghost use Rattle.rtps_known.specs.Places.{PlacedAct};
-ghost use Rattle.rtps_policies.specs.Unmatched.{unmatched_value};
+ghost use Rattle.rtps_known.specs.Matched as matched;
+ghost use Rattle.rtps_known.specs.Places as places;
 ghost use Rattle.rtps_policies.specs.Unmatched as unmatched;
-ghost use Rattle.rtps_report.specs.LateMatches.{location_of};
 ghost use Rattle.rtps_report.specs.LateMatches as late_matches;
-ghost use Rattle.rtps_report.specs.Talk.{is_pair, late_kept};
 ghost use Rattle.rtps_report.specs.Talk as talk_spec;
 
 use crate::talk::pair_of;
@@ -71,7 +68,7 @@ pub(crate) fn is_mixed(lives: &[TwoLives], pair: Pair) -> bool
 
 /// That the two of a pair matched late, if they did.
 fn late_of(matches: &Matches, lives: &[TwoLives], pair: Pair) -> Option<LateMatch>
-    ensures { (acts : List PlacedAct) → AreMatchesOf acts matches.now → result ≡ late_matches.late_of acts lives.now pair }
+    ensures { (acts : List places.PlacedAct) → matched.AreMatchesOf acts matches.now → result ≡ late_matches.late_of acts lives.now pair }
 {
     if is_mixed(lives, pair) {
         return None;
@@ -85,8 +82,8 @@ fn keep_late(
     pair: Pair,
     found: Option<LateMatch>,
 ) -> Result<(), Memory>
-    ensures { OnOk result ((other : PairOf) → get pair_cmp late.new other
-        ≡ late_kept (is_pair pair other) found (get pair_cmp late.old other)) }
+    ensures { OnOk result ((other : PairOf) → get listings.pair_cmp late.new other
+        ≡ talk_spec.late_kept (talk_spec.is_pair pair other) found (get listings.pair_cmp late.old other)) }
 {
     if let Some(found) = found {
         late.insert(pair, found)?;
@@ -101,8 +98,8 @@ pub(crate) fn late_among(
     lives: &[TwoLives],
     pairs: &[Pair],
 ) -> Result<BTreeMap<Pair, LateMatch>, Memory>
-    ensures { IfOk result (λ late. (acts : List PlacedAct) → AreMatchesOf acts matches.now
-        → (pair : PairOf) → get pair_cmp late pair ≡ talk_spec.late_among acts lives.now pairs.now pair) }
+    ensures { IfOk result (λ late. (acts : List places.PlacedAct) → matched.AreMatchesOf acts matches.now
+        → (pair : PairOf) → get listings.pair_cmp late pair ≡ talk_spec.late_among acts lives.now pairs.now pair) }
 {
     let mut late = BTreeMap::new(alloc);
     for pair in pairs {
@@ -113,7 +110,7 @@ pub(crate) fn late_among(
 
 /// Adds the pairs of reliable matches.
 fn push_reliable(pairs: &mut Vec<Pair>, matched: &[Match]) -> Result<(), Memory>
-    ensures { OnOk result (pairs.new.items ≡ pairs.old.items ++ reliable_pairs matched.now) }
+    ensures { OnOk result (pairs.new.items ≡ pairs.old.items ++ matching.reliable_pairs matched.now) }
 {
     for found in matched {
         if found.reliable {
@@ -125,7 +122,7 @@ fn push_reliable(pairs: &mut Vec<Pair>, matched: &[Match]) -> Result<(), Memory>
 
 /// Adds the pairs that talk though they do not match.
 fn push_talking(pairs: &mut Vec<Pair>, talking: &[Unmatched<'_>]) -> Result<(), Memory>
-    ensures { OnOk result (pairs.new.items ≡ pairs.old.items ++ map unmatched.pair_of (map unmatched_value talking.now)) }
+    ensures { OnOk result (pairs.new.items ≡ pairs.old.items ++ map unmatched.pair_of (map unmatched.unmatched_value talking.now)) }
 {
     for one in talking {
         pairs.push(pair_of(one))?;
@@ -139,7 +136,7 @@ pub(crate) fn judged_pairs(
     matched: &[Match],
     talking: &[Unmatched<'_>],
 ) -> Result<Vec<Pair>, Memory>
-    ensures { IfOk result (λ pairs. pairs.items ≡ reliable_pairs matched.now ++ map unmatched.pair_of (map unmatched_value talking.now)) }
+    ensures { IfOk result (λ pairs. pairs.items ≡ matching.reliable_pairs matched.now ++ map unmatched.pair_of (map unmatched.unmatched_value talking.now)) }
 {
     let mut pairs = Vec::new(alloc);
     push_reliable(&mut pairs, matched)?;

@@ -3,6 +3,7 @@
 //! whole recording.
 #![tactic(auto)]
 
+mod acquaintance;
 mod advice;
 mod asked;
 mod audited;
@@ -19,7 +20,6 @@ mod full_report;
 mod late_matches;
 mod late_row;
 pub mod laws;
-mod naming_walk;
 mod no_pair;
 mod not_told;
 mod note_facts;

@@ -1,16 +1,15 @@
 ghost use Rattle.std.specs.Prelude.{◌≡◌, ◌++◌, ◌∷◌, [], IfOk, OnOk, is_some, map};
 ghost use Rattle.std.specs.List.{find, list_any};
-ghost use Rattle.rtps_audit.specs.Index.{IsIndexBy};
-ghost use Rattle.rtps_fragments.specs.RecordedSamples.{intake_as};
+ghost use Rattle.rtps_audit.specs.Index as index;
+ghost use Rattle.rtps_fragments.specs.RecordedSamples as recorded_samples;
 ghost use Rattle.rtps_fragments.specs.declared.fragments.Fragments.TheVariants.{Read as ReadFragments};
-ghost use Rattle.rtps_report.specs.Asked.{asked_value};
+ghost use Rattle.rtps_report.specs.Asked as asked;
 ghost use Rattle.rtps_report.specs.Early as early_spec;
-ghost use Rattle.rtps_report.specs.FullReport.{report_value};
-ghost use Rattle.rtps_report.specs.NoPair.{IsNoPairOf, no_pair_by};
+ghost use Rattle.rtps_report.specs.FullReport as full_report;
 ghost use Rattle.rtps_report.specs.NoPair as no_pair;
-ghost use Rattle.rtps_report.specs.OneSides.{one_sided_value};
+ghost use Rattle.rtps_report.specs.OneSides as one_sides_spec;
 ghost use Rattle.rtps_report.specs.Stays as stays;
-ghost use Rattle.rtps_report.specs.Talk.{talk_value};
+ghost use Rattle.rtps_report.specs.Talk as talk_spec;
 
 use crate::early::early_of;
 use crate::full_report::FullReport;
@@ -148,7 +147,7 @@ fn share_memory(participants: &[Participant]) -> bool
 
 /// The cause by endpoints.
 fn by_endpoints(talk: &Talk<'_>, one_side: bool) -> NoPair
-    ensures { result ≡ no_pair.by_endpoints (talk_value talk.now) one_side }
+    ensures { result ≡ no_pair.by_endpoints (talk_spec.talk_value talk.now) one_side }
 {
     if !talk.one_way.is_empty() {
         NoPair::OneWay
@@ -167,7 +166,7 @@ fn by_endpoints(talk: &Talk<'_>, one_side: bool) -> NoPair
 
 /// The cause by participants, and then by endpoints.
 fn by_participants(talk: &Talk<'_>, known: &[InDomain], one_side: bool) -> NoPair
-    ensures { known.now ≡ no_pair.in_domains (talk_value talk.now).participants → result ≡ no_pair.by_participants (talk_value talk.now) one_side }
+    ensures { known.now ≡ no_pair.in_domains (talk_spec.talk_value talk.now).participants → result ≡ no_pair.by_participants (talk_spec.talk_value talk.now) one_side }
 {
     let participants = &talk.participants;
     if participants.is_empty() {
@@ -196,7 +195,7 @@ pub struct WhyNoPair<'a> {
 
 /// The cause of a report, by the topics that have one side alone.
 fn cause_in(alloc: Global, report: &FullReport<'_>, one_side: bool) -> Result<NoPair, Memory>
-    ensures { IfOk result (λ cause. cause ≡ no_pair_by report.now.recording.now.datagrams (early_spec.early_of report.now.recording.now.datagrams) (talk_value report.now.talk) one_side) }
+    ensures { IfOk result (λ cause. cause ≡ no_pair.no_pair_by report.now.recording.now.datagrams (early_spec.early_of report.now.recording.now.datagrams) (talk_spec.talk_value report.now.talk) one_side) }
 {
     let talk = &report.talk;
     if talk.best_effort_total.numbers > 0 {
@@ -216,8 +215,8 @@ fn cause_in(alloc: Global, report: &FullReport<'_>, one_side: bool) -> Result<No
 
 /// Why there is no pair in a report where there is none. `Memory` is answered where there is none to find out.
 pub fn no_pair_of<'a>(alloc: Global, report: &FullReport<'a>) -> Result<WhyNoPair<'a>, Memory>
-    requires { IsIndexBy (intake_as ReadFragments report.now.recording.now.datagrams) report.now.index }
-    ensures { IfOk result (λ why. IsNoPairOf (asked_value report.now.asked.now) report.now.recording.now (report_value report.now) why.cause (map one_sided_value why.one_sides.items)) }
+    requires { index.IsIndexBy (recorded_samples.intake_as ReadFragments report.now.recording.now.datagrams) report.now.index }
+    ensures { IfOk result (λ why. no_pair.IsNoPairOf (asked.asked_value report.now.asked.now) report.now.recording.now (full_report.report_value report.now) why.cause (map one_sides_spec.one_sided_value why.one_sides.items)) }
 {
     let one_sides = one_sides_of(alloc, report)?;
     let cause = cause_in(alloc, report, !one_sides.is_empty())?;

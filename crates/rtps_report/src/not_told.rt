@@ -2,9 +2,8 @@ ghost use Rattle.std.specs.Prelude.{◌≡◌, IfOk, count_by, map, sum_by};
 ghost use Rattle.std.specs.List.{list_any};
 ghost use Rattle.std.specs.BTreeSet.{contains};
 ghost use Rattle.rtps_ids.specs.declared.identity.Guid.{Guid as GuidOf};
-ghost use Rattle.rtps_audit.specs.Placed.{is_guid};
-ghost use Rattle.rtps_discovery.specs.GuidOrder.{guid_cmp};
-ghost use Rattle.rtps_report.specs.NotTold.{not_told_by, not_told_value, topic_end_value};
+ghost use Rattle.rtps_audit.specs.Placed as placed;
+ghost use Rattle.rtps_discovery.specs.GuidOrder as guid_order;
 ghost use Rattle.rtps_report.specs.NotTold as not_told;
 
 use crate::participant::Participant;
@@ -50,7 +49,7 @@ fn with_topics<'a>(
     directory: &Directory<'a>,
     guids: &[Guid],
 ) -> Result<Vec<TopicEnd<'a>>, AllocError>
-    ensures { IfOk result (λ ends. map topic_end_value ends.items ≡ map (not_told.with_topic directory.now.endpoints) guids.now) }
+    ensures { IfOk result (λ ends. map not_told.topic_end_value ends.items ≡ map (not_told.with_topic directory.now.endpoints) guids.now) }
 {
     let mut ends = Vec::with_capacity(alloc, guids.len())?;
     for guid in guids {
@@ -66,7 +65,7 @@ fn not_told_of<'a>(
     directory: &Directory<'a>,
     untold: &Untold,
 ) -> Result<NotTold<'a>, AllocError>
-    ensures { IfOk result (λ found. not_told_value found ≡ not_told_by directory.now.endpoints untold.now) }
+    ensures { IfOk result (λ found. not_told.not_told_value found ≡ not_told.not_told_by directory.now.endpoints untold.now) }
 {
     Ok(NotTold {
         from: untold.from,
@@ -83,7 +82,7 @@ pub(crate) fn all_not_told<'a>(
     directory: &Directory<'a>,
     all: &[Untold],
 ) -> Result<Vec<NotTold<'a>>, AllocError>
-    ensures { IfOk result (λ found. map not_told_value found.items ≡ map (not_told_by directory.now.endpoints) all.now) }
+    ensures { IfOk result (λ found. map not_told.not_told_value found.items ≡ map (not_told.not_told_by directory.now.endpoints) all.now) }
 {
     let mut found = Vec::with_capacity(alloc, all.len())?;
     for untold in all {
@@ -95,7 +94,7 @@ pub(crate) fn all_not_told<'a>(
 
 /// Those that were not told of something.
 fn those_not_told(alloc: Global, found: &[NotTold<'_>]) -> Result<BTreeSet<Guid>, Memory>
-    ensures { IfOk result (λ those. (guid : GuidOf) → contains guid_cmp those guid ≡ list_any (λ one. is_guid one.to guid) (map not_told_value found.now)) }
+    ensures { IfOk result (λ those. (guid : GuidOf) → contains guid_order.guid_cmp those guid ≡ list_any (λ one. placed.is_guid one.to guid) (map not_told.not_told_value found.now)) }
 {
     let mut those = BTreeSet::new(alloc);
     for one in found {
@@ -106,7 +105,7 @@ fn those_not_told(alloc: Global, found: &[NotTold<'_>]) -> Result<BTreeSet<Guid>
 
 /// How many endpoints that is, as far as a `u64` counts.
 fn endpoints_of(one: &NotTold<'_>) -> u64
-    ensures { result ≡ not_told.endpoints_of (not_told_value one.now) }
+    ensures { result ≡ not_told.endpoints_of (not_told.not_told_value one.now) }
 {
     let writers = one.writers.len() as u64;
     let readers = one.readers.len() as u64;
@@ -115,7 +114,7 @@ fn endpoints_of(one: &NotTold<'_>) -> u64
 
 /// How many all of these are.
 fn endpoints_among(found: &[NotTold<'_>]) -> u128
-    ensures { result ≡ sum_by not_told.endpoints_of (map not_told_value found.now) }
+    ensures { result ≡ sum_by not_told.endpoints_of (map not_told.not_told_value found.now) }
 {
     let mut endpoints: u128 = 0;
     for one in found {
@@ -126,7 +125,7 @@ fn endpoints_among(found: &[NotTold<'_>]) -> u128
 
 /// How many of these participants are among those.
 fn count_among(participants: &[Participant], those: &BTreeSet<Guid>) -> u64
-    ensures { result ≡ count_by (λ participant. contains guid_cmp those.now participant.guid) participants.now }
+    ensures { result ≡ count_by (λ participant. contains guid_order.guid_cmp those.now participant.guid) participants.now }
 {
     let mut count: u64 = 0;
     for participant in participants {
@@ -141,7 +140,7 @@ pub(crate) fn not_told_counts(
     participants: &[Participant],
     found: &[NotTold<'_>],
 ) -> Result<NotToldCounts, Memory>
-    ensures { IfOk result (λ counts. counts ≡ not_told.not_told_counts participants.now (map not_told_value found.now)) }
+    ensures { IfOk result (λ counts. counts ≡ not_told.not_told_counts participants.now (map not_told.not_told_value found.now)) }
 {
     let those = those_not_told(alloc, found)?;
     Ok(NotToldCounts {
@@ -152,14 +151,14 @@ pub(crate) fn not_told_counts(
 
 /// Whether it is of these two.
 fn is_between(one: &NotTold<'_>, from: Guid, to: Guid) -> bool
-    ensures { result ≡ not_told.is_between from to (not_told_value one.now) }
+    ensures { result ≡ not_told.is_between from to (not_told.not_told_value one.now) }
 {
     one.from == from && one.to == to
 }
 
 /// Whether a participant was not told of something of another.
 pub(crate) fn is_not_told_of(found: &[NotTold<'_>], from: Guid, to: Guid) -> bool
-    ensures { result ≡ not_told.is_not_told_of (map not_told_value found.now) from to }
+    ensures { result ≡ not_told.is_not_told_of (map not_told.not_told_value found.now) from to }
 {
     for one in found {
         if is_between(one, from, to) {

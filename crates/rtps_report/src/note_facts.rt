@@ -1,7 +1,7 @@
 ghost use Rattle.std.specs.Prelude.{◌≡◌, map};
-ghost use Rattle.rtps_evidence.specs.Explanation.{evidence_value, explanation_value};
-ghost use Rattle.rtps_report.specs.Asked.{asked_value};
-ghost use Rattle.rtps_report.specs.FullReport.{report_value};
+ghost use Rattle.rtps_evidence.specs.Explanation as explanation;
+ghost use Rattle.rtps_report.specs.Asked as asked;
+ghost use Rattle.rtps_report.specs.FullReport as full_report;
 ghost use Rattle.rtps_report.specs.NoteFacts as note_facts;
 
 use crate::advice::Scope;
@@ -67,7 +67,7 @@ fn short_in(recording: &Recording) -> u64
 
 /// What a row of a report is told by beside its pair.
 pub fn scope_of(report: &FullReport<'_>) -> Scope
-    ensures { result ≡ note_facts.scope_of (asked_value report.now.asked.now) report.now.recording.now (report_value report.now) }
+    ensures { result ≡ note_facts.scope_of (asked.asked_value report.now.asked.now) report.now.recording.now (full_report.report_value report.now) }
 {
     Scope {
         from: report.asked.first_asked(),
@@ -77,7 +77,7 @@ pub fn scope_of(report: &FullReport<'_>) -> Scope
 }
 
 fn longest_clean_tail(tail: u64, rows: &[Explanation<'_>]) -> u64
-    ensures { result ≡ note_facts.longest_clean_tail tail (map explanation_value rows.now) }
+    ensures { result ≡ note_facts.longest_clean_tail tail (map explanation.explanation_value rows.now) }
 {
     let mut longest = 0u64;
     for row in rows {
@@ -87,7 +87,7 @@ fn longest_clean_tail(tail: u64, rows: &[Explanation<'_>]) -> u64
 }
 
 fn clean_tail_of(tail: u64, evidence: &Evidence<'_>) -> u64
-    ensures { result ≡ note_facts.clean_tail_of tail (evidence_value evidence.now) }
+    ensures { result ≡ note_facts.clean_tail_of tail (explanation.evidence_value evidence.now) }
 {
     if is_clean_tail(tail, evidence) {
         outcomes_of(evidence).unconfirmed
@@ -98,7 +98,7 @@ fn clean_tail_of(tail: u64, evidence: &Evidence<'_>) -> u64
 
 /// What weakens a report.
 pub fn notes_on(report: &FullReport<'_>) -> NoteFacts
-    ensures { result ≡ note_facts.note_facts (asked_value report.now.asked.now) report.now.recording.now (report_value report.now) }
+    ensures { result ≡ note_facts.note_facts (asked.asked_value report.now.asked.now) report.now.recording.now (full_report.report_value report.now) }
 {
     let recording = report.recording;
     let rows = &report.explained.rows;

@@ -1,16 +1,15 @@
 ghost use Rattle.std.specs.Prelude.{◌≡◌, ◌<◌, ◌≤◌, ◌∷◌, ◌++◌, ◌-◌, [], IfOk, OnOk, drop, length, map, slice_index_or, take};
 ghost use Rattle.std.specs.List.{cons_option, list_all, list_any};
 ghost use Rattle.std.specs.Option.{option_map};
-ghost use Rattle.rtps_audit.specs.Index.{IsIndexBy};
-ghost use Rattle.rtps_discovery.specs.Endpoint.{endpoint_value};
+ghost use Rattle.rtps_audit.specs.Index as index;
+ghost use Rattle.rtps_discovery.specs.Endpoint as endpoint_spec;
 ghost use Rattle.rtps_discovery.specs.declared.endpoint.Endpoint.{Endpoint as EndpointOf};
-ghost use Rattle.rtps_fragments.specs.RecordedSamples.{intake_as};
+ghost use Rattle.rtps_fragments.specs.RecordedSamples as recorded_samples;
 ghost use Rattle.rtps_fragments.specs.declared.fragments.Fragments.TheVariants.{Read as ReadFragments};
-ghost use Rattle.rtps_report.specs.Asked.{asked_value};
-ghost use Rattle.rtps_report.specs.OneSides.{AreByTopic, AreOneSidesIn, have_one_topic, is_side, one_sided_value, topics_of};
+ghost use Rattle.rtps_report.specs.Asked as asked_spec;
 ghost use Rattle.rtps_report.specs.OneSides as one_sides;
 ghost use Rattle.rtps_report.specs.Rows as rows;
-ghost use Rattle.rtps_report.specs.Talk.{talk_value};
+ghost use Rattle.rtps_report.specs.Talk as talk_spec;
 
 use crate::asked::Asked;
 use crate::full_report::FullReport;
@@ -33,7 +32,7 @@ fn endpoints_by_topic<'a>(
     alloc: Global,
     endpoints: &[Endpoint<'a>],
 ) -> Result<Vec<Endpoint<'a>>, Memory>
-    ensures { IfOk result (λ sorted. AreByTopic endpoints.now sorted.items) }
+    ensures { IfOk result (λ sorted. one_sides.AreByTopic endpoints.now sorted.items) }
 {
     let mut sorted = Vec::from_slice(alloc, endpoints)?;
     sorted.sort_by_key(|endpoint| endpoint.topic)?;
@@ -43,7 +42,7 @@ fn endpoints_by_topic<'a>(
 fn goes_on(endpoints: &[Endpoint<'_>], place: usize) -> bool
     requires behind { 0 < place }
     requires within { place < length endpoints.now }
-    ensures { (one : EndpointOf) → result ≡ have_one_topic (endpoint_value (slice_index_or endpoints.now (place - 1) one)) (endpoint_value (slice_index_or endpoints.now place one)) }
+    ensures { (one : EndpointOf) → result ≡ one_sides.have_one_topic (endpoint_spec.endpoint_value (slice_index_or endpoints.now (place - 1) one)) (endpoint_spec.endpoint_value (slice_index_or endpoints.now place one)) }
 {
     endpoints[place - 1].topic == endpoints[place].topic
 }
@@ -53,8 +52,8 @@ fn front_len(endpoints: &[Endpoint<'_>]) -> usize
     requires { 0 < length endpoints.now }
     ensures some { 0 < result }
     ensures within { result ≤ length endpoints.now }
-    ensures first { topics_of (map endpoint_value endpoints.now)
-        ≡ map endpoint_value (take result endpoints.now) ∷ topics_of (map endpoint_value (drop result endpoints.now)) }
+    ensures first { one_sides.topics_of (map endpoint_spec.endpoint_value endpoints.now)
+        ≡ map endpoint_spec.endpoint_value (take result endpoints.now) ∷ one_sides.topics_of (map endpoint_spec.endpoint_value (drop result endpoints.now)) }
 {
     for place in 1..endpoints.len() {
         if !goes_on(endpoints, place) {
@@ -66,14 +65,14 @@ fn front_len(endpoints: &[Endpoint<'_>]) -> usize
 
 /// Whether an endpoint has a node that is asked for.
 fn is_node_asked(talk: &Talk<'_>, asked: &Asked<'_>, endpoint: &Endpoint<'_>) -> bool
-    ensures { result ≡ rows.has_node (asked_value asked.now).nodes ((talk_value talk.now).node (endpoint_value endpoint.now).guid) }
+    ensures { result ≡ rows.has_node (asked_spec.asked_value asked.now).nodes ((talk_spec.talk_value talk.now).node (endpoint_spec.endpoint_value endpoint.now).guid) }
 {
     has_node(asked.nodes, talk.node(endpoint.guid))
 }
 
 /// Whether one of these has.
 fn has_asked_node(talk: &Talk<'_>, asked: &Asked<'_>, endpoints: &[Endpoint<'_>]) -> bool
-    ensures { result ≡ list_any (λ end. rows.has_node (asked_value asked.now).nodes ((talk_value talk.now).node end.guid)) (map endpoint_value endpoints.now) }
+    ensures { result ≡ list_any (λ end. rows.has_node (asked_spec.asked_value asked.now).nodes ((talk_spec.talk_value talk.now).node end.guid)) (map endpoint_spec.endpoint_value endpoints.now) }
 {
     for endpoint in endpoints {
         if is_node_asked(talk, asked, endpoint) {
@@ -90,7 +89,7 @@ fn are_asked(
     one: &Endpoint<'_>,
     endpoints: &[Endpoint<'_>],
 ) -> bool
-    ensures { result ≡ one_sides.are_asked (asked_value asked.now) (talk_value talk.now).node (endpoint_value one.now) (map endpoint_value endpoints.now) }
+    ensures { result ≡ one_sides.are_asked (asked_spec.asked_value asked.now) (talk_spec.talk_value talk.now).node (endpoint_spec.endpoint_value one.now) (map endpoint_spec.endpoint_value endpoints.now) }
 {
     fits_one(asked.topics, one.topic)
         && (asked.nodes.is_empty() || has_asked_node(talk, asked, endpoints))
@@ -98,7 +97,7 @@ fn are_asked(
 
 /// Whether an endpoint is on a side.
 fn is_on(endpoint: &Endpoint<'_>, side: Side) -> bool
-    ensures { result ≡ is_side (endpoint_value endpoint.now).side side }
+    ensures { result ≡ one_sides.is_side (endpoint_spec.endpoint_value endpoint.now).side side }
 {
     match (endpoint.side, side) {
         (Side::Writer, Side::Writer) => true,
@@ -109,7 +108,7 @@ fn is_on(endpoint: &Endpoint<'_>, side: Side) -> bool
 
 /// Whether all of these are.
 fn are_on(side: Side, endpoints: &[Endpoint<'_>]) -> bool
-    ensures { result ≡ list_all (λ end. is_side end.side side) (map endpoint_value endpoints.now) }
+    ensures { result ≡ list_all (λ end. one_sides.is_side end.side side) (map endpoint_spec.endpoint_value endpoints.now) }
 {
     for endpoint in endpoints {
         if !is_on(endpoint, side) {
@@ -125,7 +124,7 @@ fn one_side<'a>(
     asked: &Asked<'_>,
     endpoints: &[Endpoint<'a>],
 ) -> Option<OneSided<'a>>
-    ensures { option_map one_sided_value result ≡ one_sides.one_side (asked_value asked.now) (talk_value talk.now).node (map endpoint_value endpoints.now) }
+    ensures { option_map one_sides.one_sided_value result ≡ one_sides.one_side (asked_spec.asked_value asked.now) (talk_spec.talk_value talk.now).node (map endpoint_spec.endpoint_value endpoints.now) }
 {
     let (one, others) = endpoints.split_first()?;
     if are_asked(talk, asked, one, endpoints) && are_on(one.side, others) {
@@ -146,8 +145,8 @@ fn push_one_side<'a>(
     asked: &Asked<'_>,
     endpoints: &[Endpoint<'a>],
 ) -> Result<(), Memory>
-    ensures { OnOk result (map one_sided_value found.new.items
-        ≡ map one_sided_value found.old.items ++ cons_option (one_sides.one_side (asked_value asked.now) (talk_value talk.now).node (map endpoint_value endpoints.now)) []) }
+    ensures { OnOk result (map one_sides.one_sided_value found.new.items
+        ≡ map one_sides.one_sided_value found.old.items ++ cons_option (one_sides.one_side (asked_spec.asked_value asked.now) (talk_spec.talk_value talk.now).node (map endpoint_spec.endpoint_value endpoints.now)) []) }
 {
     if let Some(one) = one_side(talk, asked, endpoints) {
         found.push(one)?;
@@ -162,8 +161,8 @@ fn one_sides_among<'a>(
     asked: &Asked<'_>,
     endpoints: &[Endpoint<'a>],
 ) -> Result<Vec<OneSided<'a>>, Memory>
-    ensures { IfOk result (λ found. map one_sided_value found.items
-        ≡ one_sides.one_sides_among (asked_value asked.now) (talk_value talk.now).node (map endpoint_value endpoints.now)) }
+    ensures { IfOk result (λ found. map one_sides.one_sided_value found.items
+        ≡ one_sides.one_sides_among (asked_spec.asked_value asked.now) (talk_spec.talk_value talk.now).node (map endpoint_spec.endpoint_value endpoints.now)) }
 {
     let mut found = Vec::new(alloc);
     let mut start = 0;
@@ -178,8 +177,8 @@ fn one_sides_among<'a>(
 
 /// The topics of a report that have writers alone, or readers alone, of those that are asked for, octet by octet.
 pub fn one_sides_of<'a>(alloc: Global, report: &FullReport<'a>) -> Result<Vec<OneSided<'a>>, Memory>
-    requires { IsIndexBy (intake_as ReadFragments report.now.recording.now.datagrams) report.now.index }
-    ensures { IfOk result (λ found. AreOneSidesIn (asked_value report.now.asked.now) report.now.recording.now.datagrams (talk_value report.now.talk) (map one_sided_value found.items)) }
+    requires { index.IsIndexBy (recorded_samples.intake_as ReadFragments report.now.recording.now.datagrams) report.now.index }
+    ensures { IfOk result (λ found. one_sides.AreOneSidesIn (asked_spec.asked_value report.now.asked.now) report.now.recording.now.datagrams (talk_spec.talk_value report.now.talk) (map one_sides.one_sided_value found.items)) }
 {
     let endpoints = report.index.directory().endpoints()?;
     let sorted = endpoints_by_topic(alloc, &endpoints)?;

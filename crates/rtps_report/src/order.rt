@@ -1,7 +1,7 @@
 ghost use Rattle.std.specs.Prelude.{◌≡◌, IfOk, map};
-ghost use Rattle.rtps_evidence.specs.Explanation.{explanation_value};
+ghost use Rattle.rtps_evidence.specs.Explanation as explanation;
 ghost use Rattle.rtps_report.specs.Order as order_spec;
-ghost use Rattle.rtps_report.specs.ReaderSide.{arrived_value};
+ghost use Rattle.rtps_report.specs.ReaderSide as reader_side;
 
 use crate::full_report::Subject;
 use crate::twice::is_twice;
@@ -24,39 +24,37 @@ pub struct Order {
 }
 
 impl Order {
-    ghost use Rattle.rtps_report.specs.Order.{are_alike, is_given_twice, is_untold, mixed, swapped};
-
     /// How many pairs are the wrong way round, where none is the right way round: the recordings look swapped. Else 0.
     pub fn swapped(&self) -> u128
-        ensures { result ≡ swapped self.now }
+        ensures { result ≡ order_spec.swapped self.now }
     {
         if self.right == 0 { self.wrong } else { 0 }
     }
 
     /// How many are, where some pair is the right way round: each host has writers. Else 0.
     pub fn mixed(&self) -> u128
-        ensures { result ≡ mixed self.now }
+        ensures { result ≡ order_spec.mixed self.now }
     {
         if self.right == 0 { 0 } else { self.wrong }
     }
 
     /// Whether some pair is asked, and none has a difference.
     fn are_alike(&self) -> bool
-        ensures { result ≡ are_alike self.now }
+        ensures { result ≡ order_spec.are_alike self.now }
     {
         self.alike > 0 && self.right == 0 && self.wrong == 0 && self.both == 0
     }
 
     /// Whether one recording was given twice.
     pub fn is_given_twice(&self) -> bool
-        ensures { result ≡ is_given_twice self.now }
+        ensures { result ≡ order_spec.is_given_twice self.now }
     {
         self.are_alike() && self.is_twice
     }
 
     /// Whether nothing tells the two recordings apart, and they are not one.
     pub fn is_untold(&self) -> bool
-        ensures { result ≡ is_untold self.now }
+        ensures { result ≡ order_spec.is_untold self.now }
     {
         self.are_alike() && !self.is_twice
     }
@@ -70,7 +68,7 @@ pub(crate) fn order_by(
     rows: &[Explanation<'_>],
     best_effort: Ways,
 ) -> Result<Order, AllocError>
-    ensures { IfOk result (λ order. order ≡ order_spec.order_by (arrived_value subject.entry.arrived) subject.entry.recording.now (map explanation_value rows.now) best_effort) }
+    ensures { IfOk result (λ order. order ≡ order_spec.order_by (reader_side.arrived_value subject.entry.arrived) subject.entry.recording.now (map explanation.explanation_value rows.now) best_effort) }
 {
     let is_twice = is_twice(alloc, subject.arrived, subject.recording)?;
     let rows = ways_of_rows(rows);

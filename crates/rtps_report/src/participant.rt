@@ -1,10 +1,6 @@
 ghost use Rattle.std.specs.Prelude.{◌≡◌, ◌++◌, ◌∷◌, [], IfOk, List, OnOk, map};
-ghost use Rattle.std.specs.BTreeMap.{get};
-ghost use Rattle.rtps_ids.specs.declared.identity.Guid.{Guid as GuidOf};
-ghost use Rattle.rtps_audit.specs.Placed.{PlacedValue, placed_value};
-ghost use Rattle.rtps_discovery.specs.GuidOrder.{guid_cmp};
-ghost use Rattle.rtps_policies.specs.Told.{KeepsFirst};
-ghost use Rattle.rtps_report.specs.Participants.{AreJoined};
+ghost use Rattle.rtps_audit.specs.Placed as placed_spec;
+ghost use Rattle.rtps_policies.specs.Told as told;
 ghost use Rattle.rtps_report.specs.Participants as participants_spec;
 
 use crate::presence::Stay;
@@ -55,7 +51,7 @@ fn keep_place(
     guid: Guid,
     place: Location,
 ) -> Result<(), Memory>
-    ensures { OnOk result (KeepsFirst joined.old.entries joined.new.entries guid place) }
+    ensures { OnOk result (told.KeepsFirst joined.old.entries joined.new.entries guid place) }
 {
     if !joined.contains_key(&guid) {
         joined.insert(guid, place)?;
@@ -65,7 +61,7 @@ fn keep_place(
 
 /// Keeps where an act announces a participant, if it does, and unless there is a place of that one.
 fn note_joined(joined: &mut BTreeMap<Guid, Location>, placed: &Placed<'_>) -> Result<(), Memory>
-    ensures { OnOk result ((acts : List PlacedValue) → AreJoined acts joined.old → AreJoined (acts ++ placed_value placed.now ∷ []) joined.new) }
+    ensures { OnOk result ((acts : List placed_spec.PlacedValue) → participants_spec.AreJoined acts joined.old → participants_spec.AreJoined (acts ++ placed_spec.placed_value placed.now ∷ []) joined.new) }
 {
     let Some(guid) = announced_participant(&placed.act) else {
         return Ok(());
@@ -83,7 +79,7 @@ pub(crate) fn joined_of(
     alloc: Global,
     announcements: &[Placed<'_>],
 ) -> Result<BTreeMap<Guid, Location>, Memory>
-    ensures { IfOk result (AreJoined (map placed_value announcements.now)) }
+    ensures { IfOk result (participants_spec.AreJoined (map placed_spec.placed_value announcements.now)) }
 {
     let mut joined = BTreeMap::new(alloc);
     for placed in announcements {

@@ -1,7 +1,6 @@
 ghost use Rattle.std.specs.Prelude.{◌≡◌, ◌≤◌, ◌++◌, ◌∷◌, MatchOption, codes, length, true};
-ghost use Rattle.rtps_report.specs.Patterns.{is_plain, star};
 ghost use Rattle.rtps_report.specs.Patterns as patterns;
-ghost use Rattle.rtps_who.specs.Samples.{full_name, node_value};
+ghost use Rattle.rtps_who.specs.Samples as samples;
 
 use rtps_who::Node;
 
@@ -10,8 +9,8 @@ const STAR: u8 = b'*';
 
 /// The part of a pattern before its first `*`, and the one behind it. None where it has none.
 fn cut(pattern: &[u8]) -> Option<(&[u8], &[u8])>
-    ensures { MatchOption result (is_plain pattern.now ≡ true)
-        (λ parts. (is_plain parts.0.now ≡ true) × (pattern.now ≡ parts.0.now ++ star ∷ parts.1.now)) }
+    ensures { MatchOption result (patterns.is_plain pattern.now ≡ true)
+        (λ parts. (patterns.is_plain parts.0.now ≡ true) × (pattern.now ≡ parts.0.now ++ patterns.star ∷ parts.1.now)) }
 {
     for (place, octet) in pattern.iter().enumerate() {
         if *octet == STAR {
@@ -23,7 +22,7 @@ fn cut(pattern: &[u8]) -> Option<(&[u8], &[u8])>
 }
 
 fn fits_behind(pattern: &[u8], topic: &[u8]) -> bool
-    ensures { result ≡ patterns.fits (star ∷ pattern.now) topic.now }
+    ensures { result ≡ patterns.fits (patterns.star ∷ pattern.now) topic.now }
 {
     let mut rest = pattern;
     let mut left = topic;
@@ -107,7 +106,7 @@ fn fits_slashed(pattern: &[u8], namespace: &[u8], name: &[u8]) -> bool
 
 /// Whether the full name of a node fits a pattern, as [`fits`] says of a text.
 pub(crate) fn fits_node(pattern: &[u8], node: &Node<'_>) -> bool
-    ensures { result ≡ patterns.fits pattern.now (full_name (node_value node.now)) }
+    ensures { result ≡ patterns.fits pattern.now (samples.full_name (samples.node_value node.now)) }
 {
     if node.namespace.ends_with(b"/") {
         fits_followed(pattern, node.namespace, node.name)

@@ -1,8 +1,7 @@
 ghost use Rattle.std.specs.Prelude.{ℕ, ◌≡◌, List, Option, IfOk, OnOk, map};
 ghost use Rattle.std.specs.BTreeMap.{get};
 ghost use Rattle.rtps_ids.specs.declared.identity.GuidPrefix.{GuidPrefix as GuidPrefixOf};
-ghost use Rattle.rtps_receiver.specs.Speech.{is_prefix};
-ghost use Rattle.rtps_report.specs.Stays.{ArePresencesOf, both_later, is_sender, latest_of, prefix_cmp, presence_with, stay_of};
+ghost use Rattle.rtps_receiver.specs.Speech as speech;
 ghost use Rattle.rtps_report.specs.Stays as stays;
 
 use rtps_evidence::Times;
@@ -34,7 +33,7 @@ pub(crate) struct Presences {
 
 /// The later of two times; None where there are not both.
 fn later_of_both(one: Option<u64>, other: Option<u64>) -> Option<u64>
-    ensures { result ≡ both_later one other }
+    ensures { result ≡ stays.both_later one other }
 {
     match (one, other) {
         (Some(one), Some(other)) => Some(one.max(other)),
@@ -60,8 +59,8 @@ fn note_presence(
     time: Option<u64>,
     source: GuidPrefix,
 ) -> Result<(), Memory>
-    ensures { OnOk result ((prefix : GuidPrefixOf) → get prefix_cmp presences.new prefix
-        ≡ presence_with datagram time (is_prefix source prefix) (get prefix_cmp presences.old prefix)) }
+    ensures { OnOk result ((prefix : GuidPrefixOf) → get stays.prefix_cmp presences.new prefix
+        ≡ stays.presence_with datagram time (speech.is_prefix source prefix) (get stays.prefix_cmp presences.old prefix)) }
 {
     if let Some(presence) = presences.get_mut(&source) {
         presence.stay.last = datagram;
@@ -79,8 +78,8 @@ fn note_presence(
 impl Presences {
     /// Notes one datagram more, of this number. It came at this time. After `Memory` it is of no use.
     fn note(&mut self, number: u64, time: Option<u64>, datagram: &[u8]) -> Result<(), Memory>
-        ensures { OnOk result ((prefix : GuidPrefixOf) → get prefix_cmp self.new.of_senders prefix
-            ≡ presence_with number time (is_sender prefix (stays.sender_of datagram.now)) (get prefix_cmp self.old.of_senders prefix)) }
+        ensures { OnOk result ((prefix : GuidPrefixOf) → get stays.prefix_cmp self.new.of_senders prefix
+            ≡ stays.presence_with number time (stays.is_sender prefix (stays.sender_of datagram.now)) (get stays.prefix_cmp self.old.of_senders prefix)) }
     {
         match sender_of(datagram) {
             Some(sender) => note_presence(&mut self.of_senders, number, time, sender),
@@ -90,7 +89,7 @@ impl Presences {
 
     /// That of a recording, any datagrams, which came then. `Memory` is answered where it cannot grow.
     pub(crate) fn of(alloc: Global, recording: &[&[u8]], times: &Times) -> Result<Presences, Memory>
-        ensures { IfOk result (ArePresencesOf (map (λ datagram. datagram.now) recording.now) times.now.of_datagrams) }
+        ensures { IfOk result (stays.ArePresencesOf (map (λ datagram. datagram.now) recording.now) times.now.of_datagrams) }
     {
         let mut presences = Presences {
             of_senders: BTreeMap::new(alloc),
@@ -104,16 +103,16 @@ impl Presences {
 
     /// From when to when there is something of a participant; None where there is nothing.
     pub(crate) fn stay(&self, prefix: GuidPrefix) -> Option<Stay>
-        ensures { (recording : List (List ℕ)) (times : List (Option ℕ)) → ArePresencesOf recording times self.now
-            → result ≡ stay_of recording prefix }
+        ensures { (recording : List (List ℕ)) (times : List (Option ℕ)) → stays.ArePresencesOf recording times self.now
+            → result ≡ stays.stay_of recording prefix }
     {
         Some(self.of_senders.get(&prefix)?.stay)
     }
 
     /// The greatest time of the datagrams that a participant sent. None where there is no datagram, or one has no time.
     pub(crate) fn latest(&self, prefix: GuidPrefix) -> Option<u64>
-        ensures { (recording : List (List ℕ)) (times : List (Option ℕ)) → ArePresencesOf recording times self.now
-            → result ≡ latest_of recording times prefix }
+        ensures { (recording : List (List ℕ)) (times : List (Option ℕ)) → stays.ArePresencesOf recording times self.now
+            → result ≡ stays.latest_of recording times prefix }
     {
         self.of_senders.get(&prefix)?.latest
     }

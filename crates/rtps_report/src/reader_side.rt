@@ -1,8 +1,8 @@
 ghost use Rattle.std.specs.Prelude.{IfOk, Option};
-ghost use Rattle.rtps_evidence.specs.OtherSide.{IsOtherSide, OtherRecording};
-ghost use Rattle.rtps_report.specs.ReaderSide.{IsReaderSide, IsReaderSideBy, arrived_value, other_by, other_of};
+ghost use Rattle.rtps_evidence.specs.OtherSide as other_side;
+ghost use Rattle.rtps_report.specs.ReaderSide as reader_side;
 
-use crate::naming_walk::namings_of;
+use crate::acquaintance::namings_of;
 use crate::recording::{Recording, datagrams_of};
 use rtps_audit::Index;
 use rtps_evidence::OtherSide;
@@ -24,7 +24,7 @@ fn side_of<'b>(
     recording: &'b Recording,
     samples: &'b mut Samples,
 ) -> Result<ReaderSide<'b>, Memory>
-    ensures { IfOk result (IsReaderSide (other_of recording.now)) }
+    ensures { IfOk result (reader_side.IsReaderSide (reader_side.other_of recording.now)) }
 {
     let datagrams = datagrams_of(alloc, recording)?;
     let namings = namings_of(alloc, &datagrams)?;
@@ -41,7 +41,7 @@ pub(crate) fn side_by<'b>(
     arrived: Option<&'b Recording>,
     samples: &'b mut Samples,
 ) -> Result<Option<ReaderSide<'b>>, Memory>
-    ensures { IfOk result (IsReaderSideBy (other_by (arrived_value arrived.entry))) }
+    ensures { IfOk result (reader_side.IsReaderSideBy (reader_side.other_by (reader_side.arrived_value arrived.entry))) }
 {
     let Some(recording) = arrived else {
         return Ok(None);
@@ -52,7 +52,7 @@ pub(crate) fn side_by<'b>(
 
 /// It as rows are held against it.
 pub(crate) fn beside<'o, 'b>(side: &'o Option<ReaderSide<'b>>) -> Option<OtherSide<'o, 'b>>
-    ensures { (other : Option OtherRecording) → IsReaderSideBy other side.now → IsOtherSide other result }
+    ensures { (other : Option other_side.OtherRecording) → reader_side.IsReaderSideBy other side.now → other_side.IsOtherSide other result }
 {
     match side {
         Some(side) => Some(OtherSide {

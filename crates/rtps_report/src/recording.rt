@@ -1,7 +1,6 @@
 ghost use Rattle.std.specs.Prelude.{◌≡◌, ◌<◌, ◌^◌, IfOk, length, map, Some, None};
-ghost use Rattle.rtps_evidence.specs.Times.{no_times};
-ghost use Rattle.rtps_report.specs.DatagramSpan.{AreSpans, pieces};
-ghost use Rattle.rtps_report.specs.Recording.{ignored_by};
+ghost use Rattle.rtps_evidence.specs.Times as times_spec;
+ghost use Rattle.rtps_report.specs.DatagramSpan as datagram_span;
 ghost use Rattle.rtps_report.specs.Recording as recording_spec;
 
 use crate::datagram_list::{DatagramList, Datagrams};
@@ -65,9 +64,9 @@ pub struct Recording {
 }
 
 impl Model for Recording {
-    ghost use Rattle.rtps_report.specs.Recording.{RecordingValue};
+    ghost use Rattle.rtps_report.specs.Recording as recording_spec;
 
-    ghost Value = { RecordingValue };
+    ghost Value = { recording_spec.RecordingValue };
 
     ghost view = { λ recording. record { datagrams = recording.list; times = recording.times; ignored = recording.ignored; reasons = recording.reasons } };
 }
@@ -75,7 +74,7 @@ impl Model for Recording {
 impl Recording {
     /// The recording that is these datagrams, which no frames carry.
     pub fn of_text(alloc: Global, list: DatagramList) -> Recording
-        ensures { result ≡ record { datagrams = list; times = no_times; ignored = None; reasons = None } }
+        ensures { result ≡ record { datagrams = list; times = times_spec.no_times; ignored = None; reasons = None } }
     {
         Recording {
             list,
@@ -92,8 +91,8 @@ impl Recording {
         times: Times,
         ignored: u64,
     ) -> Recording
-        requires { AreSpans octets.items spans.items }
-        ensures { result ≡ record { datagrams = pieces octets.items spans.items; times = times; ignored = Some ignored; reasons = None } }
+        requires { datagram_span.AreSpans octets.items spans.items }
+        ensures { result ≡ record { datagrams = datagram_span.pieces octets.items spans.items; times = times; ignored = Some ignored; reasons = None } }
     {
         Recording {
             list: DatagramList::at_spans(octets, spans),
@@ -110,9 +109,9 @@ impl Recording {
         times: Times,
         reasons: Reasons,
     ) -> Recording
-        requires spans { AreSpans octets.items spans.items }
-        requires few { ignored_by reasons < 2 ^ 64 }
-        ensures { result ≡ record { datagrams = pieces octets.items spans.items; times = times; ignored = Some (ignored_by reasons); reasons = Some reasons } }
+        requires spans { datagram_span.AreSpans octets.items spans.items }
+        requires few { recording_spec.ignored_by reasons < 2 ^ 64 }
+        ensures { result ≡ record { datagrams = datagram_span.pieces octets.items spans.items; times = times; ignored = Some (recording_spec.ignored_by reasons); reasons = Some reasons } }
     {
         Recording {
             list: DatagramList::at_spans(octets, spans),

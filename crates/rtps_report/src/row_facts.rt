@@ -1,13 +1,10 @@
 ghost use Rattle.std.specs.Prelude.{◌≡◌, ◌<◌, ◌^◌, map};
 ghost use Rattle.std.specs.List.{list_all};
 ghost use Rattle.rtps_receiver.specs.Said as said;
-ghost use Rattle.rtps_evidence.specs.Explanation.{evidence_value, explanation_value};
-ghost use Rattle.rtps_report.specs.Asked.{asked_value};
-ghost use Rattle.rtps_report.specs.FullReport.{facts_with};
+ghost use Rattle.rtps_evidence.specs.Explanation as explanation;
+ghost use Rattle.rtps_report.specs.Asked as asked_spec;
 ghost use Rattle.rtps_report.specs.FullReport as full_report;
-ghost use Rattle.rtps_report.specs.Reported.{is_complete as completes};
 ghost use Rattle.rtps_report.specs.Reported as reported;
-ghost use Rattle.rtps_report.specs.RowFacts.{absent_in, is_held_in, is_joined_in, left_in, way_in, wrote_before_in};
 ghost use Rattle.rtps_report.specs.RowFacts as row_facts;
 
 use crate::asked::Asked;
@@ -20,7 +17,7 @@ use rtps_evidence::{Announcement, Evidence, Explained, Explanation, Outcomes, Wa
 
 /// Whether each number that is asked about is acknowledged.
 pub fn is_complete(verdict: &Verdict) -> bool
-    ensures { result ≡ completes verdict.now }
+    ensures { result ≡ reported.is_complete verdict.now }
 {
     matches!(verdict, Verdict::Complete { .. })
 }
@@ -67,7 +64,7 @@ pub fn row_from(from: u64, evidence: &Evidence<'_>) -> u64
 
 /// The datagram in which the reader of a row leaves; None where it does not, or where that is not asked.
 pub fn left_at(evidence: &Evidence<'_>) -> Option<u64>
-    ensures { result ≡ left_in evidence.now.in_span }
+    ensures { result ≡ row_facts.left_in evidence.now.in_span }
 {
     match &evidence.in_span {
         Some(in_span) => in_span.until,
@@ -76,7 +73,7 @@ pub fn left_at(evidence: &Evidence<'_>) -> Option<u64>
 }
 
 pub(crate) fn is_joined(evidence: &Evidence<'_>) -> bool
-    ensures { result ≡ is_joined_in evidence.now.in_span }
+    ensures { result ≡ row_facts.is_joined_in evidence.now.in_span }
 {
     match &evidence.in_span {
         Some(in_span) => in_span.is_joined_here,
@@ -86,7 +83,7 @@ pub(crate) fn is_joined(evidence: &Evidence<'_>) -> bool
 
 /// Whether a row is held against another recording.
 pub fn is_held(evidence: &Evidence<'_>) -> bool
-    ensures { result ≡ is_held_in evidence.now.in_span }
+    ensures { result ≡ row_facts.is_held_in evidence.now.in_span }
 {
     match &evidence.in_span {
         Some(in_span) => in_span.is_held,
@@ -96,7 +93,7 @@ pub fn is_held(evidence: &Evidence<'_>) -> bool
 
 /// Which way round the two recordings are by the pair of a row; None where there is one alone, or the other one has nothing of it.
 pub fn way_of(evidence: &Evidence<'_>) -> Option<Way>
-    ensures { result ≡ way_in evidence.now.in_span }
+    ensures { result ≡ row_facts.way_in evidence.now.in_span }
 {
     match &evidence.in_span {
         Some(in_span) => in_span.way,
@@ -106,7 +103,7 @@ pub fn way_of(evidence: &Evidence<'_>) -> Option<Way>
 
 /// How many numbers of a row that is held are received for certain though the other recording has none of them.
 pub fn absent_of(evidence: &Evidence<'_>) -> u64
-    ensures { result ≡ absent_in evidence.now.in_span }
+    ensures { result ≡ row_facts.absent_in evidence.now.in_span }
 {
     match &evidence.in_span {
         Some(in_span) => in_span.absent,
@@ -116,7 +113,7 @@ pub fn absent_of(evidence: &Evidence<'_>) -> u64
 
 /// What became of the numbers of a row. Of a row that is in no span it is told what is received and what is missed, and no more.
 pub fn outcomes_of(evidence: &Evidence<'_>) -> Outcomes
-    ensures { result ≡ row_facts.outcomes_of (evidence_value evidence.now) }
+    ensures { result ≡ row_facts.outcomes_of (explanation.evidence_value evidence.now) }
 {
     match &evidence.in_span {
         Some(in_span) => in_span.outcomes,
@@ -134,7 +131,7 @@ pub fn outcomes_of(evidence: &Evidence<'_>) -> Outcomes
 
 /// Whether a row is clean, where a tail may have so many numbers.
 pub fn is_clean(tail: u64, evidence: &Evidence<'_>) -> bool
-    ensures { result ≡ row_facts.is_clean tail (evidence_value evidence.now) }
+    ensures { result ≡ row_facts.is_clean tail (explanation.evidence_value evidence.now) }
 {
     match &evidence.in_span {
         Some(in_span) => in_span.is_clean(&evidence.verdict, tail),
@@ -143,7 +140,7 @@ pub fn is_clean(tail: u64, evidence: &Evidence<'_>) -> bool
 }
 
 pub(crate) fn is_tail(evidence: &Evidence<'_>) -> bool
-    ensures { result ≡ row_facts.is_tail (evidence_value evidence.now) }
+    ensures { result ≡ row_facts.is_tail (explanation.evidence_value evidence.now) }
 {
     match &evidence.in_span {
         Some(in_span) => in_span.is_tail(&evidence.verdict),
@@ -153,28 +150,28 @@ pub(crate) fn is_tail(evidence: &Evidence<'_>) -> bool
 
 /// Whether a row is not clean for its tail alone, and neither of its participants is silent.
 pub fn is_tail_alone(tail: u64, evidence: &Evidence<'_>, silences: Silences) -> bool
-    ensures { result ≡ row_facts.is_tail_alone silences tail (evidence_value evidence.now) }
+    ensures { result ≡ row_facts.is_tail_alone silences tail (explanation.evidence_value evidence.now) }
 {
     !is_clean(tail, evidence) && is_tail(evidence) && silences.are_heard()
 }
 
 /// Whether someone has to look at a row: it is not clean, and not for its tail alone.
 pub fn is_noted(tail: u64, evidence: &Evidence<'_>, silences: Silences) -> bool
-    ensures { result ≡ row_facts.is_noted silences tail (evidence_value evidence.now) }
+    ensures { result ≡ row_facts.is_noted silences tail (explanation.evidence_value evidence.now) }
 {
     !is_clean(tail, evidence) && !is_tail_alone(tail, evidence, silences)
 }
 
 /// Whether a row is clean with a tail, which has numbers: where all of them arrived, nothing is lacking.
 pub fn is_clean_tail(tail: u64, evidence: &Evidence<'_>) -> bool
-    ensures { result ≡ row_facts.is_clean_tail tail (evidence_value evidence.now) }
+    ensures { result ≡ row_facts.is_clean_tail tail (explanation.evidence_value evidence.now) }
 {
     is_clean(tail, evidence) && is_tail(evidence) && outcomes_of(evidence).unconfirmed > 0
 }
 
 /// Whether the writer of a row announced numbers, and all of them stand before it.
 fn wrote_before(evidence: &Evidence<'_>) -> bool
-    ensures { result ≡ wrote_before_in evidence.now.in_span }
+    ensures { result ≡ row_facts.wrote_before_in evidence.now.in_span }
 {
     match &evidence.in_span {
         Some(in_span) => in_span.wrote_before && in_span.base <= in_span.from,
@@ -184,25 +181,25 @@ fn wrote_before(evidence: &Evidence<'_>) -> bool
 
 /// Whether a row is complete, and its writer announced numbers, all of which stand before it.
 pub(crate) fn is_late(from: u64, evidence: &Evidence<'_>) -> bool
-    ensures { result ≡ row_facts.is_late from (evidence_value evidence.now) }
+    ensures { result ≡ row_facts.is_late from (explanation.evidence_value evidence.now) }
 {
     is_complete(&evidence.verdict) && wrote_before(evidence) && from < row_from(from, evidence)
 }
 
 pub(crate) fn is_certain(from: u64, evidence: &Evidence<'_>) -> bool
-    ensures { result ≡ row_facts.is_certain from (evidence_value evidence.now) }
+    ensures { result ≡ row_facts.is_certain from (explanation.evidence_value evidence.now) }
 {
     asked_about(row_from(from, evidence), evidence.announcement) <= outcomes_of(evidence).received
 }
 
 fn is_met(asked: &Asked<'_>, evidence: &Evidence<'_>) -> bool
-    ensures { result ≡ full_report.is_met (asked_value asked.now) (evidence_value evidence.now) }
+    ensures { result ≡ full_report.is_met (asked_spec.asked_value asked.now) (explanation.evidence_value evidence.now) }
 {
     is_clean(asked.tail, evidence) && (!asked.certain || is_certain(asked.first_asked(), evidence))
 }
 
 fn are_met(asked: &Asked<'_>, rows: &[Explanation<'_>]) -> bool
-    ensures { result ≡ list_all (λ row. full_report.is_met (asked_value asked.now) row.evidence) (map explanation_value rows.now) }
+    ensures { result ≡ list_all (λ row. full_report.is_met (asked_spec.asked_value asked.now) row.evidence) (map explanation.explanation_value rows.now) }
 {
     for row in rows {
         if !is_met(asked, &row.evidence) {
@@ -219,7 +216,7 @@ pub(crate) fn facts_of(
     recording: &Recording,
     told: (TalkFacts, Order),
 ) -> Facts
-    ensures { result ≡ facts_with told.0 told.1 (asked_value asked.now) (map explanation_value explained.now.rows.items) explained.now.counts recording.now }
+    ensures { result ≡ full_report.facts_with told.0 told.1 (asked_spec.asked_value asked.now) (map explanation.explanation_value explained.now.rows.items) explained.now.counts recording.now }
 {
     let (talk, order) = told;
     Facts {

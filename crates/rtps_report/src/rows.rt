@@ -1,11 +1,10 @@
 ghost use Rattle.std.specs.Prelude.{◌≡◌, List, map};
 ghost use Rattle.std.specs.String.{string_bytes};
-ghost use Rattle.rtps_receiver.specs.Values.{ActValue};
+ghost use Rattle.rtps_receiver.specs.Values as values;
 ghost use Rattle.std.specs.Option.{option_map};
-ghost use Rattle.rtps_who.specs.Recorded.{node_in};
-ghost use Rattle.rtps_who.specs.Samples.{node_value};
-ghost use Rattle.rtps_report.specs.Asked.{asked_value};
-ghost use Rattle.rtps_report.specs.Rows.{chosen_by, AreNamedIn, is_named_by, is_observed};
+ghost use Rattle.rtps_who.specs.Recorded as recorded;
+ghost use Rattle.rtps_who.specs.Samples as samples;
+ghost use Rattle.rtps_report.specs.Asked as asked_spec;
 ghost use Rattle.rtps_report.specs.Rows as rows;
 
 use crate::asked::Asked;
@@ -17,8 +16,8 @@ use rtps_who::{Node, Who};
 
 /// Whether the recording can speak of a pair: an act of the reader's participant names the writer's as its destination.
 pub(crate) fn are_observed(namings: &Namings, pair: Pair) -> bool
-    ensures named { result ≡ is_named_by namings.now pair }
-    ensures observed { (acts : List ActValue) → AreNamedIn acts namings.now → result ≡ is_observed acts pair }
+    ensures named { result ≡ rows.is_named_by namings.now pair }
+    ensures observed { (acts : List values.ActValue) → rows.AreNamedIn acts namings.now → result ≡ rows.is_observed acts pair }
 {
     let answer = Naming {
         source: pair.reader.prefix,
@@ -46,7 +45,7 @@ pub(crate) fn fits_one(patterns: &[String], topic: &[u8]) -> bool
 
 /// Whether an end has a node whose name fits one of these patterns.
 pub(crate) fn has_node(patterns: &[String], node: Option<Node<'_>>) -> bool
-    ensures { result ≡ rows.has_node (map string_bytes patterns.now) (option_map node_value node.entry) }
+    ensures { result ≡ rows.has_node (map string_bytes patterns.now) (option_map samples.node_value node.entry) }
 {
     match node {
         Some(node) => patterns
@@ -58,7 +57,7 @@ pub(crate) fn has_node(patterns: &[String], node: Option<Node<'_>>) -> bool
 
 /// Whether a pair of this topic is asked for: its topic is, and the node of its writer or of its reader.
 pub(crate) fn is_chosen(asked: &Asked<'_>, who: &Who<'_>, topic: &[u8], pair: Pair) -> bool
-    ensures { result ≡ chosen_by (asked_value asked.now) (node_in who.now) topic.now pair }
+    ensures { result ≡ rows.chosen_by (asked_spec.asked_value asked.now) (recorded.node_in who.now) topic.now pair }
 {
     let nodes = asked.nodes;
     fits_one(asked.topics, topic)

@@ -1,7 +1,6 @@
 ghost use Rattle.std.specs.Prelude.{◌≡◌, map};
-ghost use Rattle.rtps_evidence.specs.Explanation.{explanation_value};
-ghost use Rattle.rtps_report.specs.FullReport.{report_value};
-ghost use Rattle.rtps_report.specs.SideFacts.{side_facts};
+ghost use Rattle.rtps_evidence.specs.Explanation as explanation;
+ghost use Rattle.rtps_report.specs.FullReport as full_report;
 ghost use Rattle.rtps_report.specs.SideFacts as side_facts_spec;
 
 use crate::full_report::FullReport;
@@ -29,7 +28,7 @@ pub struct SideFacts {
 
 /// Of how many rows the other recording has nothing.
 fn rows_alone(rows: &[Explanation<'_>]) -> u64
-    ensures { result ≡ side_facts_spec.rows_alone (map explanation_value rows.now) }
+    ensures { result ≡ side_facts_spec.rows_alone (map explanation.explanation_value rows.now) }
 {
     let mut alone = 0;
     for row in rows {
@@ -42,7 +41,7 @@ fn rows_alone(rows: &[Explanation<'_>]) -> u64
 
 /// How many rows have numbers that are received for certain though the other recording has none of them.
 fn rows_absent(rows: &[Explanation<'_>]) -> u64
-    ensures { result ≡ side_facts_spec.rows_absent (map explanation_value rows.now) }
+    ensures { result ≡ side_facts_spec.rows_absent (map explanation.explanation_value rows.now) }
 {
     let mut absent = 0;
     for row in rows {
@@ -55,7 +54,7 @@ fn rows_absent(rows: &[Explanation<'_>]) -> u64
 
 /// How many numbers these are.
 fn numbers_absent(rows: &[Explanation<'_>]) -> u128
-    ensures { result ≡ side_facts_spec.numbers_absent (map explanation_value rows.now) }
+    ensures { result ≡ side_facts_spec.numbers_absent (map explanation.explanation_value rows.now) }
 {
     let mut absent = 0;
     for row in rows {
@@ -66,7 +65,7 @@ fn numbers_absent(rows: &[Explanation<'_>]) -> u128
 
 /// What is told of these rows, and of the recording against which they are held, where the two were given in this order.
 fn facts_beside(rows: &[Explanation<'_>], order: Order, other: &Recording) -> SideFacts
-    ensures { result ≡ side_facts_spec.facts_beside (map explanation_value rows.now) order other.now }
+    ensures { result ≡ side_facts_spec.facts_beside (map explanation.explanation_value rows.now) order other.now }
 {
     let reasons = known(other.reasons());
     SideFacts {
@@ -82,7 +81,7 @@ fn facts_beside(rows: &[Explanation<'_>], order: Order, other: &Recording) -> Si
 
 /// What is told of the other recording; None where there is none.
 pub fn facts_of_side(report: &FullReport<'_>) -> Option<SideFacts>
-    ensures { result ≡ side_facts (report_value report.now) }
+    ensures { result ≡ side_facts_spec.side_facts (full_report.report_value report.now) }
 {
     match report.arrived {
         Some(other) => Some(facts_beside(&report.explained.rows, report.order, other)),

@@ -1,8 +1,7 @@
 ghost use Rattle.std.specs.Prelude.{◌≡◌};
 ghost use Rattle.std.specs.List.{find};
-ghost use Rattle.rtps_report.specs.Silences.{has_guid, silences_of};
 ghost use Rattle.rtps_report.specs.Silences as silences_spec;
-ghost use Rattle.rtps_report.specs.Talk.{talk_value};
+ghost use Rattle.rtps_report.specs.Talk as talk;
 
 use crate::late_matches::is_mixed;
 use crate::not_told::is_not_told_of;
@@ -38,7 +37,7 @@ impl Silences {
 
 /// The first of these participants that has this GUID.
 fn first_of(participants: &[Participant], guid: Guid) -> Option<Participant>
-    ensures { result ≡ find (has_guid guid) participants.now }
+    ensures { result ≡ find (silences_spec.has_guid guid) participants.now }
 {
     participants.iter().copied().find(|one| one.guid == guid)
 }
@@ -75,7 +74,7 @@ fn is_one_way(found: &[OneWay], source: GuidPrefix, dest: GuidPrefix) -> bool
 impl Talk<'_> {
     /// From where nothing comes back of two participants, of which the one names the other; None where something does.
     pub fn address_behind(&self, from: Guid, to: Guid) -> Option<Address>
-        ensures { result ≡ silences_spec.address_behind (talk_value self.now) from to }
+        ensures { result ≡ silences_spec.address_behind (talk.talk_value self.now) from to }
     {
         if is_one_way(&self.one_way, from.prefix, to.prefix) {
             self.end(to).address
@@ -86,14 +85,14 @@ impl Talk<'_> {
 
     /// Since which datagram a participant is silent; None where it is not.
     pub(crate) fn silent_since(&self, guid: Guid) -> Option<u64>
-        ensures { result ≡ silences_spec.silence_among (talk_value self.now).participants guid }
+        ensures { result ≡ silences_spec.silence_among (talk.talk_value self.now).participants guid }
     {
         silence_among(&self.participants, guid)
     }
 
     /// What is known of the participants of a pair.
     pub fn silences(&self, pair: Pair) -> Silences
-        ensures { result ≡ silences_of (talk_value self.now) pair }
+        ensures { result ≡ silences_spec.silences_of (talk.talk_value self.now) pair }
     {
         let writer = participant_of(pair.writer.prefix);
         let reader = participant_of(pair.reader.prefix);

@@ -1,31 +1,29 @@
-ghost use Rattle.std.specs.Prelude.{◌≡◌, filter, IfOk, List, Option, map, not};
+ghost use Rattle.std.specs.Prelude.{◌≡◌, filter, IfOk, Option, map, not};
 ghost use Rattle.std.specs.BTreeSet.{contains};
-ghost use Rattle.rtps_audit.specs.Index.{IsIndexBy};
-ghost use Rattle.rtps_audit.specs.Intake.{Intake, acts_together};
-ghost use Rattle.rtps_audit.specs.Placed.{placed_in, placed_value};
-ghost use Rattle.rtps_discovery.specs.Listings.{pair_cmp};
-ghost use Rattle.rtps_evidence.specs.OtherSide.{IsOtherSide, OtherRecording};
+ghost use Rattle.rtps_audit.specs.Index as index_spec;
+ghost use Rattle.rtps_audit.specs.Intake as intake_spec;
+ghost use Rattle.rtps_audit.specs.Placed as placed;
+ghost use Rattle.rtps_discovery.specs.Listings as listings;
+ghost use Rattle.rtps_evidence.specs.OtherSide as other_side;
 ghost use Rattle.rtps_evidence.specs.Spans as spans;
-ghost use Rattle.rtps_fragments.specs.Announcements.{announcements_in};
-ghost use Rattle.rtps_fragments.specs.RecordedSamples.{intake_as};
+ghost use Rattle.rtps_fragments.specs.RecordedSamples as recorded_samples;
 ghost use Rattle.rtps_fragments.specs.declared.fragments.Fragments.TheVariants.{Read};
-ghost use Rattle.rtps_policies.specs.Announcing.{IsAnnouncedBy};
-ghost use Rattle.rtps_policies.specs.Silence.{Traffic as TrafficOf, silence_by};
-ghost use Rattle.rtps_policies.specs.Unmatched.{unmatched_value};
+ghost use Rattle.rtps_policies.specs.Announcing as announcing;
+ghost use Rattle.rtps_policies.specs.Silence as silence;
 ghost use Rattle.rtps_policies.specs.Unmatched as unmatched_spec;
-ghost use Rattle.rtps_receiver.specs.Values.{ActValue};
-ghost use Rattle.rtps_report.specs.Asked.{asked_value};
-ghost use Rattle.rtps_report.specs.BestEfforts.{counted_value};
-ghost use Rattle.rtps_report.specs.Ends.{end_value};
-ghost use Rattle.rtps_report.specs.Participants.{AreJoined, participant_told};
-ghost use Rattle.rtps_report.specs.Stays.{ArePresencesOf};
-ghost use Rattle.rtps_report.specs.Rows.{chosen_by};
-ghost use Rattle.rtps_who.specs.Recorded.{node_in};
-ghost use Rattle.rtps_who.specs.Samples.{node_value};
+ghost use Rattle.rtps_report.specs.Acquaintance as acquaintance_spec;
+ghost use Rattle.rtps_report.specs.Asked as asked_spec;
+ghost use Rattle.rtps_report.specs.BestEfforts as best_efforts;
+ghost use Rattle.rtps_report.specs.Ends as ends;
+ghost use Rattle.rtps_report.specs.Participants as participants_spec;
+ghost use Rattle.rtps_report.specs.Stays as stays;
+ghost use Rattle.rtps_report.specs.Rows as rows;
+ghost use Rattle.rtps_who.specs.Recorded as recorded;
+ghost use Rattle.rtps_who.specs.Samples as samples;
 ghost use Rattle.std.specs.Option.{option_map};
-ghost use Rattle.rtps_report.specs.Talk.{AreCounted, AreUnfit, IsHeardIn, IsKeptOf, IsTalkOf, is_counted_by, is_counted_of, is_left_out_by, is_left_out_of, left_out_value, talk_value, traffic_of};
 ghost use Rattle.rtps_report.specs.Talk as talk_spec;
 
+use crate::acquaintance::Acquaintance;
 use crate::asked::Asked;
 use crate::best_effort::{
     BestEffort, Counted, HeldPair, arrived_among, held_among, sums_of, total_of,
@@ -115,7 +113,7 @@ pub(crate) struct Heard<'r, 'a, 'o, 'b> {
 impl<'a> Talk<'a> {
     /// By what people know a writer, a reader or a participant.
     pub fn end(&self, guid: Guid) -> End<'a>
-        ensures { end_value result ≡ (talk_value self.now).ends guid }
+        ensures { ends.end_value result ≡ (talk_spec.talk_value self.now).ends guid }
     {
         End {
             node: self.who.node_of_end(guid),
@@ -126,35 +124,35 @@ impl<'a> Talk<'a> {
 
     /// The node of an endpoint.
     pub fn node(&self, endpoint: Guid) -> Option<Node<'a>>
-        ensures { option_map node_value result ≡ (talk_value self.now).node endpoint }
+        ensures { option_map samples.node_value result ≡ (talk_spec.talk_value self.now).node endpoint }
     {
         self.who.node(endpoint)
     }
 
     /// The nodes of a participant.
     pub fn nodes(&self, alloc: Global, prefix: GuidPrefix) -> Result<Vec<Node<'a>>, AllocError>
-        ensures { IfOk result (λ nodes. map node_value nodes.items ≡ (talk_value self.now).nodes prefix) }
+        ensures { IfOk result (λ nodes. map samples.node_value nodes.items ≡ (talk_spec.talk_value self.now).nodes prefix) }
     {
         self.who.nodes(alloc, prefix)
     }
 
     /// Why the recording says nothing of a pair that matches, and whose reader's participant never names the writer's.
     pub fn silence(&self, pair: Pair) -> Silence
-        ensures { result ≡ silence_by self.now.announced self.now.namings pair }
+        ensures { result ≡ silence.silence_by self.now.announced self.now.namings pair }
     {
         reason_of_silence(&self.announced, &self.namings, pair)
     }
 
     /// That the two of a pair matched late, if they did. Of pairs of which no row can be nothing is said.
     pub fn late(&self, pair: Pair) -> Option<LateMatch>
-        ensures { result ≡ (talk_value self.now).late pair }
+        ensures { result ≡ (talk_spec.talk_value self.now).late pair }
     {
         self.late.get(&pair).copied()
     }
 
     /// Whether the two of a pair do not match.
     pub(crate) fn is_unfit(&self, pair: Pair) -> bool
-        ensures { result ≡ contains pair_cmp self.now.unfit pair }
+        ensures { result ≡ contains listings.pair_cmp self.now.unfit pair }
     {
         self.unfit.contains(&pair)
     }
@@ -162,7 +160,7 @@ impl<'a> Talk<'a> {
 
 /// What is announced, by those acts of a recording that announce something.
 fn announced_in<'a>(alloc: Global, announcements: &[Placed<'a>]) -> Result<Announced<'a>, Memory>
-    ensures { IfOk result (IsAnnouncedBy (map (λ placed. placed.act) (map placed_value announcements.now))) }
+    ensures { IfOk result (announcing.IsAnnouncedBy (map (λ placed. placed.act) (map placed.placed_value announcements.now))) }
 {
     let mut announced = Announced::new(alloc);
     for placed in announcements {
@@ -173,7 +171,7 @@ fn announced_in<'a>(alloc: Global, announcements: &[Placed<'a>]) -> Result<Annou
 
 /// The writer and the reader of two that do not match.
 pub(crate) fn pair_of(one: &Unmatched<'_>) -> Pair
-    ensures { result ≡ unmatched_spec.pair_of (unmatched_value one.now) }
+    ensures { result ≡ unmatched_spec.pair_of (unmatched_spec.unmatched_value one.now) }
 {
     Pair {
         writer: one.writer.endpoint.guid,
@@ -183,7 +181,7 @@ pub(crate) fn pair_of(one: &Unmatched<'_>) -> Pair
 
 /// The pairs that do not match.
 fn unfit_of(alloc: Global, unmatched: &[Unmatched<'_>]) -> Result<BTreeSet<Pair>, Memory>
-    ensures { IfOk result (AreUnfit (map unmatched_value unmatched.now)) }
+    ensures { IfOk result (talk_spec.AreUnfit (map unmatched_spec.unmatched_value unmatched.now)) }
 {
     let mut unfit = BTreeSet::new(alloc);
     for one in unmatched {
@@ -222,9 +220,9 @@ fn parted_unfit<'a>(
     index: &Index<'_>,
     unfit: Vec<Unmatched<'a>>,
 ) -> Result<PartedUnfit<'a>, Memory>
-    ensures { IfOk result (λ parted. (intake : Intake) → IsIndexBy intake index.now
-        → (map unmatched_value parted.silent.items ≡ filter (λ one. not (talk_spec.talks intake (unmatched_spec.pair_of one))) (map unmatched_value unfit.entry.items))
-        × (map unmatched_value parted.talking.items ≡ filter (λ one. talk_spec.talks intake (unmatched_spec.pair_of one)) (map unmatched_value unfit.entry.items))) }
+    ensures { IfOk result (λ parted. (intake : intake_spec.Intake) → index_spec.IsIndexBy intake index.now
+        → (map unmatched_spec.unmatched_value parted.silent.items ≡ filter (λ one. not (talk_spec.talks intake (unmatched_spec.pair_of one))) (map unmatched_spec.unmatched_value unfit.entry.items))
+        × (map unmatched_spec.unmatched_value parted.talking.items ≡ filter (λ one. talk_spec.talks intake (unmatched_spec.pair_of one)) (map unmatched_spec.unmatched_value unfit.entry.items))) }
 {
     let mut parted = PartedUnfit {
         silent: Vec::new(alloc),
@@ -239,7 +237,7 @@ fn parted_unfit<'a>(
 
 /// Whether a match of this topic is left out.
 fn is_left_out(talk: &Talk<'_>, asked: &Asked<'_>, found: Match, topic: &[u8]) -> bool
-    ensures { result ≡ is_left_out_by talk.now.unfit talk.now.namings (chosen_by (asked_value asked.now) (node_in talk.now.who)) topic.now found }
+    ensures { result ≡ talk_spec.is_left_out_by talk.now.unfit talk.now.namings (rows.chosen_by (asked_spec.asked_value asked.now) (recorded.node_in talk.now.who)) topic.now found }
 {
     !talk.is_unfit(found.pair)
         && is_chosen(asked, &talk.who, topic, found.pair)
@@ -253,8 +251,8 @@ fn left_out_of<'a>(
     heard: &Heard<'_, 'a, '_, '_>,
     matched: &[Match],
 ) -> Result<Vec<LeftOut<'a>>, Memory>
-    ensures { IfOk result (λ left. map left_out_value left.items ≡ map (talk_spec.left_out_of heard.now.directory.now.endpoints)
-        (filter (is_left_out_of talk.now.unfit talk.now.namings (chosen_by (asked_value heard.now.asked.now) (node_in talk.now.who)) heard.now.directory.now.endpoints) matched.now)) }
+    ensures { IfOk result (λ left. map talk_spec.left_out_value left.items ≡ map (talk_spec.left_out_of heard.now.directory.now.endpoints)
+        (filter (talk_spec.is_left_out_of talk.now.unfit talk.now.namings (rows.chosen_by (asked_spec.asked_value heard.now.asked.now) (recorded.node_in talk.now.who)) heard.now.directory.now.endpoints) matched.now)) }
 {
     let mut left = Vec::new(alloc);
     for found in matched {
@@ -271,7 +269,7 @@ fn left_out_of<'a>(
 
 /// Whether a match of this topic is counted as one of best effort.
 fn is_counted(talk: &Talk<'_>, asked: &Asked<'_>, found: Match, topic: &[u8]) -> bool
-    ensures { result ≡ is_counted_by talk.now.unfit talk.now.namings (chosen_by (asked_value asked.now) (node_in talk.now.who)) topic.now found }
+    ensures { result ≡ talk_spec.is_counted_by talk.now.unfit talk.now.namings (rows.chosen_by (asked_spec.asked_value asked.now) (recorded.node_in talk.now.who)) topic.now found }
 {
     !found.reliable
         && !talk.is_unfit(found.pair)
@@ -286,10 +284,10 @@ fn counted_of<'a>(
     heard: &Heard<'_, 'a, '_, '_>,
     matched: &[Match],
 ) -> Result<Vec<Counted<'a>>, Memory>
-    ensures { IfOk result (λ counted. (intake : Intake) (other : Option OtherRecording) → IsIndexBy intake heard.now.index.now
-        → IsOtherSide other heard.now.other → AreCounted (asked_value heard.now.asked.now) other intake heard.now.directory.now.endpoints
-        (filter (is_counted_of talk.now.unfit talk.now.namings (chosen_by (asked_value heard.now.asked.now) (node_in talk.now.who)) heard.now.directory.now.endpoints) matched.now)
-        (map counted_value counted.items)) }
+    ensures { IfOk result (λ counted. (intake : intake_spec.Intake) (other : Option other_side.OtherRecording) → index_spec.IsIndexBy intake heard.now.index.now
+        → other_side.IsOtherSide other heard.now.other → talk_spec.AreCounted (asked_spec.asked_value heard.now.asked.now) other intake heard.now.directory.now.endpoints
+        (filter (talk_spec.is_counted_of talk.now.unfit talk.now.namings (rows.chosen_by (asked_spec.asked_value heard.now.asked.now) (recorded.node_in talk.now.who)) heard.now.directory.now.endpoints) matched.now)
+        (map best_efforts.counted_value counted.items)) }
 {
     let sides = Sides {
         index: heard.index,
@@ -316,7 +314,7 @@ fn counted_of<'a>(
 
 /// When a participant leaves that joins at this place, if it does.
 fn left_of(index: &Index<'_>, guid: Guid, place: Option<Location>) -> Option<u64>
-    ensures { (intake : Intake) → IsIndexBy intake index.now → result ≡ spans.left_in place guid (placed_in intake.acts) }
+    ensures { (intake : intake_spec.Intake) → index_spec.IsIndexBy intake index.now → result ≡ spans.left_in place guid (placed.placed_in intake.acts) }
 {
     match place {
         Some(place) => left_in(index, guid, place),
@@ -331,12 +329,12 @@ pub(crate) fn participants_of(
     heard: &Heard<'_, '_, '_, '_>,
     seen: Seen<'_>,
 ) -> Result<Vec<Participant>, Memory>
-    ensures { IfOk result (λ participants. (intake : Intake) → IsIndexBy intake heard.now.index.now
-        → AreJoined (placed_in intake.announcing) seen.entry.joined.now
-        → ArePresencesOf (map (λ datagram. datagram.now) heard.now.datagrams.now) heard.now.times.now.of_datagrams seen.entry.presences.now
-        → IsAnnouncedBy (acts_together intake.announcing) announced.now
+    ensures { IfOk result (λ participants. (intake : intake_spec.Intake) → index_spec.IsIndexBy intake heard.now.index.now
+        → participants_spec.AreJoined (placed.placed_in intake.announcing) seen.entry.joined.now
+        → stays.ArePresencesOf (map (λ datagram. datagram.now) heard.now.datagrams.now) heard.now.times.now.of_datagrams seen.entry.presences.now
+        → announcing.IsAnnouncedBy (intake_spec.acts_together intake.announcing) announced.now
         → participants.items
-        ≡ map (participant_told intake (map (λ datagram. datagram.now) heard.now.datagrams.now) heard.now.times.now) heard.now.directory.now.participants) }
+        ≡ map (participants_spec.participant_told intake (map (λ datagram. datagram.now) heard.now.datagrams.now) heard.now.times.now) heard.now.directory.now.participants) }
 {
     let end = heard.times.of_last_frame();
     let mut participants = Vec::new(alloc);
@@ -361,8 +359,8 @@ fn unfit_in<'a>(
     who: &Who<'_>,
     heard: &Heard<'_, 'a, '_, '_>,
 ) -> Result<Vec<Unmatched<'a>>, Memory>
-    ensures { IfOk result (λ unfit. (traffic : TrafficOf) → IsAnnouncedBy traffic.announcing announced.now
-        → map unmatched_value unfit.items ≡ talk_spec.unfit_in (chosen_by (asked_value heard.now.asked.now) (node_in who.now)) traffic heard.now.directory.now.endpoints) }
+    ensures { IfOk result (λ unfit. (traffic : silence.Traffic) → announcing.IsAnnouncedBy traffic.announcing announced.now
+        → map unmatched_spec.unmatched_value unfit.items ≡ talk_spec.unfit_in (rows.chosen_by (asked_spec.asked_value heard.now.asked.now) (recorded.node_in who.now)) traffic heard.now.directory.now.endpoints) }
 {
     let asked = heard.asked;
     let mut unfit = unmatched_pairs(announced, heard.directory)?;
@@ -370,25 +368,34 @@ fn unfit_in<'a>(
     Ok(unfit)
 }
 
-/// Who does not talk in a recording, of the topics that are asked for. `Memory` is answered where what is kept cannot grow.
-pub(crate) fn talk_in<'a>(alloc: Global, heard: &Heard<'_, 'a, '_, '_>) -> Result<Talk<'a>, Memory>
-    ensures talks { IfOk result (λ talk. (other : Option OtherRecording)
-        → IsHeardIn (intake_as Read (map (λ datagram. datagram.now) heard.now.datagrams.now)) other heard.now
-        → IsTalkOf (asked_value heard.now.asked.now) other (map (λ datagram. datagram.now) heard.now.datagrams.now)
-        heard.now.times.now (talk_value talk)) }
-    ensures kept { IfOk result (λ talk. (other : Option OtherRecording)
-        → IsHeardIn (intake_as Read (map (λ datagram. datagram.now) heard.now.datagrams.now)) other heard.now
-        → IsKeptOf (asked_value heard.now.asked.now) (intake_as Read (map (λ datagram. datagram.now) heard.now.datagrams.now))
-        (traffic_of (map (λ datagram. datagram.now) heard.now.datagrams.now)) heard.now.directory.now.endpoints talk) }
+/// Who does not talk in a recording, of the topics that are asked for, by who knows whom. `Memory` is answered where what is kept cannot grow.
+pub(crate) fn talk_in<'a>(
+    alloc: Global,
+    heard: &Heard<'_, 'a, '_, '_>,
+    acquaintance: Acquaintance<'_>,
+) -> Result<Talk<'a>, Memory>
+    requires { acquaintance_spec.IsAcquaintanceOf (map (λ datagram. datagram.now) heard.now.datagrams.now) heard.now.times.now.of_datagrams acquaintance }
+    ensures talks { IfOk result (λ talk. (other : Option other_side.OtherRecording)
+        → talk_spec.IsHeardIn (recorded_samples.intake_as Read (map (λ datagram. datagram.now) heard.now.datagrams.now)) other heard.now
+        → talk_spec.IsTalkOf (asked_spec.asked_value heard.now.asked.now) other (map (λ datagram. datagram.now) heard.now.datagrams.now)
+        heard.now.times.now (talk_spec.talk_value talk)) }
+    ensures kept { IfOk result (λ talk. (other : Option other_side.OtherRecording)
+        → talk_spec.IsHeardIn (recorded_samples.intake_as Read (map (λ datagram. datagram.now) heard.now.datagrams.now)) other heard.now
+        → talk_spec.IsKeptOf (asked_spec.asked_value heard.now.asked.now) (recorded_samples.intake_as Read (map (λ datagram. datagram.now) heard.now.datagrams.now))
+        (talk_spec.traffic_of (map (λ datagram. datagram.now) heard.now.datagrams.now)) heard.now.directory.now.endpoints talk) }
 {
     let announced = announced_in(alloc, heard.announcements)?;
     let Discovered {
         participants,
-        namings,
         not_told,
         lives,
+    } = discovered_in(alloc, &announced, heard, &acquaintance.known)?;
+    let Acquaintance {
+        namings,
+        known: _,
         matches,
-    } = discovered_in(alloc, &announced, heard)?;
+        times: _,
+    } = acquaintance;
     let who = who_of(alloc, heard.announcements, heard.index, heard.directory)?;
     let unfit = unfit_in(&announced, &who, heard)?;
     let mut talk = Talk {

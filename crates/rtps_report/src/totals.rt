@@ -1,5 +1,5 @@
-ghost use Rattle.std.specs.Prelude.{◌≡◌, ◌+◌, ◌<◌, ◌≤◌, ◌^◌, map};
-ghost use Rattle.rtps_evidence.specs.Explanation.{evidence_value, explanation_value};
+ghost use Rattle.std.specs.Prelude.{◌≡◌, ◌+◌, ◌<◌, ◌^◌, map};
+ghost use Rattle.rtps_evidence.specs.Explanation as explanation;
 ghost use Rattle.rtps_report.specs.Totals as totals_spec;
 
 use crate::advice::Scope;
@@ -54,28 +54,28 @@ pub struct Totals {
 }
 
 fn is_unclean(tail: u64, evidence: &Evidence<'_>) -> bool
-    ensures { result ≡ totals_spec.is_unclean tail (evidence_value evidence.now) }
+    ensures { result ≡ totals_spec.is_unclean tail (explanation.evidence_value evidence.now) }
 {
     !is_complete(&evidence.verdict) && !is_clean(tail, evidence)
 }
 
 /// How many of the numbers from `from` on stand before the first of a row.
 pub(crate) fn before_of(from: u64, evidence: &Evidence<'_>) -> u64
-    ensures { result ≡ totals_spec.before_of from (evidence_value evidence.now) }
+    ensures { result ≡ totals_spec.before_of from (explanation.evidence_value evidence.now) }
 {
     row_from(from, evidence).saturating_sub(from)
 }
 
 /// How many numbers a row asks about.
 fn numbers_of(from: u64, evidence: &Evidence<'_>) -> u64
-    ensures { result ≡ totals_spec.numbers_of from (evidence_value evidence.now) }
+    ensures { result ≡ totals_spec.numbers_of from (explanation.evidence_value evidence.now) }
 {
     asked_about(row_from(from, evidence), evidence.announcement)
 }
 
 /// How many likely numbers of a row did not arrive: all of them, where it is held.
 fn lost_of(evidence: &Evidence<'_>) -> u64
-    ensures { result ≡ totals_spec.lost_of (evidence_value evidence.now) }
+    ensures { result ≡ totals_spec.lost_of (explanation.evidence_value evidence.now) }
 {
     if is_held(evidence) {
         outcomes_of(evidence).likely
@@ -86,14 +86,13 @@ fn lost_of(evidence: &Evidence<'_>) -> u64
 
 impl Totals {
     ghost use Rattle.std.specs.Prelude.{[]};
-    ghost use Rattle.rtps_report.specs.Totals.{AreWithin};
     ghost use Rattle.rtps_report.specs.Totals as totals_spec;
     ghost use Rattle.rtps_report.specs.declared.advice.Scope.{Scope as ScopeOf};
 
     fn none() -> Totals
         ensures counted { (scope : ScopeOf) → result ≡ totals_spec.totals_of scope [] }
         ensures pairs { result.pairs ≡ 0 }
-        ensures within { AreWithin result }
+        ensures within { totals_spec.AreWithin result }
     {
         Totals {
             pairs: 0,
@@ -120,10 +119,10 @@ impl Totals {
     }
 
     fn with_row(self, row: &Explanation<'_>, scope: Scope) -> Totals
-        requires counted { AreWithin self }
+        requires counted { totals_spec.AreWithin self }
         requires few { self.pairs + 1 < 2 ^ 64 }
-        ensures counted { result ≡ totals_spec.with_row scope self (explanation_value row.now) }
-        ensures within { AreWithin result }
+        ensures counted { result ≡ totals_spec.with_row scope self (explanation.explanation_value row.now) }
+        ensures within { totals_spec.AreWithin result }
     {
         let evidence = &row.evidence;
         let outcomes = outcomes_of(evidence);
@@ -154,7 +153,7 @@ impl Totals {
 
 /// What is counted of rows.
 pub fn totals_of(rows: &[Explanation<'_>], scope: Scope) -> Totals
-    ensures { result ≡ totals_spec.totals_of scope (map explanation_value rows.now) }
+    ensures { result ≡ totals_spec.totals_of scope (map explanation.explanation_value rows.now) }
 {
     let mut totals = Totals::none();
     for row in rows {

@@ -1,7 +1,7 @@
-ghost use Rattle.std.specs.Prelude.{◌≡◌, ◌&&◌, IfOk, map};
+ghost use Rattle.std.specs.Prelude.{◌≡◌, IfOk, map};
 ghost use Rattle.std.specs.Cmp.Lexicographic.{pointwise};
 ghost use Rattle.std.specs.Str.{bytes_eq};
-ghost use Rattle.rtps_report.specs.ReaderSide.{arrived_value};
+ghost use Rattle.rtps_report.specs.ReaderSide as reader_side;
 ghost use Rattle.rtps_report.specs.Twice as twice;
 
 use crate::recording::{Recording, datagrams_of};
@@ -55,7 +55,7 @@ pub(crate) fn is_twice(
     arrived: Option<&Recording>,
     recording: &Recording,
 ) -> Result<bool, AllocError>
-    ensures { IfOk result (λ same. same ≡ twice.is_twice (arrived_value arrived.entry) recording.now) }
+    ensures { IfOk result (λ same. same ≡ twice.is_twice (reader_side.arrived_value arrived.entry) recording.now) }
 {
     match arrived {
         Some(other) => are_one(alloc, recording, other),

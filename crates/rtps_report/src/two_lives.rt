@@ -1,5 +1,4 @@
 ghost use Rattle.std.specs.Prelude.{◌≡◌, ◌++◌, ◌∷◌, [], if◌then◌else◌, IfOk, None, OnOk, map};
-ghost use Rattle.rtps_report.specs.TwoLives.{firsts_behind};
 ghost use Rattle.rtps_report.specs.TwoLives as two_lives;
 
 use rtps_ids::{Guid, GuidPrefix, Stamp};
@@ -64,7 +63,7 @@ fn push_first(
 
 /// The first of each participant, of lives that stand by participant.
 pub(crate) fn first_lives(alloc: Global, lives: &[Life]) -> Result<Vec<TwoLives>, AllocError>
-    ensures { IfOk result (λ found. found.items ≡ map two_lives.two_lives_of (firsts_behind None lives.now)) }
+    ensures { IfOk result (λ found. found.items ≡ map two_lives.two_lives_of (two_lives.firsts_behind None lives.now)) }
 {
     let mut found = Vec::new(alloc);
     let mut before = None;

@@ -1,14 +1,13 @@
-ghost use Rattle.std.specs.Prelude.{ℕ, ◌≡◌, IfOk, List, Option, OnOk, map};
+ghost use Rattle.std.specs.Prelude.{ℕ, ◌≡◌, IfOk, List, OnOk, map};
 ghost use Rattle.std.specs.BTreeMap.{get};
 ghost use Rattle.rtps_ids.specs.declared.identity.Guid.{Guid as GuidOf};
 ghost use Rattle.rtps_ids.specs.declared.identity.GuidPrefix.{GuidPrefix as GuidPrefixOf};
-ghost use Rattle.rtps_receiver.specs.Speech.{is_prefix};
-ghost use Rattle.rtps_discovery.specs.GuidOrder.{guid_cmp};
-ghost use Rattle.rtps_audit.specs.Intake.{Intake};
-ghost use Rattle.rtps_audit.specs.Placed.{placed_in};
-ghost use Rattle.rtps_report.specs.Participants.{AreJoined, participant_told};
-ghost use Rattle.rtps_report.specs.Stays.{ArePresencesOf, latest_of, prefix_cmp};
-ghost use Rattle.rtps_report.specs.Visits.{AreVisitsIn, is_participant, visit_by, visit_with};
+ghost use Rattle.rtps_receiver.specs.Speech as speech;
+ghost use Rattle.rtps_discovery.specs.GuidOrder as guid_order;
+ghost use Rattle.rtps_audit.specs.Intake as intake;
+ghost use Rattle.rtps_audit.specs.Placed as placed;
+ghost use Rattle.rtps_report.specs.Participants as participants_spec;
+ghost use Rattle.rtps_report.specs.Stays as stays;
 ghost use Rattle.rtps_report.specs.Visits as visits_spec;
 
 use crate::participant::Participant;
@@ -45,7 +44,7 @@ fn left_time(times: &Times, left: Option<u64>) -> Option<Option<u64>>
 
 /// A visit, where it is known when it begins and when the participant leaves.
 fn visit(since: Option<u64>, left: Option<Option<u64>>, last: Option<u64>) -> Option<Visit>
-    ensures { result ≡ visit_by since left last }
+    ensures { result ≡ visits_spec.visit_by since left last }
 {
     match (since, left) {
         (Some(since), Some(left)) => Some(Visit { since, left, last }),
@@ -64,9 +63,9 @@ pub(crate) struct Seen<'r> {
 
 /// When a participant is there; None where that is not known.
 fn visit_for(seen: Seen<'_>, participant: &Participant) -> Option<Visit>
-    ensures { (recording : List (List ℕ)) → ArePresencesOf recording seen.entry.times.now.of_datagrams seen.entry.presences.now
-        → result ≡ visit_by (visits_spec.place_time seen.entry.times.now.of_datagrams (get guid_cmp seen.entry.joined.now participant.now.guid))
-        (visits_spec.left_time seen.entry.times.now.of_datagrams participant.now.left) (latest_of recording seen.entry.times.now.of_datagrams participant.now.guid.prefix) }
+    ensures { (recording : List (List ℕ)) → stays.ArePresencesOf recording seen.entry.times.now.of_datagrams seen.entry.presences.now
+        → result ≡ visits_spec.visit_by (visits_spec.place_time seen.entry.times.now.of_datagrams (get guid_order.guid_cmp seen.entry.joined.now participant.now.guid))
+        (visits_spec.left_time seen.entry.times.now.of_datagrams participant.now.left) (stays.latest_of recording seen.entry.times.now.of_datagrams participant.now.guid.prefix) }
 {
     let since = place_time(seen.times, seen.joined.get(&participant.guid).copied());
     let left = left_time(seen.times, participant.left);
@@ -79,8 +78,8 @@ fn keep_visit(
     prefix: GuidPrefix,
     visit: Option<Visit>,
 ) -> Result<(), Memory>
-    ensures { OnOk result ((other : GuidPrefixOf) → get prefix_cmp visits.new other
-        ≡ visit_with (is_prefix prefix other) visit (get prefix_cmp visits.old other)) }
+    ensures { OnOk result ((other : GuidPrefixOf) → get stays.prefix_cmp visits.new other
+        ≡ visits_spec.visit_with (speech.is_prefix prefix other) visit (get stays.prefix_cmp visits.old other)) }
 {
     if let Some(visit) = visit {
         visits.insert(prefix, visit)?;
@@ -94,11 +93,11 @@ fn note_visit(
     seen: Seen<'_>,
     participant: &Participant,
 ) -> Result<(), Memory>
-    ensures { OnOk result ((recording : List (List ℕ)) → ArePresencesOf recording seen.entry.times.now.of_datagrams seen.entry.presences.now
-        → (other : GuidPrefixOf) → get prefix_cmp visits.new other
-        ≡ visit_with (is_participant other participant.now.guid) (visit_by (visits_spec.place_time seen.entry.times.now.of_datagrams (get guid_cmp seen.entry.joined.now participant.now.guid))
-        (visits_spec.left_time seen.entry.times.now.of_datagrams participant.now.left) (latest_of recording seen.entry.times.now.of_datagrams participant.now.guid.prefix))
-        (get prefix_cmp visits.old other)) }
+    ensures { OnOk result ((recording : List (List ℕ)) → stays.ArePresencesOf recording seen.entry.times.now.of_datagrams seen.entry.presences.now
+        → (other : GuidPrefixOf) → get stays.prefix_cmp visits.new other
+        ≡ visits_spec.visit_with (visits_spec.is_participant other participant.now.guid) (visits_spec.visit_by (visits_spec.place_time seen.entry.times.now.of_datagrams (get guid_order.guid_cmp seen.entry.joined.now participant.now.guid))
+        (visits_spec.left_time seen.entry.times.now.of_datagrams participant.now.left) (stays.latest_of recording seen.entry.times.now.of_datagrams participant.now.guid.prefix))
+        (get stays.prefix_cmp visits.old other)) }
 {
     if participant.guid != participant_of(participant.guid.prefix) {
         return Ok(());
@@ -113,10 +112,10 @@ pub(crate) fn visits_of(
     participants: &[Participant],
     seen: Seen<'_>,
 ) -> Result<BTreeMap<GuidPrefix, Visit>, Memory>
-    ensures { IfOk result (λ visits. (intake : Intake) (recording : List (List ℕ)) (announced : List GuidOf)
-        → ArePresencesOf recording seen.entry.times.now.of_datagrams seen.entry.presences.now → AreJoined (placed_in intake.announcing) seen.entry.joined.now
-        → participants.now ≡ map (participant_told intake recording seen.entry.times.now) announced
-        → AreVisitsIn intake recording seen.entry.times.now.of_datagrams announced visits) }
+    ensures { IfOk result (λ visits. (intake : intake.Intake) (recording : List (List ℕ)) (announced : List GuidOf)
+        → stays.ArePresencesOf recording seen.entry.times.now.of_datagrams seen.entry.presences.now → participants_spec.AreJoined (placed.placed_in intake.announcing) seen.entry.joined.now
+        → participants.now ≡ map (participants_spec.participant_told intake recording seen.entry.times.now) announced
+        → visits_spec.AreVisitsIn intake recording seen.entry.times.now.of_datagrams announced visits) }
 {
     let mut visits = BTreeMap::new(alloc);
     for participant in participants {

@@ -1,8 +1,8 @@
 ghost use Rattle.std.specs.Prelude.{◌≡◌, count_by, map};
-ghost use Rattle.rtps_evidence.specs.Explanation.{explanation_value};
-ghost use Rattle.rtps_report.specs.BestEfforts.{counted_value};
+ghost use Rattle.rtps_evidence.specs.Explanation as explanation;
+ghost use Rattle.rtps_report.specs.BestEfforts as best_efforts;
 ghost use Rattle.rtps_report.specs.Order as order;
-ghost use Rattle.rtps_report.specs.RowFacts.{way_in};
+ghost use Rattle.rtps_report.specs.RowFacts as row_facts;
 ghost use Rattle.rtps_report.specs.Ways as ways;
 
 use crate::best_effort::Counted;
@@ -49,7 +49,7 @@ fn is_way(way: Way, found: Option<Way>) -> bool
 
 /// By how many rows they are this way round.
 fn rows_of_way(rows: &[Explanation<'_>], way: Way) -> u64
-    ensures { result ≡ count_by (λ row. ways.is_way way (way_in row.evidence.in_span)) (map explanation_value rows.now) }
+    ensures { result ≡ count_by (λ row. ways.is_way way (row_facts.way_in row.evidence.in_span)) (map explanation.explanation_value rows.now) }
 {
     let mut count = 0;
     for row in rows {
@@ -62,7 +62,7 @@ fn rows_of_way(rows: &[Explanation<'_>], way: Way) -> u64
 
 /// By how many rows they are which way round.
 pub(crate) fn ways_of_rows(rows: &[Explanation<'_>]) -> Ways
-    ensures { result ≡ order.ways_of_rows (map explanation_value rows.now) }
+    ensures { result ≡ order.ways_of_rows (map explanation.explanation_value rows.now) }
 {
     Ways {
         right: rows_of_way(rows, Way::Right),
@@ -74,7 +74,7 @@ pub(crate) fn ways_of_rows(rows: &[Explanation<'_>]) -> Ways
 
 /// By how many of these pairs of best effort they are this way round.
 fn counted_of_way(counted: &[Counted<'_>], way: Way) -> u64
-    ensures { result ≡ count_by (λ one. ways.is_way way one.arrived.way) (map counted_value counted.now) }
+    ensures { result ≡ count_by (λ one. ways.is_way way one.arrived.way) (map best_efforts.counted_value counted.now) }
 {
     let mut count = 0;
     for one in counted {
@@ -87,7 +87,7 @@ fn counted_of_way(counted: &[Counted<'_>], way: Way) -> u64
 
 /// By how many of these pairs of best effort they are which way round.
 pub(crate) fn ways_of_counted(counted: &[Counted<'_>]) -> Ways
-    ensures { result ≡ ways.ways_of_counted (map counted_value counted.now) }
+    ensures { result ≡ ways.ways_of_counted (map best_efforts.counted_value counted.now) }
 {
     Ways {
         right: counted_of_way(counted, Way::Right),

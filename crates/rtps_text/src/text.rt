@@ -1,7 +1,7 @@
 //! The texts, each over the lines that it is made of.
 
 ghost use Rattle.std.specs.Prelude.{◌≡◌};
-ghost use Rattle.rtps_text.specs.SampleText.{sample as sample_lines};
+ghost use Rattle.rtps_text.specs.SampleText as sample_text;
 
 pub(crate) mod audit_text;
 mod item_lines;
@@ -15,7 +15,7 @@ pub(crate) mod why_text;
 /// acknowledgement of all of them. The audit of it finds the pair complete.
 #[tactic(auto, unfolding(crate::specs::SampleText::sample))]
 pub fn sample_text() -> &'static str
-    ensures { result.now ≡ sample_lines }
+    ensures { result.now ≡ sample_text.sample }
 {
     "\
     5254505302050000aaaaaaaaaaaaaaaaaaaaaaaa150400300000001000000000000100c200000000000000010002000000500010aaaaaaaaaaaaaaaaaaaaaaaa000001c100010000150400500000001000000000000003c2000000000000000100020000005a0010aaaaaaaaaaaaaaaaaaaaaaaa000001030005000c00000005706f7365000000000007000c00000005506f73650000000000010000\n\

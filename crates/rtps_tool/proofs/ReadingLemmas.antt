@@ -5,17 +5,16 @@ use Rattle.std.proofs.Math.Seq.{take-append-add}
 use Rattle.std.proofs.KnownBytes.{Consumes-trans}
 use Rattle.std.specs.Io.KnownBytes.{Consumes, IsAtEnd}
 use borrow.Rule.Slice.PartMut.{put_mid, post_of}
-use Rattle.rtps_report.specs.Recording.{RecordingValue}
-use Rattle.rtps_tool.specs.Outcomes.{IsFaultOf}
-use Rattle.rtps_tool.specs.Forms.{begins_capture, recording_within}
-use Rattle.rtps_tool.specs.Lines.{lines_of}
-use Rattle.rtps_tool.specs.RecordingText.{recording_of_lines, unframed, without_frames}
-use Rattle.rtps_tool.specs.RunFaults.{run_fault_of}
-use Rattle.rtps_tool.specs.Runs.{Reads, ReadsRecording, FailsReading}
-use Rattle.rtps_tool.specs.Unfinished.{ReadsOn, recording_behind}
+use Rattle.rtps_report.specs.Recording as recording
+use Rattle.rtps_tool.specs.Outcomes as outcomes
+use Rattle.rtps_tool.specs.Forms as forms
+use Rattle.rtps_tool.specs.Lines as lines
+use Rattle.rtps_tool.specs.RecordingText as recording_text
+use Rattle.rtps_tool.specs.RunFaults as run_faults
+use Rattle.rtps_tool.specs.Runs as runs
+use Rattle.rtps_tool.specs.Unfinished as unfinished
 use Rattle.rtps_capture.specs.declared.captures.Captures.{Captures}
 use Rattle.rtps_tool.specs.declared.faults.RecFault.{RecFault}
-use Rattle.rtps_tool.specs.declared.faults.RecFault.TheVariants.{BadHex, TooLong, TooMany, Memory, BadCapture, CutCapture, Damaged}
 use Rattle.rtps_tool.specs.declared.runs.Limits.{Limits}
 use Rattle.rtps_tool.proofs.UnfinishedLemmas.{begins_capture-append, recording_behind-start, recording_of-text, recording_of-past}
 use Rattle.rtps_tool.proofs.RecordingLemmas.{IsFaultOf-without_frames}
@@ -26,13 +25,13 @@ pub record HasRead (limits : Limits) (captures : Captures) (old new : Option (Li
   pub taken : Consumes old new text
   pub size : length text ≡ total
   pub begun : 4 ≤ length text
-  pub plain : begins_capture captures text ≡ false
-  pub stands : (later : List ℕ) → told later ≡ recording_of_lines limits.datagrams 1 0 (lines_of (text ++ later))
+  pub plain : forms.begins_capture captures text ≡ false
+  pub stands : (later : List ℕ) → told later ≡ recording_text.recording_of_lines limits.datagrams 1 0 (lines.lines_of (text ++ later))
 
 -- no line was read yet
 pub HasRead-start : (limits : Limits) (captures : Captures) (a b : Option (List ℕ)) (done : List (List ℕ)) (lines start : ℕ) (held : List ℕ) → done ≡ [] → lines ≡ 0
-    → Consumes a b (take start held) → start ≤ length held → 4 ≤ start → begins_capture captures (take start held) ≡ false
-    → HasRead limits captures a b start (λ later. recording_behind limits.datagrams done lines (take start held ++ later))
+    → Consumes a b (take start held) → start ≤ length held → 4 ≤ start → forms.begins_capture captures (take start held) ≡ false
+    → HasRead limits captures a b start (λ later. unfinished.recording_behind limits.datagrams done lines (take start held ++ later))
 HasRead-start limits captures a b done lines start held none first taken within begun plain = record {
   text = take start held;
   taken = taken;
@@ -52,7 +51,7 @@ HasRead-more limits captures a b c total got told now piece h taken size same = 
   begun = omega (arith, length-append h.text piece, h.begun);
   plain = begins_capture-append captures h.text piece h.begun ∙ h.plain;
   stands = λ later. same later ∙ h.stands (piece ++ later)
-      ∙ ap (λ (text : List ℕ). recording_of_lines limits.datagrams 1 0 (lines_of text)) (sym (append_assoc h.text piece later));
+      ∙ ap (λ (text : List ℕ). recording_text.recording_of_lines limits.datagrams 1 0 (lines.lines_of text)) (sym (append_assoc h.text piece later));
 }
 
 -- the same text is told of in another way
@@ -75,87 +74,87 @@ take_front kept k held buf within =
     take-append-le kept (take kept held) (buf ++ post_of kept k held) (omega (arith, length-take-le kept held within)) ∙ take-take kept kept held (omega arith)
 
 pub HasRead-read : (limits : Limits) (captures : Captures) (a b c : Option (List ℕ)) (total kept got k lines : ℕ) (done : List (List ℕ)) (held buf : List ℕ)
-    → HasRead limits captures a b total (λ later. recording_behind limits.datagrams done lines (take kept held ++ later)) → Consumes b c (take got buf) → length (take got buf) ≡ got
+    → HasRead limits captures a b total (λ later. unfinished.recording_behind limits.datagrams done lines (take kept held ++ later)) → Consumes b c (take got buf) → length (take got buf) ≡ got
     → kept ≤ length held → got ≤ length buf
-    → HasRead limits captures a c (total + got) (λ later. recording_behind limits.datagrams done lines (take (kept + got) (put_mid kept k held buf) ++ later))
+    → HasRead limits captures a c (total + got) (λ later. unfinished.recording_behind limits.datagrams done lines (take (kept + got) (put_mid kept k held buf) ++ later))
 HasRead-read limits captures a b c total kept got k lines done held buf h taken size within some =
-    HasRead-more limits captures a b c total got (λ later. recording_behind limits.datagrams done lines (take kept held ++ later))
-    (λ later. recording_behind limits.datagrams done lines (take (kept + got) (put_mid kept k held buf) ++ later)) (take got buf) h taken size
-    (λ later. ap (recording_behind limits.datagrams done lines)
+    HasRead-more limits captures a b c total got (λ later. unfinished.recording_behind limits.datagrams done lines (take kept held ++ later))
+    (λ later. unfinished.recording_behind limits.datagrams done lines (take (kept + got) (put_mid kept k held buf) ++ later)) (take got buf) h taken size
+    (λ later. ap (unfinished.recording_behind limits.datagrams done lines)
     (ap (λ (text : List ℕ). text ++ later) (take_both kept got k held buf within some) ∙ append_assoc (take kept held) (take got buf) later))
 
 -- no octet more was read
 pub HasRead-last : (limits : Limits) (captures : Captures) (a b c : Option (List ℕ)) (total kept got k lines : ℕ) (done : List (List ℕ)) (held buf : List ℕ)
-    → HasRead limits captures a b total (λ later. recording_behind limits.datagrams done lines (take kept held ++ later)) → Consumes b c (take got buf) → length (take got buf) ≡ got
+    → HasRead limits captures a b total (λ later. unfinished.recording_behind limits.datagrams done lines (take kept held ++ later)) → Consumes b c (take got buf) → length (take got buf) ≡ got
     → kept ≤ length held → got ≤ length buf → got ≡ 0
-    → HasRead limits captures a c total (λ later. recording_behind limits.datagrams done lines (take kept (put_mid kept k held buf) ++ later))
+    → HasRead limits captures a c total (λ later. unfinished.recording_behind limits.datagrams done lines (take kept (put_mid kept k held buf) ++ later))
 HasRead-last limits captures a b c total kept got k lines done held buf h taken size within some none =
     let grown = HasRead-read limits captures a b c total kept got k lines done held buf h taken size within some in
     let same : total + got ≡ total = omega arith in
     let front : kept + got ≡ kept = omega arith in
-    let told : ℕ → List ℕ → Result (List (List ℕ)) RecFault = λ n later. recording_behind limits.datagrams done lines (take n (put_mid kept k held buf) ++ later) in
+    let told : ℕ → List ℕ → Result (List (List ℕ)) RecFault = λ n later. unfinished.recording_behind limits.datagrams done lines (take n (put_mid kept k held buf) ++ later) in
     subst (λ (n : ℕ). HasRead limits captures a c total (told n)) front (subst (λ (n : ℕ). HasRead limits captures a c n (told (kept + got))) same grown)
 
 -- the whole text was read, and is not too long
 recording_of-read : (limits : Limits) (captures : Captures) (a b : Option (List ℕ)) (total : ℕ) (told : List ℕ → Result (List (List ℕ)) RecFault) (h : HasRead limits captures a b total told) → total ≤ limits.octets
-    → without_frames (told []) ≡ recording_within limits captures h.text
+    → recording_text.without_frames (told []) ≡ forms.recording_within limits captures h.text
 recording_of-read limits captures a b total told h within =
-    ap without_frames (h.stands [] ∙ ap (λ (text : List ℕ). recording_of_lines limits.datagrams 1 0 (lines_of text)) (append-nil h.text))
+    ap recording_text.without_frames (h.stands [] ∙ ap (λ (text : List ℕ). recording_text.recording_of_lines limits.datagrams 1 0 (lines.lines_of text)) (append-nil h.text))
     ∙ sym (recording_of-text limits captures h.text (omega (arith, h.size)) h.plain)
 
 pub ReadsRecording-read : (limits : Limits) (captures : Captures) (a b : Option (List ℕ)) (total : ℕ) (told : List ℕ → Result (List (List ℕ)) RecFault) (datagrams : List (List ℕ))
-    → HasRead limits captures a b total told → IsAtEnd b → total ≤ limits.octets → told [] ≡ Ok datagrams → ReadsRecording limits captures a b (unframed datagrams)
+    → HasRead limits captures a b total told → IsAtEnd b → total ≤ limits.octets → told [] ≡ Ok datagrams → runs.ReadsRecording limits captures a b (recording_text.unframed datagrams)
 ReadsRecording-read limits captures a b total told datagrams h end within fine = record {
   text = h.text;
   taken = h.taken;
   whole = end;
-  is_read = sym (recording_of-read limits captures a b total told h within) ∙ ap without_frames fine;
+  is_read = sym (recording_of-read limits captures a b total told h within) ∙ ap recording_text.without_frames fine;
 }
 
 pub ReadsRecording-last : (limits : Limits) (captures : Captures) (a b : Option (List ℕ)) (total lines : ℕ) (done : List (List ℕ)) (left : List ℕ) (datagrams : List (List ℕ))
-    → HasRead limits captures a b total (λ later. recording_behind limits.datagrams done lines (left ++ later)) → IsAtEnd b → total ≤ limits.octets → recording_behind limits.datagrams done lines left ≡ Ok datagrams
-    → ReadsRecording limits captures a b (unframed datagrams)
+    → HasRead limits captures a b total (λ later. unfinished.recording_behind limits.datagrams done lines (left ++ later)) → IsAtEnd b → total ≤ limits.octets → unfinished.recording_behind limits.datagrams done lines left ≡ Ok datagrams
+    → runs.ReadsRecording limits captures a b (recording_text.unframed datagrams)
 ReadsRecording-last limits captures a b total lines done left datagrams h end within fine =
-    ReadsRecording-read limits captures a b total (λ later. recording_behind limits.datagrams done lines (left ++ later)) datagrams h end within (ap (recording_behind limits.datagrams done lines) (append-nil left) ∙ fine)
+    ReadsRecording-read limits captures a b total (λ later. unfinished.recording_behind limits.datagrams done lines (left ++ later)) datagrams h end within (ap (unfinished.recording_behind limits.datagrams done lines) (append-nil left) ∙ fine)
 
 -- what was read has this fault
-pub FailsReading-text : (limits : Limits) (captures : Captures) (a b : Option (List ℕ)) (text : List ℕ) (fault : RecFault) → Reads limits a b text → IsFaultOf (recording_within limits captures text) fault → FailsReading limits captures a b (run_fault_of fault)
-FailsReading-text limits captures a b text (BadHex line) reads faulty = record { text = text; reads = reads; faulty = faulty; readable = λ same. cc }
-FailsReading-text limits captures a b text (TooLong line) reads faulty = record { text = text; reads = reads; faulty = faulty; readable = λ same. cc }
-FailsReading-text limits captures a b text TooMany reads faulty = record { text = text; reads = reads; faulty = faulty; readable = λ same. cc }
-FailsReading-text limits captures a b text Memory reads faulty = tt
-FailsReading-text limits captures a b text BadCapture reads faulty = record { text = text; reads = reads; faulty = faulty; readable = λ same. cc }
-FailsReading-text limits captures a b text (CutCapture frame) reads faulty = record { text = text; reads = reads; faulty = faulty; readable = λ same. cc }
-FailsReading-text limits captures a b text (Damaged frame) reads faulty = record { text = text; reads = reads; faulty = faulty; readable = λ same. cc }
+pub FailsReading-text : (limits : Limits) (captures : Captures) (a b : Option (List ℕ)) (text : List ℕ) (fault : RecFault) → runs.Reads limits a b text → outcomes.IsFaultOf (forms.recording_within limits captures text) fault → runs.FailsReading limits captures a b (run_faults.run_fault_of fault)
+FailsReading-text limits captures a b text (RecFault.BadHex line) reads faulty = record { text = text; reads = reads; faulty = faulty; readable = λ same. cc }
+FailsReading-text limits captures a b text (RecFault.TooLong line) reads faulty = record { text = text; reads = reads; faulty = faulty; readable = λ same. cc }
+FailsReading-text limits captures a b text RecFault.TooMany reads faulty = record { text = text; reads = reads; faulty = faulty; readable = λ same. cc }
+FailsReading-text limits captures a b text RecFault.Memory reads faulty = tt
+FailsReading-text limits captures a b text RecFault.BadCapture reads faulty = record { text = text; reads = reads; faulty = faulty; readable = λ same. cc }
+FailsReading-text limits captures a b text (RecFault.CutCapture frame) reads faulty = record { text = text; reads = reads; faulty = faulty; readable = λ same. cc }
+FailsReading-text limits captures a b text (RecFault.Damaged frame) reads faulty = record { text = text; reads = reads; faulty = faulty; readable = λ same. cc }
 
 pub FailsReading-end : (limits : Limits) (captures : Captures) (a b : Option (List ℕ)) (total : ℕ) (told : List ℕ → Result (List (List ℕ)) RecFault) (fault : RecFault)
-    → HasRead limits captures a b total told → IsAtEnd b → total ≤ limits.octets → IsFaultOf (told []) fault → FailsReading limits captures a b (run_fault_of fault)
+    → HasRead limits captures a b total told → IsAtEnd b → total ≤ limits.octets → outcomes.IsFaultOf (told []) fault → runs.FailsReading limits captures a b (run_faults.run_fault_of fault)
 FailsReading-end limits captures a b total told fault h end within faulty =
     FailsReading-text limits captures a b h.text fault record { taken = h.taken; whole = λ _. end }
-    (subst (λ (all : Result RecordingValue RecFault). IsFaultOf all fault) (recording_of-read limits captures a b total told h within) (IsFaultOf-without_frames (told []) fault faulty))
+    (subst (λ (all : Result recording.RecordingValue RecFault). outcomes.IsFaultOf all fault) (recording_of-read limits captures a b total told h within) (IsFaultOf-without_frames (told []) fault faulty))
 
 pub FailsReading-last : (limits : Limits) (captures : Captures) (a b : Option (List ℕ)) (total lines : ℕ) (done : List (List ℕ)) (left : List ℕ) (fault : RecFault)
-    → HasRead limits captures a b total (λ later. recording_behind limits.datagrams done lines (left ++ later)) → IsAtEnd b → total ≤ limits.octets → IsFaultOf (recording_behind limits.datagrams done lines left) fault
-    → FailsReading limits captures a b (run_fault_of fault)
+    → HasRead limits captures a b total (λ later. unfinished.recording_behind limits.datagrams done lines (left ++ later)) → IsAtEnd b → total ≤ limits.octets → outcomes.IsFaultOf (unfinished.recording_behind limits.datagrams done lines left) fault
+    → runs.FailsReading limits captures a b (run_faults.run_fault_of fault)
 FailsReading-last limits captures a b total lines done left fault h end within faulty =
-    FailsReading-end limits captures a b total (λ later. recording_behind limits.datagrams done lines (left ++ later)) fault h end within
-    (subst (λ (text : List ℕ). IsFaultOf (recording_behind limits.datagrams done lines text) fault) (sym (append-nil left)) faulty)
+    FailsReading-end limits captures a b total (λ later. unfinished.recording_behind limits.datagrams done lines (left ++ later)) fault h end within
+    (subst (λ (text : List ℕ). outcomes.IsFaultOf (unfinished.recording_behind limits.datagrams done lines text) fault) (sym (append-nil left)) faulty)
 
 -- after a fault of a line reading went on
 pub FailsReading-on-past : (limits : Limits) (captures : Captures) (a b c : Option (List ℕ)) (total to : ℕ) (told : List ℕ → Result (List (List ℕ)) RecFault)
-    → HasRead limits captures a b total told → ReadsOn limits.octets b c total to → limits.octets < to → FailsReading limits captures a c (run_fault_of TooMany)
+    → HasRead limits captures a b total told → unfinished.ReadsOn limits.octets b c total to → limits.octets < to → runs.FailsReading limits captures a c (run_faults.run_fault_of RecFault.TooMany)
 FailsReading-on-past limits captures a b c total to told h more past =
     let text = h.text ++ more.text in
     let size : length text ≡ to = omega (arith, length-append h.text more.text, h.size, more.size) in
-    FailsReading-text limits captures a c text TooMany record { taken = Consumes-trans a b c h.text more.text h.taken more.taken; whole = λ few. absurd (omega arith) }
+    FailsReading-text limits captures a c text RecFault.TooMany record { taken = Consumes-trans a b c h.text more.text h.taken more.taken; whole = λ few. absurd (omega arith) }
     (recording_of-past limits captures text (omega arith))
 
 pub FailsReading-on : (limits : Limits) (captures : Captures) (a b c : Option (List ℕ)) (total to : ℕ) (told : List ℕ → Result (List (List ℕ)) RecFault) (fault : RecFault)
-    → HasRead limits captures a b total told → ReadsOn limits.octets b c total to → to ≤ limits.octets → ((later : List ℕ) → IsFaultOf (told later) fault) → FailsReading limits captures a c (run_fault_of fault)
+    → HasRead limits captures a b total told → unfinished.ReadsOn limits.octets b c total to → to ≤ limits.octets → ((later : List ℕ) → outcomes.IsFaultOf (told later) fault) → runs.FailsReading limits captures a c (run_faults.run_fault_of fault)
 FailsReading-on limits captures a b c total to told fault h more within faulty =
     let text = h.text ++ more.text in
     let size : length text ≡ to = omega (arith, length-append h.text more.text, h.size, more.size) in
     FailsReading-text limits captures a c text fault record { taken = Consumes-trans a b c h.text more.text h.taken more.taken; whole = λ _. more.whole within }
-    (subst (λ (all : Result RecordingValue RecFault). IsFaultOf all fault)
-    (ap without_frames (h.stands more.text) ∙ sym (recording_of-text limits captures text (omega arith) (begins_capture-append captures h.text more.text h.begun ∙ h.plain)))
+    (subst (λ (all : Result recording.RecordingValue RecFault). outcomes.IsFaultOf all fault)
+    (ap recording_text.without_frames (h.stands more.text) ∙ sym (recording_of-text limits captures text (omega arith) (begins_capture-append captures h.text more.text h.begun ∙ h.plain)))
     (IsFaultOf-without_frames (told more.text) fault (faulty more.text)))

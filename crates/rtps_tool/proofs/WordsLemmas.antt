@@ -6,8 +6,8 @@ use Rattle.clap.specs.Words.{HasKind, IsAmong, Kinds, kind_of}
 use Rattle.clap.specs.declared.error.Error.{Error}
 use Rattle.clap.specs.declared.error.kind.ErrorKind.{ErrorKind}
 use Rattle.clap.specs.declared.error.kind.ErrorKind.TheVariants.{InvalidValue, UnknownArgument, InvalidSubcommand, NoEquals, ValueValidation, TooManyValues, TooFewValues, WrongNumberOfValues, ArgumentConflict, MissingRequiredArgument, MissingSubcommand, DisplayHelp, DisplayHelpOnMissingArgumentOrSubcommand, DisplayVersion, Io, Format, OutOfMemory}
-use Rattle.rtps_tool.specs.Words.{IsOneOf, word_fault_by, word_fault_of}
-use Rattle.rtps_tool.specs.declared.command.WordFault.TheVariants.{BothInput}
+use Rattle.rtps_tool.specs.Words as words
+use Rattle.rtps_tool.specs.declared.command.WordFault.{WordFault}
 
 -- a view of a value or its default
 pub unwrap_or-view : {A X : Type 0} (view : A → X) (found : Option A) (default : A) → view (unwrap_or found default) ≡ unwrap_or (option_map view found) (view default)
@@ -15,7 +15,7 @@ unwrap_or-view view None default = refl
 unwrap_or-view view (Some a) default = refl
 
 -- a fault of one of these kinds is one of them as a fault of words
-by_kind : (kinds : Kinds) (error : Error) (kind : ErrorKind) → kind_of error ≡ kind → (kind ≡ OutOfMemory) ⊎ IsAmong kind kinds → IsOneOf kinds (word_fault_by kind error)
+by_kind : (kinds : Kinds) (error : Error) (kind : ErrorKind) → kind_of error ≡ kind → (kind ≡ OutOfMemory) ⊎ IsAmong kind kinds → words.IsOneOf kinds (words.word_fault_by kind error)
 by_kind kinds error OutOfMemory is has = tt
 by_kind kinds error DisplayHelp is has = elim has [ inl other ↦ absurd cc | inr among ↦ among ]
 by_kind kinds error InvalidValue is has = elim has [ inl other ↦ absurd cc | inr among ↦ rw is among ]
@@ -34,7 +34,7 @@ by_kind kinds error DisplayVersion is has = elim has [ inl other ↦ absurd cc |
 by_kind kinds error Io is has = elim has [ inl other ↦ absurd cc | inr among ↦ rw is among ]
 by_kind kinds error Format is has = elim has [ inl other ↦ absurd cc | inr among ↦ rw is among ]
 
-pub one_of : (kinds : Kinds) (error : Error) → HasKind kinds error → IsOneOf kinds (word_fault_of error)
+pub one_of : (kinds : Kinds) (error : Error) → HasKind kinds error → words.IsOneOf kinds (words.word_fault_of error)
 one_of kinds error has = by_kind kinds error (kind_of error) refl has
 
 -- what holds is so of any result that is none
@@ -43,7 +43,7 @@ on_ok (Ok x) P holds = holds
 on_ok (Err y) P holds = tt
 
 -- no error of `clap` says that both recordings are standard input
-pub by_clap : (kind : ErrorKind) (error : Error) → word_fault_by kind error ≡ BothInput → ⊥
+pub by_clap : (kind : ErrorKind) (error : Error) → words.word_fault_by kind error ≡ WordFault.BothInput → ⊥
 by_clap InvalidValue error is = absurd cc
 by_clap UnknownArgument error is = absurd cc
 by_clap InvalidSubcommand error is = absurd cc

@@ -15,20 +15,15 @@ use Rattle.clap.specs.declared.error.kind.ErrorKind.{ErrorKind}
 use Rattle.clap.specs.declared.error.kind.ErrorKind.TheVariants.{DisplayHelp, DisplayVersion, MissingRequiredArgument, MissingSubcommand, OutOfMemory, UnknownArgument, ValueValidation}
 use Rattle.std.specs.String.{string_bytes}
 use Rattle.rtps_fragments.specs.declared.fragments.Fragments.{Fragments}
-use Rattle.rtps_report.specs.Asked.{are_read}
+use Rattle.rtps_report.specs.Asked as asked
 use Rattle.rtps_report.specs.declared.audited.AskedAudit.{AskedAudit}
-use Rattle.rtps_tool.specs.Limits.{usual}
+use Rattle.rtps_tool.specs.Limits as limits_spec
 use Rattle.rtps_capture.specs.declared.captures.Captures.{Captures}
-use Rattle.rtps_capture.specs.declared.captures.Captures.TheVariants.{Classic, Any}
 use Rattle.rtps_tool.specs.declared.command.Choice.{Choice}
 use Rattle.rtps_tool.specs.declared.command.AuditForm.{AuditForm}
-use Rattle.rtps_tool.specs.declared.command.AuditForm.TheVariants.{Lines, Json}
-use Rattle.rtps_tool.specs.declared.command.Choice.TheVariants.{Report, Show, List as ListChoice, Audit, Sample}
 use Rattle.rtps_tool.specs.declared.command.WordFault.{WordFault}
-use Rattle.rtps_tool.specs.declared.command.WordFault.TheVariants.{Refused, Help, Version, BothInput, Memory}
 use Rattle.rtps_tool.specs.declared.demands.Demands.{Demands}
 use Rattle.rtps_tool.specs.declared.runs.Form.{Form}
-use Rattle.rtps_tool.specs.declared.runs.Form.TheVariants.{Check, CheckJson, Why, Page}
 use Rattle.rtps_tool.specs.declared.runs.Limits.{Limits}
 
 -- a file's name, or `-` for standard input, must be given
@@ -117,26 +112,26 @@ program =
 
 -- the subcommand of a form of the report
 abbrev pub form_name : Form → Text
-form_name Check = codes "check"
-form_name CheckJson = codes "check"
-form_name Why = codes "why"
-form_name Page = codes "page"
+form_name Form.Check = codes "check"
+form_name Form.CheckJson = codes "check"
+form_name Form.Why = codes "why"
+form_name Form.Page = codes "page"
 
 -- the subcommand that was chosen
 abbrev pub subcommand_name : Choice → Text
-subcommand_name (Report file arrived limits form demands) = form_name form
-subcommand_name (Show file limits captures fragments) = codes "show"
-subcommand_name (ListChoice file limits captures fragments) = codes "list"
-subcommand_name (Audit file limits captures form asked) = codes "audit"
-subcommand_name Sample = codes "sample"
+subcommand_name (Choice.Report file arrived limits form demands) = form_name form
+subcommand_name (Choice.Show file limits captures fragments) = codes "show"
+subcommand_name (Choice.List file limits captures fragments) = codes "list"
+subcommand_name (Choice.Audit file limits captures form asked) = codes "audit"
+subcommand_name Choice.Sample = codes "sample"
 
 -- the file that was chosen; `sample` has none
 abbrev pub file_name : Choice → Option Text
-file_name (Report file arrived limits form demands) = Some (string_bytes file)
-file_name (Show file limits captures fragments) = Some (string_bytes file)
-file_name (ListChoice file limits captures fragments) = Some (string_bytes file)
-file_name (Audit file limits captures form asked) = Some (string_bytes file)
-file_name Sample = None
+file_name (Choice.Report file arrived limits form demands) = Some (string_bytes file)
+file_name (Choice.Show file limits captures fragments) = Some (string_bytes file)
+file_name (Choice.List file limits captures fragments) = Some (string_bytes file)
+file_name (Choice.Audit file limits captures form asked) = Some (string_bytes file)
+file_name Choice.Sample = None
 
 -- its FILE is the one that was given, and empty where none was
 abbrev pub HasItsFile : Choice → List Row → Type 0
@@ -144,19 +139,19 @@ HasItsFile choice rows = IfSome (file_name choice) (λ name. name ≡ unwrap_or 
 
 -- the other recording that was chosen; only a report has one
 abbrev pub arrived_name : Choice → Option Text
-arrived_name (Report file arrived limits form demands) = option_map string_bytes arrived
-arrived_name (Show file limits captures fragments) = None
-arrived_name (ListChoice file limits captures fragments) = None
-arrived_name (Audit file limits captures form asked) = None
-arrived_name Sample = None
+arrived_name (Choice.Report file arrived limits form demands) = option_map string_bytes arrived
+arrived_name (Choice.Show file limits captures fragments) = None
+arrived_name (Choice.List file limits captures fragments) = None
+arrived_name (Choice.Audit file limits captures form asked) = None
+arrived_name Choice.Sample = None
 
 -- its other recording is the one that was given, and none where none was
 abbrev pub HasItsOther : Choice → List Row → Type 0
-HasItsOther (Report file arrived limits form demands) rows = option_map string_bytes arrived ≡ first_of (codes "OTHER") rows
-HasItsOther (Show file limits captures fragments) rows = Unit {0}
-HasItsOther (ListChoice file limits captures fragments) rows = Unit {0}
-HasItsOther (Audit file limits captures form asked) rows = Unit {0}
-HasItsOther Sample rows = Unit {0}
+HasItsOther (Choice.Report file arrived limits form demands) rows = option_map string_bytes arrived ≡ first_of (codes "OTHER") rows
+HasItsOther (Choice.Show file limits captures fragments) rows = Unit {0}
+HasItsOther (Choice.List file limits captures fragments) rows = Unit {0}
+HasItsOther (Choice.Audit file limits captures form asked) rows = Unit {0}
+HasItsOther Choice.Sample rows = Unit {0}
 
 -- FILE and the other recording are both standard input
 abbrev pub IsReadTwice : Choice → Type 0
@@ -180,36 +175,36 @@ IsFlagGiven (Some text) given = (text ≡ codes "true" → given ≡ true) × (t
 
 -- the form of an audit that is asked for by the flag
 abbrev pub is_json : AuditForm → Bool
-is_json Lines = false
-is_json Json = true
+is_json AuditForm.Lines = false
+is_json AuditForm.Json = true
 
 -- the form of a report that is asked for by the flag; only `check` has it
 abbrev pub IsFormGiven : List Row → Form → Type 0
-IsFormGiven rows Check = IsFlagGiven (one_of (codes "json") rows) false
-IsFormGiven rows CheckJson = IsFlagGiven (one_of (codes "json") rows) true
-IsFormGiven rows Why = Unit {0}
-IsFormGiven rows Page = Unit {0}
+IsFormGiven rows Form.Check = IsFlagGiven (one_of (codes "json") rows) false
+IsFormGiven rows Form.CheckJson = IsFlagGiven (one_of (codes "json") rows) true
+IsFormGiven rows Form.Why = Unit {0}
+IsFormGiven rows Form.Page = Unit {0}
 
 -- the captures that are asked for by the flag
 abbrev pub is_any : Captures → Bool
-is_any Classic = false
-is_any Any = true
+is_any Captures.Classic = false
+is_any Captures.Any = true
 
 -- its form is the one that was asked for; only a report and `audit` have one
 abbrev pub HasItsFlag : Choice → List Row → Type 0
-HasItsFlag (Report file arrived limits form demands) rows = IsFormGiven rows form
-HasItsFlag (Show file limits captures fragments) rows = Unit {0}
-HasItsFlag (ListChoice file limits captures fragments) rows = Unit {0}
-HasItsFlag (Audit file limits captures form asked) rows = IsFlagGiven (one_of (codes "json") rows) (is_json form)
-HasItsFlag Sample rows = Unit {0}
+HasItsFlag (Choice.Report file arrived limits form demands) rows = IsFormGiven rows form
+HasItsFlag (Choice.Show file limits captures fragments) rows = Unit {0}
+HasItsFlag (Choice.List file limits captures fragments) rows = Unit {0}
+HasItsFlag (Choice.Audit file limits captures form asked) rows = IsFlagGiven (one_of (codes "json") rows) (is_json form)
+HasItsFlag Choice.Sample rows = Unit {0}
 
 -- it reads the captures that were asked for; a report reads any
 abbrev pub HasItsCaptures : Choice → List Row → Type 0
-HasItsCaptures (Report file arrived limits form demands) rows = Unit {0}
-HasItsCaptures (Show file limits captures fragments) rows = IsFlagGiven (one_of (codes "any") rows) (is_any captures)
-HasItsCaptures (ListChoice file limits captures fragments) rows = IsFlagGiven (one_of (codes "any") rows) (is_any captures)
-HasItsCaptures (Audit file limits captures form asked) rows = IsFlagGiven (one_of (codes "any") rows) (is_any captures)
-HasItsCaptures Sample rows = Unit {0}
+HasItsCaptures (Choice.Report file arrived limits form demands) rows = Unit {0}
+HasItsCaptures (Choice.Show file limits captures fragments) rows = IsFlagGiven (one_of (codes "any") rows) (is_any captures)
+HasItsCaptures (Choice.List file limits captures fragments) rows = IsFlagGiven (one_of (codes "any") rows) (is_any captures)
+HasItsCaptures (Choice.Audit file limits captures form asked) rows = IsFlagGiven (one_of (codes "any") rows) (is_any captures)
+HasItsCaptures Choice.Sample rows = Unit {0}
 
 -- the number of rows that was given, and none where none was. `clap` takes no text that is none from 0 to 2^63 - 1; such a text
 -- would be as none.
@@ -233,7 +228,7 @@ pub record AreDemandsGiven (rows : List Row) (demands : Demands) : Type 0 where
 
 -- fragments are read where that was asked for
 abbrev pub AreFragmentsGiven : List Row → Fragments → Type 0
-AreFragmentsGiven rows fragments = IsFlagGiven (one_of (codes "fragments") rows) (are_read fragments)
+AreFragmentsGiven rows fragments = IsFlagGiven (one_of (codes "fragments") rows) (asked.are_read fragments)
 
 -- what was given that is asked of an audit
 pub record IsAuditGiven (rows : List Row) (asked : AskedAudit) : Type 0 where
@@ -242,24 +237,24 @@ pub record IsAuditGiven (rows : List Row) (asked : AskedAudit) : Type 0 where
 
 -- it asks what was given
 abbrev pub HasItsDemands : Choice → List Row → Type 0
-HasItsDemands (Report file arrived limits form demands) rows = AreDemandsGiven rows demands
-HasItsDemands (Show file limits captures fragments) rows = AreFragmentsGiven rows fragments
-HasItsDemands (ListChoice file limits captures fragments) rows = AreFragmentsGiven rows fragments
-HasItsDemands (Audit file limits captures form asked) rows = IsAuditGiven rows asked
-HasItsDemands Sample rows = Unit {0}
+HasItsDemands (Choice.Report file arrived limits form demands) rows = AreDemandsGiven rows demands
+HasItsDemands (Choice.Show file limits captures fragments) rows = AreFragmentsGiven rows fragments
+HasItsDemands (Choice.List file limits captures fragments) rows = AreFragmentsGiven rows fragments
+HasItsDemands (Choice.Audit file limits captures form asked) rows = IsAuditGiven rows asked
+HasItsDemands Choice.Sample rows = Unit {0}
 
 -- the limits are those that were given, each the usual one where it was not
 pub record AreLimitsGiven (rows : List Row) (limits : Limits) : Type 0 where
-  pub datagrams : IsGivenOr usual.datagrams (first_of (codes "DATAGRAMS") rows) limits.datagrams
-  pub octets : IsGivenOr usual.octets (first_of (codes "OCTETS") rows) limits.octets
+  pub datagrams : IsGivenOr limits_spec.usual.datagrams (first_of (codes "DATAGRAMS") rows) limits.datagrams
+  pub octets : IsGivenOr limits_spec.usual.octets (first_of (codes "OCTETS") rows) limits.octets
 
 -- its limits are those that were given
 abbrev pub HasItsLimits : Choice → List Row → Type 0
-HasItsLimits (Report file arrived limits form demands) rows = AreLimitsGiven rows limits
-HasItsLimits (Show file limits captures fragments) rows = AreLimitsGiven rows limits
-HasItsLimits (ListChoice file limits captures fragments) rows = AreLimitsGiven rows limits
-HasItsLimits (Audit file limits captures form asked) rows = AreLimitsGiven rows limits
-HasItsLimits Sample rows = Unit {0}
+HasItsLimits (Choice.Report file arrived limits form demands) rows = AreLimitsGiven rows limits
+HasItsLimits (Choice.Show file limits captures fragments) rows = AreLimitsGiven rows limits
+HasItsLimits (Choice.List file limits captures fragments) rows = AreLimitsGiven rows limits
+HasItsLimits (Choice.Audit file limits captures form asked) rows = AreLimitsGiven rows limits
+HasItsLimits Choice.Sample rows = Unit {0}
 
 -- the choice has the name of the subcommand that was found, its FILE, its other recording, its flag, its limits, its captures, and what it
 -- asks
@@ -269,10 +264,10 @@ IsChoice found choice =
 
 -- help and the version are answers, want of memory has no text, and any other error of `clap` refuses the words
 abbrev pub word_fault_by : ErrorKind → Error → WordFault
-word_fault_by OutOfMemory error = Memory
-word_fault_by DisplayHelp error = Help error
-word_fault_by DisplayVersion error = Version error
-word_fault_by kind error = Refused error
+word_fault_by OutOfMemory error = WordFault.Memory
+word_fault_by DisplayHelp error = WordFault.Help error
+word_fault_by DisplayVersion error = WordFault.Version error
+word_fault_by kind error = WordFault.Refused error
 
 -- why the words are refused, or that they ask for help
 abbrev pub word_fault_of : Error → WordFault
@@ -280,19 +275,19 @@ word_fault_of error = word_fault_by (kind_of error) error
 
 -- help is an answer of its own, and so are the version and want of memory
 abbrev pub HasItsKind : WordFault → Type 0
-HasItsKind (Refused error) = (kind_of error ≢ DisplayHelp) × (kind_of error ≢ DisplayVersion) × (kind_of error ≢ OutOfMemory)
-HasItsKind (Help error) = kind_of error ≡ DisplayHelp
-HasItsKind (Version error) = kind_of error ≡ DisplayVersion
-HasItsKind BothInput = Unit {0}
-HasItsKind Memory = Unit {0}
+HasItsKind (WordFault.Refused error) = (kind_of error ≢ DisplayHelp) × (kind_of error ≢ DisplayVersion) × (kind_of error ≢ OutOfMemory)
+HasItsKind (WordFault.Help error) = kind_of error ≡ DisplayHelp
+HasItsKind (WordFault.Version error) = kind_of error ≡ DisplayVersion
+HasItsKind WordFault.BothInput = Unit {0}
+HasItsKind WordFault.Memory = Unit {0}
 
 -- the fault is one of these kinds, unless it is want of memory; that both are standard input is none that `clap` finds
 abbrev pub IsOneOf : Kinds → WordFault → Type 0
-IsOneOf kinds (Refused error) = IsAmong (kind_of error) kinds
-IsOneOf kinds (Help error) = IsAmong DisplayHelp kinds
-IsOneOf kinds (Version error) = IsAmong DisplayVersion kinds
-IsOneOf kinds BothInput = ⊥
-IsOneOf kinds Memory = Unit {0}
+IsOneOf kinds (WordFault.Refused error) = IsAmong (kind_of error) kinds
+IsOneOf kinds (WordFault.Help error) = IsAmong DisplayHelp kinds
+IsOneOf kinds (WordFault.Version error) = IsAmong DisplayVersion kinds
+IsOneOf kinds WordFault.BothInput = ⊥
+IsOneOf kinds WordFault.Memory = Unit {0}
 
 -- the text of a flag of this name among these words, behind the program's name
 abbrev pub flag_of_words : (name : Text) → List Text → Option Text

@@ -1,11 +1,10 @@
 ghost use Rattle.std.specs.Prelude.{◌≡◌};
 ghost use Rattle.std.specs.Option.{option_map};
 ghost use Rattle.std.specs.String.{string_bytes};
-ghost use Rattle.rtps_tool.specs.Choices.{RunsBy, options_of};
 ghost use Rattle.rtps_tool.specs.Choices as choices;
-ghost use Rattle.rtps_tool.specs.Commands.{command_value};
-ghost use Rattle.rtps_tool.specs.Options.{options_value};
-ghost use Rattle.rtps_tool.specs.Words.{arrived_name, file_name};
+ghost use Rattle.rtps_tool.specs.Commands as commands;
+ghost use Rattle.rtps_tool.specs.Options as options;
+ghost use Rattle.rtps_tool.specs.Words as words;
 
 use crate::command::{AuditForm, Choice};
 use crate::faults::BesideFault;
@@ -19,7 +18,7 @@ use std::io::{Read, Write};
 impl Choice {
     /// The FILE, `-` for standard input. None where the choice reads nothing.
     pub fn file(&self) -> Option<&str>
-        ensures { option_map (λ name. name.now) result ≡ file_name self.now }
+        ensures { option_map (λ name. name.now) result ≡ words.file_name self.now }
     {
         match self {
             Choice::Report { file, .. }
@@ -32,7 +31,7 @@ impl Choice {
 
     /// The other recording, made at the host of readers, `-` for standard input. None where the choice has none.
     pub fn arrived(&self) -> Option<&str>
-        ensures { option_map (λ name. name.now) result ≡ arrived_name self.now }
+        ensures { option_map (λ name. name.now) result ≡ words.arrived_name self.now }
     {
         match self {
             Choice::Report { arrived, .. } => text_of(arrived),
@@ -44,7 +43,7 @@ impl Choice {
 
     /// What its run prints, and of what. None where the choice reads nothing.
     pub fn options(&self) -> Option<Options<'_>>
-        ensures { option_map options_value result ≡ options_of self.now }
+        ensures { option_map options.options_value result ≡ choices.options_of self.now }
     {
         match self {
             Choice::Report {
@@ -106,7 +105,7 @@ fn text_of(name: &Option<String>) -> Option<&str>
 
 /// What prints an audit in this form.
 fn audit_command<'a>(form: AuditForm, asked: AskedAudit) -> Command<'a>
-    ensures { command_value result ≡ choices.audit_command form asked }
+    ensures { commands.command_value result ≡ choices.audit_command form asked }
 {
     match form {
         AuditForm::Lines => Command::Audit(asked),
@@ -124,7 +123,7 @@ pub fn run_choice<R: Read, S: Read, W: Write, P: Watch + Follow>(
     output: &mut W,
     watch: &mut P,
 ) -> Result<Ending, BesideFault>
-    ensures { RunsBy (options_of choice.now) (arrived_name choice.now)
+    ensures { choices.RunsBy (choices.options_of choice.now) (words.arrived_name choice.now)
         (R.remaining inputs.old.file) (R.remaining inputs.new.file) (S.remaining inputs.old.other) (S.remaining inputs.new.other)
         (W.contents output.old) (W.contents output.new) result }
 {

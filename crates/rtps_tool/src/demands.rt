@@ -2,9 +2,11 @@ ghost use Rattle.std.specs.Prelude.{◌≡◌, [], IfOk, Some, codes, false, map
 ghost use Rattle.std.specs.String.{string_bytes};
 ghost use Rattle.clap.specs.Words.{all_of, app_of, first_of, found_of, rows_of, rule_of, with_rule};
 ghost use Rattle.clap.specs.declared.builder.command.Command.TheViews.{out-Command};
-ghost use Rattle.rtps_tool.specs.Words.{AreDemandsGiven, IsExpectGiven, IsTailGiven, expect_rule, flag_rule, node_rule, pattern_rule, tail_rule};
+ghost use Rattle.rtps_tool.specs.Words as words;
 
-use crate::command::{GREATEST, flag, is_given, number_of};
+use crate::command::GREATEST;
+use crate::command::options::{is_given, number_of};
+use crate::command::subcommands::flag;
 use clap::builder::ValueParser;
 use clap::{Arg, ArgAction, ArgMatches, Command};
 use rtps_ids::SeqNum;
@@ -29,12 +31,12 @@ pub struct Demands {
 }
 
 impl Demands {
-    ghost use Rattle.rtps_report.specs.Asked.{asked_value};
-    ghost use Rattle.rtps_tool.specs.Options.{asked_by};
+    ghost use Rattle.rtps_report.specs.Asked as asked;
+    ghost use Rattle.rtps_tool.specs.Options as options;
 
     /// What they ask.
     pub(crate) fn asked(&self) -> Asked<'_>
-        ensures { asked_value result ≡ asked_by self.now }
+        ensures { asked.asked_value result ≡ options.asked_by self.now }
     {
         Asked {
             from: self.from,
@@ -66,7 +68,7 @@ const CERTAIN_HELP: &str = "Status 1 also if a number of a pair is not received 
 
 /// The option that chooses rows by their topics.
 fn pattern_option<'a>(alloc: Global) -> Arg<'a>
-    ensures rule { rule_of result ≡ pattern_rule }
+    ensures rule { rule_of result ≡ words.pattern_rule }
     ensures local { result.global ≡ false }
 {
     Arg::new(alloc, "PATTERN")
@@ -77,7 +79,7 @@ fn pattern_option<'a>(alloc: Global) -> Arg<'a>
 
 /// The option that chooses rows by the nodes of their ends.
 fn node_option<'a>(alloc: Global) -> Arg<'a>
-    ensures rule { rule_of result ≡ node_rule }
+    ensures rule { rule_of result ≡ words.node_rule }
     ensures local { result.global ≡ false }
 {
     Arg::new(alloc, "NODE")
@@ -88,7 +90,7 @@ fn node_option<'a>(alloc: Global) -> Arg<'a>
 
 /// The option that says how many rows there have to be.
 fn expect_option<'a>(alloc: Global) -> Arg<'a>
-    ensures rule { rule_of result ≡ expect_rule }
+    ensures rule { rule_of result ≡ words.expect_rule }
     ensures local { result.global ≡ false }
 {
     Arg::new(alloc, "PAIRS")
@@ -100,7 +102,7 @@ fn expect_option<'a>(alloc: Global) -> Arg<'a>
 
 /// The option that says how long a tail may be.
 fn tail_option<'a>(alloc: Global) -> Arg<'a>
-    ensures rule { rule_of result ≡ tail_rule }
+    ensures rule { rule_of result ≡ words.tail_rule }
     ensures local { result.global ≡ false }
 {
     Arg::new(alloc, "TAIL")
@@ -116,7 +118,7 @@ pub(crate) fn with_standard<'a>(
     command: Command<'a>,
 ) -> Result<Command<'a>, AllocError>
     requires { (out-Command command).has_globals ≡ false }
-    ensures app { IfOk result (λ made. app_of made ≡ with_rule (with_rule (app_of command.entry) tail_rule) (flag_rule (codes "certain"))) }
+    ensures app { IfOk result (λ made. app_of made ≡ with_rule (with_rule (app_of command.entry) words.tail_rule) (words.flag_rule (codes "certain"))) }
     ensures local { IfOk result (λ made. (out-Command made).has_globals ≡ false) }
 {
     let one = command.arg(tail_option(alloc))?;
@@ -126,7 +128,7 @@ pub(crate) fn with_standard<'a>(
 /// A subcommand with the options that choose rows.
 pub(crate) fn with_rows<'a>(alloc: Global, command: Command<'a>) -> Result<Command<'a>, AllocError>
     requires { (out-Command command).has_globals ≡ false }
-    ensures app { IfOk result (λ made. app_of made ≡ with_rule (with_rule (with_rule (app_of command.entry) pattern_rule) node_rule) expect_rule) }
+    ensures app { IfOk result (λ made. app_of made ≡ with_rule (with_rule (with_rule (app_of command.entry) words.pattern_rule) words.node_rule) words.expect_rule) }
     ensures local { IfOk result (λ made. (out-Command made).has_globals ≡ false) }
 {
     let one = command.arg(pattern_option(alloc))?;
@@ -158,7 +160,7 @@ fn texts_of(alloc: Global, found: &ArgMatches, called: &str) -> Result<Vec<Strin
 
 /// The number that a text is; None where it is none from 0 to 2^63 - 1.
 fn expected_in(text: &str) -> Option<u64>
-    ensures { IsExpectGiven (Some text.now) result }
+    ensures { words.IsExpectGiven (Some text.now) result }
 {
     match text.parse::<u64>() {
         Ok(number) if number <= GREATEST => Some(number),
@@ -168,7 +170,7 @@ fn expected_in(text: &str) -> Option<u64>
 
 /// How many rows are expected, if that is given.
 fn expect_of(found: &ArgMatches) -> Option<u64>
-    ensures { IsExpectGiven (first_of (codes "PAIRS") (rows_of (found_of found.now))) result }
+    ensures { words.IsExpectGiven (first_of (codes "PAIRS") (rows_of (found_of found.now))) result }
 {
     match found.get_str("PAIRS") {
         Some(text) => expected_in(text),
@@ -178,7 +180,7 @@ fn expect_of(found: &ArgMatches) -> Option<u64>
 
 /// How long a tail may be; 0 where that is not given.
 fn tail_of(found: &ArgMatches) -> u64
-    ensures { IsTailGiven (first_of (codes "TAIL") (rows_of (found_of found.now))) result }
+    ensures { words.IsTailGiven (first_of (codes "TAIL") (rows_of (found_of found.now))) result }
 {
     match found.get_str("TAIL") {
         Some(text) => expected_in(text).unwrap_or(0),
@@ -188,7 +190,7 @@ fn tail_of(found: &ArgMatches) -> u64
 
 /// What the matches of a subcommand ask of a report.
 pub(crate) fn demands_of(alloc: Global, found: &ArgMatches) -> Result<Demands, AllocError>
-    ensures { IfOk result (AreDemandsGiven (rows_of (found_of found.now))) }
+    ensures { IfOk result (words.AreDemandsGiven (rows_of (found_of found.now))) }
 {
     Ok(Demands {
         from: number_of(found),

@@ -1,7 +1,7 @@
 ghost use Rattle.std.specs.Prelude.{◌≡◌, true, Some};
 ghost use Rattle.std.specs.Io.KnownBytes.{Appends};
-ghost use Rattle.rtps_tool.specs.FaultText.{fault_line, other_fault_line, rec_fault_number, rec_fault_text, run_fault_number, run_fault_text};
-ghost use Rattle.rtps_tool.specs.Statuses.{fault_status_of, status_of};
+ghost use Rattle.rtps_tool.specs.FaultText as fault_text;
+ghost use Rattle.rtps_tool.specs.Statuses as statuses;
 
 use rtps_capture::CaptureFault;
 use rtps_ids::Memory;
@@ -39,7 +39,7 @@ pub enum RecFault {
 impl RecFault {
     /// Its number, from 1 on.
     pub fn number(self) -> u8
-        ensures { result ≡ rec_fault_number self }
+        ensures { result ≡ fault_text.rec_fault_number self }
     {
         match self {
             RecFault::BadHex { line: _ } => 1,
@@ -54,7 +54,7 @@ impl RecFault {
 
 /// The text of [`RecFault::TooMany`] is `too many datagrams` for too many octets too.
 impl fmt::Display for RecFault {
-    ghost output = { λ fault. Some (rec_fault_text fault) };
+    ghost output = { λ fault. Some (fault_text.rec_fault_text fault) };
 
     #[tactic(auto, unfolding(crate::specs::FaultText::rec_fault_text))]
     fn fmt<W: fmt::Write>(&self, f: &mut fmt::Formatter<W>) -> fmt::Result {
@@ -70,9 +70,9 @@ impl fmt::Display for RecFault {
 }
 
 impl From<CaptureFault> for RecFault {
-    ghost use Rattle.rtps_tool.specs.RecordingCapture.{rec_fault_of};
+    ghost use Rattle.rtps_tool.specs.RecordingCapture as recording_capture;
 
-    ghost from_gives = { λ capture_fault fault. fault ≡ rec_fault_of capture_fault };
+    ghost from_gives = { λ capture_fault fault. fault ≡ recording_capture.rec_fault_of capture_fault };
 
     fn from(fault: CaptureFault) -> RecFault {
         match fault {
@@ -131,7 +131,7 @@ pub enum RunFault {
 impl RunFault {
     /// Its number, from 1 on.
     pub fn number(self) -> u8
-        ensures { result ≡ run_fault_number self }
+        ensures { result ≡ fault_text.run_fault_number self }
     {
         match self {
             RunFault::Recording(_) => 1,
@@ -143,7 +143,7 @@ impl RunFault {
 }
 
 impl fmt::Display for RunFault {
-    ghost output = { λ fault. Some (run_fault_text fault) };
+    ghost output = { λ fault. Some (fault_text.run_fault_text fault) };
 
     #[tactic(auto, unfolding(crate::specs::FaultText::run_fault_text))]
     fn fmt<W: fmt::Write>(&self, f: &mut fmt::Formatter<W>) -> fmt::Result {
@@ -157,9 +157,9 @@ impl fmt::Display for RunFault {
 }
 
 impl From<RecFault> for RunFault {
-    ghost use Rattle.rtps_tool.specs.RunFaults.{run_fault_of};
+    ghost use Rattle.rtps_tool.specs.RunFaults as run_faults;
 
-    ghost from_gives = { λ fault run_fault. run_fault ≡ run_fault_of fault };
+    ghost from_gives = { λ fault run_fault. run_fault ≡ run_faults.run_fault_of fault };
 
     fn from(fault: RecFault) -> RunFault {
         match fault {
@@ -222,7 +222,7 @@ impl From<Memory> for BesideFault {
 
 /// The status of a fault: 2 where the recording is refused, 3 where a read, a write or a request for memory failed.
 fn fault_status(fault: &RunFault) -> u8
-    ensures { result ≡ fault_status_of fault.now }
+    ensures { result ≡ statuses.fault_status_of fault.now }
 {
     match fault {
         RunFault::Recording(RecFault::Memory) => 3,
@@ -234,7 +234,7 @@ fn fault_status(fault: &RunFault) -> u8
 /// The status that the program ends with after a run: 0 where it is clean, 1 where it is not, 2 where a recording
 /// is refused, 3 where a read, a write or a request for memory failed.
 pub fn status(outcome: &Result<Ending, BesideFault>) -> u8
-    ensures { result ≡ status_of outcome.now }
+    ensures { result ≡ statuses.status_of outcome.now }
 {
     match outcome {
         Ok(Ending::Clean) => 0,
@@ -246,7 +246,7 @@ pub fn status(outcome: &Result<Ending, BesideFault>) -> u8
 /// Writes the line that tells of a fault: `rtps-audit: `, the fault's text and LF. Where it answers true, the line was written.
 /// Where it answers false, nothing is promised: a writer may fail at any call, and what was written then is open.
 pub fn write_fault<W: Write>(fault: &RunFault, output: &mut W) -> bool
-    ensures { result ≡ true → Appends (W.contents output.old) (W.contents output.new) (fault_line fault.now) }
+    ensures { result ≡ true → Appends (W.contents output.old) (W.contents output.new) (fault_text.fault_line fault.now) }
 {
     writeln!(output, "rtps-audit: {fault}").is_ok()
 }
@@ -255,7 +255,7 @@ pub fn write_fault<W: Write>(fault: &RunFault, output: &mut W) -> bool
 /// and a space, the fault's text and LF.
 /// Where it answers true, the line was written. Where it answers false, nothing is promised, as of [`write_fault`].
 pub fn write_other_fault<W: Write>(name: &str, fault: &RunFault, output: &mut W) -> bool
-    ensures { result ≡ true → Appends (W.contents output.old) (W.contents output.new) (other_fault_line name.now fault.now) }
+    ensures { result ≡ true → Appends (W.contents output.old) (W.contents output.new) (fault_text.other_fault_line name.now fault.now) }
 {
     let name = NameOctets(name.as_bytes());
     writeln!(output, "rtps-audit: {name}: {fault}").is_ok()

@@ -1,10 +1,10 @@
 //! Laws of the definitions, as contracts of functions that do nothing.
 
 ghost use Rattle.std.specs.Prelude.{Option};
-ghost use Rattle.rtps_report.specs.Recording.{RecordingValue};
-ghost use Rattle.rtps_tool.specs.Commands.{CommandValue, IsTextOf};
-ghost use Rattle.rtps_tool.specs.Laws.{NoTextBeginsAsACapture, RunsAgree, RunsAgreeWithin, StaysWithin, TextsStayTexts};
-ghost use Rattle.rtps_tool.specs.Words.{WordsAreWanted};
+ghost use Rattle.rtps_report.specs.Recording as recording;
+ghost use Rattle.rtps_tool.specs.Commands as commands;
+ghost use Rattle.rtps_tool.specs.Laws as laws;
+ghost use Rattle.rtps_tool.specs.Words as words;
 
 use rtps_check::laws as check_laws;
 use rtps_page::laws::one_page;
@@ -14,14 +14,14 @@ use rtps_text::laws::one_text;
 /// without a subcommand, and some without the FILE, with a number that is none from 1 to 9223372036854775807, or with a FILE
 /// or an option that the subcommand does not have; `--help` and `--version` are answered. Nothing is said of other lines.
 pub fn words_are_wanted()
-    ensures { WordsAreWanted }
+    ensures { words.WordsAreWanted }
 {}
 
 /// What a run prints, and how it ends, is decided by what it reads and by what it asks, such as the number from which on: two runs of one
 /// command over the same octets, beside the same other recording, if there is one, that both end well end in the same way and write the
 /// same text.
 pub fn runs_agree()
-    ensures { (command : CommandValue) (other : Option RecordingValue) → RunsAgree (IsTextOf command other) }
+    ensures { (command : commands.CommandValue) (other : Option recording.RecordingValue) → laws.RunsAgree (commands.IsTextOf command other) }
 {
     one_text();
     check_laws::one_text();
@@ -33,8 +33,8 @@ pub fn runs_agree()
 /// recording within greater ones, and two runs of one command over the same octets that both end well, within whatever limits, end in the
 /// same way and write the same text.
 pub fn limits_change_nothing()
-    ensures stays { StaysWithin }
-    ensures agree { (command : CommandValue) (other : Option RecordingValue) → RunsAgreeWithin (IsTextOf command other) }
+    ensures stays { laws.StaysWithin }
+    ensures agree { (command : commands.CommandValue) (other : Option recording.RecordingValue) → laws.RunsAgreeWithin (commands.IsTextOf command other) }
 {
     one_text();
     check_laws::one_text();
@@ -45,10 +45,10 @@ pub fn limits_change_nothing()
 /// Octets that begin as a capture, of those that are read, begin no text: as a text they would have a fault in one of their first
 /// two lines. So which form an input has is never in doubt.
 pub fn no_text_begins_as_a_capture()
-    ensures { NoTextBeginsAsACapture }
+    ensures { laws.NoTextBeginsAsACapture }
 {}
 
 /// An input that is a text stands for the same recording, whatever captures are read.
 pub fn texts_stay_texts()
-    ensures { TextsStayTexts }
+    ensures { laws.TextsStayTexts }
 {}

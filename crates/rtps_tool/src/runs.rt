@@ -1,18 +1,18 @@
 ghost use Rattle.std.specs.Prelude.{◌≡◌, IfOk, MatchResult, None};
 ghost use Rattle.std.specs.String.{string_bytes};
-ghost use Rattle.rtps_report.specs.Asked.{asked_value};
-ghost use Rattle.rtps_text.specs.ReportText.{IsAudited, IsAuditedFrom};
-ghost use Rattle.rtps_text.specs.ListText.{IsListed};
-ghost use Rattle.rtps_text.specs.SampleText.{sample};
-ghost use Rattle.rtps_text.specs.ShowText.{IsShown};
-ghost use Rattle.rtps_audit.specs.Index.{IsIndexBy};
-ghost use Rattle.rtps_fragments.specs.RecordedSamples.{intake_as};
+ghost use Rattle.rtps_report.specs.Asked as asked;
+ghost use Rattle.rtps_text.specs.ReportText as report_text;
+ghost use Rattle.rtps_text.specs.ListText as list_text_spec;
+ghost use Rattle.rtps_text.specs.SampleText as sample_text_spec;
+ghost use Rattle.rtps_text.specs.ShowText as show_text_spec;
+ghost use Rattle.rtps_audit.specs.Index as index;
+ghost use Rattle.rtps_fragments.specs.RecordedSamples as recorded_samples;
 ghost use Rattle.rtps_fragments.specs.declared.fragments.Fragments.TheVariants.{Read};
-ghost use Rattle.rtps_report.specs.FullReport.{IsTold, report_value};
-ghost use Rattle.rtps_report.specs.ReaderSide.{arrived_value};
-ghost use Rattle.rtps_tool.specs.Commands.{IsFormOf, IsPageForm, IsTextOf, command_value};
+ghost use Rattle.rtps_report.specs.FullReport as full_report;
+ghost use Rattle.rtps_report.specs.ReaderSide as reader_side;
+ghost use Rattle.rtps_tool.specs.Commands as commands;
 ghost use Rattle.rtps_tool.specs.Limits as limits_spec;
-ghost use Rattle.rtps_tool.specs.Runs.{FailsReading, IsOtherFault, ReadsRecording, Runs, RunsBeside, RunsWithin, Writes};
+ghost use Rattle.rtps_tool.specs.Runs as runs;
 
 use crate::command::VERSION;
 use crate::faults::{BesideFault, RunFault};
@@ -103,7 +103,7 @@ pub fn run<R: Read, W: Write, P: Watch + Follow>(
     output: &mut W,
     watch: &mut P,
 ) -> Result<Ending, RunFault>
-    ensures { RunsWithin options.now.limits options.now.captures (IsTextOf (command_value options.now.command) None)
+    ensures { runs.RunsWithin options.now.limits options.now.captures (commands.IsTextOf (commands.command_value options.now.command) None)
         (R.remaining input.old) (R.remaining input.new) (W.contents output.old) (W.contents output.new) result }
 {
     let recording = read_input(alloc, options.limits, options.captures, input)?;
@@ -135,7 +135,7 @@ pub fn run_beside<R: Read, S: Read, W: Write, P: Watch + Follow>(
     output: &mut W,
     watch: &mut P,
 ) -> Result<Ending, BesideFault>
-    ensures { RunsBeside options.now.limits options.now.captures (IsTextOf (command_value options.now.command))
+    ensures { runs.RunsBeside options.now.limits options.now.captures (commands.IsTextOf (commands.command_value options.now.command))
         (R.remaining inputs.old.file) (R.remaining inputs.new.file) (S.remaining inputs.old.other) (S.remaining inputs.new.other)
         (W.contents output.old) (W.contents output.new) result }
 {
@@ -155,8 +155,8 @@ fn read_other<R: Read>(
     input: &mut R,
 ) -> Result<Recording, BesideFault>
     ensures { MatchResult result
-        (ReadsRecording options.now.limits options.now.captures (R.remaining input.old) (R.remaining input.new))
-        (IsOtherFault (FailsReading options.now.limits options.now.captures (R.remaining input.old) (R.remaining input.new))) }
+        (runs.ReadsRecording options.now.limits options.now.captures (R.remaining input.old) (R.remaining input.new))
+        (runs.IsOtherFault (runs.FailsReading options.now.limits options.now.captures (R.remaining input.old) (R.remaining input.new))) }
 {
     match read_input(alloc, options.limits, options.captures, input) {
         Ok(recording) => Ok(recording),
@@ -172,7 +172,7 @@ fn text_of<'a, P: Watch + Follow>(
     arrived: Option<&'a Recording>,
     watch: &mut P,
 ) -> Result<(String, Ending), Memory>
-    ensures { IfOk result (λ answer. IsTextOf (command_value options.now.command) (arrived_value arrived.entry) recording.now (string_bytes answer.0) answer.1) }
+    ensures { IfOk result (λ answer. commands.IsTextOf (commands.command_value options.now.command) (reader_side.arrived_value arrived.entry) recording.now (string_bytes answer.0) answer.1) }
 {
     match &options.command {
         Command::Report(form, name, asked) => {
@@ -205,7 +205,7 @@ fn told<P: Watch + Follow>(
     subject: Subject<'_>,
     watch: &mut P,
 ) -> Result<(String, Ending), Memory>
-    ensures { IfOk result (λ answer. IsTold (IsFormOf told_as.entry.form told_as.entry.name.now) (asked_value subject.entry.asked.now) (arrived_value subject.entry.arrived) subject.entry.recording.now (string_bytes answer.0) answer.1) }
+    ensures { IfOk result (λ answer. full_report.IsTold (commands.IsFormOf told_as.entry.form told_as.entry.name.now) (asked.asked_value subject.entry.asked.now) (reader_side.arrived_value subject.entry.arrived) subject.entry.recording.now (string_bytes answer.0) answer.1) }
 {
     let mut samples = Samples::none(alloc);
     let report = report_on(alloc, subject, &mut samples, watch)?;
@@ -216,8 +216,8 @@ fn told<P: Watch + Follow>(
 
 /// A report in a form.
 fn form_text(alloc: Global, told_as: ToldAs<'_>, report: &FullReport<'_>) -> Result<String, Memory>
-    requires { IsIndexBy (intake_as Read report.now.recording.now.datagrams) report.now.index }
-    ensures { IfOk result (λ text. IsFormOf told_as.entry.form told_as.entry.name.now (asked_value report.now.asked.now) report.now.recording.now (report_value report.now) (string_bytes text)) }
+    requires { index.IsIndexBy (recorded_samples.intake_as Read report.now.recording.now.datagrams) report.now.index }
+    ensures { IfOk result (λ text. commands.IsFormOf told_as.entry.form told_as.entry.name.now (asked.asked_value report.now.asked.now) report.now.recording.now (full_report.report_value report.now) (string_bytes text)) }
 {
     let text = match told_as.form {
         Form::Check => check_text(alloc, report)?,
@@ -230,8 +230,8 @@ fn form_text(alloc: Global, told_as: ToldAs<'_>, report: &FullReport<'_>) -> Res
 
 /// A report as a page, which says the name of its recording, and shows the text of `check` where scripts do not run.
 fn page_of(alloc: Global, name: &str, report: &FullReport<'_>) -> Result<String, Memory>
-    requires { IsIndexBy (intake_as Read report.now.recording.now.datagrams) report.now.index }
-    ensures { IfOk result (λ text. IsPageForm name.now (asked_value report.now.asked.now) report.now.recording.now (report_value report.now) (string_bytes text)) }
+    requires { index.IsIndexBy (recorded_samples.intake_as Read report.now.recording.now.datagrams) report.now.index }
+    ensures { IfOk result (λ text. commands.IsPageForm name.now (asked.asked_value report.now.asked.now) report.now.recording.now (full_report.report_value report.now) (string_bytes text)) }
 {
     let plain = check_text(alloc, report)?;
     let origin = Origin {
@@ -247,7 +247,7 @@ pub fn run_show<R: Read, W: Write>(
     input: &mut R,
     output: &mut W,
 ) -> Result<Ending, RunFault>
-    ensures { Runs IsShown
+    ensures { runs.Runs show_text_spec.IsShown
         (R.remaining input.old) (R.remaining input.new) (W.contents output.old) (W.contents output.new) result }
 {
     let options = Options {
@@ -264,7 +264,7 @@ pub fn run_list<R: Read, W: Write>(
     input: &mut R,
     output: &mut W,
 ) -> Result<Ending, RunFault>
-    ensures { Runs IsListed
+    ensures { runs.Runs list_text_spec.IsListed
         (R.remaining input.old) (R.remaining input.new) (W.contents output.old) (W.contents output.new) result }
 {
     let options = Options {
@@ -282,7 +282,7 @@ pub fn run_audit_from<R: Read, W: Write>(
     output: &mut W,
     from: SeqNum,
 ) -> Result<Ending, RunFault>
-    ensures { Runs (IsAuditedFrom from)
+    ensures { runs.Runs (report_text.IsAuditedFrom from)
         (R.remaining input.old) (R.remaining input.new) (W.contents output.old) (W.contents output.new) result }
 {
     let options = Options {
@@ -299,7 +299,7 @@ pub fn run_audit<R: Read, W: Write>(
     input: &mut R,
     output: &mut W,
 ) -> Result<Ending, RunFault>
-    ensures { Runs IsAudited
+    ensures { runs.Runs report_text.IsAudited
         (R.remaining input.old) (R.remaining input.new) (W.contents output.old) (W.contents output.new) result }
 {
     run_audit_from(alloc, input, output, SeqNum::first())
@@ -308,7 +308,7 @@ pub fn run_audit<R: Read, W: Write>(
 /// Writes a recording to try, of six datagrams; it ends [`Ending::Clean`]. It reads nothing, and fails with
 /// [`RunFault::Output`] alone, which says how much of it was written.
 pub fn run_sample<W: Write>(output: &mut W) -> Result<Ending, RunFault>
-    ensures { Writes sample (W.contents output.old) (W.contents output.new) result }
+    ensures { runs.Writes sample_text_spec.sample (W.contents output.old) (W.contents output.new) result }
 {
     write_text(sample_text().as_bytes(), output)?;
     Ok(Ending::Clean)

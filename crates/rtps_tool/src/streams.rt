@@ -2,9 +2,9 @@ ghost use Rattle.std.specs.Prelude.{◌≡◌, [], true, false, ◌+◌, ◌≤�
 ghost use Rattle.std.specs.Io.KnownBytes.{Appends, Consumes, IsAtEnd};
 ghost use Rattle.rtps_tool.specs.Forms as forms;
 ghost use Rattle.rtps_capture.specs.declared.captures.Captures.{Captures as CapturesValue};
-ghost use Rattle.rtps_tool.specs.RecordingText.{unframed};
-ghost use Rattle.rtps_tool.specs.Runs.{ReadsRecording, FailsReading, FailsWriting};
-ghost use Rattle.rtps_tool.specs.Unfinished.{ReadsOn};
+ghost use Rattle.rtps_tool.specs.RecordingText as recording_text;
+ghost use Rattle.rtps_tool.specs.Runs as runs;
+ghost use Rattle.rtps_tool.specs.Unfinished as unfinished;
 ghost use Rattle.rtps_tool.specs.declared.runs.Limits.{Limits as LimitsValue};
 ghost use Rattle.rtps_tool.specs.declared.faults.RunFault.TheVariants.{Input};
 
@@ -39,8 +39,8 @@ pub fn read_input<R: Read>(
     input: &mut R,
 ) -> Result<Recording, RunFault>
     ensures { MatchResult result
-        (ReadsRecording limits captures (R.remaining input.old) (R.remaining input.new))
-        (FailsReading limits captures (R.remaining input.old) (R.remaining input.new)) }
+        (runs.ReadsRecording limits captures (R.remaining input.old) (R.remaining input.new))
+        (runs.FailsReading limits captures (R.remaining input.old) (R.remaining input.new)) }
 {
     let mut held = zeros(alloc, HELD)?;
     let start = read_start(input, &mut held)?;
@@ -84,7 +84,7 @@ fn read_start<R: Read>(input: &mut R, held: &mut [u8]) -> Result<usize, RunFault
 fn read_short(alloc: Global, limits: Limits, octets: &[u8]) -> Result<Recording, RunFault>
     requires { length octets.now < 4 }
     ensures { (captures : CapturesValue) (old new : Option (List ℕ)) → Consumes old new octets.now → IsAtEnd new
-        → MatchResult result (ReadsRecording limits captures old new) (FailsReading limits captures old new) }
+        → MatchResult result (runs.ReadsRecording limits captures old new) (runs.FailsReading limits captures old new) }
 {
     Ok(read_recording_within(alloc, limits, octets)?)
 }
@@ -101,7 +101,7 @@ fn read_text_input<R: Read>(
     requires begun { (4 ≤ start) × (start ≤ 65539) }
     ensures { (captures : CapturesValue) (before : Option (List ℕ))
         → forms.begins_capture captures (take start held.old) ≡ false → Consumes before (R.remaining input.old) (take start held.old)
-        → MatchResult result (ReadsRecording limits captures before (R.remaining input.new)) (FailsReading limits captures before (R.remaining input.new)) }
+        → MatchResult result (runs.ReadsRecording limits captures before (R.remaining input.new)) (runs.FailsReading limits captures before (R.remaining input.new)) }
 {
     let mut reader = LineReader::new(alloc);
     read_pieces(limits, input, &mut reader, held, start)?;
@@ -121,8 +121,8 @@ fn read_pieces<R: Read>(
     requires begun { (4 ≤ start) × (start ≤ 65539) }
     ensures { (captures : CapturesValue) (before : Option (List ℕ))
         → forms.begins_capture captures (take start held.old) ≡ false → Consumes before (R.remaining input.old) (take start held.old) → MatchResult result
-        (λ _. ReadsRecording limits captures before (R.remaining input.new) (unframed reader.new.datagrams))
-        (FailsReading limits captures before (R.remaining input.new)) }
+        (λ _. runs.ReadsRecording limits captures before (R.remaining input.new) (recording_text.unframed reader.new.datagrams))
+        (runs.FailsReading limits captures before (R.remaining input.new)) }
 {
     let mut total = start as u128;
     let mut kept = 0;
@@ -164,7 +164,7 @@ fn read_on<R: Read>(
     requires room { 0 < length piece.old }
     requires within { from ≤ limits.octets }
     ensures { MatchResult result
-        (ReadsOn limits.octets (R.remaining input.old) (R.remaining input.new) from)
+        (unfinished.ReadsOn limits.octets (R.remaining input.old) (R.remaining input.new) from)
         (λ fault. fault ≡ Input) }
 {
     let mut total = from;
@@ -191,7 +191,7 @@ fn read_capture_input<R: Read>(
     requires begun { 4 ≤ length begun.now }
     requires form { forms.begins_capture captures begun.now ≡ true }
     ensures { (before : Option (List ℕ)) → Consumes before (R.remaining input.old) begun.now
-        → MatchResult result (ReadsRecording limits captures before (R.remaining input.new)) (FailsReading limits captures before (R.remaining input.new)) }
+        → MatchResult result (runs.ReadsRecording limits captures before (R.remaining input.new)) (runs.FailsReading limits captures before (R.remaining input.new)) }
 {
     let octets = read_whole(alloc, limits, input, begun)?;
     Ok(read_capture(alloc, captures, limits.datagrams, octets)?)
@@ -209,7 +209,7 @@ fn read_whole<R: Read>(
     ensures small { IfOk result (λ octets. length octets.items ≤ limits.octets) }
     ensures read { (captures : CapturesValue) (before : Option (List ℕ)) → Consumes before (R.remaining input.old) begun.now → MatchResult result
         (λ octets. Consumes before (R.remaining input.new) octets.items × IsAtEnd (R.remaining input.new))
-        (FailsReading limits captures before (R.remaining input.new)) }
+        (runs.FailsReading limits captures before (R.remaining input.new)) }
 {
     let mut octets = Vec::new(alloc);
     push_octets(&mut octets, begun)?;
@@ -228,7 +228,7 @@ fn read_behind<R: Read>(input: &mut R, octets: &mut Vec<u8>) -> Result<usize, Ru
     ensures read { OnOk result
         (Consumes (R.remaining input.old) (R.remaining input.new) (drop (length octets.old.items) octets.new.items)) }
     ensures end { IfOk result (λ got. got ≡ 0 → IsAtEnd (R.remaining input.new)) }
-    ensures err { IfErr result (λ fault. (limits : LimitsValue) (captures : CapturesValue) (old new : Option (List ℕ)) → FailsReading limits captures old new fault) }
+    ensures err { IfErr result (λ fault. (limits : LimitsValue) (captures : CapturesValue) (old new : Option (List ℕ)) → runs.FailsReading limits captures old new fault) }
 {
     let front = octets.len();
     make_room(octets, PIECE)?;
@@ -259,7 +259,7 @@ fn read_over<R: Read>(input: &mut R, octets: &mut [u8], from: usize) -> Result<u
 pub(crate) fn write_text<W: Write>(text: &[u8], output: &mut W) -> Result<(), RunFault>
     ensures { MatchResult result
         (λ _. Appends (W.contents output.old) (W.contents output.new) text.now)
-        (FailsWriting (W.contents output.old) (W.contents output.new) text.now) }
+        (runs.FailsWriting (W.contents output.old) (W.contents output.new) text.now) }
 {
     let mut written = 0;
     'writes: while written < text.len() {

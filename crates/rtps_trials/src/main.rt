@@ -1,6 +1,7 @@
 //! Tries the libraries: what no contract says and no run of the program shows.
 //!
 //!     rtps_trials               tries the cases of standard input, and judges the recording behind their first empty line
+//!     rtps_trials account PAIR  tells what becomes of a pair as the recording goes on; PAIR is the 32 digits of the writer, `/` and those of the reader
 //!     rtps_trials judge         judges each recording on standard input by each judge; an empty line stands between two
 //!     rtps_trials who           tells by which names people know the participants and the endpoints of each of them
 //!     rtps_trials known         tells what discovery has told whom in each of them; before a datagram stands when it came
@@ -14,6 +15,7 @@
 //! reading or writing fails.
 #![tactic(auto)]
 
+mod account;
 mod arrivals;
 mod cases;
 mod discoveries;
@@ -78,6 +80,7 @@ fn try_mode(
     text: &mut String,
 ) -> Result<(), Fault> {
     match mode {
+        "account" => account::tell(alloc, word, input, text),
         "judge" => judged::judge_each(alloc, input, text),
         "who" => people::tell_each(alloc, input, text),
         "known" => discoveries::tell_each(alloc, input, text),

@@ -1,9 +1,9 @@
 ghost use Rattle.std.specs.Prelude.{◌≡◌, ◌++◌, if◌then◌else◌, IfOk, OnOk, Some, flat_map, map, string_bytes};
 ghost use Rattle.std.specs.List.{list_all};
-ghost use Rattle.rtps_evidence.specs.Explanation.{explanation_value, row_of};
-ghost use Rattle.rtps_json.specs.JsonText.{IsJsonLine, report_json};
-ghost use Rattle.rtps_text.specs.ReportText.{IsAuditedAs, IsJsonTextAs, further_counts_text, ignored_text, report_counts_line, report_text as text_of_report, row_line};
-ghost use Rattle.rtps_report.specs.Reported.{is_complete as completes};
+ghost use Rattle.rtps_evidence.specs.Explanation as explanation;
+ghost use Rattle.rtps_json.specs.JsonText as json_text;
+ghost use Rattle.rtps_text.specs.ReportText as report_text;
+ghost use Rattle.rtps_report.specs.Reported as reported;
 ghost use Rattle.rtps_report.specs.declared.findings.Ending.TheVariants.{Clean, Unclean};
 
 use json::Writer;
@@ -26,7 +26,7 @@ pub fn audit_text<P: Watch>(
     asked: AskedAudit,
     watch: &mut P,
 ) -> Result<(String, Ending), Memory>
-    ensures { IfOk result (λ audited. IsAuditedAs asked recording.now (string_bytes audited.0) audited.1) }
+    ensures { IfOk result (λ audited. report_text.IsAuditedAs asked recording.now (string_bytes audited.0) audited.1) }
 {
     let report = audit_asked(alloc, recording, asked, watch)?;
     let text = report_text(alloc, &report, recording.ignored())?;
@@ -52,7 +52,7 @@ pub fn json_text<P: Watch>(
     asked: AskedAudit,
     watch: &mut P,
 ) -> Result<(String, Ending), Memory>
-    ensures { IfOk result (λ audited. IsJsonTextAs asked recording.now (string_bytes audited.0) audited.1) }
+    ensures { IfOk result (λ audited. report_text.IsJsonTextAs asked recording.now (string_bytes audited.0) audited.1) }
 {
     let mut samples = Samples::none(alloc);
     let explained = explain_asked(alloc, recording, asked, &mut samples, watch)?;
@@ -66,7 +66,7 @@ fn json_of(
     explained: &Explained<'_>,
     recording: &Recording,
 ) -> Result<String, AllocError>
-    ensures { IfOk result (λ text. IsJsonLine (report_json (map explanation_value explained.now.rows.items) explained.now.counts recording.now) (string_bytes text)) }
+    ensures { IfOk result (λ text. json_text.IsJsonLine (json_text.report_json (map explanation.explanation_value explained.now.rows.items) explained.now.counts recording.now) (string_bytes text)) }
 {
     let mut writer = Writer::new(Vec::new(alloc));
     push_report(alloc, &mut writer, explained, recording)?;
@@ -74,14 +74,14 @@ fn json_of(
 }
 
 fn all_complete(rows: &[Explanation<'_>]) -> bool
-    ensures { result ≡ list_all (λ row. completes row.verdict) (map row_of rows.now) }
+    ensures { result ≡ list_all (λ row. reported.is_complete row.verdict) (map explanation.row_of rows.now) }
 {
     rows.iter().all(|row| is_complete(&row.evidence.verdict))
 }
 
 /// The lines of a report on a recording of which so many frames were ignored, if it has any.
 fn report_text(alloc: Global, report: &Report, ignored: Option<u64>) -> Result<String, AllocError>
-    ensures { IfOk result (λ text. string_bytes text ≡ text_of_report report.now.rows.items report.now.counts ignored) }
+    ensures { IfOk result (λ text. string_bytes text ≡ report_text.report_text report.now.rows.items report.now.counts ignored) }
 {
     let mut text = String::new(alloc);
     writeln!(text, "pairs {}", report.rows.len())?;
@@ -91,7 +91,7 @@ fn report_text(alloc: Global, report: &Report, ignored: Option<u64>) -> Result<S
 }
 
 fn push_rows(text: &mut String, rows: &[Row]) -> Result<(), AllocError>
-    ensures { OnOk result (string_bytes text.new ≡ string_bytes text.old ++ flat_map row_line rows.now) }
+    ensures { OnOk result (string_bytes text.new ≡ string_bytes text.old ++ flat_map report_text.row_line rows.now) }
 {
     for row in rows {
         writeln!(
@@ -106,7 +106,7 @@ fn push_rows(text: &mut String, rows: &[Row]) -> Result<(), AllocError>
 }
 
 fn are_complete(rows: &[Row]) -> bool
-    ensures { result ≡ list_all (λ row. completes row.verdict) rows.now }
+    ensures { result ≡ list_all (λ row. reported.is_complete row.verdict) rows.now }
 {
     rows.iter().all(|row| is_complete(&row.verdict))
 }
@@ -116,7 +116,7 @@ fn are_complete(rows: &[Row]) -> bool
 pub(crate) struct ReportCountsLine(pub(crate) Counts, pub(crate) Option<u64>);
 
 impl fmt::Display for ReportCountsLine {
-    ghost output = { λ line. Some (report_counts_line line.0 line.1) };
+    ghost output = { λ line. Some (report_text.report_counts_line line.0 line.1) };
 
     fn fmt<W: fmt::Write>(&self, f: &mut fmt::Formatter<W>) -> fmt::Result {
         let counts = self.0;
@@ -136,7 +136,7 @@ impl fmt::Display for ReportCountsLine {
 struct FurtherCounts(Counts, Option<u64>);
 
 impl fmt::Display for FurtherCounts {
-    ghost output = { λ text. Some (further_counts_text text.0 text.1) };
+    ghost output = { λ text. Some (report_text.further_counts_text text.0 text.1) };
 
     fn fmt<W: fmt::Write>(&self, f: &mut fmt::Formatter<W>) -> fmt::Result {
         let counts = self.0;
@@ -156,7 +156,7 @@ impl fmt::Display for FurtherCounts {
 struct IgnoredText(Option<u64>);
 
 impl fmt::Display for IgnoredText {
-    ghost output = { λ text. Some (ignored_text text.0) };
+    ghost output = { λ text. Some (report_text.ignored_text text.0) };
 
     #[tactic(auto, unfolding(crate::specs::ReportText::ignored_text))]
     fn fmt<W: fmt::Write>(&self, f: &mut fmt::Formatter<W>) -> fmt::Result {

@@ -1,10 +1,9 @@
 ghost use Rattle.std.specs.Prelude.{◌≡◌, ◌++◌, OnOk, codes, length, decimal, option_map, string_bytes};
 ghost use Rattle.std.specs.Fmt.{signed_decimal};
 ghost use Rattle.hex.specs.Hex.{encode_lower};
-ghost use Rattle.rtps_params.specs.Lists.{list_value};
-ghost use Rattle.rtps_wire.specs.DataFrag.{data_frag_value};
-ghost use Rattle.rtps_wire.specs.Values.{data_value, item_value};
-ghost use Rattle.rtps_text.specs.ShowText.{IsTailIn, ack_nack_line, data_frag_line, data_line, gap_line, heartbeat_line, info_dst_line, info_src_line, info_ts_line, item_line, nack_frag_line, bitmap_text, digit_of, order_text, skipped_line, version_text};
+ghost use Rattle.rtps_params.specs.Lists as lists;
+ghost use Rattle.rtps_wire.specs.DataFrag as data_frag_spec;
+ghost use Rattle.rtps_wire.specs.Values as values;
 ghost use Rattle.rtps_text.specs.ShowText as show_text;
 
 use crate::text::parts::{
@@ -23,9 +22,9 @@ pub(crate) fn push_item(
     state: &State,
     item: &Item<'_>,
 ) -> Result<(), AllocError>
-    requires { IsTailIn state.now (string_bytes tail.old) }
-    ensures line { OnOk result (string_bytes text.new ≡ string_bytes text.old ++ item_line state.now (item_value item.now)) }
-    ensures tail { OnOk result (IsTailIn state.now (string_bytes tail.new)) }
+    requires { show_text.IsTailIn state.now (string_bytes tail.old) }
+    ensures line { OnOk result (string_bytes text.new ≡ string_bytes text.old ++ show_text.item_line state.now (values.item_value item.now)) }
+    ensures tail { OnOk result (show_text.IsTailIn state.now (string_bytes tail.new)) }
 {
     let Item { at, order, body } = item;
     match body {
@@ -47,7 +46,7 @@ pub(crate) fn push_item(
 #[inline(always)]
 fn push_head(text: &mut String, name: &str, at: usize, order: Order) -> Result<(), AllocError>
     ensures { OnOk result (string_bytes text.new
-        ≡ string_bytes text.old ++ (name.now ++ (decimal at ++ (codes " " ++ order_text order)))) }
+        ≡ string_bytes text.old ++ (name.now ++ (decimal at ++ (codes " " ++ show_text.order_text order)))) }
 {
     push_field(text, name, at)?;
     text.push_str(" ")?;
@@ -63,7 +62,7 @@ fn push_act(
     writer: EntityId,
 ) -> Result<(), AllocError>
     ensures { OnOk result (string_bytes text.new
-        ≡ string_bytes text.old ++ (name.now ++ (decimal at ++ (codes " " ++ (order_text order
+        ≡ string_bytes text.old ++ (name.now ++ (decimal at ++ (codes " " ++ (show_text.order_text order
         ++ (codes " reader " ++ (encode_lower reader.0 ++ (codes " writer " ++ encode_lower writer.0)))))))) }
 {
     push_head(text, name, at, order)?;
@@ -81,9 +80,9 @@ fn push_data(
     order: Order,
     sent: &DataBody<'_>,
 ) -> Result<(), AllocError>
-    requires { IsTailIn state.now (string_bytes tail.old) }
-    ensures line { OnOk result (string_bytes text.new ≡ string_bytes text.old ++ data_line state.now at order (data_value sent.now)) }
-    ensures tail { OnOk result (IsTailIn state.now (string_bytes tail.new)) }
+    requires { show_text.IsTailIn state.now (string_bytes tail.old) }
+    ensures line { OnOk result (string_bytes text.new ≡ string_bytes text.old ++ show_text.data_line state.now at order (values.data_value sent.now)) }
+    ensures tail { OnOk result (show_text.IsTailIn state.now (string_bytes tail.new)) }
 {
     push_act(text, "data ", at, order, sent.reader, sent.writer)?;
     push_field(text, " number ", sent.number.get())?;
@@ -99,9 +98,9 @@ pub(crate) fn push_data_frag(
     at: usize,
     data_frag: &DataFrag<'_>,
 ) -> Result<(), AllocError>
-    requires { IsTailIn state.now (string_bytes tail.old) }
-    ensures line { OnOk result (string_bytes text.new ≡ string_bytes text.old ++ data_frag_line state.now at (data_frag_value data_frag.now)) }
-    ensures tail { OnOk result (IsTailIn state.now (string_bytes tail.new)) }
+    requires { show_text.IsTailIn state.now (string_bytes tail.old) }
+    ensures line { OnOk result (string_bytes text.new ≡ string_bytes text.old ++ show_text.data_frag_line state.now at (data_frag_spec.data_frag_value data_frag.now)) }
+    ensures tail { OnOk result (show_text.IsTailIn state.now (string_bytes tail.new)) }
 {
     push_act(
         text,
@@ -131,8 +130,8 @@ fn push_fragments(text: &mut String, data_frag: &DataFrag<'_>) -> Result<(), All
 
 fn push_sample(text: &mut String, data_frag: &DataFrag<'_>) -> Result<(), AllocError>
     ensures { OnOk result (string_bytes text.new
-        ≡ string_bytes text.old ++ (codes " qos " ++ (decimal (show_text.qos_octets (option_map list_value data_frag.now.qos))
-        ++ (codes " key " ++ (digit_of data_frag.now.shape.is_key ++ (codes " octets " ++ decimal (length data_frag.now.octets.now))))))) }
+        ≡ string_bytes text.old ++ (codes " qos " ++ (decimal (show_text.qos_octets (option_map lists.list_value data_frag.now.qos))
+        ++ (codes " key " ++ (show_text.digit_of data_frag.now.shape.is_key ++ (codes " octets " ++ decimal (length data_frag.now.octets.now))))))) }
 {
     push_field(text, " qos ", qos_octets(&data_frag.qos))?;
     push_flag(text, " key ", data_frag.shape.is_key)?;
@@ -142,7 +141,7 @@ fn push_sample(text: &mut String, data_frag: &DataFrag<'_>) -> Result<(), AllocE
 /// How many octets the inline QoS has.
 #[tactic(auto, unfolding(crate::specs::ShowText::qos_octets))]
 fn qos_octets(qos: &Option<ParamList>) -> usize
-    ensures { result ≡ show_text.qos_octets (option_map list_value qos.now) }
+    ensures { result ≡ show_text.qos_octets (option_map lists.list_value qos.now) }
 {
     match qos {
         None => 0,
@@ -158,9 +157,9 @@ fn push_heartbeat(
     order: Order,
     heartbeat: &HeartbeatBody,
 ) -> Result<(), AllocError>
-    requires { IsTailIn state.now (string_bytes tail.old) }
-    ensures line { OnOk result (string_bytes text.new ≡ string_bytes text.old ++ heartbeat_line state.now at order heartbeat.now) }
-    ensures tail { OnOk result (IsTailIn state.now (string_bytes tail.new)) }
+    requires { show_text.IsTailIn state.now (string_bytes tail.old) }
+    ensures line { OnOk result (string_bytes text.new ≡ string_bytes text.old ++ show_text.heartbeat_line state.now at order heartbeat.now) }
+    ensures tail { OnOk result (show_text.IsTailIn state.now (string_bytes tail.new)) }
 {
     push_act(
         text,
@@ -194,9 +193,9 @@ fn push_ack_nack(
     order: Order,
     ack_nack: &AckNackBody,
 ) -> Result<(), AllocError>
-    requires { IsTailIn state.now (string_bytes tail.old) }
-    ensures line { OnOk result (string_bytes text.new ≡ string_bytes text.old ++ ack_nack_line state.now at order ack_nack.now) }
-    ensures tail { OnOk result (IsTailIn state.now (string_bytes tail.new)) }
+    requires { show_text.IsTailIn state.now (string_bytes tail.old) }
+    ensures line { OnOk result (string_bytes text.new ≡ string_bytes text.old ++ show_text.ack_nack_line state.now at order ack_nack.now) }
+    ensures tail { OnOk result (show_text.IsTailIn state.now (string_bytes tail.new)) }
 {
     push_act(
         text,
@@ -220,9 +219,9 @@ pub(crate) fn push_nack_frag(
     order: Order,
     nack_frag: &NackFrag,
 ) -> Result<(), AllocError>
-    requires { IsTailIn state.now (string_bytes tail.old) }
-    ensures line { OnOk result (string_bytes text.new ≡ string_bytes text.old ++ nack_frag_line state.now at order nack_frag.now) }
-    ensures tail { OnOk result (IsTailIn state.now (string_bytes tail.new)) }
+    requires { show_text.IsTailIn state.now (string_bytes tail.old) }
+    ensures line { OnOk result (string_bytes text.new ≡ string_bytes text.old ++ show_text.nack_frag_line state.now at order nack_frag.now) }
+    ensures tail { OnOk result (show_text.IsTailIn state.now (string_bytes tail.new)) }
 {
     push_act(
         text,
@@ -246,9 +245,9 @@ fn push_gap(
     order: Order,
     gap: &GapBody,
 ) -> Result<(), AllocError>
-    requires { IsTailIn state.now (string_bytes tail.old) }
-    ensures line { OnOk result (string_bytes text.new ≡ string_bytes text.old ++ gap_line state.now at order gap.now) }
-    ensures tail { OnOk result (IsTailIn state.now (string_bytes tail.new)) }
+    requires { show_text.IsTailIn state.now (string_bytes tail.old) }
+    ensures line { OnOk result (string_bytes text.new ≡ string_bytes text.old ++ show_text.gap_line state.now at order gap.now) }
+    ensures tail { OnOk result (show_text.IsTailIn state.now (string_bytes tail.new)) }
 {
     push_act(text, "gap ", at, order, gap.reader, gap.writer)?;
     push_field(text, " start ", gap.start.get())?;
@@ -259,7 +258,7 @@ fn push_gap(
 #[inline(always)]
 fn push_set(text: &mut String, set: &NumberSet) -> Result<(), AllocError>
     ensures { OnOk result (string_bytes text.new
-        ≡ string_bytes text.old ++ (codes " base " ++ (decimal set.now.base ++ (codes " bits " ++ (decimal set.now.count ++ (codes " " ++ bitmap_text set.now)))))) }
+        ≡ string_bytes text.old ++ (codes " base " ++ (decimal set.now.base ++ (codes " bits " ++ (decimal set.now.count ++ (codes " " ++ show_text.bitmap_text set.now)))))) }
 {
     push_field(text, " base ", set.base())?;
     push_field(text, " bits ", set.count())?;
@@ -273,7 +272,7 @@ fn push_info_ts(
     order: Order,
     time: Option<Stamp>,
 ) -> Result<(), AllocError>
-    ensures { OnOk result (string_bytes text.new ≡ string_bytes text.old ++ info_ts_line at order time) }
+    ensures { OnOk result (string_bytes text.new ≡ string_bytes text.old ++ show_text.info_ts_line at order time) }
 {
     push_head(text, "info_ts ", at, order)?;
     text.push_str(" time ")?;
@@ -287,7 +286,7 @@ fn push_info_dst(
     order: Order,
     prefix: GuidPrefix,
 ) -> Result<(), AllocError>
-    ensures { OnOk result (string_bytes text.new ≡ string_bytes text.old ++ info_dst_line at order prefix) }
+    ensures { OnOk result (string_bytes text.new ≡ string_bytes text.old ++ show_text.info_dst_line at order prefix) }
 {
     push_head(text, "info_dst ", at, order)?;
     text.push_str(" prefix ")?;
@@ -303,7 +302,7 @@ fn push_info_src(
     vendor: Vendor,
     prefix: GuidPrefix,
 ) -> Result<(), AllocError>
-    ensures { OnOk result (string_bytes text.new ≡ string_bytes text.old ++ info_src_line at order version vendor prefix) }
+    ensures { OnOk result (string_bytes text.new ≡ string_bytes text.old ++ show_text.info_src_line at order version vendor prefix) }
 {
     push_head(text, "info_src ", at, order)?;
     push_origin(text, version, vendor, prefix)
@@ -316,7 +315,7 @@ pub(crate) fn push_origin(
     prefix: GuidPrefix,
 ) -> Result<(), AllocError>
     ensures { OnOk result (string_bytes text.new
-        ≡ string_bytes text.old ++ (codes " version " ++ (version_text version ++ (codes " vendor " ++ (encode_lower vendor.0 ++ (codes " prefix " ++ (encode_lower prefix.0 ++ codes "\n"))))))) }
+        ≡ string_bytes text.old ++ (codes " version " ++ (show_text.version_text version ++ (codes " vendor " ++ (encode_lower vendor.0 ++ (codes " prefix " ++ (encode_lower prefix.0 ++ codes "\n"))))))) }
 {
     text.push_str(" version ")?;
     push_version(text, version)?;
@@ -328,7 +327,7 @@ pub(crate) fn push_origin(
 }
 
 pub(crate) fn push_skipped(text: &mut String, at: usize, id: u8) -> Result<(), AllocError>
-    ensures { OnOk result (string_bytes text.new ≡ string_bytes text.old ++ skipped_line at id) }
+    ensures { OnOk result (string_bytes text.new ≡ string_bytes text.old ++ show_text.skipped_line at id) }
 {
     push_field(text, "skipped ", at)?;
     push_id(text, id)

@@ -1,11 +1,10 @@
 ghost use Rattle.std.specs.Prelude.{◌≡◌, ◌++◌, [], IfOk, OnOk, Some, map, string_bytes, flat_map};
-ghost use Rattle.rtps_audit.specs.Placed.{placed_value};
-ghost use Rattle.rtps_discovery.specs.Directory.{IsMapOf};
-ghost use Rattle.rtps_discovery.specs.Endpoint.{endpoint_value};
+ghost use Rattle.rtps_audit.specs.Placed as placed;
+ghost use Rattle.rtps_discovery.specs.Directory as directory_spec;
+ghost use Rattle.rtps_discovery.specs.Endpoint as endpoint_spec;
 ghost use Rattle.rtps_fragments.specs.declared.fragments.Fragments.TheVariants.{Read};
-ghost use Rattle.rtps_receiver.specs.Acts.{acts_in};
-ghost use Rattle.rtps_discovery.specs.Notice.{faults_in};
-ghost use Rattle.rtps_text.specs.ListText.{IsListedWith, announcing_in, endpoint_line, match_line, match_text, participant_line};
+ghost use Rattle.rtps_receiver.specs.Acts as acts;
+ghost use Rattle.rtps_discovery.specs.Notice as notice;
 ghost use Rattle.rtps_text.specs.ListText as list_text_spec;
 
 use rtps_audit::Placed;
@@ -26,7 +25,7 @@ pub fn list_text(
     recording: &Recording,
     fragments: Fragments,
 ) -> Result<(String, Ending), Memory>
-    ensures { IfOk result (λ listed. IsListedWith fragments recording.now (string_bytes listed.0) listed.1) }
+    ensures { IfOk result (λ listed. list_text_spec.IsListedWith fragments recording.now (string_bytes listed.0) listed.1) }
 {
     let mut samples = Samples::none(alloc);
     let mut directory = Directory::new(alloc);
@@ -46,9 +45,9 @@ fn note_samples<'a>(
     recording: &'a Recording,
     samples: &'a mut Samples,
 ) -> Result<u128, Memory>
-    requires { IsMapOf [] directory.old }
-    ensures map { OnOk result (IsMapOf (announcing_in Read recording.now.datagrams) directory.new) }
-    ensures faults { IfOk result (λ faults. faults ≡ faults_in (announcing_in Read recording.now.datagrams)) }
+    requires { directory_spec.IsMapOf [] directory.old }
+    ensures map { OnOk result (directory_spec.IsMapOf (list_text_spec.announcing_in Read recording.now.datagrams) directory.new) }
+    ensures faults { IfOk result (λ faults. faults ≡ notice.faults_in (list_text_spec.announcing_in Read recording.now.datagrams)) }
 {
     let datagrams = datagrams_of(alloc, recording)?;
     let indexed = index_as(alloc, &datagrams, Fragments::Read, samples)?;
@@ -60,9 +59,9 @@ fn note_announcements<'a>(
     directory: &mut Directory<'a>,
     announcements: &[Placed<'a>],
 ) -> Result<u128, Memory>
-    requires { IsMapOf [] directory.old }
-    ensures map { OnOk result (IsMapOf (map (λ placed. placed.act) (map placed_value announcements.now)) directory.new) }
-    ensures faults { IfOk result (λ faults. faults ≡ faults_in (map (λ placed. placed.act) (map placed_value announcements.now))) }
+    requires { directory_spec.IsMapOf [] directory.old }
+    ensures map { OnOk result (directory_spec.IsMapOf (map (λ placed. placed.act) (map placed.placed_value announcements.now)) directory.new) }
+    ensures faults { IfOk result (λ faults. faults ≡ notice.faults_in (map (λ placed. placed.act) (map placed.placed_value announcements.now))) }
 {
     let mut faults = 0u128;
     for placed in announcements {
@@ -77,9 +76,9 @@ fn note_datagrams<'a>(
     directory: &mut Directory<'a>,
     recording: &'a Recording,
 ) -> Result<u128, Memory>
-    requires { IsMapOf [] directory.old }
-    ensures map { OnOk result (IsMapOf (acts_in recording.now.datagrams) directory.new) }
-    ensures faults { IfOk result (λ faults. faults ≡ faults_in (acts_in recording.now.datagrams)) }
+    requires { directory_spec.IsMapOf [] directory.old }
+    ensures map { OnOk result (directory_spec.IsMapOf (acts.acts_in recording.now.datagrams) directory.new) }
+    ensures faults { IfOk result (λ faults. faults ≡ notice.faults_in (acts.acts_in recording.now.datagrams)) }
 {
     let mut walk = Walk::new(alloc);
     let mut faults = 0u128;
@@ -111,7 +110,7 @@ fn directory_text(alloc: Global, directory: &Directory<'_>, faults: u128) -> Res
 }
 
 fn push_participants(text: &mut String, guids: &[Guid]) -> Result<(), AllocError>
-    ensures { OnOk result (string_bytes text.new ≡ string_bytes text.old ++ flat_map participant_line guids.now) }
+    ensures { OnOk result (string_bytes text.new ≡ string_bytes text.old ++ flat_map list_text_spec.participant_line guids.now) }
 {
     for guid in guids {
         writeln!(text, "participant {guid}")?;
@@ -121,7 +120,7 @@ fn push_participants(text: &mut String, guids: &[Guid]) -> Result<(), AllocError
 
 fn push_endpoints(text: &mut String, endpoints: &[Endpoint<'_>]) -> Result<(), AllocError>
     ensures { OnOk result (string_bytes text.new
-        ≡ string_bytes text.old ++ flat_map (λ endpoint. endpoint_line (endpoint_value endpoint)) endpoints.now) }
+        ≡ string_bytes text.old ++ flat_map (λ endpoint. list_text_spec.endpoint_line (endpoint_spec.endpoint_value endpoint)) endpoints.now) }
 {
     for endpoint in endpoints {
         write!(text, "{}", EndpointLine(endpoint))?;
@@ -130,7 +129,7 @@ fn push_endpoints(text: &mut String, endpoints: &[Endpoint<'_>]) -> Result<(), A
 }
 
 fn push_matches(text: &mut String, matches: &[Match]) -> Result<(), AllocError>
-    ensures { OnOk result (string_bytes text.new ≡ string_bytes text.old ++ flat_map match_line matches.now) }
+    ensures { OnOk result (string_bytes text.new ≡ string_bytes text.old ++ flat_map list_text_spec.match_line matches.now) }
 {
     for found in matches {
         write!(text, "{}", MatchLine(*found))?;
@@ -142,7 +141,7 @@ fn push_matches(text: &mut String, matches: &[Match]) -> Result<(), AllocError>
 struct MatchLine(Match);
 
 impl fmt::Display for MatchLine {
-    ghost output = { λ line. Some (match_line line.0) };
+    ghost output = { λ line. Some (list_text_spec.match_line line.0) };
 
     fn fmt<W: fmt::Write>(&self, f: &mut fmt::Formatter<W>) -> fmt::Result {
         let Match { pair, reliable } = self.0;
@@ -159,7 +158,7 @@ impl fmt::Display for MatchLine {
 /// What the line of a match says of it: whether both are reliable.
 #[tactic(auto, unfolding(crate::specs::ListText::match_text))]
 fn match_name(reliable: bool) -> &'static str
-    ensures { result.now ≡ match_text reliable }
+    ensures { result.now ≡ list_text_spec.match_text reliable }
 {
     if reliable { "reliable" } else { "best-effort" }
 }
@@ -168,7 +167,7 @@ fn match_name(reliable: bool) -> &'static str
 struct EndpointLine<'a>(&'a Endpoint<'a>);
 
 impl fmt::Display for EndpointLine<'_> {
-    ghost output = { λ line. Some (endpoint_line (endpoint_value line.0.now)) };
+    ghost output = { λ line. Some (list_text_spec.endpoint_line (endpoint_spec.endpoint_value line.0.now)) };
 
     fn fmt<W: fmt::Write>(&self, f: &mut fmt::Formatter<W>) -> fmt::Result {
         let endpoint = self.0;

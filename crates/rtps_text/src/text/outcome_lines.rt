@@ -1,6 +1,6 @@
 ghost use Rattle.std.specs.Prelude.{◌≡◌, ◌++◌, OnOk, flat_map, map, option_copied, string_bytes};
 ghost use Rattle.rtps_lines.specs.Lines as lines;
-ghost use Rattle.rtps_text.specs.WhyText.{late_line, outcome_line, outcome_lines, sentence_line, wait_line};
+ghost use Rattle.rtps_text.specs.WhyText as why_text;
 
 use rtps_evidence::{InSpan, Outcomes, Times};
 use rtps_lines::{LateText, WaitText, push_field, silence_lines};
@@ -8,7 +8,7 @@ use rtps_report::{LateMatch, Silences};
 use std::alloc::{AllocError, Global};
 
 fn push_outcome(text: &mut String, name: &str, count: u64) -> Result<(), AllocError>
-    ensures { OnOk result (string_bytes text.new ≡ string_bytes text.old ++ outcome_line name.now count) }
+    ensures { OnOk result (string_bytes text.new ≡ string_bytes text.old ++ why_text.outcome_line name.now count) }
 {
     if count == 0 {
         return Ok(());
@@ -19,7 +19,7 @@ fn push_outcome(text: &mut String, name: &str, count: u64) -> Result<(), AllocEr
 
 /// Appends how many numbers have each outcome but received and missed, of those that some have.
 pub(crate) fn push_outcomes(text: &mut String, outcomes: Outcomes) -> Result<(), AllocError>
-    ensures { OnOk result (string_bytes text.new ≡ string_bytes text.old ++ outcome_lines outcomes) }
+    ensures { OnOk result (string_bytes text.new ≡ string_bytes text.old ++ why_text.outcome_lines outcomes) }
 {
     push_outcome(text, "  arrived ", outcomes.arrived)?;
     push_outcome(text, "  likely ", outcomes.likely)?;
@@ -34,7 +34,7 @@ pub(crate) fn push_wait(
     in_span: Option<&InSpan>,
     times: &Times,
 ) -> Result<(), AllocError>
-    ensures { OnOk result (string_bytes text.new ≡ string_bytes text.old ++ wait_line times.now (option_copied in_span.entry)) }
+    ensures { OnOk result (string_bytes text.new ≡ string_bytes text.old ++ why_text.wait_line times.now (option_copied in_span.entry)) }
 {
     match in_span {
         Some(
@@ -53,7 +53,7 @@ pub(crate) fn push_late(
     late: Option<LateMatch>,
     times: &Times,
 ) -> Result<(), AllocError>
-    ensures { OnOk result (string_bytes text.new ≡ string_bytes text.old ++ late_line times.now late) }
+    ensures { OnOk result (string_bytes text.new ≡ string_bytes text.old ++ why_text.late_line times.now late) }
 {
     match late {
         Some(late) => writeln!(text, "  {}", LateText(times, late)),
@@ -62,7 +62,7 @@ pub(crate) fn push_late(
 }
 
 fn push_sentences(text: &mut String, sentences: &[String]) -> Result<(), AllocError>
-    ensures { OnOk result (string_bytes text.new ≡ string_bytes text.old ++ flat_map sentence_line (map string_bytes sentences.now)) }
+    ensures { OnOk result (string_bytes text.new ≡ string_bytes text.old ++ flat_map why_text.sentence_line (map string_bytes sentences.now)) }
 {
     for sentence in sentences {
         writeln!(text, "  {sentence}")?;
@@ -77,7 +77,7 @@ pub(crate) fn push_silences(
     silences: Silences,
     times: &Times,
 ) -> Result<(), AllocError>
-    ensures { OnOk result (string_bytes text.new ≡ string_bytes text.old ++ flat_map sentence_line (lines.silence_lines times.now silences)) }
+    ensures { OnOk result (string_bytes text.new ≡ string_bytes text.old ++ flat_map why_text.sentence_line (lines.silence_lines times.now silences)) }
 {
     let sentences = silence_lines(alloc, times, silences)?;
     push_sentences(text, &sentences)

@@ -2,7 +2,7 @@
 
 ghost use Rattle.std.specs.Prelude.{◌≡◌, ◌++◌, ◌∷◌, [], ◌*◌, ◌≤◌, codes, length, take, IsAscii, OnOk, string_bytes};
 ghost use Rattle.hex.specs.Hex.{encode_lower};
-ghost use Rattle.rtps_text.specs.ShowText.{IsTailIn, tail_text, bitmap_text, destination_text, digit_of, order_text, state_text, time_text, version_text};
+ghost use Rattle.rtps_text.specs.ShowText as show_text;
 
 use rtps_ids::{GuidPrefix, NumberSet, Order, Stamp, Version};
 use rtps_lines::{push_decimal, push_field};
@@ -70,7 +70,7 @@ fn digit_pair(octet: u8) -> [u8; 2]
 #[tactic(auto, unfolding(crate::specs::ShowText::order_text))]
 #[inline(always)]
 pub(crate) fn order_name(order: Order) -> &'static str
-    ensures { result.now ≡ order_text order }
+    ensures { result.now ≡ show_text.order_text order }
 {
     match order {
         Order::Big => "be",
@@ -81,7 +81,7 @@ pub(crate) fn order_name(order: Order) -> &'static str
 #[tactic(auto, unfolding(crate::specs::ShowText::digit_of))]
 #[inline(always)]
 pub(crate) fn push_flag(text: &mut String, name: &str, flag: bool) -> Result<(), AllocError>
-    ensures { OnOk result (string_bytes text.new ≡ string_bytes text.old ++ (name.now ++ digit_of flag)) }
+    ensures { OnOk result (string_bytes text.new ≡ string_bytes text.old ++ (name.now ++ show_text.digit_of flag)) }
 {
     text.push_str(name)?;
     text.push_str(if flag { "1" } else { "0" })
@@ -89,7 +89,7 @@ pub(crate) fn push_flag(text: &mut String, name: &str, flag: bool) -> Result<(),
 
 #[tactic(auto, unfolding(crate::specs::ShowText::version_text))]
 pub(crate) fn push_version(text: &mut String, version: Version) -> Result<(), AllocError>
-    ensures { OnOk result (string_bytes text.new ≡ string_bytes text.old ++ version_text version) }
+    ensures { OnOk result (string_bytes text.new ≡ string_bytes text.old ++ show_text.version_text version) }
 {
     push_decimal(text, version.major)?;
     push_field(text, ".", version.minor)
@@ -97,7 +97,7 @@ pub(crate) fn push_version(text: &mut String, version: Version) -> Result<(), Al
 
 #[tactic(auto, unfolding(crate::specs::ShowText::time_text))]
 pub(crate) fn push_time(text: &mut String, time: Option<Stamp>) -> Result<(), AllocError>
-    ensures { OnOk result (string_bytes text.new ≡ string_bytes text.old ++ time_text time) }
+    ensures { OnOk result (string_bytes text.new ≡ string_bytes text.old ++ show_text.time_text time) }
 {
     let Some(stamp) = time else {
         return text.push_str("none");
@@ -108,7 +108,7 @@ pub(crate) fn push_time(text: &mut String, time: Option<Stamp>) -> Result<(), Al
 
 #[tactic(auto, unfolding(crate::specs::ShowText::destination_text))]
 fn push_destination(text: &mut String, dest: Option<GuidPrefix>) -> Result<(), AllocError>
-    ensures { OnOk result (string_bytes text.new ≡ string_bytes text.old ++ destination_text dest) }
+    ensures { OnOk result (string_bytes text.new ≡ string_bytes text.old ++ show_text.destination_text dest) }
 {
     match dest {
         None => text.push_str("all"),
@@ -123,9 +123,9 @@ pub(crate) fn push_tail(
     tail: &mut String,
     state: &State,
 ) -> Result<(), AllocError>
-    requires { IsTailIn state.now (string_bytes tail.old) }
-    ensures line { OnOk result (string_bytes text.new ≡ string_bytes text.old ++ tail_text state.now) }
-    ensures tail { OnOk result (IsTailIn state.now (string_bytes tail.new)) }
+    requires { show_text.IsTailIn state.now (string_bytes tail.old) }
+    ensures line { OnOk result (string_bytes text.new ≡ string_bytes text.old ++ show_text.tail_text state.now) }
+    ensures tail { OnOk result (show_text.IsTailIn state.now (string_bytes tail.new)) }
 {
     make_tail(tail, state)?;
     text.push_str(tail)
@@ -134,8 +134,8 @@ pub(crate) fn push_tail(
 /// Makes the tail where there is none.
 #[inline(always)]
 fn make_tail(tail: &mut String, state: &State) -> Result<(), AllocError>
-    requires { IsTailIn state.now (string_bytes tail.old) }
-    ensures { OnOk result (string_bytes tail.new ≡ tail_text state.now) }
+    requires { show_text.IsTailIn state.now (string_bytes tail.old) }
+    ensures { OnOk result (string_bytes tail.new ≡ show_text.tail_text state.now) }
 {
     if !tail.is_empty() {
         return Ok(());
@@ -145,7 +145,7 @@ fn make_tail(tail: &mut String, state: &State) -> Result<(), AllocError>
 
 #[tactic(auto, unfolding(crate::specs::ShowText::state_text))]
 fn push_state(text: &mut String, state: &State) -> Result<(), AllocError>
-    ensures { OnOk result (string_bytes text.new ≡ string_bytes text.old ++ (codes " " ++ (state_text state.now ++ codes "\n"))) }
+    ensures { OnOk result (string_bytes text.new ≡ string_bytes text.old ++ (codes " " ++ (show_text.state_text state.now ++ codes "\n"))) }
 {
     text.push_str(" from ")?;
     push_digits(text, &state.source.prefix.0)?;
@@ -157,7 +157,7 @@ fn push_state(text: &mut String, state: &State) -> Result<(), AllocError>
 }
 
 pub(crate) fn push_bitmap(text: &mut String, set: &NumberSet) -> Result<(), AllocError>
-    ensures { OnOk result (string_bytes text.new ≡ string_bytes text.old ++ bitmap_text set.now) }
+    ensures { OnOk result (string_bytes text.new ≡ string_bytes text.old ++ show_text.bitmap_text set.now) }
 {
     if set.count() == 0 {
         return text.push_str("-");

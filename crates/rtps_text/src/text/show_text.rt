@@ -1,10 +1,8 @@
 ghost use Rattle.std.specs.Prelude.{◌≡◌, [], ◌∷◌, ◌++◌, ◌<◌, length, IfOk, MatchOption, OnOk, Some, None, string_bytes};
-ghost use Rattle.rtps_receiver.specs.Acts.{state_behind};
-ghost use Rattle.rtps_wire.specs.Message.{flags_of};
+ghost use Rattle.rtps_receiver.specs.Acts as acts;
 ghost use Rattle.rtps_wire.specs.Message as message;
-ghost use Rattle.rtps_wire.specs.Reading.{outcomes_left};
-ghost use Rattle.rtps_wire.specs.Values.{body_value, item_value};
-ghost use Rattle.rtps_text.specs.ShowText.{IsTailIn, says_of_state, IsShownWith, datagram_line, datagram_text, outcomes_text, refusal_line, said_at, text_from, unread_line};
+ghost use Rattle.rtps_wire.specs.Reading as reading;
+ghost use Rattle.rtps_wire.specs.Values as values;
 ghost use Rattle.rtps_text.specs.ShowText as show_text_spec;
 
 use crate::text::item_lines::{
@@ -32,7 +30,7 @@ pub fn show_text(
     recording: &Recording,
     fragments: Fragments,
 ) -> Result<(String, Ending), Memory>
-    ensures { IfOk result (λ shown. IsShownWith fragments recording.now (string_bytes shown.0) shown.1) }
+    ensures { IfOk result (λ shown. show_text_spec.IsShownWith fragments recording.now (string_bytes shown.0) shown.1) }
 {
     let mut text = String::new(alloc);
     let mut tail = String::new(alloc);
@@ -46,7 +44,7 @@ fn push_datagrams(
     recording: &Recording,
     fragments: Fragments,
 ) -> Result<(), AllocError>
-    ensures { OnOk result (string_bytes text.new ≡ string_bytes text.old ++ text_from fragments 1 recording.now.datagrams) }
+    ensures { OnOk result (string_bytes text.new ≡ string_bytes text.old ++ show_text_spec.text_from fragments 1 recording.now.datagrams) }
 {
     let mut number = 0;
     for octets in recording.datagrams() {
@@ -62,7 +60,7 @@ fn push_datagram(
     number: usize,
     datagram: ShownDatagram<'_>,
 ) -> Result<(), AllocError>
-    ensures { OnOk result (string_bytes text.new ≡ string_bytes text.old ++ datagram_text datagram.entry.fragments number datagram.entry.octets.now) }
+    ensures { OnOk result (string_bytes text.new ≡ string_bytes text.old ++ show_text_spec.datagram_text datagram.entry.fragments number datagram.entry.octets.now) }
 {
     match Items::open(datagram.octets) {
         Ok((header, items)) => {
@@ -78,7 +76,7 @@ fn push_datagram(
 }
 
 fn push_opened(text: &mut String, number: usize, header: &Header) -> Result<(), AllocError>
-    ensures { OnOk result (string_bytes text.new ≡ string_bytes text.old ++ datagram_line number (Some header.now)) }
+    ensures { OnOk result (string_bytes text.new ≡ string_bytes text.old ++ show_text_spec.datagram_line number (Some header.now)) }
 {
     push_field(text, "datagram ", number)?;
     push_origin(text, header.version, header.vendor, header.prefix)
@@ -94,7 +92,7 @@ fn push_items(
     datagram: ShownDatagram<'_>,
 ) -> Result<(), AllocError>
     ensures { OnOk result (string_bytes text.new
-        ≡ string_bytes text.old ++ outcomes_text (show_text_spec.fragments_at datagram.entry.fragments datagram.entry.octets.now) start (outcomes_left items.entry)) }
+        ≡ string_bytes text.old ++ show_text_spec.outcomes_text (show_text_spec.fragments_at datagram.entry.fragments datagram.entry.octets.now) start (reading.outcomes_left items.entry)) }
 {
     let mut state = start;
     let mut items = items;
@@ -123,7 +121,7 @@ fn push_items(
 #[inline(always)]
 fn fragments_at<'a>(datagram: ShownDatagram<'a>, at: usize) -> Option<&'a [u8]>
     ensures { MatchOption result (show_text_spec.fragments_at datagram.entry.fragments datagram.entry.octets.now at ≡ None)
-        (λ submessage. show_text_spec.fragments_at datagram.entry.fragments datagram.entry.octets.now at ≡ said_at submessage.now) }
+        (λ submessage. show_text_spec.fragments_at datagram.entry.fragments datagram.entry.octets.now at ≡ show_text_spec.said_at submessage.now) }
 {
     match datagram.fragments {
         Fragments::Skipped => None,
@@ -134,7 +132,7 @@ fn fragments_at<'a>(datagram: ShownDatagram<'a>, at: usize) -> Option<&'a [u8]>
 /// The order of the octets of a submessage's numbers, by its flags.
 fn order_of(submessage: &[u8]) -> Order
     requires { 1 < length submessage.now }
-    ensures { result ≡ message.order_of (flags_of submessage.now) }
+    ensures { result ≡ message.order_of (message.flags_of submessage.now) }
 {
     if submessage[1] & 1 != 0 {
         Order::Little
@@ -152,9 +150,9 @@ fn push_said(
     id: u8,
     submessage: &[u8],
 ) -> Result<(), AllocError>
-    requires { IsTailIn state.now (string_bytes tail.old) }
-    ensures line { OnOk result (string_bytes text.new ≡ string_bytes text.old ++ unread_line state.now at id (said_at submessage.now)) }
-    ensures tail { OnOk result (IsTailIn state.now (string_bytes tail.new)) }
+    requires { show_text_spec.IsTailIn state.now (string_bytes tail.old) }
+    ensures line { OnOk result (string_bytes text.new ≡ string_bytes text.old ++ show_text_spec.unread_line state.now at id (show_text_spec.said_at submessage.now)) }
+    ensures tail { OnOk result (show_text_spec.IsTailIn state.now (string_bytes tail.new)) }
 {
     if let Some(read) = DataFrag::read(submessage) {
         return push_data_frag(text, tail, state, at, &read);
@@ -171,9 +169,9 @@ fn push_said(
 /// Takes what an item says of the state of what follows it. Where it says something, the tail is given up.
 #[inline(always)]
 fn interpret(state: &mut State, tail: &mut String, item: &Item<'_>)
-    requires { IsTailIn state.old (string_bytes tail.old) }
-    ensures state { state.new ≡ state_behind state.old (item_value item.now ∷ []) }
-    ensures tail { IsTailIn state.new (string_bytes tail.new) }
+    requires { show_text_spec.IsTailIn state.old (string_bytes tail.old) }
+    ensures state { state.new ≡ acts.state_behind state.old (values.item_value item.now ∷ []) }
+    ensures tail { show_text_spec.IsTailIn state.new (string_bytes tail.new) }
 {
     state.interpret(item);
     if says_state(&item.body) {
@@ -183,7 +181,7 @@ fn interpret(state: &mut State, tail: &mut String, item: &Item<'_>)
 
 #[inline(always)]
 fn says_state(body: &Body<'_>) -> bool
-    ensures { result ≡ says_of_state (body_value body.now) }
+    ensures { result ≡ show_text_spec.says_of_state (values.body_value body.now) }
 {
     matches!(
         body,
@@ -192,7 +190,7 @@ fn says_state(body: &Body<'_>) -> bool
 }
 
 fn push_refusal(text: &mut String, refusal: Refusal) -> Result<(), AllocError>
-    ensures { OnOk result (string_bytes text.new ≡ string_bytes text.old ++ refusal_line refusal) }
+    ensures { OnOk result (string_bytes text.new ≡ string_bytes text.old ++ show_text_spec.refusal_line refusal) }
 {
     writeln!(text, "refused {} {}", refusal.at, refusal.fault)
 }

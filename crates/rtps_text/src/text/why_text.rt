@@ -1,11 +1,11 @@
 ghost use Rattle.std.specs.Prelude.{◌≡◌, ◌+◌, ◌++◌, IfOk, OnOk, Some, flat_map, string_bytes};
-ghost use Rattle.rtps_evidence.specs.Explanation.{evidence_value, explanation_value};
-ghost use Rattle.rtps_evidence.specs.Grounds.{grounds_value};
-ghost use Rattle.rtps_report.specs.Asked.{asked_value};
-ghost use Rattle.rtps_report.specs.FullReport.{report_value};
+ghost use Rattle.rtps_evidence.specs.Explanation as explanation;
+ghost use Rattle.rtps_evidence.specs.Grounds as grounds;
+ghost use Rattle.rtps_report.specs.Asked as asked;
+ghost use Rattle.rtps_report.specs.FullReport as full_report;
 ghost use Rattle.rtps_report.specs.Reported as reported;
-ghost use Rattle.rtps_report.specs.Talk.{talk_value};
-ghost use Rattle.rtps_text.specs.WhyText.{IsWhyText, advice_line, ends_lines, explanation_text, kept_text, missed_lines, not_received_line, numbers_lines, pair_line, rest_lines, row_text, row_told, shown_by, span_line, until_text};
+ghost use Rattle.rtps_report.specs.Talk as talk_spec;
+ghost use Rattle.rtps_text.specs.WhyText as why_text;
 
 use crate::text::audit_text::ReportCountsLine;
 use crate::text::outcome_lines::{push_late, push_outcomes, push_silences, push_wait};
@@ -33,7 +33,7 @@ struct RowTelling<'r, 'a> {
 
 /// What `why` prints of a report: each row, what its verdict rests on and what to do, and how the run ends.
 pub fn why_text(alloc: Global, report: &FullReport<'_>) -> Result<String, AllocError>
-    ensures { IfOk result (λ text. IsWhyText (asked_value report.now.asked.now) report.now.recording.now (report_value report.now) (string_bytes text)) }
+    ensures { IfOk result (λ text. why_text.IsWhyText (asked.asked_value report.now.asked.now) report.now.recording.now (full_report.report_value report.now) (string_bytes text)) }
 {
     let explained = &report.explained;
     let telling = RowTelling {
@@ -60,7 +60,7 @@ fn push_rows(
     telling: RowTelling<'_, '_>,
 ) -> Result<(), AllocError>
     ensures { OnOk result (string_bytes text.new
-        ≡ string_bytes text.old ++ flat_map (λ row. row_text (row_told telling.entry) (explanation_value row)) rows.now) }
+        ≡ string_bytes text.old ++ flat_map (λ row. why_text.row_text (why_text.row_told telling.entry) (explanation.explanation_value row)) rows.now) }
 {
     for row in rows {
         push_told_row(alloc, text, row, telling)?;
@@ -75,7 +75,7 @@ fn push_told_row(
     telling: RowTelling<'_, '_>,
 ) -> Result<(), AllocError>
     ensures { OnOk result (string_bytes text.new
-        ≡ string_bytes text.old ++ row_text (row_told telling.entry) (explanation_value row.now)) }
+        ≡ string_bytes text.old ++ why_text.row_text (why_text.row_told telling.entry) (explanation.explanation_value row.now)) }
 {
     let RowTelling { talk, lost, .. } = telling;
     let times = lost.times;
@@ -94,7 +94,7 @@ fn push_ends(
     telling: RowTelling<'_, '_>,
 ) -> Result<(), AllocError>
     ensures { OnOk result (string_bytes text.new
-        ≡ string_bytes text.old ++ ends_lines (row_told telling.entry) (explanation_value row.now)) }
+        ≡ string_bytes text.old ++ why_text.ends_lines (why_text.row_told telling.entry) (explanation.explanation_value row.now)) }
 {
     let RowTelling { talk, lost, .. } = telling;
     push_late(text, talk.late(row.pair), lost.times)?;
@@ -109,7 +109,7 @@ fn push_numbers(
     telling: RowTelling<'_, '_>,
 ) -> Result<(), AllocError>
     ensures { OnOk result (string_bytes text.new
-        ≡ string_bytes text.old ++ numbers_lines (row_told telling.entry) (explanation_value row.now)) }
+        ≡ string_bytes text.old ++ why_text.numbers_lines (why_text.row_told telling.entry) (explanation.explanation_value row.now)) }
 {
     if is_clean(telling.scope.tail, &row.evidence) {
         return Ok(());
@@ -124,7 +124,7 @@ fn push_advice(
     telling: RowTelling<'_, '_>,
 ) -> Result<(), AllocError>
     ensures { OnOk result (string_bytes text.new
-        ≡ string_bytes text.old ++ advice_line (row_told telling.entry) (explanation_value row.now)) }
+        ≡ string_bytes text.old ++ why_text.advice_line (why_text.row_told telling.entry) (explanation.explanation_value row.now)) }
 {
     let RowTelling { scope, talk, lost } = telling;
     let times = lost.times;
@@ -137,7 +137,7 @@ fn push_advice(
 
 /// Appends the line of a pair with its verdict.
 fn push_pair(text: &mut String, row: &Explanation<'_>, talk: &Talk<'_>) -> Result<(), AllocError>
-    ensures { OnOk result (string_bytes text.new ≡ string_bytes text.old ++ pair_line (talk_value talk.now) (explanation_value row.now)) }
+    ensures { OnOk result (string_bytes text.new ≡ string_bytes text.old ++ why_text.pair_line (talk_spec.talk_value talk.now) (explanation.explanation_value row.now)) }
 {
     let writer = PairedText(row.pair.writer, talk.end(row.pair.writer));
     let reader = PairedText(row.pair.reader, talk.end(row.pair.reader));
@@ -147,7 +147,7 @@ fn push_pair(text: &mut String, row: &Explanation<'_>, talk: &Talk<'_>) -> Resul
 
 /// Appends what stands behind the line of a pair.
 fn push_row(text: &mut String, row: &Explanation<'_>, times: &Times) -> Result<(), AllocError>
-    ensures { OnOk result (string_bytes text.new ≡ string_bytes text.old ++ explanation_text times.now (explanation_value row.now)) }
+    ensures { OnOk result (string_bytes text.new ≡ string_bytes text.old ++ why_text.explanation_text times.now (explanation.explanation_value row.now)) }
 {
     let evidence = &row.evidence;
     writeln!(
@@ -172,7 +172,7 @@ fn push_row(text: &mut String, row: &Explanation<'_>, times: &Times) -> Result<(
 }
 
 fn push_span(text: &mut String, evidence: &Evidence<'_>, times: &Times) -> Result<(), AllocError>
-    ensures { OnOk result (string_bytes text.new ≡ string_bytes text.old ++ span_line times.now evidence.now.in_span) }
+    ensures { OnOk result (string_bytes text.new ≡ string_bytes text.old ++ why_text.span_line times.now evidence.now.in_span) }
 {
     let Some(in_span) = &evidence.in_span else {
         return Ok(());
@@ -183,7 +183,7 @@ fn push_span(text: &mut String, evidence: &Evidence<'_>, times: &Times) -> Resul
 }
 
 fn push_until(text: &mut String, until: Option<u64>, times: &Times) -> Result<(), AllocError>
-    ensures { OnOk result (string_bytes text.new ≡ string_bytes text.old ++ until_text times.now until) }
+    ensures { OnOk result (string_bytes text.new ≡ string_bytes text.old ++ why_text.until_text times.now until) }
 {
     match until {
         Some(datagram) => {
@@ -195,7 +195,7 @@ fn push_until(text: &mut String, until: Option<u64>, times: &Times) -> Result<()
 }
 
 fn push_rest(text: &mut String, evidence: &Evidence<'_>, times: &Times) -> Result<(), AllocError>
-    ensures { OnOk result (string_bytes text.new ≡ string_bytes text.old ++ rest_lines times.now (evidence_value evidence.now)) }
+    ensures { OnOk result (string_bytes text.new ≡ string_bytes text.old ++ why_text.rest_lines times.now (explanation.evidence_value evidence.now)) }
 {
     let numbers = sum_of(evidence.payloads, evidence.gone, evidence.untold);
     writeln!(text, "  received {} of {numbers}", evidence.received)?;
@@ -217,7 +217,7 @@ fn push_missed(
     first: Option<FirstMissed>,
     times: &Times,
 ) -> Result<(), AllocError>
-    ensures { OnOk result (string_bytes text.new ≡ string_bytes text.old ++ missed_lines times.now missed first) }
+    ensures { OnOk result (string_bytes text.new ≡ string_bytes text.old ++ why_text.missed_lines times.now missed first) }
 {
     match first {
         None => Ok(()),
@@ -227,7 +227,7 @@ fn push_missed(
 
 fn push_shown(text: &mut String, evidence: &Evidence<'_>, times: &Times) -> Result<(), AllocError>
     ensures { OnOk result (string_bytes text.new
-        ≡ string_bytes text.old ++ shown_by times.now (reported.number_of evidence.now.verdict) (grounds_value evidence.now.grounds)) }
+        ≡ string_bytes text.old ++ why_text.shown_by times.now (reported.number_of evidence.now.verdict) (grounds.grounds_value evidence.now.grounds)) }
 {
     let number = number_of(&evidence.verdict);
     match evidence.grounds {
@@ -257,7 +257,7 @@ fn push_shown(text: &mut String, evidence: &Evidence<'_>, times: &Times) -> Resu
 struct NotReceivedLine<'t>(&'t Times, Option<NotReceived>);
 
 impl fmt::Display for NotReceivedLine<'_> {
-    ghost output = { λ line. Some (not_received_line line.0.now line.1) };
+    ghost output = { λ line. Some (why_text.not_received_line line.0.now line.1) };
 
     fn fmt<W: fmt::Write>(&self, f: &mut fmt::Formatter<W>) -> fmt::Result {
         match self.1 {
@@ -277,7 +277,7 @@ impl fmt::Display for NotReceivedLine<'_> {
 struct KeptText<'t>(&'t Times, Option<Teller>, Option<Location>);
 
 impl fmt::Display for KeptText<'_> {
-    ghost output = { λ text. Some (kept_text text.0.now text.1 text.2) };
+    ghost output = { λ text. Some (why_text.kept_text text.0.now text.1 text.2) };
 
     #[tactic(auto, unfolding(crate::specs::WhyText::kept_text))]
     fn fmt<W: fmt::Write>(&self, f: &mut fmt::Formatter<W>) -> fmt::Result {

@@ -1,6 +1,5 @@
 ghost use Rattle.std.specs.Prelude.{◌≡◌, Ok, MatchResult};
-ghost use Rattle.rtps_tool.specs.Outcomes.{IsFaultOf};
-ghost use Rattle.rtps_tool.specs.Forms.{recording_of, recording_within};
+ghost use Rattle.rtps_tool.specs.Outcomes as outcomes;
 ghost use Rattle.rtps_tool.specs.Forms as forms_spec;
 ghost use Rattle.rtps_capture.specs.declared.captures.Captures.TheVariants.{Classic};
 
@@ -22,7 +21,7 @@ use std::alloc::Global;
 ///
 /// An `Err` is the first fault of the input, or [`RecFault::Memory`], which may come before any other.
 pub fn read_recording(alloc: Global, input: &[u8]) -> Result<Recording, RecFault>
-    ensures { MatchResult result (λ recording. recording_of input.now ≡ Ok recording) (IsFaultOf (recording_of input.now)) }
+    ensures { MatchResult result (λ recording. forms_spec.recording_of input.now ≡ Ok recording) (outcomes.IsFaultOf (forms_spec.recording_of input.now)) }
 {
     read_recording_within(alloc, Limits::usual(), input)
 }
@@ -35,8 +34,8 @@ pub fn read_recording_within(
     input: &[u8],
 ) -> Result<Recording, RecFault>
     ensures { MatchResult result
-        (λ recording. recording_within limits Classic input.now ≡ Ok recording)
-        (IsFaultOf (recording_within limits Classic input.now)) }
+        (λ recording. forms_spec.recording_within limits Classic input.now ≡ Ok recording)
+        (outcomes.IsFaultOf (forms_spec.recording_within limits Classic input.now)) }
 {
     if input.len() as u64 > limits.octets {
         return Err(RecFault::TooMany);

@@ -1,9 +1,8 @@
 ghost use Rattle.std.specs.Prelude.{◌≡◌, ◌≤◌, ◌∷◌, ◌++◌, [], length, take, ℕ, List, None, Ok, MatchResult};
 ghost use Rattle.std.specs.List.{position};
 ghost use Rattle.std.specs.Str.Lines.{strip_carriage_return};
-ghost use Rattle.rtps_tool.specs.Outcomes.{IsFaultOf};
-ghost use Rattle.rtps_tool.specs.Lines.{is_line_feed};
-ghost use Rattle.rtps_tool.specs.RecordingText.{recording_of_lines, recording_of_text};
+ghost use Rattle.rtps_tool.specs.Outcomes as outcomes;
+ghost use Rattle.rtps_tool.specs.Lines as lines;
 ghost use Rattle.rtps_tool.specs.RecordingText as recording_text;
 
 use crate::faults::RecFault;
@@ -16,7 +15,7 @@ pub(crate) const DIGITS_MAX: usize = 131_070;
 
 /// The place of the first line feed.
 pub(crate) fn line_end(text: &[u8]) -> Option<usize>
-    ensures { result ≡ position is_line_feed text.now }
+    ensures { result ≡ position lines.is_line_feed text.now }
 {
     memchr::memchr(b'\n', text)
 }
@@ -24,8 +23,8 @@ pub(crate) fn line_end(text: &[u8]) -> Option<usize>
 /// The place of the first line feed of a text in front of which so much has none.
 pub(crate) fn line_end_behind(text: &[u8], known: usize) -> Option<usize>
     requires within { known ≤ length text.now }
-    requires none { position is_line_feed (take known text.now) ≡ None }
-    ensures { result ≡ position is_line_feed text.now }
+    requires none { position lines.is_line_feed (take known text.now) ≡ None }
+    ensures { result ≡ position lines.is_line_feed text.now }
 {
     Some(known + line_end(&text[known..])?)
 }
@@ -43,8 +42,8 @@ pub(crate) fn without_return(line: &[u8]) -> &[u8]
 /// Reads a recording of so many datagrams at most from a text: one datagram a line, in hexadecimal digits of either case.
 pub(crate) fn read_text(alloc: Global, most: u64, text: &[u8]) -> Result<Recording, RecFault>
     ensures { MatchResult result
-        (λ recording. recording_of_text most text.now ≡ Ok recording)
-        (IsFaultOf (recording_of_text most text.now)) }
+        (λ recording. recording_text.recording_of_text most text.now ≡ Ok recording)
+        (outcomes.IsFaultOf (recording_text.recording_of_text most text.now)) }
 {
     let mut reader = LineReader::new(alloc);
     let from = reader.read_complete(most, text, 0)?;
@@ -59,9 +58,9 @@ pub(crate) fn read_line(
     number: u64,
     line: &[u8],
 ) -> Result<(), RecFault>
-    ensures { let defined = recording_of_lines most number (length datagrams.old) (line.now ∷ []) in MatchResult result
+    ensures { let defined = recording_text.recording_of_lines most number (length datagrams.old) (line.now ∷ []) in MatchResult result
         (λ _. (found : List (List ℕ)) × (defined ≡ Ok found) × (datagrams.new ≡ datagrams.old ++ found))
-        (IsFaultOf defined) }
+        (outcomes.IsFaultOf defined) }
 {
     if !is_datagram_line(line) {
         return Ok(());

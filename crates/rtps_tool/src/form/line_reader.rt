@@ -1,8 +1,8 @@
 ghost use Rattle.std.specs.Prelude.{◌≡◌, ◌+◌, ◌^◌, ◌<◌, ◌≤◌, [], None, Ok, length, take, drop, MatchResult};
 ghost use Rattle.std.specs.List.{position};
-ghost use Rattle.rtps_tool.specs.Outcomes.{IsFaultOf};
-ghost use Rattle.rtps_tool.specs.Lines.{is_line_feed};
-ghost use Rattle.rtps_tool.specs.Unfinished.{IsFaultWithin, IsReadUpTo, recording_behind};
+ghost use Rattle.rtps_tool.specs.Outcomes as outcomes;
+ghost use Rattle.rtps_tool.specs.Lines as lines_spec;
+ghost use Rattle.rtps_tool.specs.Unfinished as unfinished;
 
 use crate::faults::RecFault;
 use crate::form::hex_lines::{DIGITS_MAX, line_end_behind, read_line, without_return};
@@ -49,10 +49,10 @@ impl LineReader {
     ) -> Result<usize, RecFault>
         requires in_range { self.old.lines + length text.old < 2 ^ 64 }
         requires within { known ≤ length text.old }
-        requires goes_on { position is_line_feed (take known text.old) ≡ None }
+        requires goes_on { position lines_spec.is_line_feed (take known text.old) ≡ None }
         ensures { MatchResult result
-            (λ kept. (kept ≤ 131071) × (kept ≤ length text.new) × IsReadUpTo most self.old text.old self.new (take kept text.new))
-            (IsFaultWithin most self.old text.old) }
+            (λ kept. (kept ≤ 131071) × (kept ≤ length text.new) × unfinished.IsReadUpTo most self.old text.old self.new (take kept text.new))
+            (unfinished.IsFaultWithin most self.old text.old) }
     {
         let from = self.read_complete(most, text, known)?;
         let kept = self.kept_of(most, &text[from..])?;
@@ -65,10 +65,10 @@ impl LineReader {
     /// Reads the end of a text: its last line, where that has no end.
     pub(crate) fn finish(&mut self, most: u64, left: &[u8]) -> Result<(), RecFault>
         requires in_range { self.old.lines + length left.now < 2 ^ 64 }
-        requires goes_on { position is_line_feed left.now ≡ None }
+        requires goes_on { position lines_spec.is_line_feed left.now ≡ None }
         ensures { MatchResult result
-            (λ _. recording_behind most self.old.datagrams self.old.lines left.now ≡ Ok self.new.datagrams)
-            (IsFaultOf (recording_behind most self.old.datagrams self.old.lines left.now)) }
+            (λ _. unfinished.recording_behind most self.old.datagrams self.old.lines left.now ≡ Ok self.new.datagrams)
+            (outcomes.IsFaultOf (unfinished.recording_behind most self.old.datagrams self.old.lines left.now)) }
     {
         if left.is_empty() {
             return Ok(());
@@ -86,10 +86,10 @@ impl LineReader {
     ) -> Result<usize, RecFault>
         requires in_range { self.old.lines + length text.now < 2 ^ 64 }
         requires within { known ≤ length text.now }
-        requires goes_on { position is_line_feed (take known text.now) ≡ None }
+        requires goes_on { position lines_spec.is_line_feed (take known text.now) ≡ None }
         ensures { MatchResult result
-            (λ from. (from ≤ length text.now) × IsReadUpTo most self.old text.now self.new (drop from text.now))
-            (IsFaultWithin most self.old text.now) }
+            (λ from. (from ≤ length text.now) × unfinished.IsReadUpTo most self.old text.now self.new (drop from text.now))
+            (unfinished.IsFaultWithin most self.old text.now) }
     {
         let mut from = 0;
         let mut known = known;
@@ -106,11 +106,11 @@ impl LineReader {
     /// How much is to be kept of a line that goes on: all of it, unless it is too long, and of a long comment its first
     /// octet.
     fn kept_of(&self, most: u64, line: &[u8]) -> Result<usize, RecFault>
-        requires goes_on { position is_line_feed line.now ≡ None }
+        requires goes_on { position lines_spec.is_line_feed line.now ≡ None }
         requires in_range { self.now.lines + length line.now < 2 ^ 64 }
         ensures { MatchResult result
-            (λ kept. (kept ≤ 131071) × (kept ≤ length line.now) × IsReadUpTo most self.now line.now self.now (take kept line.now))
-            (IsFaultWithin most self.now line.now) }
+            (λ kept. (kept ≤ 131071) × (kept ≤ length line.now) × unfinished.IsReadUpTo most self.now line.now self.now (take kept line.now))
+            (unfinished.IsFaultWithin most self.now line.now) }
     {
         if line.len() <= KEPT_MAX {
             return Ok(line.len());

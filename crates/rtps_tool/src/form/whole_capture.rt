@@ -1,8 +1,8 @@
 ghost use Rattle.std.specs.Prelude.{◌≡◌, List, ℕ, length, Ok, IfErr, IfOk, MatchResult};
-ghost use Rattle.rtps_capture.specs.Capture.{AreWithin};
-ghost use Rattle.rtps_report.specs.DatagramSpan.{AreSpans, pieces};
-ghost use Rattle.rtps_tool.specs.Outcomes.{IsFaultOf};
-ghost use Rattle.rtps_tool.specs.RecordingCapture.{octets_in, recording_of_capture};
+ghost use Rattle.rtps_capture.specs.Capture as capture;
+ghost use Rattle.rtps_report.specs.DatagramSpan as datagram_span;
+ghost use Rattle.rtps_tool.specs.Outcomes as outcomes;
+ghost use Rattle.rtps_tool.specs.RecordingCapture as recording_capture;
 
 use crate::faults::RecFault;
 use rtps_capture::{ByteRange, Captures};
@@ -18,8 +18,8 @@ pub(crate) fn read_capture(
     octets: Vec<u8>,
 ) -> Result<Recording, RecFault>
     ensures { MatchResult result
-        (λ recording. recording_of_capture captures most octets.items ≡ Ok recording)
-        (IsFaultOf (recording_of_capture captures most octets.items)) }
+        (λ recording. recording_capture.recording_of_capture captures most octets.items ≡ Ok recording)
+        (outcomes.IsFaultOf (recording_capture.recording_of_capture captures most octets.items)) }
 {
     let reading = rtps_capture::read_capture(alloc, captures, octets, most)?;
     let spans = spans_of(alloc, &reading.datagrams)?;
@@ -47,8 +47,8 @@ pub(crate) fn read_capture(
 
 /// The spans of these ranges. `Memory` is answered, too, where one has none.
 fn spans_of(alloc: Global, ranges: &[ByteRange]) -> Result<Vec<DatagramSpan>, RecFault>
-    ensures octets { IfOk result (λ spans. (octets : List ℕ) → pieces octets spans.items ≡ octets_in octets ranges.now) }
-    ensures within { IfOk result (λ spans. (octets : List ℕ) → AreWithin (length octets) ranges.now → AreSpans octets spans.items) }
+    ensures octets { IfOk result (λ spans. (octets : List ℕ) → datagram_span.pieces octets spans.items ≡ recording_capture.octets_in octets ranges.now) }
+    ensures within { IfOk result (λ spans. (octets : List ℕ) → capture.AreWithin (length octets) ranges.now → datagram_span.AreSpans octets spans.items) }
     ensures err { IfErr result (λ fault. fault ≡ RecFault.Memory) }
 {
     let mut spans = Vec::with_capacity(alloc, ranges.len())?;

@@ -1,37 +1,38 @@
 use Rattle.std.proofs.Common.{◌∙◌, Bor, ℕ, List, Option, ap, map, string_bytes, subst}
-use Rattle.rtps_evidence.specs.Kinds.{LostValue, lost_value}
-use Rattle.rtps_evidence.specs.Times.{TimesValue}
+use Rattle.rtps_evidence.specs.Kinds as kinds
+use Rattle.rtps_evidence.specs.Times as times
 use Rattle.rtps_evidence.specs.declared.kinds.LostNumbers.{LostNumbers}
-use Rattle.rtps_report.specs.Vocabulary.{Explanation, explanation_value}
+use Rattle.rtps_evidence.specs.declared.explanation.Explanation.{Explanation}
+use Rattle.rtps_evidence.specs.Explanation as explanation
 use Rattle.rtps_report.specs.declared.advice.Scope.{Scope}
-use Rattle.rtps_report.specs.Asked.{asked_value}
-use Rattle.rtps_report.specs.ByTopic.{AreByTopic}
-use Rattle.rtps_report.specs.Events.{EventValue, event_value, events_of}
-use Rattle.rtps_report.specs.FullReport.{report_value}
-use Rattle.rtps_report.specs.NoteFacts.{note_facts, scope_of}
-use Rattle.rtps_report.specs.SideFacts.{side_facts}
-use Rattle.rtps_policies.specs.Unmatched.{unmatched_value}
+use Rattle.rtps_report.specs.Asked as asked
+use Rattle.rtps_report.specs.ByTopic as by_topic
+use Rattle.rtps_report.specs.Events as events
+use Rattle.rtps_report.specs.FullReport as full_report
+use Rattle.rtps_report.specs.NoteFacts as note_facts
+use Rattle.rtps_report.specs.SideFacts as side_facts
+use Rattle.rtps_policies.specs.Unmatched as unmatched
 use Rattle.rtps_policies.specs.declared.unmatched.Unmatched.{Unmatched}
-use Rattle.rtps_report.specs.Talk.{left_out_value, talk_value}
+use Rattle.rtps_report.specs.Talk as talk_spec
 use Rattle.rtps_report.specs.declared.talk.LeftOut.{LeftOut}
 use Rattle.rtps_report.specs.declared.note_facts.NoteFacts.{NoteFacts}
 use Rattle.rtps_report.specs.declared.side_facts.SideFacts.{SideFacts}
-use Rattle.rtps_lines.specs.Notes.{talking_names}
-use Rattle.rtps_check.specs.CheckText.{IsTextBy}
-use Rattle.rtps_check.specs.TalkText.{AreByTopic as UnmatchedByTopic, AreLeftByTopic}
+use Rattle.rtps_lines.specs.Notes as notes
+use Rattle.rtps_check.specs.CheckText as check_text
+use Rattle.rtps_check.specs.TalkText as talk_text
 use Rattle.rtps_check.proofs.checked_text.check_text.Goals as goal
 
 pub returns : goal.returns
 returns c =
     let report = c.args.report.now in
-    let asked = asked_value report.asked.now in
+    let asked = asked.asked_value report.asked.now in
     let recording = report.recording.now in
     let rows = c.in_ok-rows.rows.items in
-    let talking = map (λ (one : Bor Unmatched). unmatched_value one.now) c.in_ok-talking.talking.items in
-    let left_out = map left_out_value c.in_ok-left_out.left_out.items in
+    let talking = map (λ (one : Bor Unmatched). unmatched.unmatched_value one.now) c.in_ok-talking.talking.items in
+    let left_out = map talk_spec.left_out_value c.in_ok-left_out.left_out.items in
     let text = string_bytes c.in_ok-text.text in
-    let IsText = λ (scope : Scope) (lost : List LostValue) (remedy : List ℕ) (happened : List EventValue) (times : TimesValue) (facts : NoteFacts) (side : Option SideFacts) (all : List Explanation) (talk : List ℕ) (left : List LeftOut).
-    IsTextBy scope (record {
+    let IsText = λ (scope : Scope) (lost : List kinds.LostValue) (remedy : List ℕ) (happened : List events.EventValue) (times : times.TimesValue) (facts : NoteFacts) (side : Option SideFacts) (all : List Explanation) (talk : List ℕ) (left : List LeftOut).
+    check_text.IsTextBy scope (record {
       times = times;
       lost = lost;
       remedy = remedy;
@@ -39,41 +40,41 @@ returns c =
       facts = facts;
       side = side;
       talking = talk;
-      left_out = map left_out_value left;
-      talk = talk_value report.talk;
+      left_out = map talk_spec.left_out_value left;
+      talk = talk_spec.talk_value report.talk;
       certain = asked.certain;
       ending = report.ending;
-    }) (map explanation_value all) text in
-    let scope = scope_of asked recording (report_value report) in
-    let lost = map lost_value report.explained.lost.items in
+    }) (map explanation.explanation_value all) text in
+    let scope = note_facts.scope_of asked recording (full_report.report_value report) in
+    let lost = map kinds.lost_value report.explained.lost.items in
     let times = recording.times in
-    let facts = note_facts asked recording (report_value report) in
-    let side = side_facts (report_value report) in
-    let happened = events_of asked (report_value report) in
-    let kept = map lost_value c.deref-4.result.now in
+    let facts = note_facts.note_facts asked recording (full_report.report_value report) in
+    let side = side_facts.side_facts (full_report.report_value report) in
+    let happened = events.events_of asked (full_report.report_value report) in
+    let kept = map kinds.lost_value c.deref-4.result.now in
     let own = c.deref-5.result.now in
     let remedy = string_bytes c.in_ok-remedy.remedy in
     let told = c.deref-6.result.now in
-    let known = map event_value c.deref-7.result.now in
+    let known = map events.event_value c.deref-7.result.now in
     let those = c.deref-8.result.now in
     let these = c.deref-9.result.now in
     record {
       rows = rows;
-      rows_by_topic = subst (λ all. AreByTopic all rows) c.deref.ensures.value c.in_ok-rows.ensures;
+      rows_by_topic = subst (λ all. by_topic.AreByTopic all rows) c.deref.ensures.value c.in_ok-rows.ensures;
       talking = talking;
-      talking_by_topic = subst (λ (all : List Unmatched). UnmatchedByTopic (map unmatched_value all) talking) c.deref-2.ensures.value c.in_ok-talking.ensures;
+      talking_by_topic = subst (λ (all : List Unmatched). talk_text.AreByTopic (map unmatched.unmatched_value all) talking) c.deref-2.ensures.value c.in_ok-talking.ensures;
       left_out = left_out;
-      left_out_by_topic = subst (λ (all : List LeftOut). AreLeftByTopic (map left_out_value all) left_out) c.deref-3.ensures.value c.in_ok-left_out.ensures;
+      left_out_by_topic = subst (λ (all : List LeftOut). talk_text.AreLeftByTopic (map talk_spec.left_out_value all) left_out) c.deref-3.ensures.value c.in_ok-left_out.ensures;
       remedy = remedy;
       is_remedy = c.in_ok-remedy.ensures;
-      is_text = subst (λ left. IsText scope lost remedy happened times facts side rows (talking_names talking) left) c.deref-9.ensures.value
+      is_text = subst (λ left. IsText scope lost remedy happened times facts side rows (notes.talking_names talking) left) c.deref-9.ensures.value
           (subst (λ talk. IsText scope lost remedy happened times facts side rows talk these) (c.deref-8.ensures ∙ c.in_ok-names.ensures)
-          (subst (λ all. IsText scope lost remedy all times facts side rows those these) (ap (map event_value) c.deref-7.ensures.value ∙ c.in_ok-events.ensures)
+          (subst (λ all. IsText scope lost remedy all times facts side rows those these) (ap (map events.event_value) c.deref-7.ensures.value ∙ c.in_ok-events.ensures)
           (subst (λ what. IsText scope lost what known times facts side rows those these) c.deref-6.ensures
           (subst (λ all. IsText scope lost told known times facts side all those these) c.deref-5.ensures.value
           (subst (λ beside. IsText scope lost told known times facts beside own those these) c.facts_of_side.ensures
           (subst (λ weak. IsText scope lost told known times weak c.facts_of_side.result own those these) c.notes_on.ensures
           (subst (λ all. IsText scope lost told known all c.notes_on.result c.facts_of_side.result own those these) c.times.ensures
-          (subst (λ (some : List LostNumbers). IsText scope (map lost_value some) told known c.times.result.now c.notes_on.result c.facts_of_side.result own those these) c.deref-4.ensures.value
+          (subst (λ (some : List LostNumbers). IsText scope (map kinds.lost_value some) told known c.times.result.now c.notes_on.result c.facts_of_side.result own those these) c.deref-4.ensures.value
           (subst (λ first. IsText first kept told known c.times.result.now c.notes_on.result c.facts_of_side.result own those these) c.scope_of.ensures c.in_ok-text.ensures)))))))));
     }

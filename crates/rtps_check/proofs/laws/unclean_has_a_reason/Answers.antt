@@ -4,28 +4,31 @@ use Rattle.std.proofs.lemmas.Bool.Decides.{nat_tests}
 use Rattle.std.proofs.lemmas.Bool.{and_cases, and_from, and_parts, false≢true, or_cases, or_parts}
 use Rattle.std.proofs.lemmas.List.Sums.{sum_by-cons}
 use Rattle.std.specs.List.{list_all}
-use Rattle.rtps_evidence.specs.Clean.{has_all, is_begun, is_clean as is_clean_in, is_complete as complete_in, is_open, is_tail as is_tail_in, is_whole, loses_none}
-use Rattle.rtps_report.specs.Findings.{are_none, findings_of}
-use Rattle.rtps_report.specs.FullReport.{facts_with}
-use Rattle.rtps_report.specs.Reported.{is_complete}
-use Rattle.rtps_report.specs.RowFacts.{is_certain, is_clean, is_clean_by, is_held_in, outcomes_by, outcomes_of}
-use Rattle.rtps_report.specs.Totals.{is_unclean, lost_of, totals_of}
-use Rattle.rtps_report.specs.Vocabulary.{Complete, Conflict, EvidenceValue, ExplanationValue, InSpan, Open, Outcomes, Unfounded, Verdict}
+use Rattle.rtps_evidence.specs.Clean as clean
+use Rattle.rtps_report.specs.Findings as findings_spec
+use Rattle.rtps_report.specs.FullReport as full_report
+use Rattle.rtps_report.specs.Reported as reported
+use Rattle.rtps_report.specs.RowFacts as row_facts
+use Rattle.rtps_report.specs.Totals as totals
+use Rattle.rtps_evidence.specs.Explanation as explanation
+use Rattle.rtps_evidence.specs.declared.in_span.InSpan.{InSpan}
+use Rattle.rtps_evidence.specs.declared.outcome.Outcomes.{Outcomes}
+use Rattle.rtps_audit.specs.declared.verdict.Verdict.{Verdict}
 use Rattle.rtps_report.specs.declared.best_effort.BestEffortNumbers.{BestEffortNumbers}
-use Rattle.rtps_report.specs.declared.findings.Ending.TheVariants.{Clean, Unclean, Unmet}
+use Rattle.rtps_report.specs.declared.findings.Ending.{Ending}
 use Rattle.rtps_report.specs.declared.findings.FewRows.{FewRows}
 use Rattle.rtps_report.specs.declared.findings.Findings.{Findings}
 use Rattle.rtps_report.specs.declared.advice.Scope.{Scope}
 use Rattle.rtps_report.specs.declared.totals.Totals.{Totals}
-use Rattle.rtps_lines.specs.Causes.{cause, causes_of, discovery_causes, empty_cause, few_cause, findings_in, incomplete_words, lossy_cause, lost_cause, lost_words, missed_words, not_told_cause, order_causes, row_causes, unanswered_words, uncertain_of, uncertain_words, unsent_words}
-use Rattle.rtps_lines.specs.WayNotes.{swapped_cause, twice_cause}
-use Rattle.rtps_parts.specs.Parts.{WordsValue}
-use Rattle.rtps_check.specs.CheckText.{TellsWhyUnclean}
+use Rattle.rtps_lines.specs.Causes as causes
+use Rattle.rtps_lines.specs.WayNotes as way_notes
+use Rattle.rtps_parts.specs.Parts as parts
+use Rattle.rtps_check.specs.CheckText as check_text
 use Rattle.rtps_check.proofs.laws.unclean_has_a_reason.Goals as goal
 
 -- a row is what it has to be
-abbrev is_met_by : ℕ → ℕ → Bool → EvidenceValue → Bool
-is_met_by from tail certain evidence = is_clean tail evidence && (not certain || is_certain from evidence)
+abbrev is_met_by : ℕ → ℕ → Bool → explanation.EvidenceValue → Bool
+is_met_by from tail certain evidence = row_facts.is_clean tail evidence && (not certain || row_facts.is_certain from evidence)
 
 -- ---- rows that are all clean, and those that are not
 
@@ -62,9 +65,9 @@ lost_kinds held outcomes =
     cond (nat_lt 0 outcomes.missed) 1 0
     + (cond (nat_lt 0 outcomes.unsent) 1 0 + (cond (nat_lt 0 outcomes.unanswered) 1 0 + cond (nat_lt 0 (lost_in held outcomes)) 1 0))
 
-all_there : (held : Bool) (outcomes : Outcomes) → loses_none held outcomes ≡ true → lost_kinds held outcomes ≡ 0
+all_there : (held : Bool) (outcomes : Outcomes) → clean.loses_none held outcomes ≡ true → lost_kinds held outcomes ≡ 0
 all_there held outcomes e =
-    let both = and_parts (has_all outcomes) (not held || (outcomes.likely == 0)) e in
+    let both = and_parts (clean.has_all outcomes) (not held || (outcomes.likely == 0)) e in
     let first = and_parts (outcomes.missed == 0) ((outcomes.unsent == 0) && (outcomes.unanswered == 0)) both.0 in
     let last = and_parts (outcomes.unsent == 0) (outcomes.unanswered == 0) first.1 in
     omega (
@@ -75,8 +78,8 @@ all_there held outcomes e =
       none_of _ (none_lost_in held outcomes both.1),
     )
 
-some_lost : (held : Bool) (outcomes : Outcomes) → loses_none held outcomes ≡ false → 0 < lost_kinds held outcomes
-some_lost held outcomes e = either (and_cases (has_all outcomes) (not held || (outcomes.likely == 0)) e)
+some_lost : (held : Bool) (outcomes : Outcomes) → clean.loses_none held outcomes ≡ false → 0 < lost_kinds held outcomes
+some_lost held outcomes e = either (and_cases (clean.has_all outcomes) (not held || (outcomes.likely == 0)) e)
   where
     later : ((outcomes.unsent == 0) ≡ false) ⊎ ((outcomes.unanswered == 0) ≡ false) → 0 < lost_kinds held outcomes
     later (inl unsent) = omega (arith, one_of _ (positive outcomes.unsent unsent))
@@ -86,56 +89,56 @@ some_lost held outcomes e = either (and_cases (has_all outcomes) (not held || (o
     by (inl missed) = omega (arith, one_of _ (positive outcomes.missed missed))
     by (inr more) = later (and_cases (outcomes.unsent == 0) (outcomes.unanswered == 0) more)
 
-    either : (has_all outcomes ≡ false) ⊎ ((not held || (outcomes.likely == 0)) ≡ false) → 0 < lost_kinds held outcomes
+    either : (clean.has_all outcomes ≡ false) ⊎ ((not held || (outcomes.likely == 0)) ≡ false) → 0 < lost_kinds held outcomes
     either (inl some) = by (and_cases (outcomes.missed == 0) ((outcomes.unsent == 0) && (outcomes.unanswered == 0)) some)
     either (inr likely) = omega (arith, one_of _ (some_lost_in held outcomes likely))
 
-same_complete : (verdict : Verdict) → complete_in verdict ≡ is_complete verdict
-same_complete (Complete last) = refl
-same_complete (Open number) = refl
-same_complete (Conflict number) = refl
-same_complete (Unfounded datagram number) = refl
+same_complete : (verdict : Verdict) → clean.is_complete verdict ≡ reported.is_complete verdict
+same_complete (Verdict.Complete last) = refl
+same_complete (Verdict.Open number) = refl
+same_complete (Verdict.Conflict number) = refl
+same_complete (Verdict.Unfounded datagram number) = refl
 
 -- of a row in a span that is clean nothing is lost
-clean_loses_none : (tail : ℕ) (left held : Bool) (verdict : Verdict) (outcomes : Outcomes) (from base : ℕ) → is_clean_in tail left held verdict outcomes from base ≡ true → loses_none held outcomes ≡ true
+clean_loses_none : (tail : ℕ) (left held : Bool) (verdict : Verdict) (outcomes : Outcomes) (from base : ℕ) → clean.is_clean tail left held verdict outcomes from base ≡ true → clean.loses_none held outcomes ≡ true
 clean_loses_none tail left held verdict outcomes from base e =
-    by (or_cases (complete_in verdict && none) (is_whole held verdict outcomes || (is_tail_in held verdict outcomes from base && few)) e)
+    by (or_cases (clean.is_complete verdict && none) (clean.is_whole held verdict outcomes || (clean.is_tail held verdict outcomes from base && few)) e)
   where
     none : Bool
-    none = loses_none held outcomes
+    none = clean.loses_none held outcomes
 
     few : Bool
     few = left || nat_le outcomes.unconfirmed tail
 
-    lacking : (is_whole held verdict outcomes ≡ true) ⊎ ((is_tail_in held verdict outcomes from base && few) ≡ true) → loses_none held outcomes ≡ true
+    lacking : (clean.is_whole held verdict outcomes ≡ true) ⊎ ((clean.is_tail held verdict outcomes from base && few) ≡ true) → clean.loses_none held outcomes ≡ true
     lacking (inl whole) =
-        let opened = (and_parts held (is_open verdict && (none && (outcomes.unconfirmed == 0))) whole).1 in
-        (and_parts none (outcomes.unconfirmed == 0) (and_parts (is_open verdict) (none && (outcomes.unconfirmed == 0)) opened).1).0
+        let opened = (and_parts held (clean.is_open verdict && (none && (outcomes.unconfirmed == 0))) whole).1 in
+        (and_parts none (outcomes.unconfirmed == 0) (and_parts (clean.is_open verdict) (none && (outcomes.unconfirmed == 0)) opened).1).0
     lacking (inr tails) =
-        let is = (and_parts (is_tail_in held verdict outcomes from base) few tails).0 in
-        (and_parts (is_begun from base) none (and_parts (is_open verdict) (is_begun from base && none) is).1).1
+        let is = (and_parts (clean.is_tail held verdict outcomes from base) few tails).0 in
+        (and_parts (clean.is_begun from base) none (and_parts (clean.is_open verdict) (clean.is_begun from base && none) is).1).1
 
-    by : ((complete_in verdict && none) ≡ true) ⊎ ((is_whole held verdict outcomes || (is_tail_in held verdict outcomes from base && few)) ≡ true) → loses_none held outcomes ≡ true
-    by (inl complete) = (and_parts (complete_in verdict) none complete).1
-    by (inr lacks) = lacking (or_cases (is_whole held verdict outcomes) (is_tail_in held verdict outcomes from base && few) lacks)
+    by : ((clean.is_complete verdict && none) ≡ true) ⊎ ((clean.is_whole held verdict outcomes || (clean.is_tail held verdict outcomes from base && few)) ≡ true) → clean.loses_none held outcomes ≡ true
+    by (inl complete) = (and_parts (clean.is_complete verdict) none complete).1
+    by (inr lacks) = lacking (or_cases (clean.is_whole held verdict outcomes) (clean.is_tail held verdict outcomes from base && few) lacks)
 
-none_lost : (tail received missed : ℕ) (verdict : Verdict) (in_span : Option InSpan) → is_clean_by tail verdict missed in_span ≡ true
-    → lost_kinds (is_held_in in_span) (outcomes_by received missed in_span) ≡ 0
-none_lost tail received missed verdict None e = omega (arith, none_of _ (nothing missed (and_parts (is_complete verdict) (missed == 0) e).1))
+none_lost : (tail received missed : ℕ) (verdict : Verdict) (in_span : Option InSpan) → row_facts.is_clean_by tail verdict missed in_span ≡ true
+    → lost_kinds (row_facts.is_held_in in_span) (row_facts.outcomes_by received missed in_span) ≡ 0
+none_lost tail received missed verdict None e = omega (arith, none_of _ (nothing missed (and_parts (reported.is_complete verdict) (missed == 0) e).1))
 none_lost tail received missed verdict (Some in_span) e =
     all_there in_span.is_held in_span.outcomes (clean_loses_none tail (is_some in_span.until) in_span.is_held verdict in_span.outcomes in_span.from in_span.base e)
 
 -- of a complete row that is not clean something is lost
-complete_lost : (tail received missed : ℕ) (verdict : Verdict) (in_span : Option InSpan) → is_complete verdict ≡ true → is_clean_by tail verdict missed in_span ≡ false
-    → 0 < lost_kinds (is_held_in in_span) (outcomes_by received missed in_span)
-complete_lost tail received missed verdict None complete e = by (and_cases (is_complete verdict) (missed == 0) e)
+complete_lost : (tail received missed : ℕ) (verdict : Verdict) (in_span : Option InSpan) → reported.is_complete verdict ≡ true → row_facts.is_clean_by tail verdict missed in_span ≡ false
+    → 0 < lost_kinds (row_facts.is_held_in in_span) (row_facts.outcomes_by received missed in_span)
+complete_lost tail received missed verdict None complete e = by (and_cases (reported.is_complete verdict) (missed == 0) e)
   where
-    by : (is_complete verdict ≡ false) ⊎ ((missed == 0) ≡ false) → 0 < lost_kinds false (outcomes_by received missed None)
+    by : (reported.is_complete verdict ≡ false) ⊎ ((missed == 0) ≡ false) → 0 < lost_kinds false (row_facts.outcomes_by received missed None)
     by (inl not_complete) = absurd (false≢true (sym not_complete ∙ complete))
     by (inr some) = omega (arith, one_of _ (positive missed some))
 complete_lost tail received missed verdict (Some in_span) complete e =
-    by (and_cases (complete_in verdict) (loses_none held outcomes)
-    (or_parts (complete_in verdict && loses_none held outcomes) (is_whole held verdict outcomes || (is_tail_in held verdict outcomes in_span.from in_span.base && (is_some in_span.until || nat_le outcomes.unconfirmed tail))) e).0)
+    by (and_cases (clean.is_complete verdict) (clean.loses_none held outcomes)
+    (or_parts (clean.is_complete verdict && clean.loses_none held outcomes) (clean.is_whole held verdict outcomes || (clean.is_tail held verdict outcomes in_span.from in_span.base && (is_some in_span.until || nat_le outcomes.unconfirmed tail))) e).0)
   where
     held : Bool
     held = in_span.is_held
@@ -143,7 +146,7 @@ complete_lost tail received missed verdict (Some in_span) complete e =
     outcomes : Outcomes
     outcomes = in_span.outcomes
 
-    by : (complete_in verdict ≡ false) ⊎ (loses_none held outcomes ≡ false) → 0 < lost_kinds held outcomes
+    by : (clean.is_complete verdict ≡ false) ⊎ (clean.loses_none held outcomes ≡ false) → 0 < lost_kinds held outcomes
     by (inl not_complete) = absurd (false≢true (sym not_complete ∙ same_complete verdict ∙ complete))
     by (inr some) = some_lost held outcomes some
 
@@ -168,63 +171,63 @@ unsure true false e = refl
 unsure false is e = absurd (true≢false e)
 
 -- how much is wrong with a row
-abbrev wrong : ℕ → ℕ → Bool → EvidenceValue → ℕ
-wrong from tail certain evidence = cond (is_unclean tail evidence) 1 0 + (lost_kinds (is_held_in evidence.in_span) (outcomes_of evidence) + cond (certain && not (is_certain from evidence)) 1 0)
+abbrev wrong : ℕ → ℕ → Bool → explanation.EvidenceValue → ℕ
+wrong from tail certain evidence = cond (totals.is_unclean tail evidence) 1 0 + (lost_kinds (row_facts.is_held_in evidence.in_span) (row_facts.outcomes_of evidence) + cond (certain && not (row_facts.is_certain from evidence)) 1 0)
 
-none_wrong : (from tail : ℕ) (certain : Bool) (evidence : EvidenceValue) → is_met_by from tail certain evidence ≡ true → wrong from tail certain evidence ≡ 0
+none_wrong : (from tail : ℕ) (certain : Bool) (evidence : explanation.EvidenceValue) → is_met_by from tail certain evidence ≡ true → wrong from tail certain evidence ≡ 0
 none_wrong from tail certain evidence e =
-    let both = and_parts (is_clean tail evidence) (not certain || is_certain from evidence) e in
+    let both = and_parts (row_facts.is_clean tail evidence) (not certain || row_facts.is_certain from evidence) e in
     omega (
       arith,
-      none_of _ (and_not (is_complete evidence.verdict) (is_clean tail evidence) both.0),
+      none_of _ (and_not (reported.is_complete evidence.verdict) (row_facts.is_clean tail evidence) both.0),
       none_lost tail evidence.received evidence.missed evidence.verdict evidence.in_span both.0,
-      none_of _ (sure certain (is_certain from evidence) both.1),
+      none_of _ (sure certain (row_facts.is_certain from evidence) both.1),
     )
 
-unclean_wrong : (from tail : ℕ) (certain : Bool) (evidence : EvidenceValue) (complete : Bool) → is_complete evidence.verdict ≡ complete → is_clean tail evidence ≡ false → 0 < wrong from tail certain evidence
+unclean_wrong : (from tail : ℕ) (certain : Bool) (evidence : explanation.EvidenceValue) (complete : Bool) → reported.is_complete evidence.verdict ≡ complete → row_facts.is_clean tail evidence ≡ false → 0 < wrong from tail certain evidence
 unclean_wrong from tail certain evidence true is e = omega (arith, complete_lost tail evidence.received evidence.missed evidence.verdict evidence.in_span is e)
-unclean_wrong from tail certain evidence false is e = omega (arith, one_of _ (both_not (is_complete evidence.verdict) (is_clean tail evidence) is e))
+unclean_wrong from tail certain evidence false is e = omega (arith, one_of _ (both_not (reported.is_complete evidence.verdict) (row_facts.is_clean tail evidence) is e))
 
-some_wrong : (from tail : ℕ) (certain : Bool) (evidence : EvidenceValue) → is_met_by from tail certain evidence ≡ false → 0 < wrong from tail certain evidence
-some_wrong from tail certain evidence e = by (and_cases (is_clean tail evidence) (not certain || is_certain from evidence) e)
+some_wrong : (from tail : ℕ) (certain : Bool) (evidence : explanation.EvidenceValue) → is_met_by from tail certain evidence ≡ false → 0 < wrong from tail certain evidence
+some_wrong from tail certain evidence e = by (and_cases (row_facts.is_clean tail evidence) (not certain || row_facts.is_certain from evidence) e)
   where
-    by : (is_clean tail evidence ≡ false) ⊎ ((not certain || is_certain from evidence) ≡ false) → 0 < wrong from tail certain evidence
-    by (inl not_clean) = unclean_wrong from tail certain evidence (is_complete evidence.verdict) refl not_clean
-    by (inr not_sure) = omega (arith, one_of _ (unsure certain (is_certain from evidence) not_sure))
+    by : (row_facts.is_clean tail evidence ≡ false) ⊎ ((not certain || row_facts.is_certain from evidence) ≡ false) → 0 < wrong from tail certain evidence
+    by (inl not_clean) = unclean_wrong from tail certain evidence (reported.is_complete evidence.verdict) refl not_clean
+    by (inr not_sure) = omega (arith, one_of _ (unsure certain (row_facts.is_certain from evidence) not_sure))
 
 -- how much is wrong with rows
-abbrev all_wrong : Scope → Bool → List ExplanationValue → ℕ
+abbrev all_wrong : Scope → Bool → List explanation.ExplanationValue → ℕ
 all_wrong scope certain rows =
-    let totals = totals_of scope rows in
+    let totals = totals.totals_of scope rows in
     totals.unclean_pairs
-    + ((totals.missed_pairs + (totals.unsent_pairs + (totals.unanswered_pairs + totals.lost_pairs))) + count_by (λ row. certain && not (is_certain scope.from row.evidence)) rows)
+    + ((totals.missed_pairs + (totals.unsent_pairs + (totals.unanswered_pairs + totals.lost_pairs))) + count_by (λ row. certain && not (row_facts.is_certain scope.from row.evidence)) rows)
 
-wrong_step : (scope : Scope) (certain : Bool) (row : ExplanationValue) (rows : List ExplanationValue)
+wrong_step : (scope : Scope) (certain : Bool) (row : explanation.ExplanationValue) (rows : List explanation.ExplanationValue)
     → all_wrong scope certain (row ∷ rows) ≡ wrong scope.from scope.tail certain row.evidence + all_wrong scope certain rows
 wrong_step scope certain row rows =
     omega (
       arith,
-      count_step (λ (one : ExplanationValue). is_unclean scope.tail one.evidence) row rows,
-      count_step (λ (one : ExplanationValue). nat_lt 0 (outcomes_of one.evidence).missed) row rows,
-      count_step (λ (one : ExplanationValue). nat_lt 0 (outcomes_of one.evidence).unsent) row rows,
-      count_step (λ (one : ExplanationValue). nat_lt 0 (outcomes_of one.evidence).unanswered) row rows,
-      count_step (λ (one : ExplanationValue). nat_lt 0 (lost_of one.evidence)) row rows,
-      count_step (λ (one : ExplanationValue). certain && not (is_certain scope.from one.evidence)) row rows,
+      count_step (λ (one : explanation.ExplanationValue). totals.is_unclean scope.tail one.evidence) row rows,
+      count_step (λ (one : explanation.ExplanationValue). nat_lt 0 (row_facts.outcomes_of one.evidence).missed) row rows,
+      count_step (λ (one : explanation.ExplanationValue). nat_lt 0 (row_facts.outcomes_of one.evidence).unsent) row rows,
+      count_step (λ (one : explanation.ExplanationValue). nat_lt 0 (row_facts.outcomes_of one.evidence).unanswered) row rows,
+      count_step (λ (one : explanation.ExplanationValue). nat_lt 0 (totals.lost_of one.evidence)) row rows,
+      count_step (λ (one : explanation.ExplanationValue). certain && not (row_facts.is_certain scope.from one.evidence)) row rows,
     )
 
-rows_met : (scope : Scope) (certain : Bool) (rows : List ExplanationValue)
+rows_met : (scope : Scope) (certain : Bool) (rows : List explanation.ExplanationValue)
     → list_all (λ row. is_met_by scope.from scope.tail certain row.evidence) rows ≡ true → all_wrong scope certain rows ≡ 0
 rows_met scope certain [] e = refl
 rows_met scope certain (row ∷ rows) e =
     let both = and_parts (is_met_by scope.from scope.tail certain row.evidence) _ e in
     wrong_step scope certain row rows ∙ ap₂ (λ n m. n + m) (none_wrong scope.from scope.tail certain row.evidence both.0) (rows_met scope certain rows both.1)
 
-rows_not_met : (scope : Scope) (certain : Bool) (rows : List ExplanationValue)
+rows_not_met : (scope : Scope) (certain : Bool) (rows : List explanation.ExplanationValue)
     → list_all (λ row. is_met_by scope.from scope.tail certain row.evidence) rows ≡ false → 0 < all_wrong scope certain rows
 rows_not_met scope certain [] e = absurd (true≢false e)
 rows_not_met scope certain (row ∷ rows) e = by (and_cases (test row) (list_all test rows) e) (rows_not_met scope certain rows)
   where
-    test : ExplanationValue → Bool
+    test : explanation.ExplanationValue → Bool
     test one = is_met_by scope.from scope.tail certain one.evidence
 
     by : (test row ≡ false) ⊎ (list_all test rows ≡ false) → (list_all test rows ≡ false → 0 < all_wrong scope certain rows) → 0 < all_wrong scope certain (row ∷ rows)
@@ -235,8 +238,8 @@ count_none : {X : Type 0} (xs : List X) → count_by (λ x. false) xs ≡ 0
 count_none [] = refl
 count_none {X} (x ∷ xs) = omega (arith, count_step (λ (y : X). false) x xs, count_none xs)
 
-uncertain_counted : (scope : Scope) (certain : Bool) (rows : List ExplanationValue)
-    → (uncertain_of (totals_of scope rows) certain).pairs ≡ count_by (λ row. certain && not (is_certain scope.from row.evidence)) rows
+uncertain_counted : (scope : Scope) (certain : Bool) (rows : List explanation.ExplanationValue)
+    → (causes.uncertain_of (totals.totals_of scope rows) certain).pairs ≡ count_by (λ row. certain && not (row_facts.is_certain scope.from row.evidence)) rows
 uncertain_counted scope true rows = refl
 uncertain_counted scope false rows = sym (count_none rows)
 
@@ -257,90 +260,90 @@ if_none false x e = absurd (true≢false (sym e))
 no_parts : {X : Type 0} (xs ys : List X) → xs ≡ [] → ys ≡ [] → xs ++ ys ≡ []
 no_parts xs ys e f = ap₂ (λ one other. one ++ other) e f
 
-no_cause : (number : ℕ) (words : WordsValue) → number ≡ 0 → cause number words ≡ []
+no_cause : (number : ℕ) (words : parts.WordsValue) → number ≡ 0 → causes.cause number words ≡ []
 no_cause number words e = if_none (number == 0) _ (eq-eqb number 0 e)
 
-no_lost : (numbers pairs : ℕ) (words : WordsValue) → pairs ≡ 0 → lost_cause (record { numbers = numbers; pairs = pairs }) words ≡ []
+no_lost : (numbers pairs : ℕ) (words : parts.WordsValue) → pairs ≡ 0 → causes.lost_cause (record { numbers = numbers; pairs = pairs }) words ≡ []
 no_lost numbers pairs words e = if_none (pairs == 0) _ (eq-eqb pairs 0 e)
 
-cause_none : (number : ℕ) (words : WordsValue) → cause number words ≡ [] → number ≡ 0
+cause_none : (number : ℕ) (words : parts.WordsValue) → causes.cause number words ≡ [] → number ≡ 0
 cause_none number words e = eqb-true number 0 (if_some (number == 0) _ e)
 
-lost_none : (numbers pairs : ℕ) (words : WordsValue) → lost_cause (record { numbers = numbers; pairs = pairs }) words ≡ [] → pairs ≡ 0
+lost_none : (numbers pairs : ℕ) (words : parts.WordsValue) → causes.lost_cause (record { numbers = numbers; pairs = pairs }) words ≡ [] → pairs ≡ 0
 lost_none numbers pairs words e = eqb-true pairs 0 (if_some (pairs == 0) _ e)
 
 -- ---- reasons of rows
 
 -- rows that are what they have to be give no reason
-met_without_reasons : (certain : Bool) (tail from : ℕ) (unread : Bool) (rows : List ExplanationValue)
+met_without_reasons : (certain : Bool) (tail from : ℕ) (unread : Bool) (rows : List explanation.ExplanationValue)
     → list_all (λ row. is_met_by from tail certain row.evidence) rows ≡ true
-    → row_causes (totals_of (record { from = from; tail = tail; unread = unread }) rows) certain ≡ []
+    → causes.row_causes (totals.totals_of (record { from = from; tail = tail; unread = unread }) rows) certain ≡ []
 met_without_reasons certain tail from unread rows e =
     let scope : Scope = record { from = from; tail = tail; unread = unread } in
-    let totals = totals_of scope rows in
+    let totals = totals.totals_of scope rows in
     let none = rows_met scope certain rows e in
     let uncertain = uncertain_counted scope certain rows in
-    no_parts _ _ (no_cause totals.unclean_pairs incomplete_words (omega (arith, none)))
-    (no_parts _ _ (no_lost totals.missed totals.missed_pairs missed_words (omega (arith, none)))
-    (no_parts _ _ (no_lost totals.unsent totals.unsent_pairs unsent_words (omega (arith, none)))
-    (no_parts _ _ (no_lost totals.unanswered totals.unanswered_pairs unanswered_words (omega (arith, none)))
-    (no_parts _ _ (no_lost totals.lost totals.lost_pairs lost_words (omega (arith, none)))
-    (no_lost (uncertain_of totals certain).numbers (uncertain_of totals certain).pairs uncertain_words (omega (arith, none, uncertain)))))))
+    no_parts _ _ (no_cause totals.unclean_pairs causes.incomplete_words (omega (arith, none)))
+    (no_parts _ _ (no_lost totals.missed totals.missed_pairs causes.missed_words (omega (arith, none)))
+    (no_parts _ _ (no_lost totals.unsent totals.unsent_pairs causes.unsent_words (omega (arith, none)))
+    (no_parts _ _ (no_lost totals.unanswered totals.unanswered_pairs causes.unanswered_words (omega (arith, none)))
+    (no_parts _ _ (no_lost totals.lost totals.lost_pairs causes.lost_words (omega (arith, none)))
+    (no_lost (causes.uncertain_of totals certain).numbers (causes.uncertain_of totals certain).pairs causes.uncertain_words (omega (arith, none, uncertain)))))))
 
 -- rows that are not give one
-not_met_has_a_reason : (certain : Bool) (tail from : ℕ) (unread : Bool) (rows : List ExplanationValue)
+not_met_has_a_reason : (certain : Bool) (tail from : ℕ) (unread : Bool) (rows : List explanation.ExplanationValue)
     → list_all (λ row. is_met_by from tail certain row.evidence) rows ≡ false
-    → row_causes (totals_of (record { from = from; tail = tail; unread = unread }) rows) certain ≡ [] → false ≡ true
+    → causes.row_causes (totals.totals_of (record { from = from; tail = tail; unread = unread }) rows) certain ≡ [] → false ≡ true
 not_met_has_a_reason certain tail from unread rows e none =
     let scope : Scope = record { from = from; tail = tail; unread = unread } in
-    let totals = totals_of scope rows in
-    let unclean = both_empty (cause totals.unclean_pairs incomplete_words) _ none in
-    let missed = both_empty (lost_cause (record { numbers = totals.missed; pairs = totals.missed_pairs }) missed_words) _ unclean.1 in
-    let unsent = both_empty (lost_cause (record { numbers = totals.unsent; pairs = totals.unsent_pairs }) unsent_words) _ missed.1 in
-    let unanswered = both_empty (lost_cause (record { numbers = totals.unanswered; pairs = totals.unanswered_pairs }) unanswered_words) _ unsent.1 in
-    let lost = both_empty (lost_cause (record { numbers = totals.lost; pairs = totals.lost_pairs }) lost_words) _ unanswered.1 in
+    let totals = totals.totals_of scope rows in
+    let unclean = both_empty (causes.cause totals.unclean_pairs causes.incomplete_words) _ none in
+    let missed = both_empty (causes.lost_cause (record { numbers = totals.missed; pairs = totals.missed_pairs }) causes.missed_words) _ unclean.1 in
+    let unsent = both_empty (causes.lost_cause (record { numbers = totals.unsent; pairs = totals.unsent_pairs }) causes.unsent_words) _ missed.1 in
+    let unanswered = both_empty (causes.lost_cause (record { numbers = totals.unanswered; pairs = totals.unanswered_pairs }) causes.unanswered_words) _ unsent.1 in
+    let lost = both_empty (causes.lost_cause (record { numbers = totals.lost; pairs = totals.lost_pairs }) causes.lost_words) _ unanswered.1 in
     absurd (omega (
       arith,
       rows_not_met scope certain rows e,
-      cause_none totals.unclean_pairs incomplete_words unclean.0,
-      lost_none totals.missed totals.missed_pairs missed_words missed.0,
-      lost_none totals.unsent totals.unsent_pairs unsent_words unsent.0,
-      lost_none totals.unanswered totals.unanswered_pairs unanswered_words unanswered.0,
-      lost_none totals.lost totals.lost_pairs lost_words lost.0,
-      lost_none (uncertain_of totals certain).numbers (uncertain_of totals certain).pairs uncertain_words lost.1,
+      cause_none totals.unclean_pairs causes.incomplete_words unclean.0,
+      lost_none totals.missed totals.missed_pairs causes.missed_words missed.0,
+      lost_none totals.unsent totals.unsent_pairs causes.unsent_words unsent.0,
+      lost_none totals.unanswered totals.unanswered_pairs causes.unanswered_words unanswered.0,
+      lost_none totals.lost totals.lost_pairs causes.lost_words lost.0,
+      lost_none (causes.uncertain_of totals certain).numbers (causes.uncertain_of totals certain).pairs causes.uncertain_words lost.1,
       uncertain_counted scope certain rows,
     ))
 
 -- ---- what is found
 
-not_empty : (empty : Bool) → empty_cause empty ≡ [] → not empty ≡ true
+not_empty : (empty : Bool) → causes.empty_cause empty ≡ [] → not empty ≡ true
 not_empty true e = absurd (omega (arith, ap length e))
 not_empty false e = refl
 
-not_lossy : (lossy : Option BestEffortNumbers) → lossy_cause lossy ≡ [] → is_none lossy ≡ true
+not_lossy : (lossy : Option BestEffortNumbers) → causes.lossy_cause lossy ≡ [] → is_none lossy ≡ true
 not_lossy None e = refl
 not_lossy (Some told) e = absurd (omega (arith, ap length e))
 
-not_few : (few : Option FewRows) → few_cause few ≡ [] → is_none few ≡ true
+not_few : (few : Option FewRows) → causes.few_cause few ≡ [] → is_none few ≡ true
 not_few None e = refl
 not_few (Some few) e = absurd (omega (arith, ap length e))
 
-not_twice : (twice : Bool) → twice_cause twice ≡ [] → not twice ≡ true
+not_twice : (twice : Bool) → way_notes.twice_cause twice ≡ [] → not twice ≡ true
 not_twice true e = absurd (omega (arith, ap length e))
 not_twice false e = refl
 
 -- no reason: nothing is found, and the rows give none
-nothing_found : (certain : Bool) (totals : Totals) (findings : Findings) → causes_of certain totals findings ≡ [] → are_none findings ≡ true
+nothing_found : (certain : Bool) (totals : Totals) (findings : Findings) → causes.causes_of certain totals findings ≡ [] → findings_spec.are_none findings ≡ true
 nothing_found certain totals findings e =
-    let empty = both_empty (empty_cause findings.empty) _ e in
-    let rows = both_empty (row_causes totals certain) _ empty.1 in
+    let empty = both_empty (causes.empty_cause findings.empty) _ e in
+    let rows = both_empty (causes.row_causes totals certain) _ empty.1 in
     let unmatched = both_empty _ _ rows.1 in
-    let discovery = both_empty (discovery_causes findings) _ unmatched.1 in
-    let not_told = both_empty (not_told_cause findings.not_told) _ discovery.0 in
-    let order = both_empty (order_causes findings) _ discovery.1 in
-    let swapped = both_empty (swapped_cause findings.swapped) _ order.0 in
-    let lossy = both_empty (lossy_cause findings.lossy) _ order.1 in
-    let few = both_empty (few_cause findings.few) _ lossy.1 in
+    let discovery = both_empty (causes.discovery_causes findings) _ unmatched.1 in
+    let not_told = both_empty (causes.not_told_cause findings.not_told) _ discovery.0 in
+    let order = both_empty (causes.order_causes findings) _ discovery.1 in
+    let swapped = both_empty (way_notes.swapped_cause findings.swapped) _ order.0 in
+    let lossy = both_empty (causes.lossy_cause findings.lossy) _ order.1 in
+    let few = both_empty (causes.few_cause findings.few) _ lossy.1 in
     let unsettled = both_empty _ _ few.1 in
     let pieces = both_empty _ _ unsettled.1 in
     let cut = both_empty _ _ pieces.1 in
@@ -358,25 +361,25 @@ nothing_found certain totals findings e =
 
 -- ---- the law
 
-by_found : (certain : Bool) (totals : Totals) (findings : Findings) (met : Bool) (none : Bool) → are_none findings ≡ none
-    → (met ≡ true → row_causes totals certain ≡ []) → (met ≡ false → row_causes totals certain ≡ [] → false ≡ true)
-    → (causes_of certain totals findings ≡ [] → are_none findings ≡ true)
-    → (cond none (cond met Clean Unclean) (Unmet findings) ≡ Clean) ↔ (causes_of certain totals (findings_in (cond none (cond met Clean Unclean) (Unmet findings))) ≡ [])
-by_found certain totals findings true true is all some found = (λ e. no_parts (row_causes totals certain) [] (all refl) refl, λ e. refl)
+by_found : (certain : Bool) (totals : Totals) (findings : Findings) (met : Bool) (none : Bool) → findings_spec.are_none findings ≡ none
+    → (met ≡ true → causes.row_causes totals certain ≡ []) → (met ≡ false → causes.row_causes totals certain ≡ [] → false ≡ true)
+    → (causes.causes_of certain totals findings ≡ [] → findings_spec.are_none findings ≡ true)
+    → (cond none (cond met Ending.Clean Ending.Unclean) (Ending.Unmet findings) ≡ Ending.Clean) ↔ (causes.causes_of certain totals (causes.findings_in (cond none (cond met Ending.Clean Ending.Unclean) (Ending.Unmet findings))) ≡ [])
+by_found certain totals findings true true is all some found = (λ e. no_parts (causes.row_causes totals certain) [] (all refl) refl, λ e. refl)
 by_found certain totals findings false true is all some found = (
-  λ e. absurd (let no : Unclean ≡ Clean = e in cc),
-  λ e. absurd (false≢true (some refl (both_empty (row_causes totals certain) _ e).0)),
+  λ e. absurd (let no : Ending.Unclean ≡ Ending.Clean = e in cc),
+  λ e. absurd (false≢true (some refl (both_empty (causes.row_causes totals certain) _ e).0)),
 )
 by_found certain totals findings met false is all some found = (
-  λ e. absurd (let no : Unmet findings ≡ Clean = e in cc),
+  λ e. absurd (let no : Ending.Unmet findings ≡ Ending.Clean = e in cc),
   λ e. absurd (false≢true (sym is ∙ found e)),
 )
 
-clean_without_reasons : TellsWhyUnclean
+clean_without_reasons : check_text.TellsWhyUnclean
 clean_without_reasons talk order asked unread rows counts recording =
-    let findings = findings_of asked (facts_with talk order asked rows counts recording) in
-    let totals = totals_of (record { from = asked.from; tail = asked.tail; unread = unread }) rows in
-    by_found asked.certain totals findings (list_all (λ (row : ExplanationValue). is_met_by asked.from asked.tail asked.certain row.evidence) rows) (are_none findings) refl
+    let findings = findings_spec.findings_of asked (full_report.facts_with talk order asked rows counts recording) in
+    let totals = totals.totals_of (record { from = asked.from; tail = asked.tail; unread = unread }) rows in
+    by_found asked.certain totals findings (list_all (λ (row : explanation.ExplanationValue). is_met_by asked.from asked.tail asked.certain row.evidence) rows) (findings_spec.are_none findings) refl
     (met_without_reasons asked.certain asked.tail asked.from unread rows) (not_met_has_a_reason asked.certain asked.tail asked.from unread rows)
     (nothing_found asked.certain totals findings)
 

@@ -2,30 +2,30 @@ use Rattle.std.proofs.Common.{◌≡◌, ◌++◌, ◌∷◌, [], ◌∙◌, ◌
 use Rattle.std.proofs.lemmas.Result.{on_ok_weaker}
 use Rattle.std.specs.List.{concat}
 use Rattle.rtps_lines.proofs.Offered.{three_parts}
-use Rattle.rtps_parts.specs.Parts.{amount}
+use Rattle.rtps_parts.specs.Parts as parts
 use Rattle.rtps_policies.specs.declared.one_way.OneWay.{OneWay}
-use Rattle.rtps_report.specs.Talk.{talk_value}
-use Rattle.rtps_check.specs.TalkText.{one_way_lines, remedy_line}
+use Rattle.rtps_report.specs.Talk as talk
+use Rattle.rtps_check.specs.TalkText as talk_text
 use Rattle.rtps_check.proofs.OneWayLemmas.{lines_more, some_one_way}
 use Rattle.rtps_check.proofs.one_way_block.push_one_way_block.Goals as goal
 use Rattle.rtps_lines.specs.declared.sentences.block.TheConstants as said
 
 pub loop-one-preserved : goal.loop-one-preserved
 loop-one-preserved c =
-    lines_more (one_way_lines (talk_value c.args.talk.now).ends) c.deref-one-items.result.now c.loop-one.one-index _ (string_bytes c.render.new.text) (string_bytes c.loop-one.text)
+    lines_more (talk_text.one_way_lines (talk.talk_value c.args.talk.now).ends) c.deref-one-items.result.now c.loop-one.one-index _ (string_bytes c.render.new.text) (string_bytes c.loop-one.text)
     (string_bytes c.push_one_way.new.text) c.loop-one-test.true c.loop-one.invariant c.in_ok-push_one_way.ensures
 
 pub returns : goal.returns
 returns c =
-    let talk = talk_value c.args.talk.now in
+    let talk = talk.talk_value c.args.talk.now in
     let old = string_bytes c.args.text.now in
     let stored = c.args.talk.now.one_way in
     let headed = string_bytes c.render.new.text in
-    let lines : List OneWay → List ℕ = flat_map (one_way_lines talk.ends) in
+    let lines : List OneWay → List ℕ = flat_map (talk_text.one_way_lines talk.ends) in
     let number = c.len.result in
     let head : List ℕ =
-    concat (codes "\n" ∷ amount number (record { one = said.ONE_WAY_ONE.now; many = said.ONE_WAY_MANY.now }) ∷ codes "\n" ∷ []) in
-    let end = remedy_line said.ONE_WAY_REMEDY.now in
+    concat (codes "\n" ∷ parts.amount number (record { one = said.ONE_WAY_ONE.now; many = said.ONE_WAY_MANY.now }) ∷ codes "\n" ∷ []) in
+    let end = talk_text.remedy_line said.ONE_WAY_REMEDY.now in
     let long : length stored.items ≡ number = sym stored.ok.0 ∙ sym c.len.ensures in
     let some : (number == 0) ≡ false = ap (λ (n : ℕ). n == 0) c.len.ensures ∙ sym c.is_empty.ensures ∙ c.if-is_empty.false in
     let told : string_bytes c.loop-one.text ≡ headed ++ lines stored.items =

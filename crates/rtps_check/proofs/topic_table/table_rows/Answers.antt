@@ -1,8 +1,8 @@
 use Rattle.std.proofs.Common.{◌≡◌, ◌++◌, ◌∷◌, [], ◌∙◌, ◌+◌, ◌<◌, ℕ, List, ap, ap₂, get_or, length, map, sym, take}
 use Rattle.std.proofs.lemmas.List.{map-append, take_more}
-use Rattle.rtps_parts.specs.Parts.{part_text}
-use Rattle.rtps_report.specs.Vocabulary.{explanation_value}
-use Rattle.rtps_check.specs.CheckText.{table_head, topic_row}
+use Rattle.rtps_parts.specs.Parts as parts
+use Rattle.rtps_evidence.specs.Explanation as explanation
+use Rattle.rtps_check.specs.CheckText as check_text
 use Rattle.rtps_check.proofs.topic_table.table_rows.Goals as goal
 
 -- the rows so far, with that of one more topic
@@ -17,6 +17,6 @@ row_more told line value head rows row topics i none within is so_far =
 
 pub loop-topic-preserved : goal.loop-topic-preserved
 loop-topic-preserved c =
-    let told = row_more (λ row. map part_text row.items) (topic_row c.args.scope) (λ topic. map explanation_value topic.now) table_head c.loop-topic.rows.items c.in_ok-from_array-2.field-0
-    c.args.topics.now c.loop-topic.topic-index (record { ref_ptr = (0, 0); now = [] }) c.loop-topic-test.true (ap (map part_text) c.in_ok-from_array-2.ensures.items ∙ c.topic_row.ensures) c.loop-topic.invariant in
-    ap (map (λ row. map part_text row.items)) c.in_ok-push-2.ensures.items ∙ told
+    let told = row_more (λ row. map parts.part_text row.items) (check_text.topic_row c.args.scope) (λ topic. map explanation.explanation_value topic.now) check_text.table_head c.loop-topic.rows.items c.in_ok-from_array-2.field-0
+    c.args.topics.now c.loop-topic.topic-index (record { ref_ptr = (0, 0); now = [] }) c.loop-topic-test.true (ap (map parts.part_text) c.in_ok-from_array-2.ensures.items ∙ c.topic_row.ensures) c.loop-topic.invariant in
+    ap (map (λ row. map parts.part_text row.items)) c.in_ok-push-2.ensures.items ∙ told

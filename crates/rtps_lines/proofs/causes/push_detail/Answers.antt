@@ -1,8 +1,8 @@
 use Rattle.std.proofs.Common.{◌++◌, ◌∙◌, ◌==◌, ℕ, List, ap, append_assoc, if◌then◌else◌, string_bytes, sym}
 use Rattle.std.proofs.lemmas.Result.{on_ok_weaker}
 use Rattle.std.specs.List.{flat_map}
-use Rattle.rtps_parts.specs.Parts.{part_text}
-use Rattle.rtps_lines.specs.Causes.{best_effort_text, certain_detail}
+use Rattle.rtps_parts.specs.Parts as parts
+use Rattle.rtps_lines.specs.Causes as causes
 use Rattle.rtps_lines.proofs.causes.push_detail.Goals as goal
 use Rattle.rtps_lines.specs.declared.sentences.reason.TheConstants as said
 
@@ -11,11 +11,11 @@ returns-in_ok-push_str c =
     let old = string_bytes c.args.text.now in
     let totals = c.args.judged.totals.now in
     let words = said.CLEAN_BEST_EFFORT.now in
-    let text = best_effort_text c.args.judged.best_effort in
+    let text = causes.best_effort_text c.args.judged.best_effort in
     on_ok_weaker c.render.result
     (λ is. is
-    ∙ ap (λ (front : List ℕ). front ++ flat_map part_text c.best_effort_parts.result) c.in_ok-push_str.ensures.bytes
+    ∙ ap (λ (front : List ℕ). front ++ flat_map parts.part_text c.best_effort_parts.result) c.in_ok-push_str.ensures.bytes
     ∙ ap (λ (told : List ℕ). (old ++ words) ++ told) c.best_effort_parts.ensures
     ∙ append_assoc old words text
-    ∙ ap (λ (pairs : ℕ). old ++ (if pairs == 0 then words ++ text else certain_detail totals)) (sym c.if-judged-eq0.true))
+    ∙ ap (λ (pairs : ℕ). old ++ (if pairs == 0 then words ++ text else causes.certain_detail totals)) (sym c.if-judged-eq0.true))
     c.render.ensures

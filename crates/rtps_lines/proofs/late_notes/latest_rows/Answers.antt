@@ -2,9 +2,9 @@ use Rattle.std.proofs.lemmas.Grind.{common_steps}
 use Rattle.std.proofs.lemmas.Bool.Decides.{nat_tests}
 use Rattle.std.proofs.Common.{◌≡◌, ◌∙◌, ◌+◌, ◌<◌, ℕ, [], List, ap, arith, fold, get_or, length, map, sym, take}
 use Rattle.rtps_ids.specs.declared.identity.Guid.{Guid}
-use Rattle.rtps_report.specs.LateRows.{LateRowValue, late_row_value}
+use Rattle.rtps_report.specs.LateRows as late_rows
 use Rattle.rtps_report.specs.declared.late_row.LateRow.{LateRow}
-use Rattle.rtps_lines.specs.LateNotes.{with_late}
+use Rattle.rtps_lines.specs.LateNotes as late_notes
 use Rattle.rtps_lines.proofs.late_notes.latest_rows.Goals as goal
 
 -- a fold with one more
@@ -22,5 +22,5 @@ loop-row-preserved c =
       late = record { delay = 0; place = record { datagram = 0; at = 0 } };
     } in
     c.in_ok-keep.ensures
-    ∙ ap (λ (latest : List LateRowValue). with_late latest (late_row_value (get_or rows i none))) c.loop-row.invariant
-    ∙ sym (one_more with_late [] late_row_value rows i none c.loop-row-test.true)
+    ∙ ap (λ (latest : List late_rows.LateRowValue). late_notes.with_late latest (late_rows.late_row_value (get_or rows i none))) c.loop-row.invariant
+    ∙ sym (one_more late_notes.with_late [] late_rows.late_row_value rows i none c.loop-row-test.true)

@@ -4,7 +4,7 @@ use Rattle.std.proofs.Common.{◌≡◌, ◌++◌, ℕ, List}
 use Rattle.std.specs.Fmt.{HasWritten, IsPlainFormatter}
 use Rattle.std.specs.List.{join_by}
 use Rattle.std.specs.Prelude.{codes}
-use Rattle.rtps_lines.specs.PolicyValues.{id_text}
+use Rattle.rtps_lines.specs.PolicyValues as policy_values
 use Rattle.rtps_lines.proofs.JoinLemmas.{to_come}
 use Rattle.rtps_lines.proofs.policy_values.write_ids.Given as goal
 
@@ -14,4 +14,4 @@ invariant-loop-id g l =
     (goal.iterator-loop-id g).can_next l.id-iterator × (goal.iterator-loop-id g).is_finite l.id-iterator
     × shadow (Utf8 l.comma)
     × (IsPlainFormatter l.initial.f
-    → (written : List ℕ) × HasWritten g.W.Write.write_str_gives l.initial.f written l.f × (written ++ to_come id_text l.comma l.id-iterator ≡ join_by id_text (codes ", ") l.fn.ids))
+    → (written : List ℕ) × HasWritten g.W.Write.write_str_gives l.initial.f written l.f × (written ++ to_come policy_values.id_text l.comma l.id-iterator ≡ join_by policy_values.id_text (codes ", ") l.fn.ids))

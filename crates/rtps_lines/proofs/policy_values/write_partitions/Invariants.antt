@@ -4,7 +4,7 @@ use Rattle.std.proofs.Common.{◌≡◌, ◌++◌, ℕ, List}
 use Rattle.std.specs.Fmt.{HasWritten, IsPlainFormatter}
 use Rattle.std.specs.List.{join_by}
 use Rattle.std.specs.Prelude.{codes}
-use Rattle.rtps_parts.specs.Names.{name_text}
+use Rattle.rtps_parts.specs.Names as names
 use Rattle.rtps_lines.proofs.JoinLemmas.{to_come}
 use Rattle.rtps_lines.proofs.policy_values.write_partitions.Given as goal
 
@@ -14,4 +14,4 @@ invariant-loop-name g l =
     (goal.iterator-loop-name g).can_next l.name-iterator × (goal.iterator-loop-name g).is_finite l.name-iterator
     × shadow (Utf8 l.comma)
     × (IsPlainFormatter l.initial.f
-    → (written : List ℕ) × HasWritten g.W.Write.write_str_gives l.initial.f written l.f × (written ++ to_come name_text l.comma l.name-iterator ≡ join_by name_text (codes ", ") l.fn.names))
+    → (written : List ℕ) × HasWritten g.W.Write.write_str_gives l.initial.f written l.f × (written ++ to_come names.name_text l.comma l.name-iterator ≡ join_by names.name_text (codes ", ") l.fn.names))

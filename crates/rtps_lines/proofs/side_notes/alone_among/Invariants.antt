@@ -1,8 +1,8 @@
 use Rattle.std.proofs.Common.{◌≡◌, map, take}
-use Rattle.rtps_evidence.specs.Explanation.{explanation_value}
-use Rattle.rtps_lines.specs.Notes.{alone_in}
+use Rattle.rtps_evidence.specs.Explanation as explanation
+use Rattle.rtps_lines.specs.Notes as notes
 use Rattle.rtps_lines.proofs.side_notes.alone_among.Given as goal
 
 -- those among the rows so far
 abbrev pub invariant-loop-row : goal.invariant-loop-row
-invariant-loop-row l = map explanation_value l.alone.items ≡ alone_in (map explanation_value (take l.row-index l.rows))
+invariant-loop-row l = map explanation.explanation_value l.alone.items ≡ notes.alone_in (map explanation.explanation_value (take l.row-index l.rows))

@@ -1,6 +1,6 @@
 use Rattle.std.proofs.Common.{◌++◌, ◌∷◌, [], ◌∙◌, List, ap, codes, flat_map, map, sym, take, take_all}
 use Rattle.std.proofs.lemmas.List.{flat_map_more}
-use Rattle.rtps_audit.specs.Placed.{PlacedValue, placed_value}
+use Rattle.rtps_audit.specs.Placed as placed
 use Rattle.rtps_audit.specs.declared.placed.Placed.{Placed}
 use Rattle.rtps_page.proofs.AnswerLemmas.{values_more}
 use Rattle.rtps_page.proofs.EntryLemmas.{answered_tokens}
@@ -13,9 +13,9 @@ loop-placed-preserved c =
     let i = c.loop-placed.placed-index in
     let x = c.placed-item.result in
     let start : List Token = c.begin_array.new.self.tokens in
-    let said : PlacedValue → List Token = λ placed. json_tokens (answer_json placed) in
-    let so_far = map placed_value (take i answers) in (
-      c.in_ok-push_answer.ensures.tokens ∙ ap (λ l. l ++ said (placed_value x)) c.loop-placed.invariant.0 ∙ flat_map_more said start so_far (placed_value x)
+    let said : placed.PlacedValue → List Token = λ placed. json_tokens (answer_json placed) in
+    let so_far = map placed.placed_value (take i answers) in (
+      c.in_ok-push_answer.ensures.tokens ∙ ap (λ l. l ++ said (placed.placed_value x)) c.loop-placed.invariant.0 ∙ flat_map_more said start so_far (placed.placed_value x)
           ∙ ap (λ l. start ++ flat_map said l) (sym (values_more answers i x c.loop-placed-test.true c.placed-item.is)),
       c.in_ok-push_answer.ensures.before ∙ c.loop-placed.invariant.1,
     )
@@ -24,9 +24,9 @@ pub returns-clause-tokens : goal.returns-clause-tokens
 returns-clause-tokens c =
     let start : List Token = c.args.writer.now.tokens in
     let pair = c.args.pair in
-    let answers = map placed_value c.args.answers.now in
-    let each : List PlacedValue → List Token = λ all. flat_map (λ placed. json_tokens (answer_json placed)) all in
-    let all = ap (λ (l : List Placed). map placed_value l) (take_all c.loop-placed.placed-index c.args.answers.now c.loop-placed-test.false) in
+    let answers = map placed.placed_value c.args.answers.now in
+    let each : List placed.PlacedValue → List Token = λ all. flat_map (λ placed. json_tokens (answer_json placed)) all in
+    let all = ap (λ (l : List Placed). map placed.placed_value l) (take_all c.loop-placed.placed-index c.args.answers.now c.loop-placed-test.false) in
     on_ok_weaker c.end_object.result
     (λ last.
     six_parts start (begin_object ∷ []) (key (codes "writer") ∷ string (guid_text pair.writer) ∷ []) (key (codes "reader") ∷ string (guid_text pair.reader) ∷ []) (key (codes "bases") ∷ []) (begin_array ∷ [])

@@ -1,8 +1,8 @@
 use Rattle.std.proofs.Common.{◌≡◌, ◌++◌, filter, flat_map}
 use Rattle.std.specs.List.{range_with_len}
-use Rattle.rtps_ids.specs.NumberSet.{is_member}
+use Rattle.rtps_ids.specs.NumberSet as number_set
 use Rattle.rtps_page.proofs.Written.{count_json, json_tokens}
 use Rattle.rtps_page.proofs.chart_answers.push_numbers.Given as goal
 
 abbrev pub invariant-loop-bit : goal.invariant-loop-bit
-invariant-loop-bit l = (l.writer.tokens ≡ l.initial.writer.tokens ++ flat_map (λ number. json_tokens (count_json number)) (filter (is_member l.set) (range_with_len l.set.base l.bit))) × (l.writer.before ≡ l.initial.writer.before)
+invariant-loop-bit l = (l.writer.tokens ≡ l.initial.writer.tokens ++ flat_map (λ number. json_tokens (count_json number)) (filter (number_set.is_member l.set) (range_with_len l.set.base l.bit))) × (l.writer.before ≡ l.initial.writer.before)

@@ -3,8 +3,7 @@ use Rattle.std.proofs.lemmas.Int.{ints}
 use Rattle.std.proofs.lemmas.List.Concat.{flat_map-append}
 use Rattle.std.proofs.lemmas.List.Folds.{flat_map-map}
 use Rattle.json.specs.Json.{Json}
-use Rattle.rtps_receiver.specs.Values.{spoken_body_value}
-use Rattle.rtps_receiver.specs.Values.ActBodyValue.{Gap, Heartbeat}
+use Rattle.rtps_receiver.specs.Values as values
 use Rattle.rtps_page.proofs.Written.{entries_at, entry_json, gone_json, json_tokens, members_of, on_ok_weaker, one_gone_json, Token, two_parts}
 use Rattle.rtps_page.proofs.chart_entries.push_said.Goals as goal
 
@@ -14,7 +13,7 @@ returns-in_ok-push_gone-in-Act-Heartbeat-clause-tokens c =
     let place = c.args.head.place in
     let named = c.args.head.named.now in
     let heartbeat = c.in-Act-Heartbeat.heartbeat in
-    let is : spoken_body_value c.args.body.now ≡ Heartbeat heartbeat = search rules in
+    let is : values.spoken_body_value c.args.body.now ≡ values.ActBodyValue.Heartbeat heartbeat = search rules in
     let gone : List Json = gone_json place named 1 heartbeat.first in
     let last_one : Json = entry_json place named (codes "announced") (heartbeat.last ∷ []) in
     let first : c.cast_unsigned.result ≡ heartbeat.first = omega (arith, ints) in
@@ -32,7 +31,7 @@ returns-in_ok-push_gone-in-Act-Gap-clause-tokens c =
     let place = c.args.head.place in
     let named = c.args.head.named.now in
     let gap = c.in-Act-Gap.gap in
-    let is : spoken_body_value c.args.body.now ≡ Gap gap = search rules in
+    let is : values.spoken_body_value c.args.body.now ≡ values.ActBodyValue.Gap gap = search rules in
     let gone : List Json = gone_json place named gap.start gap.list.base in
     let each : List Json = map (one_gone_json place named) (members_of gap.list) in
     let from : c.cast_unsigned-start.result ≡ gap.start = omega (arith, ints) in

@@ -1,6 +1,6 @@
 use Rattle.std.proofs.Common.{◌≡◌, ◌∙◌, List, filter, map, subst, IfOk}
-use Rattle.rtps_evidence.specs.Explanation.{explanation_value}
-use Rattle.rtps_page.specs.ChartRoom.{need_of}
+use Rattle.rtps_evidence.specs.Explanation as explanation
+use Rattle.rtps_page.specs.ChartRoom as chart_room
 use Rattle.rtps_page.specs.declared.chart_room.Need.{Need}
 use Rattle.rtps_page.proofs.ChartLemmas.{in_both_turns, mapped_twice}
 use Rattle.rtps_page.proofs.Written.{placed_in}
@@ -9,8 +9,8 @@ use Rattle.rtps_page.proofs.chart_room.pairs_with_charts.Goals as goal
 pub returns : goal.returns
 returns c = λ intake is.
     let acts = placed_in intake.acts in
-    let needs : List Need = map (need_of c.args.tail acts) (map explanation_value c.args.rows.now) in
-    let begins : c.deref.result.now ≡ needs = c.deref.ensures.value ∙ c.in_ok-needs.ensures intake is ∙ mapped_twice explanation_value (need_of c.args.tail acts) c.args.rows.now in
+    let needs : List Need = map (chart_room.need_of c.args.tail acts) (map explanation.explanation_value c.args.rows.now) in
+    let begins : c.deref.result.now ≡ needs = c.deref.ensures.value ∙ c.in_ok-needs.ensures intake is ∙ mapped_twice explanation.explanation_value (chart_room.need_of c.args.tail acts) c.args.rows.now in
     let middle = c.deref-2.ensures.value ∙ c.in_ok-room.ensures.needs in
     let end = c.deref-3.ensures.value ∙ c.in_ok-needs-2.ensures.needs in
     let all = in_both_turns needs c.deref.result.now c.deref-2.result.now c.deref-3.result.now c.in_ok-room.room begins c.in_ok-room.ensures.room middle end in

@@ -1,7 +1,7 @@
 use Rattle.std.proofs.Common.{◌≡◌, ◌++◌, ◌∷◌, [], ◌∙◌, ℕ, List, true, ap, append-nil, codes, cond, flat_map, sym}
-use Rattle.rtps_evidence.specs.Times.{are_there}
-use Rattle.rtps_json.specs.JsonText.{clock_times}
-use Rattle.rtps_page.specs.ChartTimes.{datagrams_shown, time_of_json, times_json}
+use Rattle.rtps_evidence.specs.Times as times_spec
+use Rattle.rtps_json.specs.JsonText as json_text
+use Rattle.rtps_page.specs.ChartTimes as chart_times
 use Rattle.rtps_page.proofs.EntryLemmas.{array_tokens}
 use Rattle.rtps_page.proofs.TimeLemmas.{times_tokens}
 use Rattle.rtps_page.proofs.Written.{Token, array_of, begin_array, end_array, four_parts, json_tokens, key, on_ok_weaker, placed_in, times_member, tokens_of}
@@ -11,13 +11,13 @@ pub returns-clause-tokens : goal.returns-clause-tokens
 returns-clause-tokens c = λ intake is.
     let start : List Token = c.args.writer.now.tokens in
     let begun : List Token = c.begin_array.new.self.tokens in
-    let times = clock_times c.args.clock in
+    let times = json_text.clock_times c.args.clock in
     let acts = placed_in intake.acts in
-    let shown = datagrams_shown acts c.args.pairs.now in
-    let values = times_json times shown in
+    let shown = chart_times.datagrams_shown acts c.args.pairs.now in
+    let values = chart_times.times_json times shown in
     let said : List Token = flat_map json_tokens values in
-    let flat : List ℕ → List Token = λ datagrams. flat_map (λ datagram. flat_map json_tokens (time_of_json times datagram)) datagrams in
-    let there : are_there times.of_datagrams ≡ true = sym c.are_there.ensures ∙ c.if-not-are_there.false in
+    let flat : List ℕ → List Token = λ datagrams. flat_map (λ datagram. flat_map json_tokens (chart_times.time_of_json times datagram)) datagrams in
+    let there : times_spec.are_there times.of_datagrams ≡ true = sym c.are_there.ensures ∙ c.if-not-are_there.false in
     let rising = c.in_ok-datagrams.datagrams.items in
     let written = c.in_ok-push_each_time.ensures.tokens
     ∙ ap (λ l. begun ++ l) (ap flat c.deref.ensures.value ∙ times_tokens times shown rising c.in_ok-datagrams.ensures.rising (c.in_ok-datagrams.ensures.same intake is)) in

@@ -1,5 +1,5 @@
 use Rattle.std.proofs.Common.{◌++◌, ◌∷◌, [], ◌∙◌, List, ap, codes, flat_map, map, sym, take_all}
-use Rattle.rtps_audit.specs.Placed.{PlacedValue, placed_value}
+use Rattle.rtps_audit.specs.Placed as placed
 use Rattle.rtps_audit.specs.declared.placed.Placed.{Placed}
 use Rattle.rtps_page.proofs.EntryLemmas.{entries_from, writer_tokens}
 use Rattle.rtps_page.proofs.Written.{Token, begin_array, begin_object, end_array, end_object, entries_by, guid_text, json_tokens, key, on_ok_weaker, placed_in, seven_parts, string, two_parts}
@@ -10,8 +10,8 @@ returns-clause-tokens c = λ intake is.
     let start : List Token = c.args.writer.now.tokens in
     let guid = c.args.guid in
     let acts = placed_in intake.acts in
-    let all = ap (λ (l : List Placed). map placed_value l) (take_all c.loop-placed.placed-index c.acts_of-acts.result.now c.loop-placed-test.false) ∙ c.acts_of-acts.ensures intake is in
-    let entries = ap (λ (l : List PlacedValue). flat_map json_tokens (entries_by guid l)) all ∙ ap (flat_map json_tokens) (entries_from guid acts) in
+    let all = ap (λ (l : List Placed). map placed.placed_value l) (take_all c.loop-placed.placed-index c.acts_of-acts.result.now c.loop-placed-test.false) ∙ c.acts_of-acts.ensures intake is in
+    let entries = ap (λ (l : List placed.PlacedValue). flat_map json_tokens (entries_by guid l)) all ∙ ap (flat_map json_tokens) (entries_from guid acts) in
     on_ok_weaker c.end_object.result
     (λ last.
     seven_parts start (begin_object ∷ []) (key (codes "guid") ∷ string (guid_text guid) ∷ []) (key (codes "acts") ∷ []) (begin_array ∷ []) (flat_map json_tokens (entries_by guid acts)) (end_array ∷ [])

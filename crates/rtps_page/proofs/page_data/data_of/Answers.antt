@@ -1,8 +1,8 @@
 use Rattle.std.proofs.Common.{◌≡◌, ◌++◌, ◌∷◌, ◌∙◌, [], IsUtf8, List, ap, map, subst, sym}
 use Rattle.json.specs.Lex.{tokens}
 use Rattle.json.specs.Print.{print}
-use Rattle.rtps_evidence.specs.Explanation.{explanation_value}
-use Rattle.rtps_page.specs.ChartRoom.{charted_pairs}
+use Rattle.rtps_evidence.specs.Explanation as explanation
+use Rattle.rtps_page.specs.ChartRoom as chart_room
 use Rattle.rtps_page.proofs.Written.{Token, begin_object, end_object, intake_in, json_in, json_tokens, members_in, object_of, object_tokens, placed_in, three_parts, tokens_of}
 use Rattle.rtps_page.proofs.page_data.data_of.Goals as goal
 
@@ -11,7 +11,7 @@ returns c =
     let shown = c.args.shown.now in
     let intake = intake_in shown in
     let acts = placed_in intake.acts in
-    let pairs = c.deref-2.ensures.value ∙ c.in_ok-pairs.ensures intake c.requires ∙ ap (λ rows. charted_pairs shown.report.now.asked.now.tail acts (map explanation_value rows)) c.deref.ensures.value in
+    let pairs = c.deref-2.ensures.value ∙ c.in_ok-pairs.ensures intake c.requires ∙ ap (λ rows. chart_room.charted_pairs shown.report.now.asked.now.tail acts (map explanation.explanation_value rows)) c.deref.ensures.value in
     let members = members_in shown c.deref-2.result.now in
     let written : c.end_object.new.self.tokens ≡ json_tokens (json_in shown) =
     three_parts [] (begin_object ∷ []) (tokens_of members) (end_object ∷ []) (c.in_ok-begin_object.ensures.ok ∙ ap (λ (start : List Token). start ++ begin_object ∷ []) c.new-writer.ensures.tokens)

@@ -1,12 +1,12 @@
 use Rattle.std.proofs.Common.{◌∷◌, [], List, None, codes, map}
-use Rattle.rtps_json.specs.JsonText.{clock_times}
+use Rattle.rtps_json.specs.JsonText as json_text
 use Rattle.rtps_page.proofs.Written.{Token, answers_json, array_of, json_tokens, key, on_ok_weaker, placed_in, three_parts, timed_members, times_member, tokens_of, writer_json, writers_behind}
 use Rattle.rtps_page.proofs.page_data.push_charts.Goals as goal
 
 pub returns-clause-tokens : goal.returns-clause-tokens
 returns-clause-tokens c = λ intake is.
     let start : List Token = c.args.writer.now.tokens in
-    let times = clock_times c.args.clock in
+    let times = json_text.clock_times c.args.clock in
     let acts = placed_in intake.acts in
     let pairs = c.args.pairs.now in
     let one : List Token = key (codes "writers") ∷ json_tokens (array_of (map (writer_json acts) (writers_behind None pairs))) in

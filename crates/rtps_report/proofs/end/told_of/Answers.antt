@@ -1,12 +1,11 @@
 use Rattle.std.proofs.Common.{◌≡◌, ◌∙◌, List, ap, filter, flat_map, map, subst, sym}
 use Rattle.std.proofs.lemmas.List.{take_all}
-use Rattle.rtps_receiver.specs.Values.{ActValue}
-use Rattle.rtps_discovery.specs.Directory.{settled_in}
-use Rattle.rtps_discovery.specs.Endpoint.{EndpointValue}
+use Rattle.rtps_discovery.specs.Directory as directory
+use Rattle.rtps_discovery.specs.Endpoint as endpoint
 use Rattle.rtps_discovery.specs.declared.endpoint.Endpoint.{Endpoint}
-use Rattle.rtps_who.specs.Introducing.{tells_nodes}
-use Rattle.rtps_who.specs.Telling.{IsToldBy}
-use Rattle.rtps_report.specs.Ends.{acts_by}
+use Rattle.rtps_who.specs.Introducing as introducing
+use Rattle.rtps_who.specs.Telling as telling
+use Rattle.rtps_report.specs.Ends as ends
 use Rattle.rtps_report.proofs.EndLemmas.{endpoints_told, told_to, writer_more, writer_skip, writer_told}
 use Rattle.rtps_report.proofs.end.told_of.Goals as goal
 use Rattle.rtps_report.proofs.end.told_of.Goals.{then-tells_nodes+in_ok-note_writer, else-tells_nodes}
@@ -22,7 +21,7 @@ loop-endpoint-preserved c = λ intake announcing index introduced.
           (w.in_ok-note_writer.ensures announcing _ introduced (c.loop-endpoint.invariant intake announcing index introduced)))
       | else-tells_nodes w ↦
           rw w.told-is
-          (subst (λ acts. IsToldBy announcing acts c.loop-endpoint.told) (writer_skip intake endpoints place _ c.loop-endpoint-test.true (sym c.tells_nodes.ensures ∙ w.if-tells_nodes.false))
+          (subst (λ acts. telling.IsToldBy announcing acts c.loop-endpoint.told) (writer_skip intake endpoints place _ c.loop-endpoint-test.true (sym c.tells_nodes.ensures ∙ w.if-tells_nodes.false))
           (c.loop-endpoint.invariant intake announcing index introduced))
     ]
 
@@ -30,7 +29,7 @@ pub returns : goal.returns
 returns c = λ intake announcing index introduced.
     let endpoints = c.deref-endpoint-items.result.now in
     let all = take_all c.loop-endpoint.endpoint-index endpoints c.loop-endpoint-test.false in
-    subst (λ acts. IsToldBy announcing acts c.loop-endpoint.told)
-    (ap (told_to intake) all ∙ ap (λ (values : List EndpointValue). flat_map (acts_by intake) (filter tells_nodes values))
-    (endpoints_told endpoints c.in_ok-endpoints.field-0.items (settled_in c.args.directory.now.endpoints) c.deref-endpoint-items.ensures.value c.in_ok-endpoints.ensures))
+    subst (λ acts. telling.IsToldBy announcing acts c.loop-endpoint.told)
+    (ap (told_to intake) all ∙ ap (λ (values : List endpoint.EndpointValue). flat_map (ends.acts_by intake) (filter introducing.tells_nodes values))
+    (endpoints_told endpoints c.in_ok-endpoints.field-0.items (directory.settled_in c.args.directory.now.endpoints) c.deref-endpoint-items.ensures.value c.in_ok-endpoints.ensures))
     (c.loop-endpoint.invariant intake announcing index introduced)

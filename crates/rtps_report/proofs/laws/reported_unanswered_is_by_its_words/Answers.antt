@@ -1,9 +1,9 @@
-use Rattle.rtps_audit.specs.Placed.{placed_in}
-use Rattle.rtps_report.specs.Laws.{first_acts}
+use Rattle.rtps_audit.specs.Placed as placed
+use Rattle.rtps_report.specs.Laws as laws
 use Rattle.rtps_report.proofs.ActsInOrder.{acts_in_order}
 use Rattle.rtps_report.proofs.laws.reported_unanswered_is_by_its_words.Goals as goal
 
 pub returns : goal.returns
 returns c = λ fragments until recording times since pair n.
-    c.unanswered_is_by_its_words.ensures.words times since pair (placed_in (first_acts fragments until recording)) n
+    c.unanswered_is_by_its_words.ensures.words times since pair (placed.placed_in (laws.first_acts fragments until recording)) n
     (acts_in_order c.unanswered_is_by_its_words.ensures.order fragments until recording)

@@ -1,53 +1,61 @@
 use Rattle.std.proofs.Common.{◌≡◌, ◌∙◌, ℕ, Bool, true, false, List, All, Option, None, ap, subst, sym}
 use Rattle.std.proofs.lemmas.List.Elements.{All-weaker}
-use Rattle.rtps_audit.specs.Laws.{FirstDatagramsDecide}
-use Rattle.rtps_audit.specs.RunVerdict.{IsVerdictFrom}
-use Rattle.rtps_audit.specs.Said.{FirstDatagramsSayTheSame, datagrams_until}
-use Rattle.rtps_audit.specs.Speech.{speech_by}
+use Rattle.rtps_audit.specs.Laws as audit_laws
+use Rattle.rtps_audit.specs.RunVerdict as run_verdict
+use Rattle.rtps_audit.specs.Said as said
+use Rattle.rtps_audit.specs.Speech as speech
 use Rattle.rtps_audit.proofs.Offered.{exact_verdict}
-use Rattle.rtps_receiver.specs.Values.{ActValue}
-use Rattle.rtps_evidence.specs.Evidence.{IsBeside, IsEvidenceBy, IsShown}
-use Rattle.rtps_evidence.specs.OtherSide.{Beside, alone, is_there}
-use Rattle.rtps_evidence.specs.Spans.{IsExtent, since_of}
+use Rattle.rtps_receiver.specs.Values as values
+use Rattle.rtps_evidence.specs.Evidence as evidence
+use Rattle.rtps_evidence.specs.OtherSide as other_side
+use Rattle.rtps_evidence.specs.Spans as spans_spec
 use Rattle.rtps_evidence.specs.declared.span.Span.{Span}
-use Rattle.rtps_fragments.specs.Laws.{FirstDatagramsDecideSamples, FirstDatagramsTellTheSame}
-use Rattle.rtps_report.specs.Vocabulary.{Explanation, Fragments, InSpan, Intake, IsJudgedFrom, Pair, Read, Row, Skipped, Verdict, intake_as, intake_of}
-use Rattle.rtps_report.specs.FullReport.{AskedValue}
-use Rattle.rtps_report.specs.Laws.{AuditedRowsAreExact, ExplainedRowsAreExact, IsExactRow, IsVerdictAs, ReportedRowsAreExact, first_acts}
+use Rattle.rtps_fragments.specs.Laws as fragments_laws
+use Rattle.rtps_evidence.specs.declared.explanation.Explanation.{Explanation}
+use Rattle.rtps_fragments.specs.declared.fragments.Fragments.{Fragments}
+use Rattle.rtps_evidence.specs.declared.in_span.InSpan.{InSpan}
+use Rattle.rtps_audit.specs.Intake as intake
+use Rattle.rtps_audit.specs.Report as report_spec
+use Rattle.rtps_discovery.specs.declared.matching.Pair.{Pair}
+use Rattle.rtps_audit.specs.declared.report.Row.{Row}
+use Rattle.rtps_audit.specs.declared.verdict.Verdict.{Verdict}
+use Rattle.rtps_fragments.specs.RecordedSamples as recorded_samples
+use Rattle.rtps_report.specs.Asked as asked
+use Rattle.rtps_report.specs.Laws as laws
 use Rattle.rtps_report.specs.declared.audited.AskedAudit.{AskedAudit}
-use Rattle.rtps_report.specs.RowFacts.{left_in, row_from}
+use Rattle.rtps_report.specs.RowFacts as row_facts
 use Rattle.rtps_report.proofs.laws.rows_are_exact.Goals as goal
 
 -- the verdict by the acts of the first datagrams is that of the recording that ends there
-verdict_as : FirstDatagramsDecide → FirstDatagramsDecideSamples → (fragments : Fragments) (from : ℕ) (pair : Pair) (until : Option ℕ) (recording : List (List ℕ)) (verdict : Verdict)
-    → IsVerdictFrom from (speech_by pair.writer pair.reader (datagrams_until until (intake_as fragments recording).acts)) verdict → IsVerdictAs fragments from pair (datagrams_until until recording) verdict
-verdict_as plain samples Skipped from pair until recording verdict is =
-    (plain from pair.writer pair.reader until recording verdict).0 (exact_verdict from pair.writer pair.reader (datagrams_until until (intake_of recording).acts) verdict is)
-verdict_as plain samples Read from pair until recording verdict is = (samples from pair.writer pair.reader until recording verdict).1 is
+verdict_as : audit_laws.FirstDatagramsDecide → fragments_laws.FirstDatagramsDecideSamples → (fragments : Fragments) (from : ℕ) (pair : Pair) (until : Option ℕ) (recording : List (List ℕ)) (verdict : Verdict)
+    → run_verdict.IsVerdictFrom from (speech.speech_by pair.writer pair.reader (said.datagrams_until until (recorded_samples.intake_as fragments recording).acts)) verdict → laws.IsVerdictAs fragments from pair (said.datagrams_until until recording) verdict
+verdict_as plain samples Fragments.Skipped from pair until recording verdict is =
+    (plain from pair.writer pair.reader until recording verdict).0 (exact_verdict from pair.writer pair.reader (said.datagrams_until until (intake.intake_of recording).acts) verdict is)
+verdict_as plain samples Fragments.Read from pair until recording verdict is = (samples from pair.writer pair.reader until recording verdict).1 is
 
 -- and these acts are the acts that are taken in of them
-acts_are : FirstDatagramsSayTheSame → FirstDatagramsTellTheSame → (fragments : Fragments) (until : Option ℕ) (recording : List (List ℕ))
-    → datagrams_until until (intake_as fragments recording).acts ≡ first_acts fragments until recording
-acts_are say tell Skipped until recording = sym (say until recording)
-acts_are say tell Read until recording = tell until recording
+acts_are : said.FirstDatagramsSayTheSame → fragments_laws.FirstDatagramsTellTheSame → (fragments : Fragments) (until : Option ℕ) (recording : List (List ℕ))
+    → said.datagrams_until until (recorded_samples.intake_as fragments recording).acts ≡ laws.first_acts fragments until recording
+acts_are say tell Fragments.Skipped until recording = sym (say until recording)
+acts_are say tell Fragments.Read until recording = tell until recording
 
 -- the first number and the datagram of a row are those of its span
-row_first : (spans : Bool) (from : ℕ) (beside : Beside) (pair : Pair) (intake : Intake) (span : Span) (acts : List (List ActValue)) (found : Option InSpan)
-    → IsExtent spans from pair intake span → IsBeside spans beside span pair intake.acts acts found → row_from from found ≡ span.from
-row_first true from beside pair intake span acts found extent (in_span, is, shown) = ap (row_from from) is ∙ shown.first
-row_first false from beside pair intake span acts found extent is = ap (row_from from) is ∙ sym extent.first
+row_first : (spans : Bool) (from : ℕ) (beside : other_side.Beside) (pair : Pair) (intake : intake.Intake) (span : Span) (acts : List (List values.ActValue)) (found : Option InSpan)
+    → spans_spec.IsExtent spans from pair intake span → evidence.IsBeside spans beside span pair intake.acts acts found → row_facts.row_from from found ≡ span.from
+row_first true from beside pair intake span acts found extent (in_span, is, shown) = ap (row_facts.row_from from) is ∙ shown.first
+row_first false from beside pair intake span acts found extent is = ap (row_facts.row_from from) is ∙ sym extent.first
 
-row_until : (spans : Bool) (from : ℕ) (beside : Beside) (pair : Pair) (intake : Intake) (span : Span) (acts : List (List ActValue)) (found : Option InSpan)
-    → IsExtent spans from pair intake span → IsBeside spans beside span pair intake.acts acts found → left_in found ≡ span.until
-row_until true from beside pair intake span acts found extent (in_span, is, shown) = ap left_in is ∙ shown.until
-row_until false from beside pair intake span acts found extent is = ap left_in is ∙ sym extent.until
+row_until : (spans : Bool) (from : ℕ) (beside : other_side.Beside) (pair : Pair) (intake : intake.Intake) (span : Span) (acts : List (List values.ActValue)) (found : Option InSpan)
+    → spans_spec.IsExtent spans from pair intake span → evidence.IsBeside spans beside span pair intake.acts acts found → row_facts.left_in found ≡ span.until
+row_until true from beside pair intake span acts found extent (in_span, is, shown) = ap row_facts.left_in is ∙ shown.until
+row_until false from beside pair intake span acts found extent is = ap row_facts.left_in is ∙ sym extent.until
 
-module _ (say : FirstDatagramsSayTheSame) (tell : FirstDatagramsTellTheSame) (plain : FirstDatagramsDecide) (samples : FirstDatagramsDecideSamples) where
-  exact_row : (spans : Bool) (asked : AskedAudit) (beside : Beside) (recording : List (List ℕ)) (row : Explanation)
-      → IsEvidenceBy spans asked.from beside row.pair (intake_as asked.fragments recording) row.evidence → IsExactRow spans asked beside recording row
+module _ (say : said.FirstDatagramsSayTheSame) (tell : fragments_laws.FirstDatagramsTellTheSame) (plain : audit_laws.FirstDatagramsDecide) (samples : fragments_laws.FirstDatagramsDecideSamples) where
+  exact_row : (spans : Bool) (asked : AskedAudit) (beside : other_side.Beside) (recording : List (List ℕ)) (row : Explanation)
+      → evidence.IsEvidenceBy spans asked.from beside row.pair (recorded_samples.intake_as asked.fragments recording) row.evidence → laws.IsExactRow spans asked beside recording row
   exact_row spans asked beside recording row is =
-      let intake = intake_as asked.fragments recording in
-      let acts = datagrams_until is.span.until intake.acts in
+      let intake = recorded_samples.intake_as asked.fragments recording in
+      let acts = said.datagrams_until is.span.until intake.acts in
       let first = row_first spans asked.from beside row.pair intake is.span acts row.evidence.in_span is.extent is.in_span in
       let until = row_until spans asked.from beside row.pair intake is.span acts row.evidence.in_span is.extent is.in_span in
       let same = acts_are say tell asked.fragments is.span.until recording in
@@ -57,29 +65,29 @@ module _ (say : FirstDatagramsSayTheSame) (tell : FirstDatagramsTellTheSame) (pl
         extent = is.extent;
         first = first;
         until = until;
-        shown = subst (λ (those : List (List ActValue)). IsShown (is_there intake.acts beside.other row.pair) is.span.from (since_of is.span) row.pair those row.evidence) same is.shown;
-        in_span = subst (λ (those : List (List ActValue)). IsBeside spans beside is.span row.pair intake.acts those row.evidence.in_span) same is.in_span;
+        shown = subst (λ (those : List (List values.ActValue)). evidence.IsShown (other_side.is_there intake.acts beside.other row.pair) is.span.from (spans_spec.since_of is.span) row.pair those row.evidence) same is.shown;
+        in_span = subst (λ (those : List (List values.ActValue)). evidence.IsBeside spans beside is.span row.pair intake.acts those row.evidence.in_span) same is.in_span;
       }
 
-  exact_rows : (spans : Bool) (asked : AskedAudit) (beside : Beside) (recording : List (List ℕ)) (rows : List Explanation)
-      → All (λ (row : Explanation). IsEvidenceBy spans asked.from beside row.pair (intake_as asked.fragments recording) row.evidence) rows → All (IsExactRow spans asked beside recording) rows
+  exact_rows : (spans : Bool) (asked : AskedAudit) (beside : other_side.Beside) (recording : List (List ℕ)) (rows : List Explanation)
+      → All (λ (row : Explanation). evidence.IsEvidenceBy spans asked.from beside row.pair (recorded_samples.intake_as asked.fragments recording) row.evidence) rows → All (laws.IsExactRow spans asked beside recording) rows
   exact_rows spans asked beside recording rows shown =
-      All-weaker (λ (row : Explanation). IsEvidenceBy spans asked.from beside row.pair (intake_as asked.fragments recording) row.evidence) (IsExactRow spans asked beside recording)
+      All-weaker (λ (row : Explanation). evidence.IsEvidenceBy spans asked.from beside row.pair (recorded_samples.intake_as asked.fragments recording) row.evidence) (laws.IsExactRow spans asked beside recording)
       (exact_row spans asked beside recording) rows shown
 
-  audited_are_exact : AuditedRowsAreExact
-  audited_are_exact asked recording explained is = exact_rows false asked alone recording explained.rows.items is.shown
+  audited_are_exact : laws.AuditedRowsAreExact
+  audited_are_exact asked recording explained is = exact_rows false asked other_side.alone recording explained.rows.items is.shown
 
   -- of a report samples in fragments are read
-  abbrev reading : AskedValue → AskedAudit
-  reading asked = record { from = asked.from; fragments = Read }
+  abbrev reading : asked.AskedValue → AskedAudit
+  reading asked = record { from = asked.from; fragments = Fragments.Read }
 
-  explained_are_exact : ExplainedRowsAreExact
+  explained_are_exact : laws.ExplainedRowsAreExact
   explained_are_exact asked beside recording traffic explained is = exact_rows true (reading asked) beside recording explained.rows.items is.rows.shown
 
-  reported_are_exact : ReportedRowsAreExact
+  reported_are_exact : laws.ReportedRowsAreExact
   reported_are_exact asked recording report is =
-      All-weaker (IsJudgedFrom asked.from (intake_as asked.fragments recording).acts) (λ (row : Row). IsVerdictAs asked.fragments asked.from row.pair recording row.verdict)
+      All-weaker (report_spec.IsJudgedFrom asked.from (recorded_samples.intake_as asked.fragments recording).acts) (λ (row : Row). laws.IsVerdictAs asked.fragments asked.from row.pair recording row.verdict)
       (λ row verdict. verdict_as plain samples asked.fragments asked.from row.pair None recording row.verdict verdict) report.rows.items is.judged
 
 pub returns-clause-reported : goal.returns-clause-reported

@@ -1,11 +1,11 @@
 use Rattle.std.proofs.Common.{◌∙◌, List, map, sym, take}
 use Rattle.std.proofs.lemmas.List.{map_more}
 use Rattle.rtps_audit.specs.declared.report.Row.{Row}
-use Rattle.rtps_report.specs.Asked.{asked_value}
-use Rattle.rtps_who.specs.Recorded.{node_in}
-use Rattle.rtps_report.specs.Rows.{chosen_by}
-use Rattle.rtps_report.specs.RowPairs.{is_match_told}
-use Rattle.rtps_report.specs.Vocabulary.{Pair}
+use Rattle.rtps_report.specs.Asked as asked
+use Rattle.rtps_who.specs.Recorded as recorded
+use Rattle.rtps_report.specs.Rows as rows
+use Rattle.rtps_report.specs.RowPairs as row_pairs
+use Rattle.rtps_discovery.specs.declared.matching.Pair.{Pair}
 use Rattle.rtps_report.proofs.KeptLemmas.{kept_more, kept_skip}
 use Rattle.rtps_report.proofs.row_pairs.push_matches.Goals as goal
 use Rattle.rtps_report.proofs.row_pairs.push_matches.Goals.{then-is_match_told+in_ok-push, else-is_match_told}
@@ -13,7 +13,7 @@ use Rattle.rtps_report.proofs.row_pairs.push_matches.Goals.{then-is_match_told+i
 pub loop-row-preserved : goal.loop-row-preserved
 loop-row-preserved c =
     let wanted = c.args.wanted in
-    let test = is_match_told wanted.talk.now (chosen_by (asked_value wanted.asked.now) (node_in wanted.talk.now.who)) wanted.directory.now.endpoints in
+    let test = row_pairs.is_match_told wanted.talk.now (rows.chosen_by (asked.asked_value wanted.asked.now) (recorded.node_in wanted.talk.now.who)) wanted.directory.now.endpoints in
     let pairs_in : List Row → List Pair = map (λ (row : Row). row.pair) in
     let matched = c.args.matched.now in
     let place = c.loop-row.row-index in

@@ -1,10 +1,10 @@
 use Rattle.std.proofs.Common.{◌∙◌, [], false, get_or, refl}
 use Rattle.rtps_discovery.specs.declared.matching.Match.{Match}
 use Rattle.rtps_ids.specs.declared.identity.Guid.{Guid}
-use Rattle.rtps_report.specs.Asked.{asked_value}
-use Rattle.rtps_who.specs.Recorded.{node_in}
-use Rattle.rtps_report.specs.Rows.{chosen_by}
-use Rattle.rtps_report.specs.Talk.{is_left_out_of, left_out_of, left_out_value}
+use Rattle.rtps_report.specs.Asked as asked
+use Rattle.rtps_who.specs.Recorded as recorded
+use Rattle.rtps_report.specs.Rows as rows
+use Rattle.rtps_report.specs.Talk as talk_spec
 use Rattle.rtps_report.specs.declared.talk.LeftOut.{LeftOut}
 use Rattle.rtps_report.proofs.TalkLemmas.{left_by_topic, left_is, made_more, made_skip}
 use Rattle.rtps_report.proofs.talk.left_out_of.Goals as goal
@@ -13,10 +13,10 @@ use Rattle.rtps_report.proofs.talk.left_out_of.Goals.{then-is_left_out+in_ok-pus
 pub loop-found-preserved : goal.loop-found-preserved
 loop-found-preserved c =
     let talk = c.args.talk.now in
-    let asked = asked_value c.args.heard.now.asked.now in
-    let chosen = chosen_by asked (node_in talk.who) in
+    let asked = asked.asked_value c.args.heard.now.asked.now in
+    let chosen = rows.chosen_by asked (recorded.node_in talk.who) in
     let entries = c.args.heard.now.directory.now.endpoints in
-    let test = is_left_out_of talk.unfit talk.namings chosen entries in
+    let test = talk_spec.is_left_out_of talk.unfit talk.namings chosen entries in
     let nobody : Guid = record { prefix = record { 0 = [] }; entity = record { 0 = [] } } in
     let none : Match = record { pair = record { writer = nobody; reader = nobody }; reliable = false } in
     let found = get_or c.args.matched.now c.loop-found.found-index none in
@@ -25,8 +25,8 @@ loop-found-preserved c =
     elim c.if-is_left_out.branch [
       | then-is_left_out+in_ok-push w ↦
           rw w.left-is
-          (made_more left_out_value (left_out_of entries) test c.args.matched.now c.loop-found.left.items _ c.loop-found.found-index none one c.loop-found-test.true
+          (made_more talk_spec.left_out_value (talk_spec.left_out_of entries) test c.args.matched.now c.loop-found.left.items _ c.loop-found.found-index none one c.loop-found-test.true
           (by_topic ∙ w.if-is_left_out.true) w.in_ok-push.ensures.items (left_is entries found one c.topic_of-topic.ensures refl) c.loop-found.invariant)
       | else-is_left_out w ↦
-          rw w.left-is (made_skip (left_out_of entries) test c.args.matched.now _ c.loop-found.found-index none c.loop-found-test.true (by_topic ∙ w.if-is_left_out.false) c.loop-found.invariant)
+          rw w.left-is (made_skip (talk_spec.left_out_of entries) test c.args.matched.now _ c.loop-found.found-index none c.loop-found-test.true (by_topic ∙ w.if-is_left_out.false) c.loop-found.invariant)
     ]

@@ -1,7 +1,7 @@
 use Rattle.std.proofs.Common.{Bor, ◌∙◌, ℕ, List, ap, map}
 use Rattle.std.proofs.lemmas.List.{take_all}
-use Rattle.rtps_audit.specs.Intake.{acts_together}
-use Rattle.rtps_report.specs.Participants.{participant_told}
+use Rattle.rtps_audit.specs.Intake as intake_spec
+use Rattle.rtps_report.specs.Participants as participants
 use Rattle.rtps_report.proofs.TalkLemmas.{leaves_then, participant_is, participants_more}
 use Rattle.rtps_report.proofs.talk.participants_of.Goals as goal
 
@@ -12,10 +12,10 @@ loop-guid-preserved c = λ intake index joined presences announced.
     let times = heard.times.now in
     let left = leaves_then intake c.args.seen.joined.now _ c.copied.result c.left_of-left.result joined
     (c.copied.ensures ∙ c.get.ensures.value) (c.left_of-left.ensures intake index) in
-    participants_more (participant_told intake recording times) c.deref-guid-items.result.now c.loop-guid.participants.items c.push.new.self.items c.loop-guid.guid-index _ _
+    participants_more (participants.participant_told intake recording times) c.deref-guid-items.result.now c.loop-guid.participants.items c.push.new.self.items c.loop-guid.guid-index _ _
     c.loop-guid-test.true c.in_ok-push.ensures.items
     (participant_is intake recording times _ c.host-host.result c.stay.result c.left_of-left.result c.latest-latest.result c.of_last_frame-end.result c.is_silent.result
-    (c.host-host.ensures.announced (acts_together intake.announcing) announced) (c.stay.ensures recording times.of_datagrams presences) left
+    (c.host-host.ensures.announced (intake_spec.acts_together intake.announcing) announced) (c.stay.ensures recording times.of_datagrams presences) left
     (c.latest-latest.ensures recording times.of_datagrams presences) c.of_last_frame-end.ensures c.is_silent.ensures)
     (c.loop-guid.invariant intake index joined presences announced)
 
@@ -23,5 +23,5 @@ pub returns : goal.returns
 returns c = λ intake index joined presences announced.
     let heard = c.args.heard.now in
     c.loop-guid.invariant intake index joined presences announced
-    ∙ ap (map (participant_told intake (map (λ (datagram : Bor (List ℕ)). datagram.now) heard.datagrams.now) heard.times.now))
+    ∙ ap (map (participants.participant_told intake (map (λ (datagram : Bor (List ℕ)). datagram.now) heard.datagrams.now) heard.times.now))
     (take_all c.loop-guid.guid-index c.deref-guid-items.result.now c.loop-guid-test.false ∙ c.deref-guid-items.ensures.value ∙ c.in_ok-participants.ensures)

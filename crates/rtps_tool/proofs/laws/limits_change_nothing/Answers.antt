@@ -1,4 +1,4 @@
-use Rattle.rtps_tool.specs.Commands.{IsTextOf}
+use Rattle.rtps_tool.specs.Commands as commands
 use Rattle.rtps_tool.proofs.LimitsLemmas.{stays_within}
 use Rattle.rtps_tool.proofs.OneText.{OneTextEach, one_text_of}
 use Rattle.rtps_tool.proofs.RunsLemmas.{runs_agree_within}
@@ -19,4 +19,4 @@ returns-clause-agree c = λ command other.
       check_json = c.one_json.ensures;
       page = c.one_page.ensures;
     } in
-    runs_agree_within (IsTextOf command other) (one_text_of each command other)
+    runs_agree_within (commands.IsTextOf command other) (one_text_of each command other)

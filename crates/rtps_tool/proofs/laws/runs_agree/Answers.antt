@@ -1,4 +1,4 @@
-use Rattle.rtps_tool.specs.Commands.{IsTextOf}
+use Rattle.rtps_tool.specs.Commands as commands
 use Rattle.rtps_tool.proofs.OneText.{OneTextEach, one_text_of}
 use Rattle.rtps_tool.proofs.RunsLemmas as runs
 use Rattle.rtps_tool.proofs.laws.runs_agree.Goals as goal
@@ -15,4 +15,4 @@ returns c = λ command other.
       check_json = c.one_json.ensures;
       page = c.one_page.ensures;
     } in
-    runs.runs_agree (IsTextOf command other) (one_text_of each command other)
+    runs.runs_agree (commands.IsTextOf command other) (one_text_of each command other)

@@ -1,23 +1,23 @@
 use Rattle.std.proofs.Common.{List, ℕ, subst}
 use Rattle.std.proofs.lemmas.Result.{IfOk-weaker}
 use Rattle.std.specs.String.{string_bytes}
-use Rattle.rtps_page.specs.Page.{IsPageOf}
-use Rattle.rtps_report.specs.Asked.{asked_value}
-use Rattle.rtps_report.specs.FullReport.{report_value}
-use Rattle.rtps_tool.specs.Commands.{IsPageForm, origin_of}
+use Rattle.rtps_page.specs.Page as page
+use Rattle.rtps_report.specs.Asked as asked
+use Rattle.rtps_report.specs.FullReport as full_report
+use Rattle.rtps_tool.specs.Commands as commands
 use Rattle.rtps_tool.proofs.runs.page_of.Goals as goal
 
 pub returns : goal.returns
 returns c =
     let report = c.args.report.now in
     let name = c.args.name.now in
-    let asked = asked_value report.asked.now in
+    let asked = asked.asked_value report.asked.now in
     let recording = report.recording.now in
-    let told = report_value report in
-    IfOk-weaker c.page_text.result (λ text. IsPageOf (origin_of name) asked recording told c.deref.result.now (string_bytes text)) (λ text. IsPageForm name asked recording told (string_bytes text))
+    let told = full_report.report_value report in
+    IfOk-weaker c.page_text.result (λ text. page.IsPageOf (commands.origin_of name) asked recording told c.deref.result.now (string_bytes text)) (λ text. commands.IsPageForm name asked recording told (string_bytes text))
     (λ text is. (
       string_bytes c.in_ok-plain.plain,
       c.in_ok-plain.ensures,
-      subst (λ (plain : List ℕ). IsPageOf (origin_of name) asked recording told plain (string_bytes text)) c.deref.ensures is,
+      subst (λ (plain : List ℕ). page.IsPageOf (commands.origin_of name) asked recording told plain (string_bytes text)) c.deref.ensures is,
     ))
     c.page_text.ensures

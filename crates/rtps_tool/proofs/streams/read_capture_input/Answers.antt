@@ -1,8 +1,8 @@
 use Rattle.std.proofs.Common.{◌∙◌, subst, sym}
 use Rattle.std.specs.Prelude.{Result}
 use Rattle.std.proofs.lemmas.Result.{err_from_is_err_and}
-use Rattle.rtps_report.specs.Recording.{RecordingValue}
-use Rattle.rtps_tool.specs.Outcomes.{IsFaultOf}
+use Rattle.rtps_report.specs.Recording as recording
+use Rattle.rtps_tool.specs.Outcomes as outcomes
 use Rattle.rtps_tool.specs.declared.faults.RecFault.{RecFault}
 use Rattle.rtps_tool.proofs.ReadingLemmas.{FailsReading-text}
 use Rattle.rtps_tool.proofs.UnfinishedLemmas.{recording_of-capture}
@@ -22,7 +22,7 @@ returns-in_err-read_capture g c = λ before taken.
     let fault = c.in_err-read_capture.field-0.0 in
     let same = recording_of-capture c.args.limits c.args.captures octets all.small (all.form c.args.captures ∙ c.requires.form) in
     rw (p.1, p.2) (FailsReading-text c.args.limits c.args.captures before _ octets fault record { taken = read.0; whole = λ few. read.1 }
-    (subst (λ (is : Result RecordingValue RecFault). IsFaultOf is fault) (sym same) c.in_err-read_capture.ensures))
+    (subst (λ (is : Result recording.RecordingValue RecFault). outcomes.IsFaultOf is fault) (sym same) c.in_err-read_capture.ensures))
 
 pub returns : goal.returns
 returns g c = λ before taken.

@@ -1,8 +1,8 @@
 use Rattle.std.proofs.Common.{◌∙◌, subst, sym}
 use Rattle.std.specs.Prelude.{Result}
 use Rattle.std.proofs.lemmas.Result.{err_from_is_err_and}
-use Rattle.rtps_report.specs.Recording.{RecordingValue}
-use Rattle.rtps_tool.specs.Outcomes.{IsFaultOf}
+use Rattle.rtps_report.specs.Recording as recording
+use Rattle.rtps_tool.specs.Outcomes as outcomes
 use Rattle.rtps_tool.specs.declared.faults.RecFault.{RecFault}
 use Rattle.rtps_tool.proofs.LimitsLemmas.{recording_of-short}
 use Rattle.rtps_tool.proofs.ReadingLemmas.{FailsReading-text}
@@ -14,7 +14,7 @@ returns-in_err-read_recording_within c = λ captures old new taken end.
     let octets = c.args.octets.now in
     let fault = c.in_err-read_recording_within.field-0.0 in
     rw (p.1, p.2) (FailsReading-text c.args.limits captures old new octets fault record { taken = taken; whole = λ few. end }
-    (subst (λ (all : Result RecordingValue RecFault). IsFaultOf all fault) (sym (recording_of-short c.args.limits captures octets c.requires)) c.in_err-read_recording_within.ensures))
+    (subst (λ (all : Result recording.RecordingValue RecFault). outcomes.IsFaultOf all fault) (sym (recording_of-short c.args.limits captures octets c.requires)) c.in_err-read_recording_within.ensures))
 
 pub returns : goal.returns
 returns c = λ captures old new taken end. record {

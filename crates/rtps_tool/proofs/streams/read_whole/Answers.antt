@@ -2,7 +2,7 @@ use Rattle.std.proofs.Common.{◌≡◌, ◌++◌, ◌∙◌, List, ℕ, drop, l
 use Rattle.std.specs.Io.KnownBytes.{Consumes}
 use Rattle.std.proofs.KnownBytes.{Consumes-trans}
 use Rattle.std.proofs.lemmas.Result.{err_from_is_err_and}
-use Rattle.rtps_tool.specs.Forms.{begins_capture}
+use Rattle.rtps_tool.specs.Forms as forms
 use Rattle.rtps_tool.proofs.UnfinishedLemmas.{begins_capture-append}
 use Rattle.rtps_tool.proofs.streams.read_whole.Goals as goal
 
@@ -20,6 +20,6 @@ pieces-preserved g c =
     ap (λ (front : List ℕ). front ++ more) (sym came.front) ∙ take-append-drop (length octets) c.read_behind.new.octets.items in
     let invariant = c.pieces.invariant in (
       omega (arith, came.size, invariant.0),
-      λ captures. ap (begins_capture captures) (sym joined) ∙ begins_capture-append captures octets more invariant.0 ∙ invariant.1 captures,
+      λ captures. ap (forms.begins_capture captures) (sym joined) ∙ begins_capture-append captures octets more invariant.0 ∙ invariant.1 captures,
       λ before taken. subst (Consumes before _) joined (Consumes-trans before _ _ octets more (invariant.2 before taken) came.read),
     )

@@ -1,7 +1,7 @@
 use Rattle.std.proofs.Common.{◌++◌, ◌∙◌, ap, map}
 use Rattle.json.specs.Tree.{json_tokens}
-use Rattle.rtps_evidence.specs.Explanation.{explanation_value}
-use Rattle.rtps_json.specs.JsonText.{report_json}
+use Rattle.rtps_evidence.specs.Explanation as explanation
+use Rattle.rtps_json.specs.JsonText as json_text
 use Rattle.rtps_json.proofs.Offered.{report_within}
 use Rattle.rtps_text.proofs.text.audit_text.json_of.Goals as goal
 
@@ -11,7 +11,7 @@ json_line-requires c = c.in_ok-push_report.ensures.before ∙ c.new-writer.ensur
 pub returns : goal.returns
 returns c =
     let explained = c.args.explained.now in
-    let rows = map explanation_value explained.rows.items in
-    let json = report_json rows explained.counts c.args.recording.now in
+    let rows = map explanation.explanation_value explained.rows.items in
+    let json = json_text.report_json rows explained.counts c.args.recording.now in
     c.json_line.ensures json (c.in_ok-push_report.ensures.tokens ∙ ap (λ all. all ++ json_tokens json) c.new-writer.ensures.tokens)
     (report_within rows explained.counts c.args.recording.now)

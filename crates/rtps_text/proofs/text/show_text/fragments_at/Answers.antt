@@ -2,7 +2,7 @@ use Rattle.std.proofs.Common.{◌≡◌, ◌++◌, ◌≤◌, ◌∙◌, ℕ, Li
 use Rattle.std.proofs.Math.Seq.{drop-length}
 use Rattle.std.proofs.lemmas.List.Folds.{drop_split}
 use Rattle.std.specs.List.{slice_range}
-use Rattle.rtps_text.specs.ShowText.{said_at}
+use Rattle.rtps_text.specs.ShowText as show_text
 use Rattle.rtps_text.proofs.ShowLemmas.{nothing_behind}
 use Rattle.rtps_text.proofs.text.show_text.fragments_at.Goals as goal
 
@@ -22,4 +22,4 @@ returns-in-Read c =
     let at = c.args.at in
     rw c.in-Read.is
     (either c.get.result (λ past. sym (nothing_behind octets at (⊎_elim (λ behind. behind) (λ never. absurd (omega arith)) past)))
-    (λ submessage is. ap said_at (from_place octets at is.0 ∙ sym is.2)) c.get.ensures.lookup.0)
+    (λ submessage is. ap show_text.said_at (from_place octets at is.0 ∙ sym is.2)) c.get.ensures.lookup.0)

@@ -1,8 +1,8 @@
 use Rattle.std.proofs.Common.{◌++◌, ◌∙◌, ℕ, List, Result, ap, subst}
 use Rattle.std.proofs.lemmas.List.{take_rest}
 use Rattle.std.proofs.lemmas.Result.{err_from_is_err_and}
-use Rattle.rtps_tool.specs.Outcomes.{IsFaultOf}
-use Rattle.rtps_tool.specs.Unfinished.{recording_behind}
+use Rattle.rtps_tool.specs.Outcomes as outcomes
+use Rattle.rtps_tool.specs.Unfinished as unfinished
 use Rattle.rtps_tool.specs.declared.faults.RecFault.{RecFault}
 use Rattle.rtps_tool.proofs.form.line_reader.LineReader.feed.Goals as goal
 
@@ -13,5 +13,5 @@ returns-in_err-kept c =
     let read = c.read_complete.new.self in
     let rest = take_rest c.args.text.now c.in_ok-from.from in
     rw (p.1, p.2) (λ later.
-    let joined = ap (λ (line : List ℕ). recording_behind c.args.most read.datagrams read.lines (line ++ later)) rest ∙ c.in_ok-from.ensures.1.stands later in
-    subst (λ (whole : Result (List (List ℕ)) RecFault). IsFaultOf whole fault) joined (c.in_err-kept.ensures later))
+    let joined = ap (λ (line : List ℕ). unfinished.recording_behind c.args.most read.datagrams read.lines (line ++ later)) rest ∙ c.in_ok-from.ensures.1.stands later in
+    subst (λ (whole : Result (List (List ℕ)) RecFault). outcomes.IsFaultOf whole fault) joined (c.in_err-kept.ensures later))

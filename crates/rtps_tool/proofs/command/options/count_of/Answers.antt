@@ -1,0 +1,16 @@
+use Rattle.std.proofs.Common.{◌∙◌, ap, refl, subst, sym, List, ℕ, Bor}
+use Rattle.std.specs.Option.{option_map}
+use Rattle.clap.specs.Words.{found_of}
+use Rattle.clap.proofs.WalkLemmas.{first_value-rows}
+use Rattle.rtps_tool.specs.Words as words
+use Rattle.rtps_tool.proofs.command.options.count_of.Goals as goal
+
+pub returns-in-Some : goal.returns-in-Some
+returns-in-Some c =
+    let view = λ (s : Bor (List ℕ)). s.now in
+    subst (λ given. words.IsGivenOr c.args.usually given c.count_in.result) (sym (ap (option_map view) c.in-Some.is) ∙ c.get_str.ensures ∙ first_value-rows (found_of c.args.found.now) c.args.called.now) c.count_in.ensures
+
+pub returns-in-None : goal.returns-in-None
+returns-in-None c =
+    let view = λ (s : Bor (List ℕ)). s.now in
+    subst (λ given. words.IsGivenOr c.args.usually given c.args.usually) (sym (ap (option_map view) c.in-None.is) ∙ c.get_str.ensures ∙ first_value-rows (found_of c.args.found.now) c.args.called.now) refl
